@@ -3,6 +3,8 @@
 
 mod shelf;
 mod sink;
+mod whole;
 
 pub use shelf::{Failed, PutFault, Shelf};
 pub use sink::Sink;
+pub use whole::{GetFault, read_all, write_all};
