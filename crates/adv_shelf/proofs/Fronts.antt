@@ -27,8 +27,8 @@ front_in_files : (files : Option Files) (name bytes buf : List ℕ) (n : ℕ) �
 front_in_files None name bytes buf n front read fits = tt
 front_in_files (Some m) name bytes buf n front read fits =
     elim (get m name) as (λ o. MatchOption o (bytes ≡ []) (λ file. take (length bytes) file ≡ bytes)
-        → IsSomeAnd o (λ file. IsRead file (length bytes) n buf)
-        → MatchOption o (bytes ++ take n buf ≡ []) (λ file. take (length (bytes ++ take n buf)) file ≡ bytes ++ take n buf)) [
+    → IsSomeAnd o (λ file. IsRead file (length bytes) n buf)
+    → MatchOption o (bytes ++ take n buf ≡ []) (λ file. take (length (bytes ++ take n buf)) file ≡ bytes ++ take n buf)) [
       | None ↦ λ here none. absurd none
       | Some file ↦ λ here more. front_of_file file bytes buf n here more fits
     ] front read
@@ -39,8 +39,8 @@ pub front_goes_on : (files now : Option Files) (name bytes buf rest after : List
     → after ≡ bytes ++ take n (buf ++ rest) → IsFront files name after
 front_goes_on files now name bytes buf rest after from n same place front read fits grown =
     let there : HasFile files name (λ file. IsRead file (length bytes) n buf) =
-        subst (λ k. HasFile files name (λ file. IsRead file k n buf)) place
-        (subst (λ f. HasFile f name (λ file. IsRead file from n buf)) same read) in
+    subst (λ k. HasFile files name (λ file. IsRead file k n buf)) place
+    (subst (λ f. HasFile f name (λ file. IsRead file from n buf)) same read) in
     subst (λ b. IsFront files name b) (sym (grown ∙ ap (λ xs. bytes ++ xs) (take-append-le n buf rest fits)))
     (front_in_files files name bytes buf n front there fits)
 
@@ -53,7 +53,7 @@ pub front_is_long : (files : Option Files) (name bytes : List ℕ) (most : ℕ) 
 front_is_long None name bytes most front long = tt
 front_is_long (Some m) name bytes most front long =
     elim (get m name) as (λ o. MatchOption o (bytes ≡ []) (λ file. take (length bytes) file ≡ bytes)
-        → IsSomeAnd o (λ file. most < length file)) [
+    → IsSomeAnd o (λ file. most < length file)) [
       | None ↦ λ none. absurd (omega (arith, ap length none))
       | Some file ↦ λ here. no_shorter file bytes most here long
     ] front
@@ -61,7 +61,7 @@ front_is_long (Some m) name bytes most front long =
 -- the next piece behind the front that was written makes a longer front
 pub written_goes_on : (written : Option (List ℕ)) (bytes : List ℕ) (done n : ℕ)
     → append_to (append_to written (take done bytes)) (take n (take (length bytes - done) (drop done bytes)))
-      ≡ append_to written (take (done + n) bytes)
+    ≡ append_to written (take (done + n) bytes)
 written_goes_on None bytes done n = refl
 written_goes_on (Some before) bytes done n =
     ap Some (append_assoc before (take done bytes) (take n (take (length bytes - done) (drop done bytes)))

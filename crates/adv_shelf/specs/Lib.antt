@@ -1,3 +1,4 @@
 pub mod Faults
+pub mod Memory
 pub mod Shelf
 pub mod Sink

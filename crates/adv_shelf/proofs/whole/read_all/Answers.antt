@@ -1,5 +1,4 @@
 use Rattle.std.proofs.Common.{arith, ◌∙◌, ◌≡◌, ◌<◌, ◌≤◌, ◌+◌, take, length}
-use Rattle.std.proofs.lemmas.List.{length-take}
 use Rattle.std.proofs.lemmas.Grind.{common_steps}
 use Rattle.adv_shelf.proofs.Fronts.{front_goes_on, front_is_long}
 use Rattle.adv_shelf.proofs.whole.read_all.Goals as goal
@@ -16,7 +15,7 @@ reading-preserved g c =
       files = c.in_ok-count.ensures.files ∙ c.reading.invariant.files;
       counts = omega (arith, c.in_ok-count.ensures.counts);
       counts_at = λ n. omega (arith, c.in_ok-count.ensures.counts_at n, c.reading.invariant.counts_at n);
-      puts = c.in_ok-count.ensures.puts ∙ c.reading.invariant.puts
+      puts = c.in_ok-count.ensures.puts ∙ c.reading.invariant.puts;
     }
 
 pub returns-clause-too_long : goal.returns-clause-too_long

@@ -8,7 +8,7 @@ invariant-reading g l = record {
   files : g.S.Shelf.files l.shelf ≡ g.S.Shelf.files l.fn.shelf;
   counts : g.S.Shelf.read_faults l.fn.shelf ≤ g.S.Shelf.read_faults l.shelf;
   counts_at : (n : List ℕ) → g.S.Shelf.read_faults_at l.fn.shelf n ≤ g.S.Shelf.read_faults_at l.shelf n;
-  puts : g.S.Shelf.put_faults l.shelf ≡ g.S.Shelf.put_faults l.fn.shelf
+  puts : g.S.Shelf.put_faults l.shelf ≡ g.S.Shelf.put_faults l.fn.shelf;
 }
 
 abbrev pub decreases-reading : goal.decreases-reading

@@ -11,5 +11,5 @@ writing-preserved g c = record {
       c.in_ok-done.ensures.ok
       ∙ ap (λ w. append_to w (take c.in_ok-done.field-0 (take (length c.args.bytes.now - c.writing.done) (drop c.writing.done c.args.bytes.now)))) c.writing.invariant.written
       ∙ written_goes_on _ c.args.bytes.now c.writing.done c.in_ok-done.field-0;
-  counts = omega (arith, c.in_ok-done.ensures.counts)
+  counts = omega (arith, c.in_ok-done.ensures.counts);
 }

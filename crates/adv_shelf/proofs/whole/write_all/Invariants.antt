@@ -6,7 +6,7 @@ abbrev pub invariant-writing : goal.invariant-writing
 invariant-writing g l = record {
   within : l.done ≤ length l.bytes;
   written : g.O.Sink.written l.out ≡ append_to (g.O.Sink.written l.fn.out) (take l.done l.bytes);
-  counts : g.O.Sink.faults l.fn.out ≤ g.O.Sink.faults l.out
+  counts : g.O.Sink.faults l.fn.out ≤ g.O.Sink.faults l.out;
 }
 
 abbrev pub decreases-writing : goal.decreases-writing
