@@ -2,3 +2,4 @@ pub mod Faults
 pub mod Memory
 pub mod Shelf
 pub mod Sink
+pub mod System

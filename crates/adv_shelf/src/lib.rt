@@ -6,10 +6,12 @@ mod mem_shelf;
 mod mem_sink;
 mod shelf;
 mod sink;
+mod system;
 mod whole;
 
 pub use mem_shelf::MemShelf;
 pub use mem_sink::MemSink;
 pub use shelf::{Failed, PutFault, Shelf};
 pub use sink::Sink;
+pub use system::{DiskShelf, StdSink};
 pub use whole::{GetFault, read_all, write_all};
