@@ -1,10 +1,11 @@
 -- A file that is read from its front, and an output that is written from its front.
-use Rattle.std.proofs.Common.{◌≡◌, ℕ, ◌+◌, ◌-◌, ◌<◌, ◌≤◌, List, [], ◌++◌, take, drop, length, Option, Some, None, IfSome, IsSomeAnd, MatchOption, arith, length-append, sym, ap, ◌∙◌, append_assoc, refl, subst}
+use Rattle.std.proofs.Common.{◌≡◌, ℕ, ◌+◌, ◌-◌, ◌<◌, ◌≤◌, List, [], ◌++◌, take, drop, length, Option, Some, None, IfSome, IsSomeAnd, MatchOption, arith, length-append, sym, ap, ◌∙◌, subst}
 use Rattle.std.proofs.lemmas.List.{length-take-le, length-take, take-append-le, take_rest}
 use Rattle.std.proofs.Math.Seq.{take-add}
 use Rattle.std.specs.FinMap.{get}
 use Rattle.adv_shelf.specs.Shelf.{Files, HasFile, IsRead}
 use Rattle.adv_shelf.specs.Sink.{append_to}
+use Rattle.adv_shelf.proofs.CallerLemmas.{append_to-append_to}
 
 -- where the shelf tells its files, these bytes are the front of the file of this name, or none where there is no such file
 abbrev pub IsFront : Option Files → List ℕ → List ℕ → Type 0
@@ -62,7 +63,6 @@ front_is_long (Some m) name bytes most front long =
 pub written_goes_on : (written : Option (List ℕ)) (bytes : List ℕ) (done n : ℕ)
     → append_to (append_to written (take done bytes)) (take n (take (length bytes - done) (drop done bytes)))
     ≡ append_to written (take (done + n) bytes)
-written_goes_on None bytes done n = refl
-written_goes_on (Some before) bytes done n =
-    ap Some (append_assoc before (take done bytes) (take n (take (length bytes - done) (drop done bytes)))
-    ∙ ap (λ xs. before ++ xs) (ap (λ xs. take done bytes ++ take n xs) (take_rest bytes done) ∙ sym (take-add done n bytes)))
+written_goes_on written bytes done n =
+    append_to-append_to written (take done bytes) (take n (take (length bytes - done) (drop done bytes)))
+    ∙ ap (append_to written) (ap (λ xs. take done bytes ++ take n xs) (take_rest bytes done) ∙ sym (take-add done n bytes))

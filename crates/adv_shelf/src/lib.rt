@@ -7,6 +7,8 @@ mod mem_sink;
 mod shelf;
 mod sink;
 mod system;
+#[cfg(test)]
+mod tests;
 mod whole;
 
 pub use mem_shelf::MemShelf;
