@@ -11,3 +11,4 @@ pub mod Configs
 pub mod Upkeep
 pub mod Access
 pub mod Offers
+pub mod Days
