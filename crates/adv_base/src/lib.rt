@@ -8,6 +8,7 @@
 #![tactic(auto)]
 
 mod catalogue;
+mod days;
 mod list;
 mod numbers;
 mod setting;
@@ -18,6 +19,7 @@ pub use catalogue::column::{Column, Kind};
 pub use catalogue::index::{Index, IndexShape};
 pub use catalogue::rates::Rates;
 pub use catalogue::table::Table;
+pub use days::day_of;
 pub use list::{Bytes, List, Name};
 pub use numbers::{NoMemory, binary_digits, times_part};
 pub use setting::{Config, Setting};
