@@ -13,6 +13,8 @@ mod decimal;
 mod list;
 mod numbers;
 mod setting;
+#[cfg(test)]
+mod tests;
 mod workload;
 
 pub use catalogue::Catalogue;
