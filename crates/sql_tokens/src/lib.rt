@@ -1,6 +1,9 @@
 //! The tokens of a workload of SQL statements.
 #![tactic(auto)]
 
+mod byte;
+mod front;
+mod piece;
 mod token;
 mod tokens;
 
