@@ -110,18 +110,3 @@ abbrev pub front : List ℕ → Result Piece Stop
 front [] = Err stop.OpenText
 front (b ∷ bs) = front_by (class_of b) b bs
 
--- behind the blanks at the front of a comment's text: the length of `weight`, blanks and a number
-abbrev pub weight_at : List ℕ → Option ℕ
-weight_at text =
-    let gap = prefix_len is_space (drop 6 text) in
-    let digits = prefix_len is_digit (drop (6 + gap) text) in
-    let end = 6 + gap + digits in
-    if str_eq_ignore_ascii_case (take 6 text) (119 ∷ 101 ∷ 105 ∷ 103 ∷ 104 ∷ 116 ∷ []) && nat_lt 0 gap && nat_lt 0 digits && prefix_len is_margin (drop end text) == length (drop end text)
-    then Some end
-    else None
-
--- the length of the weight token that a comment, from `--` to the end of its line, holds
-unfoldable pub weight_length : List ℕ → Option ℕ
-weight_length comment =
-    let blanks = prefix_len is_margin (drop 2 comment) in
-    further (2 + blanks) (weight_at (drop (2 + blanks) comment))

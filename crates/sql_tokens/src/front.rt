@@ -1,6 +1,6 @@
 //! The piece at the front of a text.
 ghost use Rattle.std.specs.Prelude.{◌≡◌, ◌+◌, ◌<◌, ◌≤◌, length, IsTrue, IfOk, IfSome};
-ghost use Rattle.sql_tokens.specs.Front.{begins_fraction, number_piece, number, quoted, closing, text_piece, comment_end, comment_piece, symbol, front, weight_at, weight_length};
+ghost use Rattle.sql_tokens.specs.Front.{begins_fraction, number_piece, number, quoted, closing, text_piece, comment_end, comment_piece, symbol, front};
 ghost use Rattle.sql_tokens.specs.Byte.{begins, is_mark, is_pair, ends_comment};
 
 use crate::TokenKind;

@@ -6,6 +6,7 @@ mod front;
 mod piece;
 mod token;
 mod tokens;
+mod weight;
 
 pub use token::{Span, Token, TokenKind};
 pub use tokens::{TokenFault, Tokens};
