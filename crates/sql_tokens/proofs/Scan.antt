@@ -29,7 +29,7 @@ or_end-further_or : (e : Option ℕ) (i : ℕ) (o : Option ℕ) → or_end e i (
 or_end-further_or e i None = refl
 or_end-further_or e i (Some n) = ap Some (omega arith)
 
-closing-other : (b : ℕ) (bs : List ℕ) → eqb b 39 ≡ false → closing (b ∷ bs) ≡ further 1 (closing bs)
+pub closing-other : (b : ℕ) (bs : List ℕ) → eqb b 39 ≡ false → closing (b ∷ bs) ≡ further 1 (closing bs)
 closing-other b [] e = rw e refl
 closing-other b (c ∷ bs) e = rw e refl
 
@@ -37,7 +37,7 @@ closing-last : (b : ℕ) (bs : List ℕ) → eqb b 39 ≡ true → begins (λ c.
 closing-last b [] e f = rw e refl
 closing-last b (c ∷ bs) e f = rw (e, f) refl
 
-closing-doubled : (b c : ℕ) (bs : List ℕ) → eqb b 39 ≡ true → eqb c 39 ≡ true → closing (b ∷ c ∷ bs) ≡ Some (further_or 1 2 (closing bs))
+pub closing-doubled : (b c : ℕ) (bs : List ℕ) → eqb b 39 ≡ true → eqb c 39 ≡ true → closing (b ∷ c ∷ bs) ≡ Some (further_or 1 2 (closing bs))
 closing-doubled b c bs e f = rw (e, f) refl
 
 -- a byte inside a text
@@ -63,10 +63,10 @@ doubled_step e xs i l h f =
 pub end_step : (e : Option ℕ) (xs : List ℕ) (i : ℕ) → length xs ≤ i → or_end e i (closing (drop i xs)) ≡ e
 end_step e xs i l = ap (λ ys. or_end e i (closing ys)) (drop_all i xs l)
 
-comment_end-other : (b c : ℕ) (bs : List ℕ) → ends_comment b c ≡ false → comment_end (b ∷ c ∷ bs) ≡ further 1 (comment_end (c ∷ bs))
+pub comment_end-other : (b c : ℕ) (bs : List ℕ) → ends_comment b c ≡ false → comment_end (b ∷ c ∷ bs) ≡ further 1 (comment_end (c ∷ bs))
 comment_end-other b c bs e = rw e refl
 
-comment_end-here : (b c : ℕ) (bs : List ℕ) → ends_comment b c ≡ true → comment_end (b ∷ c ∷ bs) ≡ Some 2
+pub comment_end-here : (b c : ℕ) (bs : List ℕ) → ends_comment b c ≡ true → comment_end (b ∷ c ∷ bs) ≡ Some 2
 comment_end-here b c bs e = rw e refl
 
 comment_end-short : (bs : List ℕ) → length bs ≤ 1 → comment_end bs ≡ None

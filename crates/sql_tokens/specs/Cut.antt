@@ -6,6 +6,10 @@ use Rattle.sql_tokens.specs.Weight.{weight_length}
 use Rattle.sql_tokens.specs.declared.token.TokenKind.{TokenKind}
 use Rattle.sql_tokens.specs.declared.token.TokenKind.TheVariants as kind
 use Rattle.sql_tokens.specs.declared.token.Token.{Token}
+use Rattle.sql_tokens.specs.declared.token_list.TokenFault.{TokenFault}
+use Rattle.sql_tokens.specs.declared.token_list.TokenFault.TheVariants as fault
+use Rattle.sql_tokens.specs.declared.piece.Stop.{Stop}
+use Rattle.sql_tokens.specs.declared.piece.Stop.TheVariants as stop
 use Rattle.sql_tokens.specs.declared.piece.Form.{Form}
 use Rattle.sql_tokens.specs.declared.piece.Form.TheVariants as form
 
@@ -119,3 +123,19 @@ pub record HasOpenText (text : List ℕ) (place : ℕ) : Type 0 where
   pub cut : IsCut parts text rest
   pub open_text : IsOpen rest
   pub counted : place + length rest ≡ length text + 1
+
+-- the fault is the first of the text; want of memory is none of the text's
+abbrev pub HasFault : List ℕ → TokenFault → Type 0
+HasFault text fault.Memory = ⊥
+HasFault text (fault.BadByte place) = HasBadByte text place
+HasFault text (fault.OpenText place) = HasOpenText text place
+
+-- how many bytes stand between a rest and the byte that is no good
+abbrev pub stop_length : Stop → ℕ
+stop_length (stop.BadByte behind) = behind
+stop_length stop.OpenText = 0
+
+-- the fault behind so many bytes
+abbrev pub fault_at : ℕ → Stop → TokenFault
+fault_at at (stop.BadByte behind) = fault.BadByte (at + behind + 1)
+fault_at at stop.OpenText = fault.OpenText (at + 1)

@@ -109,4 +109,3 @@ front_by class.Other b bs = symbol b bs
 abbrev pub front : List ℕ → Result Piece Stop
 front [] = Err stop.OpenText
 front (b ∷ bs) = front_by (class_of b) b bs
-

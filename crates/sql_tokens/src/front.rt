@@ -1,6 +1,7 @@
 //! The piece at the front of a text.
-ghost use Rattle.std.specs.Prelude.{◌≡◌, ◌+◌, ◌<◌, ◌≤◌, length, IsTrue, IfOk, IfSome};
+ghost use Rattle.std.specs.Prelude.{◌≡◌, ◌+◌, ◌<◌, ◌≤◌, length, IsTrue, IfOk, IfErr, IfSome};
 ghost use Rattle.sql_tokens.specs.Front.{begins_fraction, number_piece, number, quoted, closing, text_piece, comment_end, comment_piece, symbol, front};
+ghost use Rattle.sql_tokens.specs.Cut.{stop_length};
 ghost use Rattle.sql_tokens.specs.Byte.{begins, is_mark, is_pair, ends_comment};
 
 use crate::TokenKind;
@@ -42,6 +43,7 @@ fn number_piece(bytes: &[u8]) -> Piece
 fn number(bytes: &[u8]) -> Result<Piece, Stop>
     ensures value { result ≡ number bytes.now }
     ensures within { IfOk result (λ p. p.length ≤ length bytes.now) }
+    ensures reach { IfErr result (λ s. stop_length s ≤ length bytes.now) }
 {
     let piece = number_piece(bytes);
     if ByteSet::Letter.begins(after(bytes, piece.length)) {
@@ -55,6 +57,7 @@ fn number(bytes: &[u8]) -> Result<Piece, Stop>
 fn quoted(behind: &[u8]) -> Result<Piece, Stop>
     ensures value { result ≡ quoted behind.now }
     ensures within { IfOk result (λ p. p.length ≤ 1 + length behind.now) }
+    ensures reach { IfErr result (λ s. stop_length s ≤ 1) }
 {
     let name = ByteSet::Name.run(behind);
     if !ByteSet::Quote.begins(after(behind, name)) {
@@ -134,6 +137,7 @@ fn is_pair(first: u8, second: u8) -> bool
 fn symbol(first: u8, behind: &[u8]) -> Result<Piece, Stop>
     ensures value { result ≡ symbol first behind.now }
     ensures within { IfOk result (λ p. p.length ≤ 1 + length behind.now) }
+    ensures reach { IfErr result (λ s. stop_length s ≤ 1) }
 {
     let form = Form::Token(TokenKind::Symbol);
     if begins_pair(first, behind) {
@@ -160,6 +164,7 @@ fn begins_pair(first: u8, behind: &[u8]) -> bool
 fn text(behind: &[u8]) -> Result<Piece, Stop>
     ensures value { result ≡ text_piece (closing behind.now) }
     ensures within { IfOk result (λ p. p.length ≤ 1 + length behind.now) }
+    ensures reach { IfErr result (λ s. stop_length s ≤ 1) }
 {
     match closing(behind) {
         Some(end) => Ok(Piece {
@@ -174,6 +179,7 @@ fn text(behind: &[u8]) -> Result<Piece, Stop>
 fn block_comment(behind: &[u8]) -> Result<Piece, Stop>
     ensures value { result ≡ comment_piece (comment_end behind.now) }
     ensures within { IfOk result (λ p. p.length ≤ 2 + length behind.now) }
+    ensures reach { IfErr result (λ s. stop_length s ≤ 1) }
 {
     match comment_end(behind) {
         Some(end) => Ok(Piece {
@@ -189,6 +195,7 @@ pub fn front(bytes: &[u8]) -> Result<Piece, Stop>
     requires { 0 < length bytes.now }
     ensures value { result ≡ front bytes.now }
     ensures within { IfOk result (λ p. p.length ≤ length bytes.now) }
+    ensures reach { IfErr result (λ s. stop_length s ≤ length bytes.now) }
 {
     let first = bytes[0];
     let behind = after(bytes, 1);

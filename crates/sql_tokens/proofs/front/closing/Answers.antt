@@ -12,7 +12,7 @@ loop-at-preserved-then-behind-at-ne39 c =
     record {
       within = omega arith;
       end_within = search rules;
-      same = sym (inside_step c.loop-at.end xs i (omega arith) (grind (arith, common_steps))) ∙ c.loop-at.invariant.same
+      same = sym (inside_step c.loop-at.end xs i (omega arith) (grind (arith, common_steps))) ∙ c.loop-at.invariant.same;
     }
 
 pub loop-at-preserved : goal.loop-at-preserved
@@ -20,9 +20,9 @@ loop-at-preserved c =
     let xs = c.args.behind.now in
     let i = c.loop-at.at in
     let more : i + 1 < length xs =
-      omega (arith, length-drop (i + 1) xs, ap length c.after.ensures, c.if-not-begins.ensures.some refl) in
+    omega (arith, length-drop (i + 1) xs, ap length c.after.ensures, c.if-not-begins.ensures.some refl) in
     record {
       within = omega arith;
       end_within = omega arith;
-      same = sym (doubled_step c.loop-at.end xs i more (grind (arith, common_steps)) (ap (begins (λ b. eqb b 39)) (sym c.after.ensures) ∙ sym c.if-not-begins.ensures.value)) ∙ c.loop-at.invariant.same
+      same = sym (doubled_step c.loop-at.end xs i more (grind (arith, common_steps)) (ap (begins (λ b. eqb b 39)) (sym c.after.ensures) ∙ sym c.if-not-begins.ensures.value)) ∙ c.loop-at.invariant.same;
     }

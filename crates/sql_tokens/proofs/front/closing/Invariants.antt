@@ -8,7 +8,7 @@ abbrev pub invariant-loop-at : goal.invariant-loop-at
 invariant-loop-at l = record {
   within : l.at ≤ length l.behind;
   end_within : IfSome l.end (λ n. n ≤ l.at);
-  same : or_end l.end l.at (closing (drop l.at l.behind)) ≡ closing l.behind
+  same : or_end l.end l.at (closing (drop l.at l.behind)) ≡ closing l.behind;
 }
 
 abbrev pub decreases-loop-at : goal.decreases-loop-at

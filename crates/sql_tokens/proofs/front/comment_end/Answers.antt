@@ -6,7 +6,7 @@ pub loop-at-preserved : goal.loop-at-preserved
 loop-at-preserved c =
     record {
       within = omega arith;
-      same = sym (comment_step c.args.behind.now c.loop-at.at (omega arith) (search rules)) ∙ c.loop-at.invariant.same
+      same = sym (comment_step c.args.behind.now c.loop-at.at (omega arith) (search rules)) ∙ c.loop-at.invariant.same;
     }
 
 pub returns-clause-value : goal.returns-clause-value

@@ -6,7 +6,7 @@ use Rattle.sql_tokens.proofs.front.comment_end.Given as goal
 abbrev pub invariant-loop-at : goal.invariant-loop-at
 invariant-loop-at l = record {
   within : l.at ≤ length l.behind;
-  same : further l.at (comment_end (drop l.at l.behind)) ≡ comment_end l.behind
+  same : further l.at (comment_end (drop l.at l.behind)) ≡ comment_end l.behind;
 }
 
 abbrev pub decreases-loop-at : goal.decreases-loop-at

@@ -1,12 +1,10 @@
 //! A text with its tokens, and the faults of a text that has none.
-ghost use Rattle.std.specs.Prelude.{All, AllPairs, ℕ, ◌≡◌};
+ghost use Rattle.std.specs.Prelude.{All, AllPairs};
 ghost use Rattle.sql_tokens.specs.Span.{LiesIn, StandsBefore};
-ghost use Rattle.sql_tokens.specs.Cut.{AreTokens, HasBadByte, HasOpenText, IsCut, Part};
-
-use adv_base::List;
-use thiserror::Error;
 
 use crate::Token;
+use adv_base::List;
+use thiserror::Error;
 
 /// A text and its tokens, in the order of the text.
 #[derive(Debug, Drop)]
