@@ -1,14 +1,13 @@
 -- Where a piece stands at the front of a text, the front that is computed is at least as long.
-use Rattle.std.proofs.Common.{◌≡◌, ◌≢◌, ℕ, suc, ◌+◌, ◌<◌, ◌≤◌, Bool, true, false, not, ◌||◌, ◌&&◌, eqb, ltb, leb, cond, List, [], ◌∷◌, ◌++◌, length, take, drop, Option, Some, None, Result, Ok, Err, refl, ap, sym, ◌∙◌, subst, ◌⊎◌, inl, inr, arith, IsTrue}
+use Rattle.std.proofs.Common.{◌≡◌, ℕ, ◌+◌, ◌<◌, ◌≤◌, Bool, true, false, ◌||◌, ◌&&◌, eqb, cond, List, [], ◌∷◌, ◌++◌, length, drop, Option, Some, None, Result, Ok, Err, refl, ap, ◌∙◌, ◌⊎◌, inl, inr, arith}
 use Rattle.std.specs.List.{prefix_len, list_all}
 use Rattle.std.proofs.lemmas.Bool.Decides.{nat_tests}
 use Rattle.std.proofs.lemmas.List.{length-append, append_assoc}
-use Rattle.sql_tokens.specs.Byte.{begins, class_of, is_blank, is_letter, is_word_byte, is_digit, is_mark, is_pair, is_name_byte, is_line_byte, ends_comment}
-use Rattle.sql_tokens.specs.Form.{IsWord, IsWhole, IsDecimal, IsQuoted, IsText, IsSymbol, IsParameter, IsBlank, IsLineComment, IsBlockComment, IsToken, IsForm, doubled, holds_end}
-use Rattle.sql_tokens.specs.Front.{front, front_by, number, number_piece, number_behind, apart, begins_fraction, quoted, quoted_behind, closing, text_piece, comment_end, comment_piece, symbol, piece, token, further, further_or}
+use Rattle.sql_tokens.specs.Byte.{begins, class_of, is_letter, is_word_byte, is_digit, is_mark, is_pair, is_name_byte, is_line_byte, ends_comment}
+use Rattle.sql_tokens.specs.Form.{IsWord, IsWhole, IsDecimal, IsQuoted, IsText, IsSymbol, IsParameter, IsBlank, IsLineComment, IsBlockComment, IsForm, doubled, holds_end}
+use Rattle.sql_tokens.specs.Front.{front, front_by, number, number_piece, number_behind, apart, begins_fraction, quoted, quoted_behind, closing, comment_end, comment_piece, symbol, piece, token, further, further_or}
 use Rattle.sql_tokens.specs.declared.byte.Class.{Class}
 use Rattle.sql_tokens.specs.declared.byte.Class.TheVariants as class
-use Rattle.sql_tokens.specs.declared.token.TokenKind.{TokenKind}
 use Rattle.sql_tokens.specs.declared.token.TokenKind.TheVariants as kind
 use Rattle.sql_tokens.specs.declared.piece.Form.{Form}
 use Rattle.sql_tokens.specs.declared.piece.Form.TheVariants as form

@@ -1,12 +1,12 @@
 -- The front that is computed is the piece that stands there, and the fault that stands there.
-use Rattle.std.proofs.Common.{◌≡◌, ◌≢◌, ℕ, suc, ◌+◌, ◌<◌, ◌≤◌, Bool, true, false, ◌||◌, ◌&&◌, eqb, cond, List, [], ◌∷◌, ◌++◌, length, take, drop, Option, Some, None, Result, Ok, Err, refl, ap, sym, ◌∙◌, subst, ◌⊎◌, inl, inr, arith, IsTrue}
+use Rattle.std.proofs.Common.{◌≡◌, ◌≢◌, ℕ, ◌+◌, ◌<◌, ◌≤◌, Bool, true, false, eqb, cond, List, [], ◌∷◌, ◌++◌, length, drop, Option, Some, None, Result, Ok, Err, refl, ap, sym, ◌∙◌, subst, inl, inr, arith}
 use Rattle.std.specs.List.{prefix_len, list_all}
 use Rattle.std.proofs.lemmas.Bool.Decides.{nat_tests}
 use Rattle.std.proofs.lemmas.List.{length-append, append_assoc, drop_at}
 use Rattle.sql_tokens.specs.Byte.{begins, is_letter, is_digit, is_name_byte, is_mark}
 use Rattle.sql_tokens.specs.Form.{IsForm, IsWhole, IsDecimal, IsQuoted, IsText, IsBlockComment}
 use Rattle.sql_tokens.specs.Front.{front, number, number_piece, number_behind, apart, quoted, closing, text_piece, comment_end, comment_piece, piece, token}
-use Rattle.sql_tokens.specs.Cut.{NoFront, IsLongest, IsOpen, IsBad, OpensText, OpensName, OpensComment, EmptyName, LetterBehind, BeginsNothing, Stands}
+use Rattle.sql_tokens.specs.Cut.{NoFront, IsOpen, IsBad, OpensText, OpensName, OpensComment, EmptyName, LetterBehind, BeginsNothing, Stands}
 use Rattle.sql_tokens.specs.declared.piece.Form.{Form}
 use Rattle.sql_tokens.specs.declared.piece.Form.TheVariants as form
 use Rattle.sql_tokens.specs.declared.token.TokenKind.TheVariants as kind
@@ -15,7 +15,7 @@ use Rattle.sql_tokens.specs.declared.piece.Stop.{Stop}
 use Rattle.sql_tokens.specs.declared.piece.Stop.TheVariants as stop
 use Rattle.sql_tokens.proofs.Runs.{run-stops, drop-front}
 use Rattle.sql_tokens.proofs.AtLeast.{AtLeast, at_least, front-number, front-decimal, begins-all, number_piece-decimal}
-use Rattle.sql_tokens.proofs.Sound.{Tells, tells, HasFront, has_quoted, is_that, First, first_of_begins}
+use Rattle.sql_tokens.proofs.Sound.{Tells, tells, HasFront, has_quoted, is_that, first_of_begins}
 
 text_open : (bs : List ℕ) (o : Option ℕ) → closing bs ≡ o → NoFront IsText (39 ∷ bs) → text_piece o ≡ Err stop.OpenText
 text_open bs None e n = refl

@@ -6,3 +6,4 @@ pub mod Reached
 pub mod Runs
 pub mod Scan
 pub mod Sound
+pub mod Weights

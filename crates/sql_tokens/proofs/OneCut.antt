@@ -1,14 +1,11 @@
 -- A text has one cut, and so one list of tokens or one fault.
-use Rattle.std.proofs.Common.{◌≡◌, ℕ, ◌+◌, ◌<◌, ◌≤◌, List, [], ◌∷◌, ◌++◌, length, take, drop, Result, Ok, Err, refl, ap, sym, ◌∙◌, subst, ◌⊎◌, inl, inr, arith}
-use Rattle.std.proofs.lemmas.List.{take_at, drop_at, append-nil}
-use Rattle.sql_tokens.specs.Form.{IsForm}
+use Rattle.std.proofs.Common.{◌≡◌, ℕ, List, [], ◌∷◌, ◌++◌, length, take, drop, Ok, refl, ap, sym, ◌∙◌, subst}
+use Rattle.std.proofs.lemmas.List.{take_at, drop_at}
 use Rattle.sql_tokens.specs.Front.{front, piece}
-use Rattle.sql_tokens.specs.Cut.{IsOpen, IsBad, Stands, Part, IsCut, tokens_of, tokens_of_piece, AreTokens, HasBadByte, HasOpenText}
+use Rattle.sql_tokens.specs.Cut.{IsOpen, IsBad, Stands, Part, IsCut, tokens_of, AreTokens}
 use Rattle.sql_tokens.specs.declared.token.Token.{Token}
 use Rattle.sql_tokens.specs.declared.piece.Form.{Form}
 use Rattle.sql_tokens.specs.declared.piece.Piece.{Piece}
-use Rattle.sql_tokens.specs.declared.piece.Stop.{Stop}
-use Rattle.sql_tokens.specs.declared.piece.Stop.TheVariants as stop
 use Rattle.sql_tokens.proofs.Exact.{stands_front, open_front, bad_front}
 
 -- no piece stands there

@@ -1,20 +1,18 @@
 -- Where the tokens of a cut stand.
-use Rattle.std.proofs.Common.{◌≡◌, ℕ, ◌+◌, ◌<◌, ◌≤◌, Bool, true, false, ◌&&◌, cond, ltb, List, [], ◌∷◌, ◌++◌, length, take, drop, Option, Some, None, refl, ap, sym, ◌∙◌, subst, arith}
+use Rattle.std.proofs.Common.{◌≡◌, ℕ, ◌+◌, ◌<◌, ◌≤◌, Bool, true, false, ◌&&◌, cond, ltb, List, [], ◌∷◌, ◌++◌, length, take, drop, Option, Some, None, refl, ap, ◌∙◌, subst, arith}
 use Rattle.std.specs.List.{prefix_len, All, AllPairs}
 use Rattle.std.specs.Str.{str_eq_ignore_ascii_case}
 use Rattle.std.proofs.lemmas.Bool.Decides.{nat_tests}
-use Rattle.std.proofs.lemmas.List.{length-append, length-drop, append_assoc}
+use Rattle.std.proofs.lemmas.List.{length-append, length-drop}
 use Rattle.std.proofs.lemmas.List.Sums.{prefix_len-le-length}
-use Rattle.std.proofs.lemmas.List.Elements.{All-append, All-nil, All-cons}
+use Rattle.std.proofs.lemmas.List.Elements.{All-nil, All-cons}
 use Rattle.std.proofs.lemmas.List.Kept.{AllPairs-cons}
 use Rattle.sql_tokens.specs.Byte.{is_digit, is_space, is_margin}
-use Rattle.sql_tokens.specs.Form.{IsForm}
 use Rattle.sql_tokens.specs.Front.{further}
 use Rattle.sql_tokens.specs.Span.{LiesIn, StandsBefore}
 use Rattle.sql_tokens.specs.Weight.{weight_word, is_margins, number_end, weight_end, weight_length}
-use Rattle.sql_tokens.specs.Cut.{Stands, Part, IsCut, token_at, weight_token, tokens_of, tokens_of_piece}
+use Rattle.sql_tokens.specs.Cut.{Part, IsCut, weight_token, tokens_of, tokens_of_piece}
 use Rattle.sql_tokens.specs.declared.token.Token.{Token}
-use Rattle.sql_tokens.specs.declared.token.TokenKind.TheVariants as kind
 use Rattle.sql_tokens.specs.declared.piece.Form.{Form}
 use Rattle.sql_tokens.specs.declared.piece.Form.TheVariants as form
 use Rattle.sql_tokens.proofs.Runs.{and_true}

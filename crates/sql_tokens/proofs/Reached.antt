@@ -1,15 +1,14 @@
 -- How far a text is cut, and how the cut goes on and ends.
-use Rattle.std.proofs.Common.{◌≡◌, ℕ, ◌+◌, ◌<◌, ◌≤◌, List, [], ◌∷◌, ◌++◌, length, take, drop, Result, Ok, Err, refl, ap, sym, ◌∙◌, subst, ◌⊎◌, inl, inr, arith}
+use Rattle.std.proofs.Common.{◌≡◌, ℕ, ◌+◌, ◌<◌, ◌≤◌, List, [], ◌∷◌, ◌++◌, length, take, drop, Ok, Err, refl, ap, sym, ◌∙◌, subst, inl, inr, arith}
 use Rattle.std.proofs.lemmas.List.{take_at, drop_at, append-nil, append_assoc, length-append, nil_from_length}
 use Rattle.std.specs.List.{All, AllPairs}
 use Rattle.sql_tokens.specs.Span.{LiesIn, StandsBefore}
-use Rattle.sql_tokens.specs.Front.{front, piece}
+use Rattle.sql_tokens.specs.Front.{front}
 use Rattle.sql_tokens.specs.Form.{IsForm, IsLineComment}
 use Rattle.sql_tokens.specs.Cut.{IsOpen, IsBad, Stands, Part, IsCut, tokens_of, tokens_of_piece, AreTokens, HasBadByte, HasOpenText, HasFault, fault_at}
 use Rattle.sql_tokens.specs.declared.token.Token.{Token}
 use Rattle.sql_tokens.specs.declared.token_list.TokenFault.{TokenFault}
 use Rattle.sql_tokens.specs.declared.token_list.TokenFault.TheVariants as fault
-use Rattle.sql_tokens.specs.declared.piece.Form.{Form}
 use Rattle.sql_tokens.specs.declared.piece.Form.TheVariants as form
 use Rattle.sql_tokens.specs.declared.piece.Piece.{Piece}
 use Rattle.sql_tokens.specs.declared.piece.Stop.{Stop}
@@ -17,7 +16,7 @@ use Rattle.sql_tokens.specs.declared.piece.Stop.TheVariants as stop
 use Rattle.sql_tokens.proofs.Sound.{Tells, HasFront}
 use Rattle.sql_tokens.proofs.Exact.{front_stands, tells_some, open_front, bad_front, form_some}
 use Rattle.sql_tokens.proofs.Places.{lies-cut, pairs-cut}
-use Rattle.sql_tokens.proofs.OneCut.{Same, one_cut, one_list, stopped_end, stopped_open, stopped_bad}
+use Rattle.sql_tokens.proofs.OneCut.{one_cut, stopped_end, stopped_open, stopped_bad}
 
 -- how many bytes the pieces have
 abbrev pub total : List Part → ℕ

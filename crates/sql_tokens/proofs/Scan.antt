@@ -1,5 +1,5 @@
 -- The steps of the loops that look for an end.
-use Rattle.std.proofs.Common.{◌≡◌, ℕ, ◌+◌, ◌<◌, ◌≤◌, Bool, true, false, ◌&&◌, eqb, cond, List, [], ◌∷◌, length, get_or, drop, Option, Some, None, refl, ap, sym, ◌∙◌, arith}
+use Rattle.std.proofs.Common.{◌≡◌, ℕ, ◌+◌, ◌<◌, ◌≤◌, Bool, true, false, eqb, List, [], ◌∷◌, length, get_or, drop, Option, Some, None, refl, ap, sym, ◌∙◌, arith}
 use Rattle.std.proofs.lemmas.List.{drop_more, drop_all, length-drop}
 use Rattle.sql_tokens.specs.Byte.{begins, ends_comment}
 use Rattle.sql_tokens.specs.Front.{further, further_or, closing, comment_end}

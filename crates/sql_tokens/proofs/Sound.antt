@@ -1,16 +1,15 @@
 -- What the front that is computed tells of the text: a piece stands there, or a fault.
-use Rattle.std.proofs.Common.{◌≡◌, ◌≢◌, ℕ, suc, ◌+◌, ◌<◌, ◌≤◌, Bool, true, false, not, ◌||◌, ◌&&◌, eqb, cond, List, [], ◌∷◌, ◌++◌, length, take, drop, Option, Some, None, Result, Ok, Err, refl, ap, sym, ◌∙◌, subst, ◌⊎◌, inl, inr, arith, IsTrue}
+use Rattle.std.proofs.Common.{◌≡◌, ◌≢◌, ℕ, ◌+◌, ◌<◌, Bool, true, false, ◌||◌, ◌&&◌, eqb, cond, List, [], ◌∷◌, ◌++◌, length, take, drop, Option, Some, None, Result, Ok, Err, refl, ap, sym, ◌∙◌, subst, ◌⊎◌, inl, inr, arith}
 use Rattle.std.specs.List.{prefix_len, list_all}
 use Rattle.std.proofs.lemmas.Bool.Decides.{nat_tests}
 use Rattle.std.proofs.lemmas.List.{length-append, append_assoc, length-take-le, take-append-drop, drop_at}
 use Rattle.std.proofs.lemmas.List.Sums.{prefix_len-le-length}
-use Rattle.sql_tokens.specs.Byte.{begins, class_of, is_blank, is_letter, is_word_byte, is_digit, is_mark, is_pair, is_name_byte, is_line_byte, ends_comment}
-use Rattle.sql_tokens.specs.Form.{IsWord, IsWhole, IsDecimal, IsQuoted, IsText, IsSymbol, IsParameter, IsBlank, IsLineComment, IsBlockComment, IsToken, IsForm, doubled, holds_end}
-use Rattle.sql_tokens.specs.Front.{front, front_by, number, number_piece, number_behind, apart, begins_fraction, quoted, quoted_behind, closing, text_piece, comment_end, comment_piece, symbol, piece, token, further, further_or}
-use Rattle.sql_tokens.specs.Cut.{NoFront, IsOpen, IsBad, OpensText, OpensName, OpensComment, EmptyName, LetterBehind, BeginsNothing}
+use Rattle.sql_tokens.specs.Byte.{begins, class_of, is_letter, is_word_byte, is_digit, is_mark, is_pair, is_name_byte, is_line_byte, ends_comment}
+use Rattle.sql_tokens.specs.Form.{IsWhole, IsDecimal, IsQuoted, IsText, IsSymbol, IsParameter, IsBlockComment, IsForm, doubled, holds_end}
+use Rattle.sql_tokens.specs.Front.{front, front_by, number, number_piece, number_behind, apart, begins_fraction, quoted, closing, text_piece, comment_end, comment_piece, symbol, piece, token, further, further_or}
+use Rattle.sql_tokens.specs.Cut.{NoFront, IsOpen, IsBad}
 use Rattle.sql_tokens.specs.declared.byte.Class.{Class}
 use Rattle.sql_tokens.specs.declared.byte.Class.TheVariants as class
-use Rattle.sql_tokens.specs.declared.token.TokenKind.{TokenKind}
 use Rattle.sql_tokens.specs.declared.token.TokenKind.TheVariants as kind
 use Rattle.sql_tokens.specs.declared.piece.Form.{Form}
 use Rattle.sql_tokens.specs.declared.piece.Form.TheVariants as form
@@ -18,8 +17,7 @@ use Rattle.sql_tokens.specs.declared.piece.Piece.{Piece}
 use Rattle.sql_tokens.specs.declared.piece.Stop.{Stop}
 use Rattle.sql_tokens.specs.declared.piece.Stop.TheVariants as stop
 use Rattle.sql_tokens.proofs.Runs.{and_true, list_all-run, class_tells, IsOfClass}
-use Rattle.sql_tokens.proofs.AtLeast.{AtLeast, at_least, Ends, closing-found, quoted-found, comment_end-found, number_piece-decimal, run-some}
-use Rattle.sql_tokens.proofs.Scan.{closing-other, comment_end-other}
+use Rattle.sql_tokens.proofs.AtLeast.{AtLeast, at_least, closing-found, quoted-found, comment_end-found, number_piece-decimal, run-some}
 
 -- a piece of so many bytes at the front
 pub record HasFront (f : Form) (n : ℕ) (text : List ℕ) : Type 0 where

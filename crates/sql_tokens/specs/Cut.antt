@@ -1,5 +1,5 @@
 -- A text cut into its longest pieces, its tokens, and the first fault of a text that has none.
-use Rattle.std.specs.Prelude.{◌≡◌, ◌≢◌, ℕ, ◌+◌, ◌≤◌, true, false, ◌==◌, ◌⊎◌, List, [], ◌∷◌, ◌++◌, length, IsTrue, Option, Some, None}
+use Rattle.std.specs.Prelude.{◌≡◌, ◌≢◌, ℕ, ◌+◌, ◌≤◌, true, false, ◌==◌, ◌⊎◌, List, [], ◌∷◌, ◌++◌, length, Option, Some, None}
 use Rattle.sql_tokens.specs.Byte.{is_letter, begins}
 use Rattle.sql_tokens.specs.Form.{IsForm, IsText, IsQuoted, IsBlockComment, IsWhole, IsDecimal}
 use Rattle.sql_tokens.specs.Weight.{weight_length}

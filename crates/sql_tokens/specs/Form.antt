@@ -1,5 +1,5 @@
 -- The forms of pieces. Each is a test of all the bytes of a piece.
-use Rattle.std.specs.Prelude.{◌≡◌, ℕ, ◌+◌, ◌<◌, Bool, true, false, ◌||◌, ◌&&◌, ◌⊎◌, if◌then◌else◌, ◌==◌, List, [], ◌∷◌, ◌++◌, length, IsTrue}
+use Rattle.std.specs.Prelude.{◌≡◌, ℕ, ◌<◌, Bool, false, ◌||◌, ◌⊎◌, if◌then◌else◌, ◌==◌, List, [], ◌∷◌, ◌++◌, length, IsTrue}
 use Rattle.std.specs.List.{list_all}
 use Rattle.sql_tokens.specs.Byte.{is_letter, is_word_byte, is_digit, is_blank, is_line_byte, is_name_byte, is_mark, is_pair, ends_comment}
 use Rattle.sql_tokens.specs.declared.token.TokenKind.{TokenKind}

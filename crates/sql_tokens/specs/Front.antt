@@ -1,9 +1,8 @@
 -- The piece at the front of a text, as a function of the text. The reading of a text as its longest
 -- pieces is Cut's; this is how it is computed.
-use Rattle.std.specs.Prelude.{ℕ, ◌+◌, Bool, true, false, ◌||◌, ◌&&◌, ◌==◌, nat_lt, List, [], ◌∷◌, length, take, drop, if◌then◌else◌, Option, Some, None, Result, Ok, Err}
+use Rattle.std.specs.Prelude.{ℕ, ◌+◌, Bool, ◌&&◌, ◌==◌, List, [], ◌∷◌, drop, if◌then◌else◌, Option, Some, None, Result, Ok, Err}
 use Rattle.std.specs.List.{prefix_len}
-use Rattle.std.specs.Str.{str_eq_ignore_ascii_case}
-use Rattle.sql_tokens.specs.Byte.{begins, class_of, is_letter, is_word_byte, is_digit, is_space, is_margin, is_line_byte, is_name_byte, is_mark, is_pair, ends_comment}
+use Rattle.sql_tokens.specs.Byte.{begins, class_of, is_letter, is_word_byte, is_digit, is_line_byte, is_name_byte, is_mark, is_pair, ends_comment}
 use Rattle.sql_tokens.specs.declared.byte.Class.{Class}
 use Rattle.sql_tokens.specs.declared.byte.Class.TheVariants as class
 use Rattle.sql_tokens.specs.declared.token.TokenKind.{TokenKind}

@@ -1,6 +1,5 @@
 -- Where tokens stand.
 use Rattle.std.specs.Prelude.{ℕ, ◌<◌, ◌≤◌, List, length}
-use Rattle.sql_tokens.specs.declared.token.Span.{Span}
 use Rattle.sql_tokens.specs.declared.token.Token.{Token}
 
 -- the token has at least one byte, and all of it lies in the text

@@ -1,8 +1,9 @@
 -- The weight that a line comment gives.
-use Rattle.std.specs.Prelude.{ℕ, ◌+◌, Bool, ◌&&◌, ◌==◌, nat_lt, List, [], ◌∷◌, length, take, drop, if◌then◌else◌, Option, Some, None}
-use Rattle.std.specs.List.{prefix_len}
+use Rattle.std.specs.Prelude.{◌≡◌, ℕ, ◌+◌, ◌<◌, Bool, ◌&&◌, ◌==◌, nat_lt, List, [], ◌∷◌, ◌++◌, IsTrue, length, take, drop, if◌then◌else◌, Option, Some, None}
+use Rattle.std.specs.List.{prefix_len, list_all}
 use Rattle.std.specs.Str.{str_eq_ignore_ascii_case}
 use Rattle.sql_tokens.specs.Byte.{is_digit, is_space, is_margin}
+use Rattle.sql_tokens.specs.Form.{IsWhole}
 use Rattle.sql_tokens.specs.Front.{further}
 
 -- the letters of `weight`
@@ -33,3 +34,20 @@ unfoldable pub weight_length : List ℕ → Option ℕ
 weight_length comment =
     let blanks = prefix_len is_margin (drop 2 comment) in
     further (2 + blanks) (weight_end (drop blanks (drop 2 comment)))
+
+-- What a weight is, of the whole comment: `--`, blanks, the word `weight` in any case of letters, spaces and
+-- tabs, digits, blanks. It goes up to the last digit.
+pub record HoldsWeight (comment : List ℕ) (n : ℕ) : Type 0 where
+  pub blanks : List ℕ
+  pub word : List ℕ
+  pub gap : List ℕ
+  pub digits : List ℕ
+  pub tail : List ℕ
+  pub spelled : comment ≡ 45 ∷ 45 ∷ (blanks ++ (word ++ (gap ++ (digits ++ tail))))
+  pub before : IsTrue (list_all is_margin blanks)
+  pub named : IsTrue (str_eq_ignore_ascii_case word weight_word)
+  pub some_gap : 0 < length gap
+  pub spaces : IsTrue (list_all is_space gap)
+  pub number : IsWhole digits
+  pub behind : IsTrue (list_all is_margin tail)
+  pub place : n ≡ 2 + (length blanks + (length word + (length gap + length digits)))

@@ -67,7 +67,22 @@ fn add(list: &mut Vec<Token>, token: Option<Token>) -> Result<(), TokenFault>
     }
 }
 
-/// The tokens of a text.
+/// Cuts a text, as the workload of SQL statements is given, into its tokens: from the left, each piece the
+/// longest that stands there, where blanks and comments are pieces too and give no token, except that a line
+/// comment may give the weight of a statement. The text is any bytes, of any length. Memory is taken for the
+/// list alone, and each byte is read a fixed number of times.
+///
+/// Spans are in the order of the text, and lie in it; `Tokens` keeps that.
+///
+/// # Errors
+///
+/// The first of these two in the text, where there is one:
+/// - `BadByte`, the place of the first byte that begins no token and continues none: a byte of no token, a `!`,
+///   `|` or `$` that begins no symbol, a letter or `_` directly behind a number, the second quote of `""`.
+/// - `OpenText`, the place of a text, a quoted name or a block comment that has no end. A quoted name ends in
+///   its line.
+///
+/// `Memory`, where there isn't enough memory for the list.
 pub fn tokens<'a>(alloc: Global, text: &'a [u8]) -> Result<Tokens<'a>, TokenFault>
     ensures same_text { IfOk result (λ t. t.text.now ≡ text.now) }
     ensures found { IfOk result (λ t. AreTokens text.now t.list) }

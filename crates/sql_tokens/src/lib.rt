@@ -11,7 +11,7 @@ mod token_list;
 mod weight;
 
 pub use cut::tokens;
-pub use laws::{one_fault, one_list, tokens_or_fault};
+pub use laws::{one_fault, one_list, one_weight, tokens_or_fault};
 pub use token::{Span, Token, TokenKind};
 pub use token_list::{TokenFault, Tokens};
 
