@@ -14,6 +14,7 @@ is_letter b = is_ascii_alphabetic b || b == 95
 abbrev pub is_word_byte : ℕ → Bool
 is_word_byte b = is_letter b || is_ascii_digit b
 
+-- a digit of ASCII
 abbrev pub is_digit : ℕ → Bool
 is_digit b = is_ascii_digit b
 

@@ -55,7 +55,7 @@ pub record LetterBehind (text : List ℕ) (n : ℕ) : Type 0 where
   pub letter : begins is_letter rest ≡ true
   pub place : n ≡ length number
 
--- a first byte that begins nothing
+-- the first byte is no quote, and no front is a piece
 abbrev pub BeginsNothing : List ℕ → ℕ → Type 0
 BeginsNothing [] n = ⊥
 BeginsNothing (b ∷ bs) n = (b ≢ 39) × (b ≢ 34) × ((f : Form) → NoFront (IsForm f) (b ∷ bs)) × (n ≡ 0)
@@ -86,6 +86,7 @@ IsCut (p ∷ ps) text rest =
 abbrev pub token_at : TokenKind → ℕ → ℕ → Token
 token_at k at n = record { kind = k; span = record { from = at; to = at + n } }
 
+-- the token of a weight that ends behind so many bytes of its comment, if there is one
 abbrev pub weight_token : ℕ → Option ℕ → List Token
 weight_token at None = []
 weight_token at (Some n) = token_at kind.Weight at n ∷ []
@@ -108,7 +109,7 @@ pub record AreTokens (text : List ℕ) (list : List Token) : Type 0 where
   pub cut : IsCut parts text []
   pub tokens : list ≡ tokens_of 0 parts
 
--- The text is cut from the left up to a rest at whose front stands the fault. Places count from 1.
+-- The text is cut from the left up to a rest where a byte is bad. Places count from 1.
 pub record HasBadByte (text : List ℕ) (place : ℕ) : Type 0 where
   pub parts : List Part
   pub rest : List ℕ
@@ -117,6 +118,7 @@ pub record HasBadByte (text : List ℕ) (place : ℕ) : Type 0 where
   pub bad : IsBad rest behind
   pub counted : place + length rest ≡ length text + behind + 1
 
+-- the text is cut from the left up to a rest at whose front something begins that has no end
 pub record HasOpenText (text : List ℕ) (place : ℕ) : Type 0 where
   pub parts : List Part
   pub rest : List ℕ

@@ -13,6 +13,7 @@ use Rattle.sql_tokens.specs.declared.piece.Piece.{Piece}
 use Rattle.sql_tokens.specs.declared.piece.Stop.{Stop}
 use Rattle.sql_tokens.specs.declared.piece.Stop.TheVariants as stop
 
+-- a piece of so many bytes
 abbrev pub piece : Form → ℕ → Piece
 piece f n = record { form = f; length = n }
 
@@ -40,6 +41,7 @@ number_behind whole behind =
     if begins_fraction behind then piece (form.Token kind.Decimal) (whole + (1 + prefix_len is_digit (drop 1 behind)))
     else piece (form.Token kind.Whole) whole
 
+-- the number at the front, whatever follows it
 unfoldable pub number_piece : List ℕ → Piece
 number_piece bytes = number_behind (prefix_len is_digit bytes) (drop (prefix_len is_digit bytes) bytes)
 
@@ -47,6 +49,7 @@ number_piece bytes = number_behind (prefix_len is_digit bytes) (drop (prefix_len
 abbrev pub apart : Piece → List ℕ → Result Piece Stop
 apart p bytes = if begins is_letter (drop p.length bytes) then Err (stop.BadByte p.length) else Ok p
 
+-- the number at the front, or the letter directly behind it
 unfoldable pub number : List ℕ → Result Piece Stop
 number bytes = apart (number_piece bytes) bytes
 
@@ -57,6 +60,7 @@ quoted_behind name behind =
     then (if name == 0 then Err (stop.BadByte 1) else token kind.Quoted (name + 2))
     else Err stop.OpenText
 
+-- the quoted name whose first quote stands before these bytes
 unfoldable pub quoted : List ℕ → Result Piece Stop
 quoted behind = quoted_behind (prefix_len is_name_byte behind) (drop (prefix_len is_name_byte behind) behind)
 
@@ -69,6 +73,7 @@ closing (b ∷ c ∷ bs) =
     then (if c == 39 then Some (further_or 1 2 (closing bs)) else Some 1)
     else further 1 (closing (c ∷ bs))
 
+-- a text, by where it ends behind its first quote
 abbrev pub text_piece : Option ℕ → Result Piece Stop
 text_piece None = Err stop.OpenText
 text_piece (Some n) = token kind.Text (1 + n)
@@ -79,6 +84,7 @@ comment_end [] = None
 comment_end (b ∷ []) = None
 comment_end (b ∷ c ∷ bs) = if ends_comment b c then Some 2 else further 1 (comment_end (c ∷ bs))
 
+-- a block comment, by where it ends behind its `/*`
 abbrev pub comment_piece : Option ℕ → Result Piece Stop
 comment_piece None = Err stop.OpenText
 comment_piece (Some n) = Ok (piece form.BlockComment (2 + n))
@@ -105,6 +111,7 @@ front_by class.Slash b bs =
     if begins (λ c. c == 42) bs then comment_piece (comment_end (drop 1 bs)) else token kind.Symbol 1
 front_by class.Other b bs = symbol b bs
 
+-- the piece at the front of a text, or why there is none
 abbrev pub front : List ℕ → Result Piece Stop
 front [] = Err stop.OpenText
 front (b ∷ bs) = front_by (class_of b) b bs
