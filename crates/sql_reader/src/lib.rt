@@ -1,0 +1,16 @@
+//! The statements of a workload, read by the grammar.
+#![tactic(auto)]
+
+mod found;
+mod kind;
+mod law;
+mod parsed;
+mod piece;
+
+pub use found::{Form, Found};
+pub use kind::Kind;
+pub use parsed::{
+    Body, Compare, Condition, Expr, Literal, NameUse, Parsed, ParsedItem, ParsedOrder, ParsedSelect,
+    ParsedStatement, Source, SqlFault,
+};
+pub use piece::{Mark, Piece};
