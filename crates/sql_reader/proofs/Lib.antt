@@ -1,3 +1,4 @@
 pub mod Exactly
+pub mod Good
 pub mod KindSets
 pub mod Theory

@@ -1,3 +1,5 @@
 pub mod Exact
+pub mod Grammar
 pub mod Kinds
 pub mod Rule
+pub mod Values

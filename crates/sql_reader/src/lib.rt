@@ -5,6 +5,7 @@ mod found;
 mod kind;
 mod law;
 mod parsed;
+mod parts;
 mod piece;
 
 pub use found::{Form, Found};
@@ -13,4 +14,5 @@ pub use parsed::{
     Body, Compare, Condition, Expr, Literal, NameUse, Parsed, ParsedItem, ParsedOrder, ParsedSelect,
     ParsedStatement, Source, SqlFault,
 };
+pub use parts::{InsertParts, Progress, UpdateParts};
 pub use piece::{Mark, Piece};

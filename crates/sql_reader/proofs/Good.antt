@@ -1,0 +1,20 @@
+-- The grammar passes the test: one look ahead reads it.
+use Rattle.std.proofs.Common.{◌≡◌, true, refl}
+use Rattle.sql_reader.specs.Rule.{Nesting, Conditions, Parenthesis, Call, Signed, good, good_nesting, closes}
+use Rattle.sql_reader.specs.Exact.{IsGood}
+use Rattle.sql_reader.specs.Grammar.{grammar, borders, after_name, column, alias, source, plain_value, value, called_name, after_operand_name, after_operand_date, other_operand, operand, operation, operations, expression, another_expression, expressions, arguments, call, parenthesis, signed_operand, turned_test, tied_test, after_equal_date, equal_test, unequal_test, between_test, in_value, in_values, in_test, like_test, null_test, column_test, after_test_name, after_test_date, test, condition, and_condition, conditions, nested_conditions, where_conditions, rest_of_item, after_item_point, after_item_name, after_item_date, item_value, one_item, another_item, item_list, quantifier, one_source, joined_source, another_source, source_list, where_part, one_column, another_column, column_list, group_part, having_test, another_having_test, having_tests, having_part, direction, one_order, another_order, order_list, order_part, offset_part, limit_part, select_head, select_tail, select_rest, name_as_column, another_name, insert_columns, row, another_row, rows, insert_head, insert_rest, assignment, another_assignment, assignments, update_rest, delete_rest, select, insert, update, statement, maybe_statement, another_statement, workload}
+
+pub good_workload : good borders workload ≡ true
+unfolding grammar after_name column alias source plain_value value called_name after_operand_name after_operand_date other_operand operand operation operations expression another_expression expressions arguments call parenthesis signed_operand turned_test tied_test after_equal_date equal_test unequal_test between_test in_value in_values in_test like_test null_test column_test after_test_name after_test_date test condition and_condition conditions nested_conditions where_conditions rest_of_item after_item_point after_item_name after_item_date item_value one_item another_item item_list quantifier one_source joined_source another_source source_list where_part one_column another_column column_list group_part having_test another_having_test having_tests having_part direction one_order another_order order_list order_part offset_part limit_part select_head select_tail select_rest name_as_column another_name insert_columns row another_row rows insert_head insert_rest assignment another_assignment assignments update_rest delete_rest select insert update statement maybe_statement another_statement workload
+good_workload = refl
+
+pub closes_workload : closes workload ≡ true
+unfolding grammar after_name column alias source plain_value value called_name after_operand_name after_operand_date other_operand operand operation operations expression another_expression expressions arguments call parenthesis signed_operand turned_test tied_test after_equal_date equal_test unequal_test between_test in_value in_values in_test like_test null_test column_test after_test_name after_test_date test condition and_condition conditions nested_conditions where_conditions rest_of_item after_item_point after_item_name after_item_date item_value one_item another_item item_list quantifier one_source joined_source another_source source_list where_part one_column another_column column_list group_part having_test another_having_test having_tests having_part direction one_order another_order order_list order_part offset_part limit_part select_head select_tail select_rest name_as_column another_name insert_columns row another_row rows insert_head insert_rest assignment another_assignment assignments update_rest delete_rest select insert update statement maybe_statement another_statement workload
+closes_workload = refl
+
+pub good_grammar : IsGood borders grammar
+unfolding grammar after_name column alias source plain_value value called_name after_operand_name after_operand_date other_operand operand operation operations expression another_expression expressions arguments call parenthesis signed_operand turned_test tied_test after_equal_date equal_test unequal_test between_test in_value in_values in_test like_test null_test column_test after_test_name after_test_date test condition and_condition conditions nested_conditions where_conditions rest_of_item after_item_point after_item_name after_item_date item_value one_item another_item item_list quantifier one_source joined_source another_source source_list where_part one_column another_column column_list group_part having_test another_having_test having_tests having_part direction one_order another_order order_list order_part offset_part limit_part select_head select_tail select_rest name_as_column another_name insert_columns row another_row rows insert_head insert_rest assignment another_assignment assignments update_rest delete_rest select insert update statement maybe_statement another_statement workload
+good_grammar Conditions = refl
+good_grammar Parenthesis = refl
+good_grammar Call = refl
+good_grammar Signed = refl
