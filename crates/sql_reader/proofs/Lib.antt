@@ -1,4 +1,5 @@
 pub mod Exactly
 pub mod Good
 pub mod KindSets
+pub mod Loops
 pub mod Theory

@@ -71,7 +71,7 @@ nil_same_head : (other : List Piece) → SameHead [] other → other ≡ []
 nil_same_head [] h = refl
 nil_same_head (q ∷ qs) h = absurd h
 
-repeated_ends : {A : Type 0} (n : ℕ) (kinds : List Kind) (turn : Reader A A) (a : A) (ps : List Piece) → begins kinds ps ≡ false → repeated n kinds turn a ps ≡ Read a ps
+pub repeated_ends : {A : Type 0} (n : ℕ) (kinds : List Kind) (turn : Reader A A) (a : A) (ps : List Piece) → begins kinds ps ≡ false → repeated n kinds turn a ps ≡ Read a ps
 repeated_ends zero kinds turn a ps h = refl
 repeated_ends (suc n) kinds turn a ps h = rw h refl
 
@@ -100,11 +100,11 @@ module _ (borders : Borders) (deeper : (x : Nesting) → Meaning (State x) (Stat
       has (first_of_rule borders (Then first second)) p.kind ≡ true
   then_first first second a m b [] back p ps one two e h1 h2 =
       let empty = empty_only first a m h1 in
-      rw (empty, has-append) (or_right (has (first_of_rule borders first) p.kind) (has (first_of_rule borders second) p.kind)
+      rw (empty, has-append (first_of_rule borders first) (first_of_rule borders second) p.kind) (or_right (has (first_of_rule borders first) p.kind) (has (first_of_rule borders second) p.kind)
         (two (subst (λ f. IsOver deeper second m f b) (sym e) h2)))
   then_first first second a m b (q ∷ front) back p ps one two e h1 h2 =
       let same : p ≡ q = cc in
-      rw has-append (or_left (has (first_of_rule borders first) p.kind) (has (if may_be_empty first then first_of_rule borders second else []) p.kind)
+      rw (has-append (first_of_rule borders first) (if may_be_empty first then first_of_rule borders second else []) p.kind) (or_left (has (first_of_rule borders first) p.kind) (has (if may_be_empty first then first_of_rule borders second else []) p.kind)
         (subst (λ (x : Piece). has (first_of_rule borders first) x.kind ≡ true) (sym same) (one q front h1)))
 
   turns_first : {A : Type 0} (turn : Rule A A) (n : ℕ) (a b : A) (p : Piece) (ps : List Piece) →
@@ -125,16 +125,16 @@ module _ (borders : Borders) (deeper : (x : Nesting) → Meaning (State x) (Stat
       then_first first second a m b front back p ps (first_in first a m) (first_in second m b p ps) e h1 h2
   first_in (Use part rule join) a b p ps (m, h, e) = first_in rule (part a) m p ps h
   first_in (Either kinds left right) a b p ps (inl h) =
-      rw has-append (or_left (has (first_of_rule borders left) p.kind) (has (first_of_rule borders right) p.kind) (first_in left a b p ps h))
+      rw (has-append (first_of_rule borders left) (first_of_rule borders right) p.kind) (or_left (has (first_of_rule borders left) p.kind) (has (first_of_rule borders right) p.kind) (first_in left a b p ps h))
   first_in (Either kinds left right) a b p ps (inr h) =
-      rw has-append (or_right (has (first_of_rule borders left) p.kind) (has (first_of_rule borders right) p.kind) (first_in right a b p ps h))
+      rw (has-append (first_of_rule borders left) (first_of_rule borders right) p.kind) (or_right (has (first_of_rule borders left) p.kind) (has (first_of_rule borders right) p.kind) (first_in right a b p ps h))
   first_in (Many kinds turn) a b p ps (n, h) = turns_first turn n a b p ps (first_in turn) h
   first_in (Nest x) a b p ps h = sensible.begun x a p ps b h
 
   -- what is taken where the last alternative is taken everywhere
   sample : (kinds : List Kind) → not_empty kinds ≡ true → (p : Piece) × (has kinds p.kind ≡ true)
   sample [] h = absurd cc
-  sample (k ∷ kinds) h = (record { kind = k; span = record { from = 0; to = 0 }; number = None; mark = record { place = 0; weight = 0 } }, rw same_itself refl)
+  sample (k ∷ kinds) h = (record { kind = k; span = record { from = 0; to = 0 }; number = None; mark = record { place = 0; weight = 0 }; least = λ x e. cc; most = λ x e. cc }, rw same_itself refl)
 
   pub closing : {A B : Type 0} (r : Rule A B) → closes r ≡ true → (a : A) → (more : List Piece) × (b : B) × IsOver deeper r a more b
   closing (Give f) h a = ([], f a, (refl, refl))

@@ -112,9 +112,13 @@ expression = Then operand operations
 unfoldable pub another_expression : Rule Found Found
 another_expression = Then (Take (kinds.Comma ∷ []) (λ found _. found)) expression
 
+-- { "," expr }
+unfoldable pub more_expressions : Rule Found Found
+more_expressions = Many (kinds.Comma ∷ []) another_expression
+
 -- expr { "," expr }
 unfoldable pub expressions : Rule Found Found
-expressions = Then expression (Many (kinds.Comma ∷ []) another_expression)
+expressions = Then expression more_expressions
 
 -- behind the "(" of a call: ")", "*" ")" or [DISTINCT] expr { "," expr } ")"
 unfoldable pub arguments : Rule Found Found
@@ -160,9 +164,13 @@ between_test = Then (Take (kinds.Between ∷ []) (λ c _. c)) (Then (Use (λ _. 
 unfoldable pub in_value : Rule ℕ ℕ
 in_value = Then (Take (kinds.Comma ∷ []) (λ n _. n)) (Use (λ _. tt) value (λ n _. n + 1))
 
+-- { "," value }
+unfoldable pub more_in_values : Rule ℕ ℕ
+more_in_values = Many (kinds.Comma ∷ []) in_value
+
 -- value { "," value }, and how many
 unfoldable pub in_values : Rule (Unit {0}) ℕ
-in_values = Then (Use (λ _. tt) value (λ _ _. 1)) (Many (kinds.Comma ∷ []) in_value)
+in_values = Then (Use (λ _. tt) value (λ _ _. 1)) more_in_values
 
 -- IN "(" value { "," value } ")"
 unfoldable pub in_test : Rule NameUse Condition
@@ -200,9 +208,13 @@ condition = Either (kinds.Open ∷ []) (Nest Conditions) (Use (λ _. tt) test (�
 unfoldable pub and_condition : Rule (List Condition) (List Condition)
 and_condition = Then (Take (kinds.And ∷ []) (λ before _. before)) condition
 
+-- { AND cond }
+unfoldable pub more_conditions : Rule (List Condition) (List Condition)
+more_conditions = Many (kinds.And ∷ []) and_condition
+
 -- conds = cond { AND cond }
 unfoldable pub conditions : Rule (List Condition) (List Condition)
-conditions = Then condition (Many (kinds.And ∷ []) and_condition)
+conditions = Then condition more_conditions
 
 -- "(" conds ")"
 unfoldable pub nested_conditions : Rule (List Condition) (List Condition)
@@ -240,9 +252,13 @@ one_item = Use (λ _. tt) item_value (λ before x. before ++ x ∷ [])
 unfoldable pub another_item : Rule (List ParsedItem) (List ParsedItem)
 another_item = Then (Take (kinds.Comma ∷ []) (λ before _. before)) one_item
 
+-- { "," item }
+unfoldable pub more_items : Rule (List ParsedItem) (List ParsedItem)
+more_items = Many (kinds.Comma ∷ []) another_item
+
 -- item { "," item }
 unfoldable pub item_list : Rule (List ParsedItem) (List ParsedItem)
-item_list = Then one_item (Many (kinds.Comma ∷ []) another_item)
+item_list = Then one_item more_items
 
 -- [ALL | DISTINCT]
 unfoldable pub quantifier : Rule ParsedSelect ParsedSelect
@@ -260,9 +276,13 @@ joined_source = Then (Either (kinds.Inner ∷ []) (Take (kinds.Inner ∷ []) (λ
 unfoldable pub another_source : Rule ParsedSelect ParsedSelect
 another_source = Either (kinds.Comma ∷ []) (Then (Take (kinds.Comma ∷ []) (λ select _. select)) one_source) joined_source
 
+-- { "," source | [INNER] JOIN source ON conds }
+unfoldable pub more_sources : Rule ParsedSelect ParsedSelect
+more_sources = Many (kinds.Comma ∷ kinds.Inner ∷ kinds.Join ∷ []) another_source
+
 -- source { "," source | [INNER] JOIN source ON conds }
 unfoldable pub source_list : Rule ParsedSelect ParsedSelect
-source_list = Then one_source (Many (kinds.Comma ∷ kinds.Inner ∷ kinds.Join ∷ []) another_source)
+source_list = Then one_source more_sources
 
 -- [WHERE conds] of a SELECT
 unfoldable pub where_part : Rule ParsedSelect ParsedSelect
@@ -276,9 +296,13 @@ one_column = Use (λ _. tt) column (λ before c. before ++ c ∷ [])
 unfoldable pub another_column : Rule (List NameUse) (List NameUse)
 another_column = Then (Take (kinds.Comma ∷ []) (λ before _. before)) one_column
 
+-- { "," column }
+unfoldable pub more_columns : Rule (List NameUse) (List NameUse)
+more_columns = Many (kinds.Comma ∷ []) another_column
+
 -- column { "," column }
 unfoldable pub column_list : Rule (List NameUse) (List NameUse)
-column_list = Then one_column (Many (kinds.Comma ∷ []) another_column)
+column_list = Then one_column more_columns
 
 -- [GROUP BY column { "," column }]
 unfoldable pub group_part : Rule ParsedSelect ParsedSelect
@@ -292,9 +316,13 @@ having_test = Then expression (Then (Take comparisons (λ found _. found)) expre
 unfoldable pub another_having_test : Rule Found Found
 another_having_test = Then (Take (kinds.And ∷ []) (λ found _. found)) having_test
 
+-- { AND test }
+unfoldable pub more_having_tests : Rule Found Found
+more_having_tests = Many (kinds.And ∷ []) another_having_test
+
 -- test { AND test }
 unfoldable pub having_tests : Rule Found Found
-having_tests = Then having_test (Many (kinds.And ∷ []) another_having_test)
+having_tests = Then having_test more_having_tests
 
 -- [HAVING test { AND test }]
 unfoldable pub having_part : Rule ParsedSelect ParsedSelect
@@ -312,9 +340,13 @@ one_order = Use (λ _. nothing_found) (Then expression direction) (λ before x. 
 unfoldable pub another_order : Rule (List ParsedOrder) (List ParsedOrder)
 another_order = Then (Take (kinds.Comma ∷ []) (λ before _. before)) one_order
 
+-- { "," order }
+unfoldable pub more_orders : Rule (List ParsedOrder) (List ParsedOrder)
+more_orders = Many (kinds.Comma ∷ []) another_order
+
 -- order { "," order }
 unfoldable pub order_list : Rule (List ParsedOrder) (List ParsedOrder)
-order_list = Then one_order (Many (kinds.Comma ∷ []) another_order)
+order_list = Then one_order more_orders
 
 -- [ORDER BY order { "," order }]
 unfoldable pub order_part : Rule ParsedSelect ParsedSelect
@@ -348,9 +380,13 @@ name_as_column = Take names (λ before p. before ++ plain_column p.span ∷ [])
 unfoldable pub another_name : Rule (List NameUse) (List NameUse)
 another_name = Then (Take (kinds.Comma ∷ []) (λ before _. before)) name_as_column
 
+-- { "," name }
+unfoldable pub more_names : Rule (List NameUse) (List NameUse)
+more_names = Many (kinds.Comma ∷ []) another_name
+
 -- ["(" name { "," name } ")"]
 unfoldable pub insert_columns : Rule (List NameUse) (List NameUse)
-insert_columns = Either (kinds.Open ∷ []) (Then (Take (kinds.Open ∷ []) (λ before _. before)) (Then name_as_column (Then (Many (kinds.Comma ∷ []) another_name) (Take (kinds.Close ∷ []) (λ before _. before))))) (Give (λ before. before))
+insert_columns = Either (kinds.Open ∷ []) (Then (Take (kinds.Open ∷ []) (λ before _. before)) (Then name_as_column (Then more_names (Take (kinds.Close ∷ []) (λ before _. before))))) (Give (λ before. before))
 
 -- row = "(" expr { "," expr } ")"
 unfoldable pub row : Rule InsertParts InsertParts
@@ -360,9 +396,13 @@ row = Then (Take (kinds.Open ∷ []) (λ parts _. parts)) (Then (Use values_of e
 unfoldable pub another_row : Rule InsertParts InsertParts
 another_row = Then (Take (kinds.Comma ∷ []) (λ parts _. parts)) row
 
+-- { "," row }
+unfoldable pub more_rows : Rule InsertParts InsertParts
+more_rows = Many (kinds.Comma ∷ []) another_row
+
 -- row { "," row }
 unfoldable pub rows : Rule InsertParts InsertParts
-rows = Then row (Many (kinds.Comma ∷ []) another_row)
+rows = Then row more_rows
 
 -- INTO name ["(" name { "," name } ")"] VALUES
 unfoldable pub insert_head : Rule (Unit {0}) InsertParts
@@ -380,9 +420,13 @@ assignment = Then (Use set_columns_of name_as_column with_set_columns) (Then (Ta
 unfoldable pub another_assignment : Rule UpdateParts UpdateParts
 another_assignment = Then (Take (kinds.Comma ∷ []) (λ parts _. parts)) assignment
 
+-- { "," name "=" expr }
+unfoldable pub more_assignments : Rule UpdateParts UpdateParts
+more_assignments = Many (kinds.Comma ∷ []) another_assignment
+
 -- name "=" expr { "," name "=" expr }
 unfoldable pub assignments : Rule UpdateParts UpdateParts
-assignments = Then assignment (Many (kinds.Comma ∷ []) another_assignment)
+assignments = Then assignment more_assignments
 
 -- update, behind UPDATE
 unfoldable pub update_rest : Rule (Unit {0}) UpdateParts
@@ -416,9 +460,13 @@ maybe_statement = Either starts statement (Give (λ progress. progress))
 unfoldable pub another_statement : Rule Progress Progress
 another_statement = Then (Take (kinds.Semicolon ∷ []) (λ progress _. progress)) maybe_statement
 
+-- { ";" [statement] }
+unfoldable pub more_statements : Rule Progress Progress
+more_statements = Many (kinds.Semicolon ∷ []) another_statement
+
 -- workload = [statement] { ";" [statement] }
 unfoldable pub workload : Rule Progress Progress
-workload = Then maybe_statement (Many (kinds.Semicolon ∷ []) another_statement)
+workload = Then maybe_statement more_statements
 
 -- the rules behind the nested forms
 unfoldable pub grammar : Grammar

@@ -1,5 +1,6 @@
 -- Sets of kinds, as lists.
 use Rattle.std.specs.Prelude.{ℕ, Bool, true, false, ◌||◌, ◌&&◌, not, ◌==◌, List, [], ◌∷◌}
+use Rattle.std.specs.List.{list_any}
 use Rattle.sql_reader.specs.declared.kind.Kind.{Kind}
 use Rattle.sql_reader.specs.declared.kind.Kind.TheVariants as kinds
 
@@ -60,8 +61,7 @@ code_of kinds.Day = 51
 
 -- the kind is one of these
 abbrev pub has : List Kind → Kind → Bool
-has [] k = false
-has (j ∷ js) k = (code_of j == code_of k) || has js k
+has js k = list_any (λ j. code_of j == code_of k) js
 
 -- no kind is in both
 abbrev pub apart : List Kind → List Kind → Bool

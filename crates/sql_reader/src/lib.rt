@@ -1,9 +1,12 @@
 //! The statements of a workload, read by the grammar.
 #![tactic(auto)]
 
+mod cursor;
 mod found;
 mod kind;
 mod law;
+mod literal;
+mod name;
 mod parsed;
 mod parts;
 mod piece;

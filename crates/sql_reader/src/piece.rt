@@ -1,5 +1,8 @@
 //! The pieces of a text: its tokens as the grammar sees them.
 
+ghost use Rattle.std.specs.Prelude.{pos, neg_ℤ, ◌<ℤ◌, ◌^◌};
+ghost use Rattle.std.specs.Option.{ForSome};
+
 use crate::Kind;
 use sql_tokens::Span;
 
@@ -18,4 +21,7 @@ pub struct Piece {
     pub span: Span,
     pub number: Option<i64>,
     pub mark: Mark,
+    /// The number has at most 18 digits.
+    pub ghost least: { ForSome number (λ n. neg_ℤ (pos (10 ^ 18)) <ℤ n) },
+    pub ghost most: { ForSome number (λ n. n <ℤ pos (10 ^ 18)) },
 }

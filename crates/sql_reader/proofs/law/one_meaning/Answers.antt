@@ -1,3 +1,4 @@
+use Rattle.sql_reader.proofs.Loops.{takes-operation}
 use Rattle.sql_reader.specs.Grammar.{grammar, borders, levels, workload}
 use Rattle.sql_reader.proofs.Exactly.{has_one_meaning}
 use Rattle.sql_reader.proofs.Good.{good_workload, good_grammar}
