@@ -13,10 +13,15 @@ pub enum Stop {
     Here,
 }
 
-/// The pieces that are left, and how many more levels may nest.
+/// The pieces that are left.
 #[derive(Debug, Drop)]
 pub struct Cursor<'a> {
     pub rest: &'a [Piece],
+}
+
+/// Reads by the grammar, where so many more levels may nest.
+#[derive(Clone, Copy, Debug)]
+pub struct Reader {
     pub levels: u8,
 }
 
@@ -41,7 +46,7 @@ impl Cursor<'_> {
 
     /// Takes one piece of these kinds.
     pub fn take(&mut self, kinds: &[Kind]) -> Result<Piece, Stop>
-        ensures { Gives same result (piece_of kinds.now self.old.rest.now) self.old.levels self.new }
+        ensures { Gives same result (piece_of kinds.now self.old.rest.now) self.new }
     {
         let Some((piece, rest)) = self.rest.split_first() else {
             return Err(Stop::Here);

@@ -1,10 +1,12 @@
 //! The statements of a workload, read by the grammar.
 #![tactic(auto)]
 
+mod condition;
 mod cursor;
 mod found;
 mod kind;
 mod law;
+mod list;
 mod literal;
 mod name;
 mod parsed;

@@ -1,10 +1,10 @@
 //! Reads the values of tests.
 ghost use Rattle.sql_reader.specs.Grammar as rule;
-ghost use Rattle.sql_reader.specs.Reads.{ReadsBy, same};
+ghost use Rattle.sql_reader.specs.Reads.{ReadsBy};
 ghost use Rattle.sql_reader.specs.Values as values;
 ghost use Rattle.std.specs.Prelude.{◌≡◌, pos, neg_ℤ, ◌<ℤ◌, ◌^◌};
 
-use crate::cursor::{Cursor, Stop};
+use crate::cursor::{Cursor, Reader, Stop};
 use crate::{Compare, Kind, Literal, Piece};
 
 /// The literals of one piece.
@@ -98,31 +98,31 @@ impl Compare {
     }
 }
 
-impl Cursor<'_> {
+impl Reader {
     /// A value that doesn't begin with DATE.
     #[tactic(auto, unfolding(crate::specs::Grammar::plain_value))]
-    pub fn plain_value(&mut self) -> Result<Literal, Stop>
-        ensures { ReadsBy rule.plain_value tt self.old same result self.new }
+    pub fn plain_value(self, cursor: &mut Cursor<'_>) -> Result<Literal, Stop>
+        ensures { ReadsBy rule.plain_value tt self cursor.old result cursor.new }
     {
-        if self.begins(&SIGNS) {
-            let sign = self.take(&SIGNS)?;
-            let number = self.take(&[Kind::Whole, Kind::Decimal])?;
+        if cursor.begins(&SIGNS) {
+            let sign = cursor.take(&SIGNS)?;
+            let number = cursor.take(&[Kind::Whole, Kind::Decimal])?;
             return Ok(number.signed_literal(sign.kind));
         }
-        let piece = self.take(&LITERALS)?;
+        let piece = cursor.take(&LITERALS)?;
         Ok(piece.literal())
     }
 
     /// A value.
     #[tactic(auto, unfolding(crate::specs::Grammar::value))]
-    pub fn value(&mut self) -> Result<Literal, Stop>
-        ensures { ReadsBy rule.value tt self.old same result self.new }
+    pub fn value(self, cursor: &mut Cursor<'_>) -> Result<Literal, Stop>
+        ensures { ReadsBy rule.value tt self cursor.old result cursor.new }
     {
-        if self.begins(&[Kind::Date]) {
-            self.take(&[Kind::Date])?;
-            let day = self.take(&[Kind::Day])?;
+        if cursor.begins(&[Kind::Date]) {
+            cursor.take(&[Kind::Date])?;
+            let day = cursor.take(&[Kind::Day])?;
             return Ok(day.day());
         }
-        self.plain_value()
+        self.plain_value(cursor)
     }
 }
