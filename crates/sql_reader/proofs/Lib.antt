@@ -2,4 +2,5 @@ pub mod Exactly
 pub mod Good
 pub mod KindSets
 pub mod Loops
+pub mod Nested
 pub mod Theory

@@ -120,9 +120,21 @@ more_expressions = Many (kinds.Comma ∷ []) another_expression
 unfoldable pub expressions : Rule Found Found
 expressions = Then expression more_expressions
 
+-- "*" ")" of a call
+unfoldable pub star_argument : Rule Found Found
+star_argument = Then (Take (kinds.Star ∷ []) (λ found _. with_star found)) (Take (kinds.Close ∷ []) (λ found _. not_alone found))
+
+-- [DISTINCT]
+unfoldable pub maybe_distinct : Rule Found Found
+maybe_distinct = Either (kinds.Distinct ∷ []) (Take (kinds.Distinct ∷ []) (λ found _. found)) (Give (λ found. found))
+
+-- [DISTINCT] expr { "," expr } ")"
+unfoldable pub listed_arguments : Rule Found Found
+listed_arguments = Then maybe_distinct (Then expressions (Take (kinds.Close ∷ []) (λ found _. not_alone found)))
+
 -- behind the "(" of a call: ")", "*" ")" or [DISTINCT] expr { "," expr } ")"
 unfoldable pub arguments : Rule Found Found
-arguments = Either (kinds.Close ∷ []) (Take (kinds.Close ∷ []) (λ found _. not_alone found)) (Either (kinds.Star ∷ []) (Then (Take (kinds.Star ∷ []) (λ found _. with_star found)) (Take (kinds.Close ∷ []) (λ found _. not_alone found))) (Then (Either (kinds.Distinct ∷ []) (Take (kinds.Distinct ∷ []) (λ found _. found)) (Give (λ found. found))) (Then expressions (Take (kinds.Close ∷ []) (λ found _. not_alone found)))))
+arguments = Either (kinds.Close ∷ []) (Take (kinds.Close ∷ []) (λ found _. not_alone found)) (Either (kinds.Star ∷ []) star_argument listed_arguments)
 
 -- the parentheses of a call
 unfoldable pub call : Rule Found Found
@@ -240,9 +252,13 @@ after_item_name = Either (kinds.Point ∷ []) (Then (Take (kinds.Point ∷ []) (
 unfoldable pub after_item_date : Rule Piece ParsedItem
 after_item_date = Either (kinds.Day ∷ []) (Then (Take (kinds.Day ∷ []) (λ _ _. nothing_found)) rest_of_item) after_item_name
 
+-- an item that begins with no name
+unfoldable pub literal_item : Rule (Unit {0}) ParsedItem
+literal_item = Then (Use (λ _. nothing_found) other_operand (λ _ found. found)) rest_of_item
+
 -- item = "*" | name "." "*" | expr [[AS] name]
 unfoldable pub item_value : Rule (Unit {0}) ParsedItem
-item_value = Either (kinds.Star ∷ []) (Take (kinds.Star ∷ []) (λ _ _. items.Star)) (Either (kinds.Date ∷ []) (Then (Take (kinds.Date ∷ []) (λ _ p. p)) after_item_date) (Either plain_names (Then (Take plain_names (λ _ p. p)) after_item_name) (Then (Use (λ _. nothing_found) other_operand (λ _ found. found)) rest_of_item)))
+item_value = Either (kinds.Star ∷ []) (Take (kinds.Star ∷ []) (λ _ _. items.Star)) (Either (kinds.Date ∷ []) (Then (Take (kinds.Date ∷ []) (λ _ p. p)) after_item_date) (Either plain_names (Then (Take plain_names (λ _ p. p)) after_item_name) literal_item))
 
 -- item, put behind those before
 unfoldable pub one_item : Rule (List ParsedItem) (List ParsedItem)
@@ -268,9 +284,17 @@ quantifier = Either (kinds.All ∷ []) (Take (kinds.All ∷ []) (λ select _. se
 unfoldable pub one_source : Rule ParsedSelect ParsedSelect
 one_source = Use (λ _. tt) source with_source
 
+-- [INNER] JOIN
+unfoldable pub join_word : Rule ParsedSelect ParsedSelect
+join_word = Then (Either (kinds.Inner ∷ []) (Take (kinds.Inner ∷ []) (λ select _. select)) (Give (λ select. select))) (Take (kinds.Join ∷ []) (λ select _. select))
+
+-- ON conds
+unfoldable pub on_part : Rule ParsedSelect ParsedSelect
+on_part = Then (Take (kinds.On ∷ []) (λ select _. select)) (Use conditions_of conditions with_conditions)
+
 -- [INNER] JOIN source ON conds
 unfoldable pub joined_source : Rule ParsedSelect ParsedSelect
-joined_source = Then (Either (kinds.Inner ∷ []) (Take (kinds.Inner ∷ []) (λ select _. select)) (Give (λ select. select))) (Then (Take (kinds.Join ∷ []) (λ select _. select)) (Then one_source (Then (Take (kinds.On ∷ []) (λ select _. select)) (Use conditions_of conditions with_conditions))))
+joined_source = Then join_word (Then one_source on_part)
 
 -- "," source, or [INNER] JOIN source ON conds
 unfoldable pub another_source : Rule ParsedSelect ParsedSelect
@@ -332,9 +356,13 @@ having_part = Either (kinds.Having ∷ []) (Then (Take (kinds.Having ∷ []) (λ
 unfoldable pub direction : Rule Found ParsedOrder
 direction = Either (kinds.Desc ∷ []) (Take (kinds.Desc ∷ []) (λ found _. record { expr = expr_of found; down = true })) (Either (kinds.Asc ∷ []) (Take (kinds.Asc ∷ []) (λ found _. record { expr = expr_of found; down = false })) (Give (λ found. record { expr = expr_of found; down = false })))
 
+-- order = expr [ASC | DESC]
+unfoldable pub order_value : Rule (Unit {0}) ParsedOrder
+order_value = Then (Give (λ _. nothing_found)) (Then expression direction)
+
 -- order = expr [ASC | DESC], put behind those before
 unfoldable pub one_order : Rule (List ParsedOrder) (List ParsedOrder)
-one_order = Use (λ _. nothing_found) (Then expression direction) (λ before x. before ++ x ∷ [])
+one_order = Use (λ _. tt) order_value (λ before x. before ++ x ∷ [])
 
 -- "," order
 unfoldable pub another_order : Rule (List ParsedOrder) (List ParsedOrder)
@@ -360,13 +388,25 @@ offset_part = Either (kinds.Offset ∷ []) (Then (Take (kinds.Offset ∷ []) (λ
 unfoldable pub limit_part : Rule (Unit {0}) (Unit {0})
 limit_part = Either (kinds.Limit ∷ []) (Then (Take (kinds.Limit ∷ []) (λ u _. u)) (Then (Take (kinds.Whole ∷ kinds.Question ∷ []) (λ u _. u)) offset_part)) (Give (λ u. u))
 
--- a SELECT up to its conditions, behind SELECT
-unfoldable pub select_head : Rule ParsedSelect ParsedSelect
-select_head = Then quantifier (Then (Use items_of item_list with_items) (Then (Take (kinds.From ∷ []) (λ select _. select)) source_list))
+-- FROM source { "," source | [INNER] JOIN source ON conds }
+unfoldable pub from_part : Rule ParsedSelect ParsedSelect
+from_part = Then (Take (kinds.From ∷ []) (λ select _. select)) source_list
 
--- a SELECT from its conditions on
+-- a SELECT up to its sources, behind SELECT
+unfoldable pub select_head : Rule ParsedSelect ParsedSelect
+select_head = Then quantifier (Then (Use items_of item_list with_items) from_part)
+
+-- [GROUP BY column { "," column }] [HAVING test { AND test }]
+unfoldable pub group_and_having : Rule ParsedSelect ParsedSelect
+group_and_having = Then group_part having_part
+
+-- [ORDER BY order { "," order }] [LIMIT count [OFFSET count]]
+unfoldable pub order_and_limit : Rule ParsedSelect ParsedSelect
+order_and_limit = Then order_part (Use (λ _. tt) limit_part (λ select _. select))
+
+-- a SELECT behind its sources
 unfoldable pub select_tail : Rule ParsedSelect ParsedSelect
-select_tail = Then where_part (Then group_part (Then having_part (Then order_part (Use (λ _. tt) limit_part (λ select _. select)))))
+select_tail = Then where_part (Then group_and_having order_and_limit)
 
 -- select, behind SELECT
 unfoldable pub select_rest : Rule (Unit {0}) ParsedSelect
@@ -384,13 +424,21 @@ another_name = Then (Take (kinds.Comma ∷ []) (λ before _. before)) name_as_co
 unfoldable pub more_names : Rule (List NameUse) (List NameUse)
 more_names = Many (kinds.Comma ∷ []) another_name
 
+-- name { "," name }
+unfoldable pub name_list : Rule (List NameUse) (List NameUse)
+name_list = Then name_as_column more_names
+
 -- ["(" name { "," name } ")"]
 unfoldable pub insert_columns : Rule (List NameUse) (List NameUse)
-insert_columns = Either (kinds.Open ∷ []) (Then (Take (kinds.Open ∷ []) (λ before _. before)) (Then name_as_column (Then more_names (Take (kinds.Close ∷ []) (λ before _. before))))) (Give (λ before. before))
+insert_columns = Either (kinds.Open ∷ []) (Then (Take (kinds.Open ∷ []) (λ before _. before)) (Then name_list (Take (kinds.Close ∷ []) (λ before _. before)))) (Give (λ before. before))
+
+-- expr { "," expr } of a row
+unfoldable pub row_values : Rule InsertParts InsertParts
+row_values = Use values_of expressions with_values
 
 -- row = "(" expr { "," expr } ")"
 unfoldable pub row : Rule InsertParts InsertParts
-row = Then (Take (kinds.Open ∷ []) (λ parts _. parts)) (Then (Use values_of expressions with_values) (Take (kinds.Close ∷ []) (λ parts _. with_row parts)))
+row = Then (Take (kinds.Open ∷ []) (λ parts _. parts)) (Then row_values (Take (kinds.Close ∷ []) (λ parts _. with_row parts)))
 
 -- "," row
 unfoldable pub another_row : Rule InsertParts InsertParts
@@ -404,17 +452,21 @@ more_rows = Many (kinds.Comma ∷ []) another_row
 unfoldable pub rows : Rule InsertParts InsertParts
 rows = Then row more_rows
 
--- INTO name ["(" name { "," name } ")"] VALUES
-unfoldable pub insert_head : Rule (Unit {0}) InsertParts
-insert_head = Then (Take (kinds.Into ∷ []) (λ u _. u)) (Then (Take names (λ _ p. empty_insert p.span)) (Then (Use insert_columns_of insert_columns with_insert_columns) (Take (kinds.Values ∷ []) (λ parts _. parts))))
+-- INTO name
+unfoldable pub insert_table : Rule (Unit {0}) InsertParts
+insert_table = Then (Take (kinds.Into ∷ []) (λ u _. u)) (Take names (λ _ p. empty_insert p.span))
 
 -- insert, behind INSERT
 unfoldable pub insert_rest : Rule (Unit {0}) InsertParts
-insert_rest = Then insert_head rows
+insert_rest = Then insert_table (Then (Use insert_columns_of insert_columns with_insert_columns) (Then (Take (kinds.Values ∷ []) (λ parts _. parts)) rows))
+
+-- name "="
+unfoldable pub set_column : Rule UpdateParts UpdateParts
+set_column = Then (Use set_columns_of name_as_column with_set_columns) (Take (kinds.Equal ∷ []) (λ parts _. parts))
 
 -- name "=" expr
 unfoldable pub assignment : Rule UpdateParts UpdateParts
-assignment = Then (Use set_columns_of name_as_column with_set_columns) (Then (Take (kinds.Equal ∷ []) (λ parts _. parts)) (Use set_values_of expression with_set_values))
+assignment = Then set_column (Use set_values_of expression with_set_values)
 
 -- "," name "=" expr
 unfoldable pub another_assignment : Rule UpdateParts UpdateParts
@@ -428,9 +480,13 @@ more_assignments = Many (kinds.Comma ∷ []) another_assignment
 unfoldable pub assignments : Rule UpdateParts UpdateParts
 assignments = Then assignment more_assignments
 
+-- the source of an UPDATE
+unfoldable pub update_source : Rule (Unit {0}) UpdateParts
+update_source = Use (λ u. u) source (λ _ x. empty_update x)
+
 -- update, behind UPDATE
 unfoldable pub update_rest : Rule (Unit {0}) UpdateParts
-update_rest = Then (Use (λ u. u) source (λ _ x. empty_update x)) (Then (Take (kinds.Set ∷ []) (λ parts _. parts)) (Then assignments (Use update_conditions_of where_conditions with_update_conditions)))
+update_rest = Then update_source (Then (Take (kinds.Set ∷ []) (λ parts _. parts)) (Then assignments (Use update_conditions_of where_conditions with_update_conditions)))
 
 -- delete, behind DELETE
 unfoldable pub delete_rest : Rule (Unit {0}) Body
@@ -448,9 +504,25 @@ insert = Use (λ u. u) insert_rest (λ _ parts. insert_body parts)
 unfoldable pub update : Rule (Unit {0}) Body
 update = Use (λ u. u) update_rest (λ _ parts. update_body parts)
 
+-- select, put behind the statements before
+unfoldable pub select_statement : Rule Progress Progress
+select_statement = Then (Take (kinds.Select ∷ []) beside) (Use (λ _. tt) select (λ s body. with_statement s.0 s.1 body))
+
+-- insert, put behind the statements before
+unfoldable pub insert_statement : Rule Progress Progress
+insert_statement = Then (Take (kinds.Insert ∷ []) beside) (Use (λ _. tt) insert (λ s body. with_statement s.0 s.1 body))
+
+-- update, put behind the statements before
+unfoldable pub update_statement : Rule Progress Progress
+update_statement = Then (Take (kinds.Update ∷ []) beside) (Use (λ _. tt) update (λ s body. with_statement s.0 s.1 body))
+
+-- delete, put behind the statements before
+unfoldable pub delete_statement : Rule Progress Progress
+delete_statement = Then (Take (kinds.Delete ∷ []) beside) (Use (λ _. tt) delete_rest (λ s body. with_statement s.0 s.1 body))
+
 -- statement = select | insert | update | delete
 unfoldable pub statement : Rule Progress Progress
-statement = Either (kinds.Select ∷ []) (Then (Take (kinds.Select ∷ []) beside) (Use (λ _. tt) select (λ s body. with_statement s.0 s.1 body))) (Either (kinds.Insert ∷ []) (Then (Take (kinds.Insert ∷ []) beside) (Use (λ _. tt) insert (λ s body. with_statement s.0 s.1 body))) (Either (kinds.Update ∷ []) (Then (Take (kinds.Update ∷ []) beside) (Use (λ _. tt) update (λ s body. with_statement s.0 s.1 body))) (Then (Take (kinds.Delete ∷ []) beside) (Use (λ _. tt) delete_rest (λ s body. with_statement s.0 s.1 body)))))
+statement = Either (kinds.Select ∷ []) select_statement (Either (kinds.Insert ∷ []) insert_statement (Either (kinds.Update ∷ []) update_statement delete_statement))
 
 -- [statement]
 unfoldable pub maybe_statement : Rule Progress Progress

@@ -33,7 +33,7 @@ IsPush old x (Ok _) new = new ≡ old ++ x ∷ []
 IsPush old x (Err stop) new = stop ≡ Memory
 
 -- a function that adds to what is known reads by a rule
-abbrev pub AddsBy : {A : Type 0} → Rule A A → A → Reader → Cursor → Result (Unit {0}) Stop → A → Cursor → Type 0
+abbrev pub AddsBy : {A B : Type 0} → Rule A B → A → Reader → Cursor → Result (Unit {0}) Stop → B → Cursor → Type 0
 AddsBy rule a reader old result b new = Gives (λ _. b) result (reads grammar reader.levels rule a old.rest.now) new
 
 -- a function that adds to what is known reads a nested form, one level deeper

@@ -1,9 +1,12 @@
 //! The statements of a workload, read by the grammar.
 #![tactic(auto)]
 
+mod change;
 mod condition;
 mod cursor;
+mod expression;
 mod found;
+mod item;
 mod kind;
 mod law;
 mod list;
@@ -12,6 +15,8 @@ mod name;
 mod parsed;
 mod parts;
 mod piece;
+mod select;
+mod statement;
 
 pub use found::{Form, Found};
 pub use kind::Kind;
