@@ -1,1 +1,15 @@
+pub mod Sums
+pub mod Sets
+pub mod Items
+pub mod Predicates
 pub mod Limits
+pub mod Lookups
+pub mod Named
+pub mod Parts
+pub mod Rows
+pub mod Sizes
+pub mod Configs
+pub mod Upkeep
+pub mod Access
+pub mod Offers
+pub mod Days

@@ -1,8 +1,31 @@
-//! The base types.
+//! The types that every layer of the advisor shares: a catalogue with its statistics, statements as blocks of slots,
+//! predicates and join edges, index shapes and configurations.
+//!
+//! In goes nothing but values; out come types that keep their limits (each has a ghost field that says so), two sums
+//! (`times_part`, `binary_digits`) and the reader of dates. `specs/` has the definitions that the layers above cite:
+//! selectivity parts, rows, index sizes, upkeep, the offers of a slot, and what fits a space budget. Rows and pages are
+//! counts; costs are thousandths of a sequential page read. Reading text, planning and searching are left to others.
 #![tactic(auto)]
 
 mod catalogue;
+mod days;
+mod decimal;
 mod list;
+mod numbers;
+mod setting;
+mod workload;
 
-pub use catalogue::{Catalogue, Column, Index, IndexShape, Kind, Rates, Table};
+pub use catalogue::Catalogue;
+pub use catalogue::column::{Column, Kind};
+pub use catalogue::index::{Index, IndexShape};
+pub use catalogue::rates::Rates;
+pub use catalogue::table::Table;
+pub use days::day_of;
+pub use decimal::push_decimal;
 pub use list::{Bytes, List, Name};
+pub use numbers::{NoMemory, binary_digits, times_part};
+pub use setting::{Config, Setting};
+pub use workload::block::Block;
+pub use workload::parts::{Edge, Item, Slot};
+pub use workload::predicate::{Pred, Test, Value};
+pub use workload::{Statement, Work};

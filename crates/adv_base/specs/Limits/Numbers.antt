@@ -1,0 +1,32 @@
+-- Limits of plain numbers.
+use Rattle.std.specs.Prelude.{◌≡◌, ◌≢◌, ℕ, ◌<◌, ◌≤◌, ℤ, pos, neg_ℤ, ◌≤ℤ◌, List, length, slice_index, Option}
+use Rattle.std.specs.Option.{ForSome}
+
+-- each rate is at most a million thousandths of a page read
+pub record RatesLimits (seq_page rand_page row_cpu sort_cpu merge_cpu hash_cpu group_cpu : ℕ) : Type 0 where
+  pub seq_page_most : seq_page ≤ 1000000
+  pub rand_page_most : rand_page ≤ 1000000
+  pub row_cpu_most : row_cpu ≤ 1000000
+  pub sort_cpu_most : sort_cpu ≤ 1000000
+  pub merge_cpu_most : merge_cpu ≤ 1000000
+  pub hash_cpu_most : hash_cpu ≤ 1000000
+  pub group_cpu_most : group_cpu ≤ 1000000
+
+-- an end of a column's values lies between -10^18 and 10^18
+pub record EndLimits (z : ℤ) : Type 0 where
+  pub low : neg_ℤ (pos 1000000000000000000) ≤ℤ z
+  pub high : z ≤ℤ pos 1000000000000000000
+
+pub record ColumnLimits (width : ℕ) (distinct : Option ℕ) (low high : Option ℤ) : Type 0 where
+  pub width_least : 1 ≤ width
+  pub width_most : width ≤ 1000
+  pub distinct_least : ForSome distinct (λ d. 1 ≤ d)
+  pub distinct_most : ForSome distinct (λ d. d ≤ 1000000000000)
+  pub low_end : ForSome low EndLimits
+  pub high_end : ForSome high EndLimits
+
+-- 1 to 8 keys, none twice
+pub record KeyLimits (keys : List ℕ) : Type 0 where
+  pub some : 1 ≤ length keys
+  pub few : length keys ≤ 8
+  pub apart : (i j : ℕ) → i < j → j < length keys → slice_index keys i ≢ slice_index keys j

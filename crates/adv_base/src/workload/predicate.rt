@@ -1,0 +1,35 @@
+//! Predicates on one column.
+ghost use Rattle.adv_base.specs.Limits.Tests.{TestLimits};
+
+/// A value that a column is compared with: a number, or a day as its number, where the column's statistics can tell
+/// its place; any other value is plain.
+#[derive(Clone, Copy, Debug, PartialEq, Eq)]
+pub enum Value {
+    Number(i64),
+    Plain,
+}
+
+/// What is asked of a column. `Below` and `Above` hold with and without equality; `OneOf` has the number of its items.
+#[derive(Clone, Copy, Debug, PartialEq, Eq)]
+pub enum Test {
+    Equal,
+    NotEqual,
+    Below(Value),
+    Above(Value),
+    Between(Value, Value),
+    OneOf(u32),
+    Like,
+    IsNull,
+    NotNull,
+    /// Equal to the column of this number in the same slot.
+    Same(u16),
+}
+
+/// A test of one column of one slot.
+#[derive(Clone, Copy, Debug)]
+pub struct Pred {
+    pub slot: u8,
+    pub column: u16,
+    pub test: Test,
+    pub ghost limits: { TestLimits test },
+}
