@@ -3,4 +3,6 @@ pub mod Good
 pub mod KindSets
 pub mod Loops
 pub mod Nested
+pub mod Outcome
+pub mod Steps
 pub mod Theory

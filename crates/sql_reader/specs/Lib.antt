@@ -1,6 +1,9 @@
 pub mod Exact
 pub mod Grammar
 pub mod Kinds
+pub mod Pieces
 pub mod Reads
 pub mod Rule
 pub mod Values
+pub mod Words
+pub mod Workload

@@ -15,8 +15,11 @@ mod name;
 mod parsed;
 mod parts;
 mod piece;
+mod scan;
 mod select;
 mod statement;
+mod words;
+mod workload;
 
 pub use found::{Form, Found};
 pub use kind::Kind;
@@ -26,3 +29,7 @@ pub use parsed::{
 };
 pub use parts::{InsertParts, Progress, UpdateParts};
 pub use piece::{Mark, Piece};
+pub use workload::read_workload;
+
+#[cfg(test)]
+mod tests;
