@@ -56,7 +56,7 @@ is_weight _ = false
 -- one token more: a weight comment is the mark of the tokens behind it, every other token is a piece
 abbrev pub WithToken : List ℕ → Mark → Token → (Mark → List Piece → Type 0) → Bool → List Piece → Type 0
 WithToken text mark t behind true pieces = behind (mark_of text t) pieces
-WithToken text mark t behind false pieces = (p : Piece) (rest : List Piece) × (pieces ≡ p ∷ rest) × IsPiece text mark t p × behind mark rest
+WithToken text mark t behind false pieces = (p : Piece) × (rest : List Piece) × (pieces ≡ p ∷ rest) × IsPiece text mark t p × behind mark rest
 
 -- the tokens are these pieces and weight comments, behind the weight comment that the mark names
 abbrev pub ArePieces : List ℕ → List Token → Mark → List Piece → Type 0
