@@ -488,9 +488,13 @@ update_source = Use (λ u. u) source (λ _ x. empty_update x)
 unfoldable pub update_rest : Rule (Unit {0}) UpdateParts
 update_rest = Then update_source (Then (Take (kinds.Set ∷ []) (λ parts _. parts)) (Then assignments (Use update_conditions_of where_conditions with_update_conditions)))
 
+-- [WHERE conds] of a DELETE
+unfoldable pub delete_conditions : Rule Source Body
+delete_conditions = Use (λ _. []) where_conditions (λ x all. bodies.Delete x all)
+
 -- delete, behind DELETE
 unfoldable pub delete_rest : Rule (Unit {0}) Body
-delete_rest = Then (Take (kinds.From ∷ []) (λ u _. u)) (Then source (Use (λ _. []) where_conditions (λ x all. bodies.Delete x all)))
+delete_rest = Then (Take (kinds.From ∷ []) (λ u _. u)) (Then source delete_conditions)
 
 -- select, behind SELECT, as a body
 unfoldable pub select : Rule (Unit {0}) Body

@@ -4,6 +4,7 @@ pub mod Kinds
 pub mod Pieces
 pub mod Reads
 pub mod Rule
+pub mod Valid
 pub mod Values
 pub mod Words
 pub mod Workload

@@ -1,5 +1,5 @@
 -- What the productions of the grammar give.
-use Rattle.std.specs.Prelude.{ℕ, ℤ, pos, neg_ℤ, ◌+◌, ◌^◌, ◌<◌, Bool, true, false, ◌||◌, nat_lt, nat_abs, int_lt, if◌then◌else◌, List, [], ◌∷◌, ◌++◌, Option, Some, None}
+use Rattle.std.specs.Prelude.{ℕ, ℤ, pos, neg_ℤ, ◌+◌, ◌-◌, ◌^◌, min, Bool, true, false, ◌||◌, nat_lt, nat_abs, int_lt, if◌then◌else◌, List, [], ◌∷◌, ◌++◌, Option, Some, None}
 use Rattle.sql_tokens.specs.declared.token.Span.{Span}
 use Rattle.sql_reader.specs.declared.kind.Kind.{Kind}
 use Rattle.sql_reader.specs.declared.kind.Kind.TheVariants as kinds
@@ -144,9 +144,9 @@ empty_update source = record { source = source; columns = []; found = nothing_fo
 abbrev pub update_body : UpdateParts → Body
 update_body parts = bodies.Update parts.source parts.columns parts.found.uses parts.conditions
 
--- the place of a piece's first byte, from 1
+-- the place of a piece's first byte, from 1, as far as 64 bits go
 abbrev pub place_of : Piece → ℕ
-place_of p = p.span.from + 1
+place_of p = min (p.span.from + 1) (2 ^ 64 - 1)
 
 -- the weight of the statement that begins with this piece: that of the last weight comment before it, where that
 -- stands behind the first token of the statement before

@@ -6,7 +6,7 @@ ghost use Rattle.std.specs.Prelude.{◌≡◌};
 use crate::cursor::{Cursor, Reader, Stop};
 use crate::list::push;
 use crate::name::NAMES;
-use crate::{Body, Found, InsertParts, Kind, NameUse, UpdateParts};
+use crate::{Body, Found, InsertParts, Kind, NameUse, Source, UpdateParts};
 use adv_base::List;
 use std::alloc::Global;
 
@@ -224,6 +224,14 @@ impl Reader {
     {
         cursor.take(&[Kind::From])?;
         let source = self.source(cursor)?;
+        self.delete_conditions(alloc, cursor, source)
+    }
+
+    /// The tests of a DELETE.
+    #[tactic(auto, unfolding(crate::specs::Grammar::delete_conditions))]
+    fn delete_conditions(self, alloc: Global, cursor: &mut Cursor<'_>, source: Source) -> Result<Body, Stop>
+        ensures { ReadsBy rule.delete_conditions source self cursor.old result cursor.new }
+    {
         let mut conditions = List::new(alloc);
         self.where_conditions(cursor, &mut conditions)?;
         Ok(Body::Delete { source, conditions })

@@ -13,20 +13,23 @@ mod list;
 mod literal;
 mod name;
 mod parsed;
+mod parsed_text;
 mod parts;
 mod piece;
 mod scan;
 mod select;
 mod statement;
+mod valid;
 mod words;
 mod workload;
 
 pub use found::{Form, Found};
 pub use kind::Kind;
 pub use parsed::{
-    Body, Compare, Condition, Expr, Literal, NameUse, Parsed, ParsedItem, ParsedOrder, ParsedSelect,
+    Body, Compare, Condition, Expr, Literal, NameUse, ParsedItem, ParsedOrder, ParsedSelect,
     ParsedStatement, Source, SqlFault,
 };
+pub use parsed_text::Parsed;
 pub use parts::{InsertParts, Progress, UpdateParts};
 pub use piece::{Mark, Piece};
 pub use workload::read_workload;

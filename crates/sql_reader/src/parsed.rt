@@ -118,13 +118,6 @@ pub struct ParsedStatement {
     pub body: Body,
 }
 
-/// A text and its statements.
-#[derive(Debug, Drop)]
-pub struct Parsed<'a> {
-    pub text: &'a [u8],
-    pub statements: List<ParsedStatement>,
-}
-
 /// Why a text is no workload. A place is the 1-based offset of a token's first byte; the end of a text of
 /// n bytes has place n + 1.
 #[derive(Clone, Copy, Debug, PartialEq, Eq, Error)]

@@ -90,12 +90,21 @@ fn add(text: &[u8], token: Token, mark: &mut Mark, list: &mut List<Piece>) -> Re
     ensures ok { OnOk result (pieces.AddsToken text.now token mark.old list.old (pieces.is_weight token.kind) mark.new list.new) }
     ensures err { IfErr result (λ stop. stop ≡ Memory) }
 {
-    match token.kind {
-        TokenKind::Weight => {
-            *mark = mark_of(text, token);
-            Ok(())
-        }
-        _ => push(list, piece(text, token, *mark)),
+    if is_weight(token.kind) {
+        *mark = mark_of(text, token);
+        return Ok(());
+    }
+    let made = piece(text, token, *mark);
+    push(list, made)
+}
+
+/// Whether the kind is that of weight comments.
+fn is_weight(kind: TokenKind) -> bool
+    ensures { result ≡ pieces.is_weight kind }
+{
+    match kind {
+        TokenKind::Weight => true,
+        _ => false,
     }
 }
 
@@ -151,7 +160,7 @@ pub fn start_behind_1000(list: &[Piece]) -> Option<u64>
     'turns: for piece in list {
         if has(&STARTS, piece.kind) {
             if left == 0 {
-                return Some(piece.span.from + 1);
+                return Some(piece.span.from.saturating_add(1));
             }
             left -= 1;
         }

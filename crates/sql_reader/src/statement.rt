@@ -21,7 +21,7 @@ impl Progress {
         ensures ok { OnOk result (self.new ≡ values.with_statement self.old first body) }
         ensures err { IfErr result (λ stop. stop ≡ Memory) }
     {
-        let place = first.span.from + 1;
+        let place = first.span.from.saturating_add(1);
         let weight = if self.before < first.mark.place {
             first.mark.weight
         } else {

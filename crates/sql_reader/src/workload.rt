@@ -8,6 +8,7 @@ ghost use Rattle.std.specs.Prelude.{◌≡◌, ◌+◌, ◌<◌, ◌^◌, ◌⊎
 
 use crate::cursor::{has, Cursor, Reader, Stop};
 use crate::scan::{bad_weight, scan, start_behind_1000};
+use crate::valid::statements_in;
 use crate::{Kind, Parsed, Piece, Progress, SqlFault};
 use adv_base::List;
 use sql_tokens::{tokens, TokenFault, Tokens};
@@ -55,7 +56,7 @@ fn grammar_fault(end: u64, rest: &[Piece]) -> SqlFault
     match rest.first() {
         None => SqlFault::Syntax(end),
         Some(piece) => {
-            let place = piece.span.from + 1;
+            let place = piece.span.from.saturating_add(1);
             if has(&LEFT_OUT, piece.kind) {
                 SqlFault::Unsupported(place)
             } else {
@@ -133,7 +134,8 @@ fn first_fault(tokens: &Tokens<'_>, list: &[Piece], fault: Option<SqlFault>) -> 
 
 /// What a text with tokens says.
 fn read_tokens<'a>(alloc: Global, tokens: Tokens<'a>) -> Result<Parsed<'a>, SqlFault>
-    requires { AreTokens tokens.text.now tokens.list }
+    requires tokens { AreTokens tokens.text.now tokens.list }
+    requires short { length tokens.text.now < 2 ^ 32 }
     ensures same_text { IfOk result (λ parsed. parsed.text.now ≡ tokens.entry.text.now) }
     ensures found { IfOk result (λ parsed. workload.Says tokens.entry.text.now parsed.statements None) }
     ensures fault { IfErr result (λ e. (e ≡ SqlFault.Memory) ⊎ workload.IsFirstFault tokens.entry.text.now e) }
@@ -152,6 +154,10 @@ fn read_tokens<'a>(alloc: Global, tokens: Tokens<'a>) -> Result<Parsed<'a>, SqlF
         statements,
         before: _,
     } = progress;
+    // What was read always keeps this: each span is that of a token, and each count is at most that of the tokens.
+    if !statements_in(tokens.text.len() as u64, statements.as_slice()) {
+        return Err(SqlFault::Memory);
+    }
     Ok(Parsed {
         text: tokens.text,
         statements,
