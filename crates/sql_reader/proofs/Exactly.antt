@@ -41,7 +41,6 @@ levels_sensible borders grammar g zero = no_level borders grammar
 levels_sensible borders grammar g (suc n) = one_level borders grammar g n (levels_sensible borders grammar g n)
 
 module _ (borders : Borders) (deeper : (x : Nesting) → Meaning (State x) (State x)) (reader : (x : Nesting) → Reader (State x) (State x)) (s : Sensible borders deeper reader) where
-
   -- what is meant is read whole
   whole : {A B : Type 0} (r : Rule A B) → good borders r ≡ true → (a : A) (ps : List Piece) (b : B) → IsOver deeper r a ps b → read_over reader r a ps ≡ Read b []
   whole r g a ps b h =
@@ -73,23 +72,23 @@ module _ (borders : Borders) (deeper : (x : Nesting) → Meaning (State x) (Stat
   exact r g c a ps (Read b []) e (front, split, h) =
       subst (λ (f : List Piece). IsOver deeper r a f b) (sym (split ∙ append-nil front)) h
   exact r g c a ps (Read b (p ∷ rest)) e (front, split, h) = record {
-      front = front;
-      split = split;
-      before = ([], b, subst (λ (f : List Piece). IsOver deeper r a f b) (sym (append-nil front)) h);
-      none = none_on r g a front p rest (Read b (p ∷ rest)) (ap (read_over reader r a) (sym split) ∙ e) refl;
-    }
+    front = front;
+    split = split;
+    before = ([], b, subst (λ (f : List Piece). IsOver deeper r a f b) (sym (append-nil front)) h);
+    none = none_on r g a front p rest (Read b (p ∷ rest)) (ap (read_over reader r a) (sym split) ∙ e) refl;
+  }
   exact r g c a ps (Stuck []) e (front, split, v) = record {
-      front = front;
-      split = split;
-      before = on_from r c a front v;
-      none = none_at_end r g a front (ap (read_over reader r a) (sym (split ∙ append-nil front)) ∙ e);
-    }
+    front = front;
+    split = split;
+    before = on_from r c a front v;
+    none = none_at_end r g a front (ap (read_over reader r a) (sym (split ∙ append-nil front)) ∙ e);
+  }
   exact r g c a ps (Stuck (p ∷ rest)) e (front, split, v) = record {
-      front = front;
-      split = split;
-      before = on_from r c a front v;
-      none = none_on r g a front p rest (Stuck (p ∷ rest)) (ap (read_over reader r a) (sym split) ∙ e) refl;
-    }
+    front = front;
+    split = split;
+    before = on_from r c a front v;
+    none = none_on r g a front p rest (Stuck (p ∷ rest)) (ap (read_over reader r a) (sym split) ∙ e) refl;
+  }
 
 read_value : {B : Type 0} (b c : B) (ps : List Piece) → Read b ps ≡ Read c ps → b ≡ c
 read_value b c ps e = cc
@@ -101,7 +100,7 @@ pub reads_exactly : (borders : Borders) (grammar : Grammar) (levels : ℕ) {A B 
 reads_exactly borders grammar levels rule g good_rule closes_rule a pieces =
     let s = levels_sensible borders grammar g levels in
     exact borders (IsNested grammar levels) (read_nested grammar levels) s rule good_rule closes_rule a pieces (reads grammar levels rule a pieces) refl
-      (right borders (IsNested grammar levels) (read_nested grammar levels) s rule good_rule a pieces)
+    (right borders (IsNested grammar levels) (read_nested grammar levels) s rule good_rule a pieces)
 
 -- pieces have at most one meaning
 pub has_one_meaning : (borders : Borders) (grammar : Grammar) (levels : ℕ) {A B : Type 0} (rule : Rule A B) → IsGood borders grammar →
@@ -110,4 +109,4 @@ pub has_one_meaning : (borders : Borders) (grammar : Grammar) (levels : ℕ) {A 
 has_one_meaning borders grammar levels rule g good_rule a pieces b c hb hc =
     let s = levels_sensible borders grammar g levels in
     read_value b c [] (sym (whole borders (IsNested grammar levels) (read_nested grammar levels) s rule good_rule a pieces b hb)
-      ∙ whole borders (IsNested grammar levels) (read_nested grammar levels) s rule good_rule a pieces c hc)
+    ∙ whole borders (IsNested grammar levels) (read_nested grammar levels) s rule good_rule a pieces c hc)

@@ -48,7 +48,7 @@ not_in_other [] ks k h m = absurd cc
 not_in_other (j ∷ js) ks k h m =
     let parts = and_parts (not (has ks j)) (apart js ks) h in
     elim (or_cases (code_of j == code_of k) (has js k) m) [
-      inl e ↦ sym (same_code ks j k (code_eq (code_of j) (code_of k) e)) ∙ not_true (has ks j) parts.0
+      | inl e ↦ sym (same_code ks j k (code_eq (code_of j) (code_of k) e)) ∙ not_true (has ks j) parts.0
       | inr rest ↦ not_in_other js ks k parts.1 rest
     ]
 
@@ -60,7 +60,7 @@ in_wider [] ks k h m = absurd cc
 in_wider (j ∷ js) ks k h m =
     let parts = and_parts (has ks j) (within js ks) h in
     elim (or_cases (code_of j == code_of k) (has js k) m) [
-      inl e ↦ sym (same_code ks j k (code_eq (code_of j) (code_of k) e)) ∙ parts.0
+      | inl e ↦ sym (same_code ks j k (code_eq (code_of j) (code_of k) e)) ∙ parts.0
       | inr rest ↦ in_wider js ks k parts.1 rest
     ]
 

@@ -34,7 +34,7 @@ pub takes_some : {A B : Type 0} (rule : Rule A B) → good borders rule ≡ true
 takes_some {A} {B} rule g full n a ps b rest e =
     let s = levels_sensible borders grammar good_grammar n in
     let meant : Explains (IsOver (IsNested grammar n) rule) a ps (Read b rest) =
-          subst (λ (x : Reading B). Explains (IsOver (IsNested grammar n) rule) a ps x) e (right borders (IsNested grammar n) (read_nested grammar n) s rule g a ps) in
+    subst (λ (x : Reading B). Explains (IsOver (IsNested grammar n) rule) a ps x) e (right borders (IsNested grammar n) (read_nested grammar n) s rule g a ps) in
     less meant.0 meant.1 meant.2
   where
     less : (front : List Piece) → ps ≡ front ++ rest → IsOver (IsNested grammar n) rule a front b → length rest < length ps
@@ -55,8 +55,8 @@ same_turns kinds turn less (suc n) zero a [] room room2 = refl
 same_turns kinds turn less (suc n) zero a (p ∷ ps) room room2 = absurd (omega arith)
 same_turns {A} kinds turn less (suc n) (suc n2) a ps room room2 =
     ap (λ (x : Reading A). if begins kinds ps then x else Read a ps)
-      (same_behind (turn a ps) (repeated n kinds turn) (repeated n2 kinds turn)
-        (λ m rest e. let l = less a ps m rest e in same_turns kinds turn less n n2 m rest (omega arith) (omega arith)))
+    (same_behind (turn a ps) (repeated n kinds turn) (repeated n2 kinds turn)
+    (λ m rest e. let l = less a ps m rest e in same_turns kinds turn less n n2 m rest (omega arith) (omega arith)))
 
 -- one turn, and those behind it
 pub many_goes : {A : Type 0} (kinds : List Kind) (rule : Rule A A) → good borders rule ≡ true → may_be_empty rule ≡ false → (n : ℕ) (a : A) (ps : List Piece) → begins kinds ps ≡ true →

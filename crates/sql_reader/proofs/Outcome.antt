@@ -4,6 +4,9 @@ use Rattle.sql_reader.specs.declared.piece.Piece.{Piece}
 use Rattle.sql_reader.specs.declared.parsed.SqlFault.{SqlFault}
 use Rattle.sql_reader.specs.declared.parsed.SqlFault.TheVariants as faults
 use Rattle.sql_reader.specs.declared.parts.Progress.{Progress}
+use Rattle.sql_reader.specs.declared.cursor.Stop.{Stop}
+use Rattle.sql_reader.specs.declared.cursor.Stop.TheVariants.{Memory, Here}
+use Rattle.sql_reader.specs.Reads.{StopsAt}
 use Rattle.sql_reader.specs.Kinds.{has}
 use Rattle.sql_reader.specs.Rule.{Reading, Read, Stuck}
 use Rattle.sql_reader.specs.Exact.{IsExact, IsRead, reads}
@@ -17,7 +20,7 @@ use Rattle.sql_reader.proofs.Good.{good_workload, closes_workload, good_grammar}
 exact_at : (pieces : List Piece) (x : Reading Progress) → reads grammar levels workload no_statements pieces ≡ x → IsExact (IsRead grammar levels workload) no_statements pieces x
 exact_at pieces x e =
     subst (λ (y : Reading Progress). IsExact (IsRead grammar levels workload) no_statements pieces y) e
-      (reads_exactly borders grammar levels workload good_grammar good_workload closes_workload no_statements pieces)
+    (reads_exactly borders grammar levels workload good_grammar good_workload closes_workload no_statements pieces)
 
 pub says_read : (end : ℕ) (pieces : List Piece) (progress : Progress) (rest : List Piece) → reads grammar levels workload no_statements pieces ≡ Read progress rest →
     GrammarSays end pieces progress (fault_behind end rest)
@@ -27,6 +30,11 @@ says_read end pieces progress (p ∷ rest) e = (p ∷ rest, exact_at pieces (Rea
 pub says_stuck : (end : ℕ) (pieces : List Piece) (progress : Progress) (rest : List Piece) → reads grammar levels workload no_statements pieces ≡ Stuck rest →
     GrammarSays end pieces progress (Some (grammar_fault end rest))
 says_stuck end pieces progress rest e = (rest, exact_at pieces (Stuck rest) e, refl)
+
+-- where a function stops before the next piece the reading is stuck
+pub stuck_from : (stop : Stop) (reading : Reading Progress) (rest : List Piece) → stop ≡ Here → StopsAt stop reading rest → reading ≡ Stuck rest
+stuck_from Memory reading rest e h = absurd cc
+stuck_from Here reading rest e h = h
 
 -- a fault that is none of a token's
 IsLate : SqlFault → Type 0
@@ -81,7 +89,7 @@ late_first : (text : List ℕ) (fault : SqlFault) → IsFirstFault text fault �
 unfolding AreLate
 late_first text fault (statements, says) =
     let all = late_earlier says.of_grammar _ (late_says (length text + 1) says.pieces says.progress says.of_grammar says.says)
-          (late_earlier _ _ (late_weight (bad_weight text says.list)) (late_start (start_behind 1000 says.pieces))) in
+    (late_earlier _ _ (late_weight (bad_weight text says.list)) (late_start (start_behind 1000 says.pieces))) in
     subst AreLate (sym says.first) all
 
 pub from_first : (text : List ℕ) (fault : SqlFault) → IsFirstFault text fault → HasSqlFault text fault

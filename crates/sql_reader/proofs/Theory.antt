@@ -76,7 +76,6 @@ repeated_ends zero kinds turn a ps h = refl
 repeated_ends (suc n) kinds turn a ps h = rw h refl
 
 module _ (borders : Borders) (deeper : (x : Nesting) → Meaning (State x) (State x)) (reader : (x : Nesting) → Reader (State x) (State x)) (sensible : Sensible borders deeper reader) where
-
   -- what is meant without a piece may be empty
   pub empty_only : {A B : Type 0} (r : Rule A B) (a : A) (b : B) → IsOver deeper r a [] b → may_be_empty r ≡ true
   empty_only (Give f) a b h = refl
@@ -101,11 +100,11 @@ module _ (borders : Borders) (deeper : (x : Nesting) → Meaning (State x) (Stat
   then_first first second a m b [] back p ps one two e h1 h2 =
       let empty = empty_only first a m h1 in
       rw (empty, has-append (first_of_rule borders first) (first_of_rule borders second) p.kind) (or_right (has (first_of_rule borders first) p.kind) (has (first_of_rule borders second) p.kind)
-        (two (subst (λ f. IsOver deeper second m f b) (sym e) h2)))
+      (two (subst (λ f. IsOver deeper second m f b) (sym e) h2)))
   then_first first second a m b (q ∷ front) back p ps one two e h1 h2 =
       let same : p ≡ q = cc in
       rw (has-append (first_of_rule borders first) (if may_be_empty first then first_of_rule borders second else []) p.kind) (or_left (has (first_of_rule borders first) p.kind) (has (if may_be_empty first then first_of_rule borders second else []) p.kind)
-        (subst (λ (x : Piece). has (first_of_rule borders first) x.kind ≡ true) (sym same) (one q front h1)))
+      (subst (λ (x : Piece). has (first_of_rule borders first) x.kind ≡ true) (sym same) (one q front h1)))
 
   turns_first : {A : Type 0} (turn : Rule A A) (n : ℕ) (a b : A) (p : Piece) (ps : List Piece) →
       ((c d : A) (q : Piece) (qs : List Piece) → IsOver deeper turn c (q ∷ qs) d → has (first_of_rule borders turn) q.kind ≡ true) →
@@ -196,12 +195,16 @@ module _ (borders : Borders) (deeper : (x : Nesting) → Meaning (State x) (Stat
   unfolding SomeTurns
   one_more turn a m ps front rest e h (Read b rest2) (back, e2, (k, t)) =
       (front ++ back, e ∙ ap (λ x. front ++ x) e2 ∙ sym (append_assoc front back rest2), (suc k, (front, back, m, refl, h, t)))
-  one_more turn a m ps front rest e h (Stuck rest2) (back, e2, inl v) =
-      (front ++ back, e ∙ ap (λ x. front ++ x) e2 ∙ sym (append_assoc front back rest2),
-       inr ([], m, (1, (front, [], m, append-nil (front ++ back) ∙ ap (λ x. front ++ x) v, h, (refl, refl)))))
-  one_more turn a m ps front rest e h (Stuck rest2) (back, e2, inr (more, b, (k, t))) =
-      (front ++ back, e ∙ ap (λ x. front ++ x) e2 ∙ sym (append_assoc front back rest2),
-       inr (more, b, (suc k, (front, back ++ more, m, append_assoc front back more, h, t))))
+  one_more turn a m ps front rest e h (Stuck rest2) (back, e2, inl v) = (
+    front ++ back,
+    e ∙ ap (λ x. front ++ x) e2 ∙ sym (append_assoc front back rest2),
+    inr ([], m, (1, (front, [], m, append-nil (front ++ back) ∙ ap (λ x. front ++ x) v, h, (refl, refl)))),
+  )
+  one_more turn a m ps front rest e h (Stuck rest2) (back, e2, inr (more, b, (k, t))) = (
+    front ++ back,
+    e ∙ ap (λ x. front ++ x) e2 ∙ sym (append_assoc front back rest2),
+    inr (more, b, (suc k, (front, back ++ more, m, append_assoc front back more, h, t))),
+  )
 
   turn_right : {A : Type 0} (turn : Rule A A) (a : A) (ps : List Piece) (again : Reader A A) → ((m : A) (rest : List Piece) → Explains (SomeTurns turn) m rest (again m rest)) →
       (x : Reading A) → Explains (IsOver deeper turn) a ps x → Explains (SomeTurns turn) a ps (x >>= again)
@@ -217,8 +220,8 @@ module _ (borders : Borders) (deeper : (x : Nesting) → Meaning (State x) (Stat
   turns_right kinds turn one zero a ps = ([], refl, (zero, (refl, refl)))
   turns_right kinds turn one (suc n) a ps =
       explains_choice (SomeTurns turn) a ps (begins kinds ps) _ _
-        (turn_right turn a ps (repeated n kinds (read_over reader turn)) (turns_right kinds turn one n) (read_over reader turn a ps) (one a ps))
-        ([], refl, (zero, (refl, refl)))
+      (turn_right turn a ps (repeated n kinds (read_over reader turn)) (turns_right kinds turn one n) (read_over reader turn a ps) (one a ps))
+      ([], refl, (zero, (refl, refl)))
 
   pub right : {A B : Type 0} (r : Rule A B) → good borders r ≡ true → (a : A) (ps : List Piece) → Explains (IsOver deeper r) a ps (read_over reader r a ps)
   unfolding SomeTurns
@@ -235,8 +238,8 @@ module _ (borders : Borders) (deeper : (x : Nesting) → Meaning (State x) (Stat
       let parts = and_parts (good borders left) _ g in
       let parts2 = and_parts (good borders right_rule) _ parts.1 in
       explains_choice (IsOver deeper (Either kinds left right_rule)) a ps (begins kinds ps) _ _
-        (explains_more (IsOver deeper left) (IsOver deeper (Either kinds left right_rule)) a (λ front b h. inl h) ps (read_over reader left a ps) (right left parts.0 a ps))
-        (explains_more (IsOver deeper right_rule) (IsOver deeper (Either kinds left right_rule)) a (λ front b h. inr h) ps (read_over reader right_rule a ps) (right right_rule parts2.0 a ps))
+      (explains_more (IsOver deeper left) (IsOver deeper (Either kinds left right_rule)) a (λ front b h. inl h) ps (read_over reader left a ps) (right left parts.0 a ps))
+      (explains_more (IsOver deeper right_rule) (IsOver deeper (Either kinds left right_rule)) a (λ front b h. inr h) ps (read_over reader right_rule a ps) (right right_rule parts2.0 a ps))
   right (Many kinds turn) g a ps =
       let parts = and_parts (good borders turn) _ g in
       turns_right kinds turn (right turn parts.0) (length ps) a ps
@@ -362,15 +365,15 @@ module _ (borders : Borders) (deeper : (x : Nesting) → Meaning (State x) (Stat
       let whole : front ++ rest ≡ start ++ (back ++ rest) = es ∙ ap (λ (y : List Piece). start ++ y) (ap left_of e ∙ mid_is) in
       let front_is : front ≡ start ++ back = append_cancel_right front (start ++ back) rest (whole ∙ sym (append_assoc start back rest)) in
       let read_start : read_over reader first a (start ++ (back ++ rest)) ≡ Read m (back ++ rest) =
-            ap (read_over reader first a) (sym whole) ∙ e ∙ ap (λ (y : List Piece). Read m y) mid_is in
+      ap (read_over reader first a) (sym whole) ∙ e ∙ ap (λ (y : List Piece). Read m y) mid_is in
       let first_there : read_over reader first a (start ++ (back ++ other)) ≡ Read m (back ++ other) =
-            one a start (back ++ rest) (back ++ other) (same_head_behind back rest other same) (ap left_of read_start) ∙ ap (moved (back ++ other)) read_start in
+      one a start (back ++ rest) (back ++ other) (same_head_behind back rest other same) (ap left_of read_start) ∙ ap (moved (back ++ other)) read_start in
       let other_is : front ++ other ≡ start ++ (back ++ other) = ap (λ (y : List Piece). y ++ other) front_is ∙ append_assoc start back other in
       let left_second : left_of (read_over reader second m (back ++ rest)) ≡ rest = ap (λ (y : List Piece). left_of (read_over reader second m y)) (sym mid_is) ∙ l in
       let second_there = two m back rest other same left_second in
       ap (λ (y : List Piece). read_over reader first a y >>= read_over reader second) other_is
-        ∙ ap (λ (y : Reading M). y >>= read_over reader second) first_there
-        ∙ second_there ∙ ap (λ (y : List Piece). moved other (read_over reader second m y)) (sym mid_is)
+      ∙ ap (λ (y : Reading M). y >>= read_over reader second) first_there
+      ∙ second_there ∙ ap (λ (y : List Piece). moved other (read_over reader second m y)) (sym mid_is)
 
   use_local : {C D : Type 0} (join : C → D) (rest other : List Piece) (x y : Reading C) → y ≡ moved other x →
       (y >>= λ c q. Read (join c) q) ≡ moved other (x >>= λ c q. Read (join c) q)
@@ -401,7 +404,7 @@ module _ (borders : Borders) (deeper : (x : Nesting) → Meaning (State x) (Stat
       not_taken : (c : Bool) → has kinds p.kind ≡ c → read_over reader (Take kinds f) a (q ∷ qs) ≡ moved (q ∷ qs) (read_over reader (Take kinds f) a (p ∷ ps))
       not_taken true k =
           let l2 : left_of ((if true then Read p ps else Stuck (p ∷ ps)) >>= λ x rest. Read (f a x) rest) ≡ p ∷ ps =
-                subst (λ (c : Bool). left_of ((if c then Read p ps else Stuck (p ∷ ps)) >>= λ x rest. Read (f a x) rest) ≡ p ∷ ps) k l in
+          subst (λ (c : Bool). left_of ((if c then Read p ps else Stuck (p ∷ ps)) >>= λ x rest. Read (f a x) rest) ≡ p ∷ ps) k l in
           absurd (omega (arith, ap length l2))
       not_taken false k = let k2 = sym (ap (has kinds) same) ∙ k in rw (k, k2) refl
   take_local {A} {B} kinds f a (p ∷ front) rest other same l = taken (has kinds p.kind) refl
@@ -420,8 +423,8 @@ module _ (borders : Borders) (deeper : (x : Nesting) → Meaning (State x) (Stat
       ((a : A) (front rest other : List Piece) → SameHead rest other → left_of (read_over reader turn a (front ++ rest)) ≡ rest → read_over reader turn a (front ++ other) ≡ moved other (read_over reader turn a (front ++ rest))) →
       (n n2 : ℕ) →
       ((a : A) (front rest other : List Piece) → SameHead rest other → length (front ++ rest) ≤ n → length (front ++ other) ≤ n2 →
-        left_of (repeated n kinds (read_over reader turn) a (front ++ rest)) ≡ rest →
-        repeated n2 kinds (read_over reader turn) a (front ++ other) ≡ moved other (repeated n kinds (read_over reader turn) a (front ++ rest))) →
+      left_of (repeated n kinds (read_over reader turn) a (front ++ rest)) ≡ rest →
+      repeated n2 kinds (read_over reader turn) a (front ++ other) ≡ moved other (repeated n kinds (read_over reader turn) a (front ++ rest))) →
       (a : A) (front rest other : List Piece) → SameHead rest other → length (front ++ rest) ≤ suc n → length (front ++ other) ≤ suc n2 →
       (x : Reading A) → read_over reader turn a (front ++ rest) ≡ x →
       left_of (x >>= repeated n kinds (read_over reader turn)) ≡ rest →
@@ -437,18 +440,18 @@ module _ (borders : Borders) (deeper : (x : Nesting) → Meaning (State x) (Stat
       let whole : front ++ rest ≡ start ++ (back ++ rest) = es ∙ ap (λ (y : List Piece). start ++ y) mid_is in
       let front_is : front ≡ start ++ back = append_cancel_right front (start ++ back) rest (whole ∙ sym (append_assoc start back rest)) in
       let read_start : read_over reader turn a (start ++ (back ++ rest)) ≡ Read m (back ++ rest) =
-            ap (read_over reader turn a) (sym whole) ∙ e ∙ ap (λ (y : List Piece). Read m y) mid_is in
+      ap (read_over reader turn a) (sym whole) ∙ e ∙ ap (λ (y : List Piece). Read m y) mid_is in
       let first_there : read_over reader turn a (start ++ (back ++ other)) ≡ Read m (back ++ other) =
-            one a start (back ++ rest) (back ++ other) (same_head_behind back rest other same) (ap left_of read_start) ∙ ap (moved (back ++ other)) read_start in
+      one a start (back ++ rest) (back ++ other) (same_head_behind back rest other same) (ap left_of read_start) ∙ ap (moved (back ++ other)) read_start in
       let other_is : front ++ other ≡ start ++ (back ++ other) = ap (λ (y : List Piece). y ++ other) front_is ∙ append_assoc start back other in
       let some : 1 ≤ length start = starts turn full a m start h in
       let less : length (back ++ rest) ≤ n = omega (arith, ap length whole, length-append start (back ++ rest)) in
       let less2 : length (back ++ other) ≤ n2 = omega (arith, ap length other_is, length-append start (back ++ other)) in
       let left_again : left_of (repeated n kinds (read_over reader turn) m (back ++ rest)) ≡ rest = ap (λ (y : List Piece). left_of (repeated n kinds (read_over reader turn) m y)) (sym mid_is) ∙ l in
       ap (λ (y : List Piece). read_over reader turn a y >>= repeated n2 kinds (read_over reader turn)) other_is
-        ∙ ap (λ (y : Reading A). y >>= repeated n2 kinds (read_over reader turn)) first_there
-        ∙ again m back rest other same less less2 left_again
-        ∙ ap (λ (y : List Piece). moved other (repeated n kinds (read_over reader turn) m y)) (sym mid_is)
+      ∙ ap (λ (y : Reading A). y >>= repeated n2 kinds (read_over reader turn)) first_there
+      ∙ again m back rest other same less less2 left_again
+      ∙ ap (λ (y : List Piece). moved other (repeated n kinds (read_over reader turn) m y)) (sym mid_is)
     where
       starts : (turn : Rule A A) → may_be_empty turn ≡ false → (a m : A) (start : List Piece) → IsOver deeper turn a start m → 1 ≤ length start
       starts turn full a m [] h = not_both (may_be_empty turn) (empty_only turn a m h) full
@@ -472,14 +475,14 @@ module _ (borders : Borders) (deeper : (x : Nesting) → Meaning (State x) (Stat
   -- another turn is read, or none
   test_local : {A : Type 0} (kinds : List Kind) (turn : Rule A A) (n n2 : ℕ) (a : A) (front rest other : List Piece) → SameHead rest other → (c : Bool) → begins kinds (front ++ rest) ≡ c →
       (left_of (read_over reader turn a (front ++ rest) >>= repeated n kinds (read_over reader turn)) ≡ rest →
-        (read_over reader turn a (front ++ other) >>= repeated n2 kinds (read_over reader turn)) ≡ moved other (read_over reader turn a (front ++ rest) >>= repeated n kinds (read_over reader turn))) →
+      (read_over reader turn a (front ++ other) >>= repeated n2 kinds (read_over reader turn)) ≡ moved other (read_over reader turn a (front ++ rest) >>= repeated n kinds (read_over reader turn))) →
       left_of (repeated (suc n) kinds (read_over reader turn) a (front ++ rest)) ≡ rest →
       repeated (suc n2) kinds (read_over reader turn) a (front ++ other) ≡ moved other (repeated (suc n) kinds (read_over reader turn) a (front ++ rest))
   test_local kinds turn n n2 a front rest other same false k go l = ends_local kinds turn (suc n) (suc n2) a front rest other same k l
   test_local kinds turn n n2 a front rest other same true k go l =
       let k2 : begins kinds (front ++ other) ≡ true = sym (begins_behind kinds front rest other same) ∙ k in
       let l2 : left_of (read_over reader turn a (front ++ rest) >>= repeated n kinds (read_over reader turn)) ≡ rest =
-            subst (λ (c : Bool). left_of (if c then (read_over reader turn a (front ++ rest) >>= repeated n kinds (read_over reader turn)) else Read a (front ++ rest)) ≡ rest) k l in
+      subst (λ (c : Bool). left_of (if c then (read_over reader turn a (front ++ rest) >>= repeated n kinds (read_over reader turn)) else Read a (front ++ rest)) ≡ rest) k l in
       rw (k, k2) (go l2)
 
   turns_local : {A : Type 0} (kinds : List Kind) (turn : Rule A A) → good borders turn ≡ true → may_be_empty turn ≡ false →
@@ -493,7 +496,7 @@ module _ (borders : Borders) (deeper : (x : Nesting) → Meaning (State x) (Stat
       ends_local kinds turn (suc n) zero a front rest other same (begins_behind kinds front rest other same ∙ empty_begins kinds (front ++ other) room2) l
   turns_local kinds turn g full one (suc n) (suc n2) a front rest other same room room2 l =
       test_local kinds turn n n2 a front rest other same (begins kinds (front ++ rest)) refl
-        (turn_local kinds turn g full one n n2 (turns_local kinds turn g full one n n2) a front rest other same room room2 (read_over reader turn a (front ++ rest)) refl) l
+      (turn_local kinds turn g full one n n2 (turns_local kinds turn g full one n n2) a front rest other same room room2 (read_over reader turn a (front ++ rest)) refl) l
 
   pub local : {A B : Type 0} (r : Rule A B) → good borders r ≡ true → (a : A) (front rest other : List Piece) → SameHead rest other →
       left_of (read_over reader r a (front ++ rest)) ≡ rest → read_over reader r a (front ++ other) ≡ moved other (read_over reader r a (front ++ rest))
@@ -505,17 +508,17 @@ module _ (borders : Borders) (deeper : (x : Nesting) → Meaning (State x) (Stat
       then_local first second parts.0 parts2.0 (local first parts.0) (local second parts2.0) a front rest other same (read_over reader first a (front ++ rest)) refl l
   local (Use part rule join) g a front rest other same l =
       use_local (join a) rest other (read_over reader rule (part a) (front ++ rest)) (read_over reader rule (part a) (front ++ other))
-        (local rule g (part a) front rest other same (sym (left_use (join a) (read_over reader rule (part a) (front ++ rest))) ∙ l))
+      (local rule g (part a) front rest other same (sym (left_use (join a) (read_over reader rule (part a) (front ++ rest))) ∙ l))
   local (Either kinds left right_rule) g a front rest other same l =
       let parts = and_parts (good borders left) _ g in
       let parts2 = and_parts (good borders right_rule) _ parts.1 in
       rw (← begins_behind kinds front rest other same)
-        (choice_local other rest (begins kinds (front ++ rest)) (read_over reader left a (front ++ rest)) (read_over reader right_rule a (front ++ rest))
-          (read_over reader left a (front ++ other)) (read_over reader right_rule a (front ++ other))
-          (local left parts.0 a front rest other same) (local right_rule parts2.0 a front rest other same) l)
+      (choice_local other rest (begins kinds (front ++ rest)) (read_over reader left a (front ++ rest)) (read_over reader right_rule a (front ++ rest))
+      (read_over reader left a (front ++ other)) (read_over reader right_rule a (front ++ other))
+      (local left parts.0 a front rest other same) (local right_rule parts2.0 a front rest other same) l)
   local (Many kinds turn) g a front rest other same l =
       let parts = and_parts (good borders turn) _ g in
       let parts2 = and_parts (not (may_be_empty turn)) _ parts.1 in
       turns_local kinds turn parts.0 (not_true (may_be_empty turn) parts2.0) (local turn parts.0) (length (front ++ rest)) (length (front ++ other)) a front rest other same
-        (le_refl (length (front ++ rest))) (le_refl (length (front ++ other))) l
+      (le_refl (length (front ++ rest))) (le_refl (length (front ++ other))) l
   local (Nest x) g a front rest other same l = sensible.local x a front rest other same l

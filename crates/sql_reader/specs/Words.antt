@@ -18,38 +18,38 @@ look_up (w ∷ ws) bytes = if str_eq_ignore_ascii_case bytes w.0 then Some w.1 e
 -- the reserved words, by their first letters
 abbrev pub words_a_to_c : List Word
 words_a_to_c =
-  (codes "ALL", kinds.All) ∷ (codes "AND", kinds.And) ∷ (codes "AS", kinds.As) ∷ (codes "ASC", kinds.Asc) ∷ (codes "BETWEEN", kinds.Between) ∷ (codes "BY", kinds.By)
-  ∷ (codes "CASE", kinds.LeftOut) ∷ (codes "CROSS", kinds.LeftOut) ∷ []
+    (codes "ALL", kinds.All) ∷ (codes "AND", kinds.And) ∷ (codes "AS", kinds.As) ∷ (codes "ASC", kinds.Asc) ∷ (codes "BETWEEN", kinds.Between) ∷ (codes "BY", kinds.By)
+    ∷ (codes "CASE", kinds.LeftOut) ∷ (codes "CROSS", kinds.LeftOut) ∷ []
 
 abbrev pub words_d_to_f : List Word
 words_d_to_f =
-  (codes "DELETE", kinds.Delete) ∷ (codes "DESC", kinds.Desc) ∷ (codes "DISTINCT", kinds.Distinct) ∷ (codes "EXCEPT", kinds.LeftOut) ∷ (codes "EXISTS", kinds.LeftOut)
-  ∷ (codes "FROM", kinds.From) ∷ (codes "FULL", kinds.LeftOut) ∷ []
+    (codes "DELETE", kinds.Delete) ∷ (codes "DESC", kinds.Desc) ∷ (codes "DISTINCT", kinds.Distinct) ∷ (codes "EXCEPT", kinds.LeftOut) ∷ (codes "EXISTS", kinds.LeftOut)
+    ∷ (codes "FROM", kinds.From) ∷ (codes "FULL", kinds.LeftOut) ∷ []
 
 abbrev pub words_g_to_i : List Word
 words_g_to_i =
-  (codes "GROUP", kinds.Group) ∷ (codes "HAVING", kinds.Having) ∷ (codes "IN", kinds.In) ∷ (codes "INNER", kinds.Inner) ∷ (codes "INSERT", kinds.Insert)
-  ∷ (codes "INTERSECT", kinds.LeftOut) ∷ (codes "INTO", kinds.Into) ∷ (codes "IS", kinds.Is) ∷ []
+    (codes "GROUP", kinds.Group) ∷ (codes "HAVING", kinds.Having) ∷ (codes "IN", kinds.In) ∷ (codes "INNER", kinds.Inner) ∷ (codes "INSERT", kinds.Insert)
+    ∷ (codes "INTERSECT", kinds.LeftOut) ∷ (codes "INTO", kinds.Into) ∷ (codes "IS", kinds.Is) ∷ []
 
 abbrev pub words_j_to_n : List Word
 words_j_to_n =
-  (codes "JOIN", kinds.Join) ∷ (codes "LEFT", kinds.LeftOut) ∷ (codes "LIKE", kinds.Like) ∷ (codes "LIMIT", kinds.Limit) ∷ (codes "NATURAL", kinds.LeftOut)
-  ∷ (codes "NOT", kinds.Not) ∷ (codes "NULL", kinds.Null) ∷ []
+    (codes "JOIN", kinds.Join) ∷ (codes "LEFT", kinds.LeftOut) ∷ (codes "LIKE", kinds.Like) ∷ (codes "LIMIT", kinds.Limit) ∷ (codes "NATURAL", kinds.LeftOut)
+    ∷ (codes "NOT", kinds.Not) ∷ (codes "NULL", kinds.Null) ∷ []
 
 abbrev pub words_o_to_r : List Word
 words_o_to_r =
-  (codes "OFFSET", kinds.Offset) ∷ (codes "ON", kinds.On) ∷ (codes "OR", kinds.LeftOut) ∷ (codes "ORDER", kinds.Order) ∷ (codes "OUTER", kinds.LeftOut)
-  ∷ (codes "OVER", kinds.LeftOut) ∷ (codes "RETURNING", kinds.LeftOut) ∷ (codes "RIGHT", kinds.LeftOut) ∷ []
+    (codes "OFFSET", kinds.Offset) ∷ (codes "ON", kinds.On) ∷ (codes "OR", kinds.LeftOut) ∷ (codes "ORDER", kinds.Order) ∷ (codes "OUTER", kinds.LeftOut)
+    ∷ (codes "OVER", kinds.LeftOut) ∷ (codes "RETURNING", kinds.LeftOut) ∷ (codes "RIGHT", kinds.LeftOut) ∷ []
 
 abbrev pub words_s_to_w : List Word
 words_s_to_w =
-  (codes "SELECT", kinds.Select) ∷ (codes "SET", kinds.Set) ∷ (codes "UNION", kinds.LeftOut) ∷ (codes "UPDATE", kinds.Update) ∷ (codes "USING", kinds.LeftOut)
-  ∷ (codes "VALUES", kinds.Values) ∷ (codes "WHERE", kinds.Where) ∷ (codes "WITH", kinds.LeftOut) ∷ []
+    (codes "SELECT", kinds.Select) ∷ (codes "SET", kinds.Set) ∷ (codes "UNION", kinds.LeftOut) ∷ (codes "UPDATE", kinds.Update) ∷ (codes "USING", kinds.LeftOut)
+    ∷ (codes "VALUES", kinds.Values) ∷ (codes "WHERE", kinds.Where) ∷ (codes "WITH", kinds.LeftOut) ∷ []
 
 -- the aggregates
 abbrev pub aggregates : List Word
 aggregates =
-  (codes "COUNT", kinds.Aggregate) ∷ (codes "SUM", kinds.Aggregate) ∷ (codes "MIN", kinds.Aggregate) ∷ (codes "MAX", kinds.Aggregate) ∷ (codes "AVG", kinds.Aggregate) ∷ []
+    (codes "COUNT", kinds.Aggregate) ∷ (codes "SUM", kinds.Aggregate) ∷ (codes "MIN", kinds.Aggregate) ∷ (codes "MAX", kinds.Aggregate) ∷ (codes "AVG", kinds.Aggregate) ∷ []
 
 abbrev pub date_word : List Word
 date_word = (codes "DATE", kinds.Date) ∷ []
@@ -67,8 +67,8 @@ kind_or other (Some k) = k
 unfoldable pub word_kind : List ℕ → Kind
 word_kind bytes =
     kind_or kinds.Name (or_else (look_up words_a_to_c bytes) (or_else (look_up words_d_to_f bytes) (or_else (look_up words_g_to_i bytes)
-      (or_else (look_up words_j_to_n bytes) (or_else (look_up words_o_to_r bytes) (or_else (look_up words_s_to_w bytes)
-      (or_else (look_up aggregates bytes) (look_up date_word bytes))))))))
+    (or_else (look_up words_j_to_n bytes) (or_else (look_up words_o_to_r bytes) (or_else (look_up words_s_to_w bytes)
+    (or_else (look_up aggregates bytes) (look_up date_word bytes))))))))
 
 -- the bytes between the quotes
 abbrev pub inside : List ℕ → List ℕ

@@ -165,7 +165,11 @@ impl Reader {
 
     /// A comma, a column, `=` and an expression.
     #[tactic(auto, unfolding(crate::specs::Grammar::another_assignment))]
-    fn another_assignment(self, cursor: &mut Cursor<'_>, parts: &mut UpdateParts) -> Result<(), Stop>
+    fn another_assignment(
+        self,
+        cursor: &mut Cursor<'_>,
+        parts: &mut UpdateParts,
+    ) -> Result<(), Stop>
         ensures { AddsBy rule.another_assignment parts.old self cursor.old result parts.new cursor.new }
     {
         cursor.take(&[Kind::Comma])?;
@@ -229,7 +233,12 @@ impl Reader {
 
     /// The tests of a DELETE.
     #[tactic(auto, unfolding(crate::specs::Grammar::delete_conditions))]
-    fn delete_conditions(self, alloc: Global, cursor: &mut Cursor<'_>, source: Source) -> Result<Body, Stop>
+    fn delete_conditions(
+        self,
+        alloc: Global,
+        cursor: &mut Cursor<'_>,
+        source: Source,
+    ) -> Result<Body, Stop>
         ensures { ReadsBy rule.delete_conditions source self cursor.old result cursor.new }
     {
         let mut conditions = List::new(alloc);

@@ -20,16 +20,17 @@ impl Reader {
     {
         let comparison = cursor.take(&COMPARISONS)?;
         let column = self.column(cursor)?;
-        Ok(Condition::Compared(
-            column,
-            comparison.kind.compare().turned(),
-            value,
-        ))
+        Ok(Condition::Compared(column, comparison.kind.compare().turned(), value))
     }
 
     /// The second column of an equation, behind its first name.
     #[tactic(auto, unfolding(crate::specs::Grammar::tied_test))]
-    pub fn tied_test(self, cursor: &mut Cursor<'_>, column: NameUse, first: Span) -> Result<Condition, Stop>
+    pub fn tied_test(
+        self,
+        cursor: &mut Cursor<'_>,
+        column: NameUse,
+        first: Span,
+    ) -> Result<Condition, Stop>
         ensures { ReadsBy rule.tied_test (column, first) self cursor.old result cursor.new }
     {
         let other = self.after_name(cursor, first)?;
@@ -38,7 +39,12 @@ impl Reader {
 
     /// What stands behind DATE on the right of an equation.
     #[tactic(auto, unfolding(crate::specs::Grammar::after_equal_date))]
-    pub fn after_equal_date(self, cursor: &mut Cursor<'_>, column: NameUse, first: Span) -> Result<Condition, Stop>
+    pub fn after_equal_date(
+        self,
+        cursor: &mut Cursor<'_>,
+        column: NameUse,
+        first: Span,
+    ) -> Result<Condition, Stop>
         ensures { ReadsBy rule.after_equal_date (column, first) self cursor.old result cursor.new }
     {
         if cursor.begins(&[Kind::Day]) {
@@ -72,11 +78,7 @@ impl Reader {
     {
         let comparison = cursor.take(&[Kind::NotEqual, Kind::Below, Kind::Above])?;
         let value = self.value(cursor)?;
-        Ok(Condition::Compared(
-            column,
-            comparison.kind.compare(),
-            value,
-        ))
+        Ok(Condition::Compared(column, comparison.kind.compare(), value))
     }
 
     /// BETWEEN, a value, AND, a value.
@@ -270,7 +272,11 @@ impl Reader {
     /// Tests in parentheses.
     #[tactic(auto, unfolding(crate::specs::Grammar::nested_conditions))]
     #[cycle(conditions)]
-    fn nested_conditions(self, cursor: &mut Cursor<'_>, all: &mut List<Condition>) -> Result<(), Stop>
+    fn nested_conditions(
+        self,
+        cursor: &mut Cursor<'_>,
+        all: &mut List<Condition>,
+    ) -> Result<(), Stop>
         ensures { AddsBy rule.nested_conditions all.old self cursor.old result all.new cursor.new }
     {
         cursor.take(&[Kind::Open])?;
@@ -282,7 +288,11 @@ impl Reader {
     /// Tests in parentheses, one level deeper.
     #[tactic(auto, using(crate::proofs::Nested::no_conditions, crate::proofs::Nested::deeper_conditions))]
     #[cycle(conditions)]
-    fn deeper_conditions(self, cursor: &mut Cursor<'_>, all: &mut List<Condition>) -> Result<(), Stop>
+    fn deeper_conditions(
+        self,
+        cursor: &mut Cursor<'_>,
+        all: &mut List<Condition>,
+    ) -> Result<(), Stop>
         ensures { AddsNested Conditions all.old self cursor.old result all.new cursor.new }
     {
         if self.levels == 0 {
@@ -296,7 +306,11 @@ impl Reader {
 
     /// WHERE and its tests, perhaps.
     #[tactic(auto, unfolding(crate::specs::Grammar::where_conditions))]
-    pub fn where_conditions(self, cursor: &mut Cursor<'_>, all: &mut List<Condition>) -> Result<(), Stop>
+    pub fn where_conditions(
+        self,
+        cursor: &mut Cursor<'_>,
+        all: &mut List<Condition>,
+    ) -> Result<(), Stop>
         ensures { AddsBy rule.where_conditions all.old self cursor.old result all.new cursor.new }
     {
         if !cursor.begins(&[Kind::Where]) {

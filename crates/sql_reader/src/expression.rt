@@ -120,7 +120,12 @@ impl Reader {
     /// The parentheses of a call behind a name, or the end of a column.
     #[tactic(auto, unfolding(crate::specs::Grammar::called_name))]
     #[cycle(expression)]
-    pub fn called_name(self, cursor: &mut Cursor<'_>, found: &mut Found, name: Piece) -> Result<(), Stop>
+    pub fn called_name(
+        self,
+        cursor: &mut Cursor<'_>,
+        found: &mut Found,
+        name: Piece,
+    ) -> Result<(), Stop>
         ensures { AddsBy rule.called_name (found.old, name) self cursor.old result found.new cursor.new }
     {
         if cursor.begins(&[Kind::Open]) {
@@ -136,7 +141,12 @@ impl Reader {
     /// What stands behind a name in an expression.
     #[tactic(auto, unfolding(crate::specs::Grammar::after_operand_name))]
     #[cycle(expression)]
-    fn after_operand_name(self, cursor: &mut Cursor<'_>, found: &mut Found, name: Piece) -> Result<(), Stop>
+    fn after_operand_name(
+        self,
+        cursor: &mut Cursor<'_>,
+        found: &mut Found,
+        name: Piece,
+    ) -> Result<(), Stop>
         ensures { AddsBy rule.after_operand_name (found.old, name) self cursor.old result found.new cursor.new }
     {
         if !cursor.begins(&[Kind::Point]) {
@@ -153,7 +163,12 @@ impl Reader {
     /// What stands behind DATE in an expression.
     #[tactic(auto, unfolding(crate::specs::Grammar::after_operand_date))]
     #[cycle(expression)]
-    fn after_operand_date(self, cursor: &mut Cursor<'_>, found: &mut Found, name: Piece) -> Result<(), Stop>
+    fn after_operand_date(
+        self,
+        cursor: &mut Cursor<'_>,
+        found: &mut Found,
+        name: Piece,
+    ) -> Result<(), Stop>
         ensures { AddsBy rule.after_operand_date (found.old, name) self cursor.old result found.new cursor.new }
     {
         if !cursor.begins(&[Kind::Day]) {

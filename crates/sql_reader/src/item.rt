@@ -26,7 +26,12 @@ impl Reader {
 
     /// An item behind a name and a point.
     #[tactic(auto, unfolding(crate::specs::Grammar::after_item_point))]
-    fn after_item_point(self, alloc: Global, cursor: &mut Cursor<'_>, name: Piece) -> Result<ParsedItem, Stop>
+    fn after_item_point(
+        self,
+        alloc: Global,
+        cursor: &mut Cursor<'_>,
+        name: Piece,
+    ) -> Result<ParsedItem, Stop>
         ensures { ReadsBy rule.after_item_point name self cursor.old result cursor.new }
     {
         if cursor.begins(&[Kind::Star]) {
@@ -44,7 +49,12 @@ impl Reader {
 
     /// An item behind its first name.
     #[tactic(auto, unfolding(crate::specs::Grammar::after_item_name))]
-    fn after_item_name(self, alloc: Global, cursor: &mut Cursor<'_>, name: Piece) -> Result<ParsedItem, Stop>
+    fn after_item_name(
+        self,
+        alloc: Global,
+        cursor: &mut Cursor<'_>,
+        name: Piece,
+    ) -> Result<ParsedItem, Stop>
         ensures { ReadsBy rule.after_item_name name self cursor.old result cursor.new }
     {
         if cursor.begins(&[Kind::Point]) {
@@ -58,7 +68,12 @@ impl Reader {
 
     /// An item behind DATE.
     #[tactic(auto, unfolding(crate::specs::Grammar::after_item_date))]
-    fn after_item_date(self, alloc: Global, cursor: &mut Cursor<'_>, name: Piece) -> Result<ParsedItem, Stop>
+    fn after_item_date(
+        self,
+        alloc: Global,
+        cursor: &mut Cursor<'_>,
+        name: Piece,
+    ) -> Result<ParsedItem, Stop>
         ensures { ReadsBy rule.after_item_date name self cursor.old result cursor.new }
     {
         if cursor.begins(&[Kind::Day]) {
@@ -100,7 +115,12 @@ impl Reader {
 
     /// An item, put behind those before.
     #[tactic(auto, unfolding(crate::specs::Grammar::one_item))]
-    fn one_item(self, alloc: Global, cursor: &mut Cursor<'_>, all: &mut List<ParsedItem>) -> Result<(), Stop>
+    fn one_item(
+        self,
+        alloc: Global,
+        cursor: &mut Cursor<'_>,
+        all: &mut List<ParsedItem>,
+    ) -> Result<(), Stop>
         ensures { AddsBy rule.one_item all.old self cursor.old result all.new cursor.new }
     {
         let item = self.item_value(alloc, cursor)?;
@@ -109,7 +129,12 @@ impl Reader {
 
     /// A comma and an item.
     #[tactic(auto, unfolding(crate::specs::Grammar::another_item))]
-    fn another_item(self, alloc: Global, cursor: &mut Cursor<'_>, all: &mut List<ParsedItem>) -> Result<(), Stop>
+    fn another_item(
+        self,
+        alloc: Global,
+        cursor: &mut Cursor<'_>,
+        all: &mut List<ParsedItem>,
+    ) -> Result<(), Stop>
         ensures { AddsBy rule.another_item all.old self cursor.old result all.new cursor.new }
     {
         cursor.take(&[Kind::Comma])?;
@@ -117,7 +142,12 @@ impl Reader {
     }
 
     /// More items behind commas.
-    fn more_items(self, alloc: Global, cursor: &mut Cursor<'_>, all: &mut List<ParsedItem>) -> Result<(), Stop>
+    fn more_items(
+        self,
+        alloc: Global,
+        cursor: &mut Cursor<'_>,
+        all: &mut List<ParsedItem>,
+    ) -> Result<(), Stop>
         ensures { AddsBy rule.more_items all.old self cursor.old result all.new cursor.new }
     {
         'turns: while cursor.begins(&[Kind::Comma]) {
@@ -128,7 +158,12 @@ impl Reader {
 
     /// The items of a select list.
     #[tactic(auto, unfolding(crate::specs::Grammar::item_list))]
-    pub fn item_list(self, alloc: Global, cursor: &mut Cursor<'_>, all: &mut List<ParsedItem>) -> Result<(), Stop>
+    pub fn item_list(
+        self,
+        alloc: Global,
+        cursor: &mut Cursor<'_>,
+        all: &mut List<ParsedItem>,
+    ) -> Result<(), Stop>
         ensures { AddsBy rule.item_list all.old self cursor.old result all.new cursor.new }
     {
         self.one_item(alloc, cursor, all)?;

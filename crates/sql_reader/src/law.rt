@@ -10,5 +10,4 @@ pub fn one_meaning()
     ensures { (start : Progress) (pieces : List Piece) (first second : Progress) →
         IsRead grammar levels workload start pieces first → IsRead grammar levels workload start pieces second →
         first ≡ second }
-{
-}
+{}

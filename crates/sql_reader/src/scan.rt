@@ -5,7 +5,7 @@ ghost use Rattle.sql_tokens.specs.Span.{LiesIn};
 ghost use Rattle.std.specs.Option.{ForSome};
 ghost use Rattle.std.specs.Prelude.{◌≡◌, ◌≤◌, ◌^◌, ◌<ℤ◌, All, IfErr, IfOk, OnOk, length, neg_ℤ, pos, slice_index};
 
-use crate::cursor::{has, Stop};
+use crate::cursor::{Stop, has};
 use crate::list::push;
 use crate::statement::STARTS;
 use crate::words::{quoted_kind, symbol_kind, text_day, weight_number, whole_number, word_kind};

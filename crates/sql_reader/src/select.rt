@@ -215,7 +215,12 @@ impl Reader {
 
     /// HAVING and its comparisons, perhaps.
     #[tactic(auto, unfolding(crate::specs::Grammar::having_part))]
-    fn having_part(self, alloc: Global, cursor: &mut Cursor<'_>, select: &mut ParsedSelect) -> Result<(), Stop>
+    fn having_part(
+        self,
+        alloc: Global,
+        cursor: &mut Cursor<'_>,
+        select: &mut ParsedSelect,
+    ) -> Result<(), Stop>
         ensures { AddsBy rule.having_part select.old self cursor.old result select.new cursor.new }
     {
         if !cursor.begins(&[Kind::Having]) {
@@ -257,7 +262,12 @@ impl Reader {
 
     /// An item of ORDER BY, put behind those before.
     #[tactic(auto, unfolding(crate::specs::Grammar::one_order))]
-    fn one_order(self, alloc: Global, cursor: &mut Cursor<'_>, all: &mut List<ParsedOrder>) -> Result<(), Stop>
+    fn one_order(
+        self,
+        alloc: Global,
+        cursor: &mut Cursor<'_>,
+        all: &mut List<ParsedOrder>,
+    ) -> Result<(), Stop>
         ensures { AddsBy rule.one_order all.old self cursor.old result all.new cursor.new }
     {
         let order = self.order_value(alloc, cursor)?;
@@ -266,7 +276,12 @@ impl Reader {
 
     /// A comma and an item of ORDER BY.
     #[tactic(auto, unfolding(crate::specs::Grammar::another_order))]
-    fn another_order(self, alloc: Global, cursor: &mut Cursor<'_>, all: &mut List<ParsedOrder>) -> Result<(), Stop>
+    fn another_order(
+        self,
+        alloc: Global,
+        cursor: &mut Cursor<'_>,
+        all: &mut List<ParsedOrder>,
+    ) -> Result<(), Stop>
         ensures { AddsBy rule.another_order all.old self cursor.old result all.new cursor.new }
     {
         cursor.take(&[Kind::Comma])?;
@@ -274,7 +289,12 @@ impl Reader {
     }
 
     /// More items of ORDER BY behind commas.
-    fn more_orders(self, alloc: Global, cursor: &mut Cursor<'_>, all: &mut List<ParsedOrder>) -> Result<(), Stop>
+    fn more_orders(
+        self,
+        alloc: Global,
+        cursor: &mut Cursor<'_>,
+        all: &mut List<ParsedOrder>,
+    ) -> Result<(), Stop>
         ensures { AddsBy rule.more_orders all.old self cursor.old result all.new cursor.new }
     {
         'turns: while cursor.begins(&[Kind::Comma]) {
@@ -285,7 +305,12 @@ impl Reader {
 
     /// The items of ORDER BY.
     #[tactic(auto, unfolding(crate::specs::Grammar::order_list))]
-    fn order_list(self, alloc: Global, cursor: &mut Cursor<'_>, all: &mut List<ParsedOrder>) -> Result<(), Stop>
+    fn order_list(
+        self,
+        alloc: Global,
+        cursor: &mut Cursor<'_>,
+        all: &mut List<ParsedOrder>,
+    ) -> Result<(), Stop>
         ensures { AddsBy rule.order_list all.old self cursor.old result all.new cursor.new }
     {
         self.one_order(alloc, cursor, all)?;
@@ -294,7 +319,12 @@ impl Reader {
 
     /// ORDER BY and its items, perhaps.
     #[tactic(auto, unfolding(crate::specs::Grammar::order_part))]
-    fn order_part(self, alloc: Global, cursor: &mut Cursor<'_>, select: &mut ParsedSelect) -> Result<(), Stop>
+    fn order_part(
+        self,
+        alloc: Global,
+        cursor: &mut Cursor<'_>,
+        select: &mut ParsedSelect,
+    ) -> Result<(), Stop>
         ensures { AddsBy rule.order_part select.old self cursor.old result select.new cursor.new }
     {
         if !cursor.begins(&[Kind::Order]) {
@@ -341,7 +371,12 @@ impl Reader {
 
     /// A SELECT up to its sources, behind its first word.
     #[tactic(auto, unfolding(crate::specs::Grammar::select_head))]
-    fn select_head(self, alloc: Global, cursor: &mut Cursor<'_>, select: &mut ParsedSelect) -> Result<(), Stop>
+    fn select_head(
+        self,
+        alloc: Global,
+        cursor: &mut Cursor<'_>,
+        select: &mut ParsedSelect,
+    ) -> Result<(), Stop>
         ensures { AddsBy rule.select_head select.old self cursor.old result select.new cursor.new }
     {
         self.quantifier(cursor, select)?;
@@ -351,7 +386,12 @@ impl Reader {
 
     /// The order of a SELECT and its limit.
     #[tactic(auto, unfolding(crate::specs::Grammar::order_and_limit))]
-    fn order_and_limit(self, alloc: Global, cursor: &mut Cursor<'_>, select: &mut ParsedSelect) -> Result<(), Stop>
+    fn order_and_limit(
+        self,
+        alloc: Global,
+        cursor: &mut Cursor<'_>,
+        select: &mut ParsedSelect,
+    ) -> Result<(), Stop>
         ensures { AddsBy rule.order_and_limit select.old self cursor.old result select.new cursor.new }
     {
         self.order_part(alloc, cursor, select)?;
@@ -360,7 +400,12 @@ impl Reader {
 
     /// The groups of a SELECT and their tests.
     #[tactic(auto, unfolding(crate::specs::Grammar::group_and_having))]
-    fn group_and_having(self, alloc: Global, cursor: &mut Cursor<'_>, select: &mut ParsedSelect) -> Result<(), Stop>
+    fn group_and_having(
+        self,
+        alloc: Global,
+        cursor: &mut Cursor<'_>,
+        select: &mut ParsedSelect,
+    ) -> Result<(), Stop>
         ensures { AddsBy rule.group_and_having select.old self cursor.old result select.new cursor.new }
     {
         self.group_part(cursor, select)?;
@@ -369,7 +414,12 @@ impl Reader {
 
     /// A SELECT behind its sources.
     #[tactic(auto, unfolding(crate::specs::Grammar::select_tail))]
-    fn select_tail(self, alloc: Global, cursor: &mut Cursor<'_>, select: &mut ParsedSelect) -> Result<(), Stop>
+    fn select_tail(
+        self,
+        alloc: Global,
+        cursor: &mut Cursor<'_>,
+        select: &mut ParsedSelect,
+    ) -> Result<(), Stop>
         ensures { AddsBy rule.select_tail select.old self cursor.old result select.new cursor.new }
     {
         self.where_part(cursor, select)?;

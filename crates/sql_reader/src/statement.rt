@@ -2,15 +2,14 @@
 ghost use Rattle.sql_reader.specs.Grammar as rule;
 ghost use Rattle.sql_reader.specs.Reads.{AddsBy, ReadsBy};
 ghost use Rattle.std.specs.Prelude.{◌≡◌};
+ghost use Rattle.sql_reader.specs.Values as values;
+ghost use Rattle.std.specs.Prelude.{OnOk, IfErr};
+ghost use Rattle.sql_reader.specs.declared.cursor.Stop.TheVariants.{Memory};
 
 use crate::cursor::{Cursor, Reader, Stop};
 use crate::list::push;
 use crate::{Body, Kind, ParsedStatement, Piece, Progress};
 use std::alloc::Global;
-
-ghost use Rattle.sql_reader.specs.Values as values;
-ghost use Rattle.std.specs.Prelude.{OnOk, IfErr};
-ghost use Rattle.sql_reader.specs.declared.cursor.Stop.TheVariants.{Memory};
 
 /// The words with which statements begin.
 pub const STARTS: [Kind; 4] = [Kind::Select, Kind::Insert, Kind::Update, Kind::Delete];
@@ -52,7 +51,12 @@ impl Reader {
 
     /// A SELECT, put behind the statements before.
     #[tactic(auto, unfolding(crate::specs::Grammar::select_statement))]
-    fn select_statement(self, alloc: Global, cursor: &mut Cursor<'_>, progress: &mut Progress) -> Result<(), Stop>
+    fn select_statement(
+        self,
+        alloc: Global,
+        cursor: &mut Cursor<'_>,
+        progress: &mut Progress,
+    ) -> Result<(), Stop>
         ensures { AddsBy rule.select_statement progress.old self cursor.old result progress.new cursor.new }
     {
         let first = cursor.take(&[Kind::Select])?;
@@ -62,7 +66,12 @@ impl Reader {
 
     /// An INSERT, put behind the statements before.
     #[tactic(auto, unfolding(crate::specs::Grammar::insert_statement))]
-    fn insert_statement(self, alloc: Global, cursor: &mut Cursor<'_>, progress: &mut Progress) -> Result<(), Stop>
+    fn insert_statement(
+        self,
+        alloc: Global,
+        cursor: &mut Cursor<'_>,
+        progress: &mut Progress,
+    ) -> Result<(), Stop>
         ensures { AddsBy rule.insert_statement progress.old self cursor.old result progress.new cursor.new }
     {
         let first = cursor.take(&[Kind::Insert])?;
@@ -72,7 +81,12 @@ impl Reader {
 
     /// An UPDATE, put behind the statements before.
     #[tactic(auto, unfolding(crate::specs::Grammar::update_statement))]
-    fn update_statement(self, alloc: Global, cursor: &mut Cursor<'_>, progress: &mut Progress) -> Result<(), Stop>
+    fn update_statement(
+        self,
+        alloc: Global,
+        cursor: &mut Cursor<'_>,
+        progress: &mut Progress,
+    ) -> Result<(), Stop>
         ensures { AddsBy rule.update_statement progress.old self cursor.old result progress.new cursor.new }
     {
         let first = cursor.take(&[Kind::Update])?;
@@ -82,7 +96,12 @@ impl Reader {
 
     /// A DELETE, put behind the statements before.
     #[tactic(auto, unfolding(crate::specs::Grammar::delete_statement))]
-    fn delete_statement(self, alloc: Global, cursor: &mut Cursor<'_>, progress: &mut Progress) -> Result<(), Stop>
+    fn delete_statement(
+        self,
+        alloc: Global,
+        cursor: &mut Cursor<'_>,
+        progress: &mut Progress,
+    ) -> Result<(), Stop>
         ensures { AddsBy rule.delete_statement progress.old self cursor.old result progress.new cursor.new }
     {
         let first = cursor.take(&[Kind::Delete])?;
@@ -92,7 +111,12 @@ impl Reader {
 
     /// A statement, put behind those before.
     #[tactic(auto, unfolding(crate::specs::Grammar::statement))]
-    fn statement(self, alloc: Global, cursor: &mut Cursor<'_>, progress: &mut Progress) -> Result<(), Stop>
+    fn statement(
+        self,
+        alloc: Global,
+        cursor: &mut Cursor<'_>,
+        progress: &mut Progress,
+    ) -> Result<(), Stop>
         ensures { AddsBy rule.statement progress.old self cursor.old result progress.new cursor.new }
     {
         if cursor.begins(&[Kind::Select]) {
@@ -109,7 +133,12 @@ impl Reader {
 
     /// A statement, perhaps.
     #[tactic(auto, unfolding(crate::specs::Grammar::maybe_statement))]
-    fn maybe_statement(self, alloc: Global, cursor: &mut Cursor<'_>, progress: &mut Progress) -> Result<(), Stop>
+    fn maybe_statement(
+        self,
+        alloc: Global,
+        cursor: &mut Cursor<'_>,
+        progress: &mut Progress,
+    ) -> Result<(), Stop>
         ensures { AddsBy rule.maybe_statement progress.old self cursor.old result progress.new cursor.new }
     {
         if !cursor.begins(&STARTS) {
@@ -120,7 +149,12 @@ impl Reader {
 
     /// A semicolon and perhaps a statement.
     #[tactic(auto, unfolding(crate::specs::Grammar::another_statement))]
-    fn another_statement(self, alloc: Global, cursor: &mut Cursor<'_>, progress: &mut Progress) -> Result<(), Stop>
+    fn another_statement(
+        self,
+        alloc: Global,
+        cursor: &mut Cursor<'_>,
+        progress: &mut Progress,
+    ) -> Result<(), Stop>
         ensures { AddsBy rule.another_statement progress.old self cursor.old result progress.new cursor.new }
     {
         cursor.take(&[Kind::Semicolon])?;
@@ -128,7 +162,12 @@ impl Reader {
     }
 
     /// More statements behind semicolons.
-    fn more_statements(self, alloc: Global, cursor: &mut Cursor<'_>, progress: &mut Progress) -> Result<(), Stop>
+    fn more_statements(
+        self,
+        alloc: Global,
+        cursor: &mut Cursor<'_>,
+        progress: &mut Progress,
+    ) -> Result<(), Stop>
         ensures { AddsBy rule.more_statements progress.old self cursor.old result progress.new cursor.new }
     {
         'turns: while cursor.begins(&[Kind::Semicolon]) {
@@ -139,7 +178,12 @@ impl Reader {
 
     /// The statements of a workload.
     #[tactic(auto, unfolding(crate::specs::Grammar::workload))]
-    pub fn workload(self, alloc: Global, cursor: &mut Cursor<'_>, progress: &mut Progress) -> Result<(), Stop>
+    pub fn workload(
+        self,
+        alloc: Global,
+        cursor: &mut Cursor<'_>,
+        progress: &mut Progress,
+    ) -> Result<(), Stop>
         ensures { AddsBy rule.workload progress.old self cursor.old result progress.new cursor.new }
     {
         self.maybe_statement(alloc, cursor, progress)?;

@@ -551,7 +551,10 @@ fn long_texts_end(rt: HostRuntime) -> Result<(), Fail> {
     let mut parentheses = Vec::new(rt.alloc());
     add(&mut parentheses, b"SELECT ", 1)?;
     add(&mut parentheses, b"(", 1_000_000)?;
-    assert_eq!(rt; answer(rt.alloc(), parentheses.as_slice())?.as_str(), "syntax 208");
+    assert_eq!(rt;
+        answer(rt.alloc(), parentheses.as_slice())?.as_str(),
+        "syntax 208"
+    );
 
     let mut items = Vec::new(rt.alloc());
     add(&mut items, b"DELETE FROM t WHERE c IN (0", 1)?;
@@ -561,9 +564,15 @@ fn long_texts_end(rt: HostRuntime) -> Result<(), Fail> {
 
     let mut statements = Vec::new(rt.alloc());
     add(&mut statements, b"DELETE FROM t;", 1000)?;
-    assert_eq!(rt; answer(rt.alloc(), statements.as_slice())?.as_str(), "ok 1000");
+    assert_eq!(rt;
+        answer(rt.alloc(), statements.as_slice())?.as_str(),
+        "ok 1000"
+    );
     add(&mut statements, b"x", 1)?;
-    assert_eq!(rt; answer(rt.alloc(), statements.as_slice())?.as_str(), "syntax 14001");
+    assert_eq!(rt;
+        answer(rt.alloc(), statements.as_slice())?.as_str(),
+        "syntax 14001"
+    );
     let mut more = Vec::new(rt.alloc());
     add(&mut more, b"DELETE FROM t;", 1000)?;
     add(&mut more, b"DELETE ,", 1)?;

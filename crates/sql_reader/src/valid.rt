@@ -1,10 +1,11 @@
 //! Tests what the statements of a text keep.
 ghost use Rattle.sql_reader.specs.Valid as valid;
-ghost use Rattle.std.specs.Prelude.{◌≡◌, length};
+ghost use Rattle.std.specs.List.{list_all};
+ghost use Rattle.std.specs.Prelude.{◌≡◌};
 
 use crate::{
-    Body, Condition, Expr, Literal, NameUse, ParsedItem, ParsedOrder, ParsedSelect, ParsedStatement,
-    Source,
+    Body, Condition, Expr, Literal, NameUse, ParsedItem, ParsedOrder, ParsedSelect,
+    ParsedStatement, Source,
 };
 use sql_tokens::Span;
 
@@ -58,7 +59,9 @@ fn condition_in(len: u64, condition: Condition) -> bool
             name_in(len, name) && (literal_in(len, low) && literal_in(len, high))
         }
         Condition::OneOf(name, count) => name_in(len, name) && 1 <= count,
-        Condition::Like(name) | Condition::IsNull(name) | Condition::NotNull(name) => name_in(len, name),
+        Condition::Like(name) | Condition::IsNull(name) | Condition::NotNull(name) => name_in(
+            len, name,
+        ),
     }
 }
 
@@ -69,16 +72,30 @@ fn are_few(count: usize) -> bool
     count < MANY
 }
 
+fn all_names_in(len: u64, names: &[NameUse]) -> bool
+    ensures { result ≡ list_all (valid.name_in len) names.now }
+{
+    names.iter().all(|name| name_in(len, *name))
+}
+
 fn names_in(len: u64, names: &[NameUse]) -> bool
     ensures { result ≡ valid.names_in len names.now }
 {
-    are_few(names.len()) && names.iter().all(|name| name_in(len, *name))
+    are_few(names.len()) && all_names_in(len, names)
+}
+
+fn all_conditions_in(len: u64, conditions: &[Condition]) -> bool
+    ensures { result ≡ list_all (valid.condition_in len) conditions.now }
+{
+    conditions
+        .iter()
+        .all(|condition| condition_in(len, *condition))
 }
 
 fn conditions_in(len: u64, conditions: &[Condition]) -> bool
     ensures { result ≡ valid.conditions_in len conditions.now }
 {
-    are_few(conditions.len()) && conditions.iter().all(|condition| condition_in(len, *condition))
+    are_few(conditions.len()) && all_conditions_in(len, conditions)
 }
 
 /// Whether there is one use, where the expression is exactly a column.
@@ -104,16 +121,28 @@ fn item_in(len: u64, item: &ParsedItem) -> bool
     }
 }
 
+fn all_items_in(len: u64, items: &[ParsedItem]) -> bool
+    ensures { result ≡ list_all (valid.item_in len) items.now }
+{
+    items.iter().all(|item| item_in(len, item))
+}
+
 fn items_in(len: u64, items: &[ParsedItem]) -> bool
     ensures { result ≡ valid.items_in len items.now }
 {
-    are_few(items.len()) && items.iter().all(|item| item_in(len, item))
+    are_few(items.len()) && all_items_in(len, items)
+}
+
+fn all_sources_in(len: u64, sources: &[Source]) -> bool
+    ensures { result ≡ list_all (valid.source_in len) sources.now }
+{
+    sources.iter().all(|source| source_in(len, *source))
 }
 
 fn sources_in(len: u64, sources: &[Source]) -> bool
     ensures { result ≡ valid.sources_in len sources.now }
 {
-    1 <= sources.len() && (are_few(sources.len()) && sources.iter().all(|source| source_in(len, *source)))
+    1 <= sources.len() && (are_few(sources.len()) && all_sources_in(len, sources))
 }
 
 fn order_item_in(len: u64, order: &ParsedOrder) -> bool
@@ -122,10 +151,16 @@ fn order_item_in(len: u64, order: &ParsedOrder) -> bool
     expr_in(len, &order.expr)
 }
 
+fn all_order_in(len: u64, order: &[ParsedOrder]) -> bool
+    ensures { result ≡ list_all (valid.order_item_in len) order.now }
+{
+    order.iter().all(|item| order_item_in(len, item))
+}
+
 fn order_in(len: u64, order: &[ParsedOrder]) -> bool
     ensures { result ≡ valid.order_in len order.now }
 {
-    are_few(order.len()) && order.iter().all(|item| order_item_in(len, item))
+    are_few(order.len()) && all_order_in(len, order)
 }
 
 fn select_in(len: u64, select: &ParsedSelect) -> bool
@@ -183,9 +218,17 @@ fn statement_in(len: u64, statement: &ParsedStatement) -> bool
     1 <= statement.weight && (statement.weight <= 1_000_000 && body_in(len, &statement.body))
 }
 
+fn all_statements_in(len: u64, statements: &[ParsedStatement]) -> bool
+    ensures { result ≡ list_all (valid.statement_in len) statements.now }
+{
+    statements
+        .iter()
+        .all(|statement| statement_in(len, statement))
+}
+
 /// Whether statements keep what a Parsed keeps of a text of so many bytes.
 pub fn statements_in(len: u64, statements: &[ParsedStatement]) -> bool
     ensures { result ≡ valid.statements_in len statements.now }
 {
-    statements.len() <= 1000 && statements.iter().all(|statement| statement_in(len, statement))
+    statements.len() <= 1000 && all_statements_in(len, statements)
 }

@@ -234,8 +234,14 @@ pub fn word_kind(word: &[u8]) -> Kind
     ensures { result ≡ words.word_kind word.now }
 {
     let special = or_else(aggregate(word), date(word));
-    let late = or_else(j_to_n(word), or_else(o_to_r(word), or_else(s_to_w(word), special)));
-    let early = or_else(a_to_c(word), or_else(d_to_f(word), or_else(g_to_i(word), late)));
+    let late = or_else(
+        j_to_n(word),
+        or_else(o_to_r(word), or_else(s_to_w(word), special)),
+    );
+    let early = or_else(
+        a_to_c(word),
+        or_else(d_to_f(word), or_else(g_to_i(word), late)),
+    );
     early.unwrap_or(Kind::Name)
 }
 

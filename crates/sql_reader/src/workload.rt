@@ -2,16 +2,16 @@
 ghost use Rattle.sql_reader.specs.Pieces.{ArePieces, bad_weight, no_mark, start_behind};
 ghost use Rattle.sql_reader.specs.Values.{no_statements};
 ghost use Rattle.sql_reader.specs.Workload as workload;
-ghost use Rattle.sql_reader.specs.declared.cursor.Stop.TheVariants.{Memory};
+ghost use Rattle.sql_reader.specs.declared.cursor.Stop.TheVariants.{Here, Memory};
 ghost use Rattle.sql_tokens.specs.Cut.{AreTokens};
 ghost use Rattle.std.specs.Prelude.{◌≡◌, ◌+◌, ◌<◌, ◌^◌, ◌⊎◌, IfErr, IfOk, length, option_map};
 
-use crate::cursor::{has, Cursor, Reader, Stop};
+use crate::cursor::{Cursor, Reader, Stop, has};
 use crate::scan::{bad_weight, scan, start_behind_1000};
 use crate::valid::statements_in;
-use crate::{Kind, Parsed, Piece, Progress, SqlFault};
+use crate::{Kind, Parsed, ParsedStatement, Piece, Progress, SqlFault};
 use adv_base::List;
-use sql_tokens::{tokens, TokenFault, Tokens};
+use sql_tokens::{TokenFault, Tokens, tokens};
 use std::alloc::Global;
 
 /// The kinds of words that begin a form that is left out.
@@ -86,7 +86,11 @@ fn earlier(first: Option<SqlFault>, second: Option<SqlFault>) -> Option<SqlFault
 }
 
 /// What the grammar says of pieces: their statements, or its fault.
-fn read_pieces(alloc: Global, end: u64, list: &[Piece]) -> Result<(Progress, Option<SqlFault>), Stop>
+fn read_pieces(
+    alloc: Global,
+    end: u64,
+    list: &[Piece],
+) -> Result<(Progress, Option<SqlFault>), Stop>
     ensures ok { IfOk result (λ r. workload.GrammarSays end list.now r.0 r.1) }
     ensures err { IfErr result (λ stop. stop ≡ Memory) }
 {
@@ -99,11 +103,21 @@ fn read_pieces(alloc: Global, end: u64, list: &[Piece]) -> Result<(Progress, Opt
             let fault = fault_behind(end, cursor.rest);
             Ok((progress, fault))
         }
-        Err(Stop::Here) => {
-            let fault = grammar_fault(end, cursor.rest);
+        Err(stop) => {
+            let fault = stop_fault(end, cursor.rest, stop)?;
             Ok((progress, Some(fault)))
         }
-        Err(Stop::Memory) => Err(Stop::Memory),
+    }
+}
+
+/// The fault where reading stops before these pieces, unless it was for want of memory.
+fn stop_fault(end: u64, rest: &[Piece], stop: Stop) -> Result<SqlFault, Stop>
+    ensures ok { IfOk result (λ fault. (stop ≡ Here) × (fault ≡ workload.grammar_fault end rest.now)) }
+    ensures err { IfErr result (λ stop. stop ≡ Memory) }
+{
+    match stop {
+        Stop::Here => Ok(grammar_fault(end, rest)),
+        Stop::Memory => Err(Stop::Memory),
     }
 }
 
@@ -132,6 +146,48 @@ fn first_fault(tokens: &Tokens<'_>, list: &[Piece], fault: Option<SqlFault>) -> 
     earlier(fault, earlier(weight, start))
 }
 
+/// A text and its statements, which keep what a Parsed keeps.
+fn parsed<'a>(text: &'a [u8], statements: List<ParsedStatement>) -> Result<Parsed<'a>, SqlFault>
+    requires { length text.now < 2 ^ 32 }
+    ensures text { IfOk result (λ parsed. parsed.text.now ≡ text.now) }
+    ensures statements { IfOk result (λ parsed. parsed.statements ≡ statements) }
+    ensures err { IfErr result (λ e. e ≡ SqlFault.Memory) }
+{
+    // What was read always keeps this: each span is that of a token, and each count is at most that of the tokens.
+    if !statements_in(text.len() as u64, statements.as_slice()) {
+        return Err(SqlFault::Memory);
+    }
+    Ok(Parsed { text, statements })
+}
+
+/// What a text says with these tokens and pieces, of which the grammar says this.
+fn conclude<'a>(
+    tokens: Tokens<'a>,
+    list: &[Piece],
+    progress: Progress,
+    fault: Option<SqlFault>,
+) -> Result<Parsed<'a>, SqlFault>
+    requires tokens { AreTokens tokens.text.now tokens.list }
+    requires short { length tokens.text.now < 2 ^ 32 }
+    requires pieces { ArePieces tokens.text.now tokens.list no_mark list.now }
+    requires says { workload.GrammarSays (length tokens.text.now + 1) list.now progress fault }
+    ensures same_text { IfOk result (λ parsed. parsed.text.now ≡ tokens.entry.text.now) }
+    ensures found { IfOk result (λ parsed. workload.Says tokens.entry.text.now parsed.statements None) }
+    ensures fault { IfErr result (λ e. (e ≡ SqlFault.Memory) ⊎ workload.IsFirstFault tokens.entry.text.now e) }
+{
+    let first = first_fault(&tokens, list, fault);
+    match first {
+        Some(fault) => Err(fault),
+        None => {
+            let Progress {
+                statements,
+                before: _,
+            } = progress;
+            parsed(tokens.text, statements)
+        }
+    }
+}
+
 /// What a text with tokens says.
 fn read_tokens<'a>(alloc: Global, tokens: Tokens<'a>) -> Result<Parsed<'a>, SqlFault>
     requires tokens { AreTokens tokens.text.now tokens.list }
@@ -140,28 +196,16 @@ fn read_tokens<'a>(alloc: Global, tokens: Tokens<'a>) -> Result<Parsed<'a>, SqlF
     ensures found { IfOk result (λ parsed. workload.Says tokens.entry.text.now parsed.statements None) }
     ensures fault { IfErr result (λ e. (e ≡ SqlFault.Memory) ⊎ workload.IsFirstFault tokens.entry.text.now e) }
 {
-    let Ok(list) = scan(alloc, tokens.text, tokens.list.as_slice()) else {
-        return Err(SqlFault::Memory);
-    };
-    let end = tokens.text.len() as u64 + 1;
-    let Ok((progress, fault)) = read_pieces(alloc, end, list.as_slice()) else {
-        return Err(SqlFault::Memory);
-    };
-    if let Some(first) = first_fault(&tokens, list.as_slice(), fault) {
-        return Err(first);
+    match scan(alloc, tokens.text, tokens.list.as_slice()) {
+        Ok(list) => {
+            let end = tokens.text.len() as u64 + 1;
+            match read_pieces(alloc, end, list.as_slice()) {
+                Ok((progress, fault)) => conclude(tokens, list.as_slice(), progress, fault),
+                Err(_) => Err(SqlFault::Memory),
+            }
+        }
+        Err(_) => Err(SqlFault::Memory),
     }
-    let Progress {
-        statements,
-        before: _,
-    } = progress;
-    // What was read always keeps this: each span is that of a token, and each count is at most that of the tokens.
-    if !statements_in(tokens.text.len() as u64, statements.as_slice()) {
-        return Err(SqlFault::Memory);
-    }
-    Ok(Parsed {
-        text: tokens.text,
-        statements,
-    })
 }
 
 /// The statements of a workload, by the grammar of the reference (a subset of SQL). A place is the 1-based

@@ -8,7 +8,7 @@ turns-init c = go_start c.args.text.now c.args.tokens.now c.new-list.result (ap 
 pub turns-preserved : goal.turns-preserved
 turns-preserved c =
     go_on c.args.text.now c.args.tokens.now c.turns.token-index _ c.turns.mark c.add.new.mark c.turns.list c.add.new.list c.turns-test.true
-      c.in_ok-add.ensures.ok c.turns.invariant
+    c.in_ok-add.ensures.ok c.turns.invariant
 
 pub returns : goal.returns
 returns c =
