@@ -1,0 +1,27 @@
+-- Rows of cells: one row for each set of slots, in it one cell for each front.
+use Rattle.std.specs.Prelude.{ℕ, ◌*◌, nat_lt, if◌then◌else◌, List, take, drop, slice_index_or}
+use Rattle.planner.specs.declared.cell.Cell.{Cell}
+use Rattle.planner.specs.declared.cell.Choice.{Choice}
+use Rattle.planner.specs.declared.cell.Choice.TheVariants.{Unknown}
+use Rattle.planner.specs.declared.cell.TheConstants.{IMPOSSIBLE}
+
+-- no plan
+abbrev pub blank : Cell
+blank = record { cost = IMPOSSIBLE; any = IMPOSSIBLE; choice = Unknown }
+
+abbrev pub cell_at : List Cell → ℕ → Cell
+cell_at row f = slice_index_or row f blank
+
+abbrev pub cost_at : List Cell → ℕ → ℕ
+cost_at row f = (cell_at row f).cost
+
+abbrev pub any_at : List Cell → ℕ → ℕ
+any_at row f = (cell_at row f).any
+
+-- the row of a set in a table whose rows have a width
+abbrev pub row_of : ℕ → List Cell → ℕ → List Cell
+row_of width cells set = take width (drop (set * width) cells)
+
+-- the cell, or what is cheaper
+abbrev pub better : Cell → ℕ → Choice → Cell
+better cell cost choice = if nat_lt cost cell.cost then (record cell { cost = cost; choice = choice }) else cell

@@ -1,0 +1,4 @@
+pub mod Fronts
+pub mod Cells
+pub mod Choices
+pub mod Rows
