@@ -1,8 +1,10 @@
 -- Rows of cells: one row for each set of slots, in it one cell for each front.
-use Rattle.std.specs.Prelude.{ℕ, ◌*◌, nat_lt, if◌then◌else◌, List, take, drop, slice_index_or}
+use Rattle.std.specs.Prelude.{ℕ, ◌+◌, ◌*◌, nat_lt, Option, Some, None, if◌then◌else◌, List, take, drop, slice_index_or}
+use Rattle.adv_base.specs.declared.workload.parts.Item.{Item}
 use Rattle.planner.specs.declared.cell.Cell.{Cell}
+use Rattle.planner.specs.declared.cell.Merge.{Merge}
 use Rattle.planner.specs.declared.cell.Choice.{Choice}
-use Rattle.planner.specs.declared.cell.Choice.TheVariants.{Unknown}
+use Rattle.planner.specs.declared.cell.Choice.TheVariants.{Unknown, MergeOf, HashOf}
 use Rattle.planner.specs.declared.cell.TheConstants.{IMPOSSIBLE}
 
 -- no plan
@@ -25,3 +27,14 @@ row_of width cells set = take width (drop (set * width) cells)
 -- the cell, or what is cheaper
 abbrev pub better : Cell → ℕ → Choice → Cell
 better cell cost choice = if nat_lt cost cell.cost then (record cell { cost = cost; choice = choice }) else cell
+
+-- the cell after a merge whose left side serves the front g, if any, and else costs `base`
+abbrev pub merged : Cell → Option ℕ → List Cell → Merge → ℕ → Cell
+merged cell None left merge base = cell
+merged cell (Some g) left merge base =
+    better cell (any_at left g + base) (MergeOf merge.edge merge.left g merge.right_front)
+
+-- the cell after a hash join of that cost, which serves only a front that asks nothing
+abbrev pub hashed : Cell → Option Item → ℕ → ℕ → Cell
+hashed cell None left cost = better cell cost (HashOf left)
+hashed cell (Some head) left cost = cell

@@ -36,28 +36,33 @@ pub record IsCut (set a : ℕ) : Type 0 where
   pub less : a < set
   pub apart : bit_and a (set - a) ≡ 0
 
--- a merge of the set's two parts on the edge of that number, whose sides serve the fronts g and h
-pub record IsMerge (task : Task) (list : Order) (fronts : List Front) (rows : ℕ → List Cell) (set f cost number a g h : ℕ) : Type 0 where
-  pub cut : IsCut set a
+-- a merge of a and b on the edge of that number, whose sides serve the fronts g and h
+pub record IsMerge (task : Task) (list : Order) (fronts : List Front) (left right : List Cell) (a b f cost number g h : ℕ) : Type 0 where
   pub left_in : g < length fronts
   pub right_in : h < length fronts
-  pub merges : Merges task number a (set - a) (asked list fronts g) (asked list fronts h)
+  pub merges : Merges task number a b (asked list fronts g) (asked list fronts h)
   pub keeps : BeginsWith (asked list fronts g) (asked list fronts f)
-  pub costs : cost ≡ any_at (rows a) g + any_at (rows (set - a)) h + merge_price task a (set - a)
+  pub costs : cost ≡ any_at left g + any_at right h + merge_price task a b
 
--- a hash join of the set's two parts, for a front that asks nothing
-pub record IsHash (task : Task) (list : Order) (fronts : List Front) (rows : ℕ → List Cell) (set f cost a : ℕ) : Type 0 where
-  pub cut : IsCut set a
-  pub crossed : list_any (crosses a (set - a)) task.edges ≡ true
+-- a hash join of a and b, for a front that asks nothing
+pub record IsHash (task : Task) (list : Order) (fronts : List Front) (left right : List Cell) (a b f cost : ℕ) : Type 0 where
+  pub crossed : list_any (crosses a b) task.edges ≡ true
   pub asks_nothing : asked list fronts f ≡ []
-  pub costs : cost ≡ cost_at (rows a) 0 + cost_at (rows (set - a)) 0 + hash_price task a (set - a)
+  pub costs : cost ≡ cost_at left 0 + cost_at right 0 + hash_price task a b
 
--- a join made the cell
-abbrev pub IsJoin : Task → Order → List Front → (ℕ → List Cell) → ℕ → ℕ → ℕ → Choice → Type 0
-IsJoin task list fronts rows set f cost Unknown = ⊥
-IsJoin task list fronts rows set f cost (Read slot offer) = ⊥
-IsJoin task list fronts rows set f cost (MergeOf edge a g h) = IsMerge task list fronts rows set f cost edge a g h
-IsJoin task list fronts rows set f cost (HashOf a) = IsHash task list fronts rows set f cost a
+-- a join of a and b made the cell
+abbrev pub IsJoinOf : Task → Order → List Front → List Cell → List Cell → ℕ → ℕ → ℕ → ℕ → Choice → Type 0
+IsJoinOf task list fronts left right a b f cost Unknown = ⊥
+IsJoinOf task list fronts left right a b f cost (Read slot offer) = ⊥
+IsJoinOf task list fronts left right a b f cost (MergeOf edge c g h) =
+    (c ≡ a) × IsMerge task list fronts left right a b f cost edge g h
+IsJoinOf task list fronts left right a b f cost (HashOf c) = (c ≡ a) × IsHash task list fronts left right a b f cost
+
+-- a join of two parts of the set made the cell
+pub record IsJoin (task : Task) (list : Order) (fronts : List Front) (rows : ℕ → List Cell) (set f cost : ℕ) (choice : Choice) : Type 0 where
+  pub a : ℕ
+  pub cut : IsCut set a
+  pub join : IsJoinOf task list fronts (rows a) (rows (set - a)) a (set - a) f cost choice
 
 -- an offer made the cell, or nothing
 abbrev pub IsOffer : Task → OfferTable → Order → ℕ → ℕ → Choice → Type 0

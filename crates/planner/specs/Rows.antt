@@ -9,9 +9,10 @@ use Rattle.plan_model.specs.Plans.{IsValid, Merges, covers, crosses, delivers}
 use Rattle.plan_model.specs.Costs.{plan_cost}
 use Rattle.planner.specs.declared.front.Front.{Front}
 use Rattle.planner.specs.declared.cell.Cell.{Cell}
+use Rattle.planner.specs.declared.cell.TheConstants.{IMPOSSIBLE}
 use Rattle.planner.specs.Fronts.{asked}
 use Rattle.planner.specs.Cells.{cell_at, cost_at, any_at, row_of}
-use Rattle.planner.specs.Choices.{merge_price, hash_price, IsJoin, IsOffer, IsSorting}
+use Rattle.planner.specs.Choices.{merge_price, hash_price, IsCut, IsJoinOf, IsJoin, IsOffer, IsSorting}
 
 -- no plan of the set whose order begins so costs less; `sorts` says that a sort may stand at its top
 pub record NoneLess (sorts : Bool) (task : Task) (table : OfferTable) (order : Order) (set cost : ℕ) : Type 0 where
@@ -40,9 +41,27 @@ pub record JoinsBound (task : Task) (list : Order) (fronts : List Front) (left r
   pub hash : HashBound task list fronts left right a b f cost
   pub merges : (number : ℕ) → number < length task.edges → MergesBound task list fronts left right a b f cost number
 
+-- a row after some joins of a and b were offered to its cells: none costs more, and a cell that changed was made by one
+pub record IsStep (task : Task) (list : Order) (fronts : List Front) (left right : List Cell) (a b : ℕ) (old new : List Cell) : Type 0 where
+  pub width : length new ≡ length old
+  pub lower : (f : ℕ) → cost_at new f ≤ cost_at old f
+  pub made : (f : ℕ) → f < length fronts → (cell_at new f ≡ cell_at old f) ⊎ IsJoinOf task list fronts left right a b f (cost_at new f) (cell_at new f).choice
+
+-- the same after joins of some cuts of the set
+pub record IsGrown (task : Task) (list : Order) (fronts : List Front) (rows : ℕ → List Cell) (set : ℕ) (old new : List Cell) : Type 0 where
+  pub width : length new ≡ length old
+  pub lower : (f : ℕ) → cost_at new f ≤ cost_at old f
+  pub made : (f : ℕ) → f < length fronts → (cell_at new f ≡ cell_at old f) ⊎ IsJoin task list fronts rows set f (cost_at new f) (cell_at new f).choice
+
+-- no cost is above that of no plan
+pub record IsCapped (row : List Cell) : Type 0 where
+  pub cost : (f : ℕ) → cost_at row f ≤ IMPOSSIBLE
+  pub any : (f : ℕ) → any_at row f ≤ IMPOSSIBLE
+
 -- what a row of the table says of plans
 pub record IsRow (task : Task) (table : OfferTable) (list : Order) (fronts : List Front) (rows : ℕ → List Cell) (set : ℕ) (row : List Cell) : Type 0 where
   pub width : length row ≡ length fronts
+  pub capped : IsCapped row
   pub chosen : (f : ℕ) → f < length fronts → IsOffer task table (asked list fronts f) set (cost_at row f) (cell_at row f).choice ⊎ IsJoin task list fronts rows set f (cost_at row f) (cell_at row f).choice
   pub sorted : (f : ℕ) → f < length fronts → (any_at row f ≡ cost_at row f) ⊎ IsSorting task list fronts row set f (any_at row f)
   pub least : (f : ℕ) → f < length fronts → NoneLess false task table (asked list fronts f) set (cost_at row f)

@@ -7,6 +7,5 @@
 
 mod cell;
 mod front;
-
-pub(crate) use cell::{Cell, Choice, IMPOSSIBLE};
-pub(crate) use front::Front;
+mod join;
+mod price;
