@@ -1,2 +1,3 @@
 pub mod Begins
 pub mod Lower
+pub mod Steps

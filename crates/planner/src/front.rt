@@ -71,3 +71,11 @@ pub(crate) fn side(edge: &TaskEdge, tie: Tie, set: usize) -> usize
         tie.right
     }
 }
+
+/// The fronts of a task, with the first item of what each asks for, and the fronts of each edge's needs.
+#[derive(Drop)]
+pub(crate) struct Ways {
+    pub fronts: Vec<Front>,
+    pub heads: Vec<Option<Item>>,
+    pub ties: Vec<Tie>,
+}
