@@ -1,10 +1,10 @@
 -- What offering joins to the cells of a row gives.
 use Rattle.std.proofs.Common.{◌≡◌, ◌≢◌, ℕ, zero, suc, ◌+◌, ◌-◌, ◌*◌, ◌^◌, ◌<◌, ◌≤◌, ◌⊎◌, inl, inr, Bool, true, false, cond, nat_lt, List, [], ◌∷◌, length, take, All, bit_and, Option, Some, None, slice_get, slice_index_or, refl, sym, ap, ◌∙◌, subst, arith}
 use Rattle.std.specs.List.{list_any}
-use Rattle.std.proofs.lemmas.Bool.{false≢true, cases_Bool, cases_lt, ltb-false}
+use Rattle.std.proofs.lemmas.Bool.{false≢true, cases_Bool, cases_lt, or_left, or_right}
 use Rattle.std.proofs.lemmas.Bool.Decides.{nat_tests}
-use Rattle.std.proofs.lemmas.Option.{slice_get_within, same_Some}
-use Rattle.std.proofs.lemmas.List.{get_or_past}
+use Rattle.std.proofs.lemmas.Option.{slice_get_within, slice_get_read, same_Some}
+use Rattle.std.proofs.lemmas.List.{get_or_past, get_or_default, get_or_read}
 use Rattle.adv_base.specs.Items.{Order, BeginsWith}
 use Rattle.adv_base.specs.Sets.{has_slot}
 use Rattle.adv_base.specs.declared.workload.parts.Item.{Item}
@@ -18,7 +18,7 @@ use Rattle.planner.specs.declared.cell.Cell.{Cell}
 use Rattle.planner.specs.declared.cell.Merge.{Merge}
 use Rattle.planner.specs.declared.cell.Choice.{Choice}
 use Rattle.planner.specs.declared.cell.Choice.TheVariants.{MergeOf, HashOf}
-use Rattle.planner.specs.Fronts.{asked, first_item, longer_front, listed, side_front, no_tie, IsTie, AreTies, AreHeads, AreWays}
+use Rattle.planner.specs.Fronts.{asked, first_item, longer_front, listed, side_front, no_tie, IsTie, AreTies, AreHeads, AreWays, IsWay}
 use Rattle.planner.specs.Cells.{blank, cell_at, cost_at, any_at, better, merged, hashed}
 use Rattle.planner.specs.Choices.{IsMerge, IsHash, IsJoinOf, merge_price, hash_price}
 use Rattle.planner.specs.Rows.{MergeBound, MergesBound, HashBound, JoinsBound, IsStep}
@@ -238,3 +238,43 @@ merges_lower task list fronts left right a b f cost less k low h =
 pub hash_lower : (task : Task) (list : Order) (fronts : List Front) (left right : List Cell) (a b f cost less : ℕ) → less ≤ cost → HashBound task list fronts left right a b f cost → HashBound task list fronts left right a b f less
 hash_lower task list fronts left right a b f cost less low h =
     record { bound = λ crossed nothing. let w = h.bound crossed nothing in omega arith }
+
+-- a cell that is read within a row
+pub cost_read : (row : List Cell) (i : ℕ) (d : Cell) → i < length row → (slice_index_or row i d).cost ≡ cost_at row i
+cost_read row i d h = ap (λ (x : Cell). x.cost) (get_or_default row i d blank h)
+
+pub any_read : (row : List Cell) (i : ℕ) (d : Cell) → i < length row → (slice_index_or row i d).any ≡ any_at row i
+any_read row i d h = ap (λ (x : Cell). x.any) (get_or_default row i d blank h)
+
+pub way_at : (task : Task) (fronts : List Front) (heads : List (Option Item)) (ties : List Tie) (k : ℕ) (edge : TaskEdge) (tie : Tie) → AreWays task fronts heads ties → k < length task.edges → edge ≡ slice_index_or task.edges k edge → tie ≡ slice_index_or ties k tie → IsWay task fronts k edge tie
+way_at task fronts heads ties k edge tie ways within here there =
+    let found = slice_get_read task.edges (length task.edges) k edge refl within here in
+    let count = ways.tied.count in
+    let is : tie ≡ slice_index_or ties k no_tie = get_or_read ties k tie (omega arith) there no_tie in
+    record { found = found; tied = subst (IsTie (listed task) fronts edge) (sym is) (ways.tied.each k edge found) }
+
+pub way_read : (task : Task) (fronts : List Front) (heads : List (Option Item)) (ties : List Tie) (k : ℕ) (xs : List TaskEdge) (d : TaskEdge) (tie : Tie) → AreWays task fronts heads ties → k < length task.edges → xs ≡ task.edges → tie ≡ slice_index_or ties k tie → IsWay task fronts k (slice_index_or xs k d) tie
+way_read task fronts heads ties k xs d tie ways within same there =
+    subst (λ ys. IsWay task fronts k (slice_index_or ys k d) tie) (sym same) (way_at task fronts heads ties k (slice_index_or task.edges k d) tie ways within (get_or_default task.edges k d (slice_index_or task.edges k d) within) there)
+
+-- the first items at hand are those of the fronts
+pub heads_each : (list : Order) (fronts : List Front) (heads : List (Option Item)) (old new left : List Cell) (merge : Merge) (base f : ℕ) → AreHeads list fronts heads → merge.left_need < length fronts → f < length fronts → cell_at new f ≡ merged (cell_at old f) (longer_front (slice_index_or heads merge.left_need None) (slice_index_or heads f None) merge.left_need f) left merge base → cell_at new f ≡ merged (cell_at old f) (longer_front (first_item (asked list fronts merge.left_need)) (first_item (asked list fronts f)) merge.left_need f) left merge base
+heads_each list fronts heads old new left merge base f first need within h =
+    h ∙ ap (λ t. merged (cell_at old f) (longer_front t (slice_index_or heads f None) merge.left_need f) left merge base) (first.each merge.left_need need) ∙ ap (λ t. merged (cell_at old f) (longer_front (first_item (asked list fronts merge.left_need)) t merge.left_need f) left merge base) (first.each f within)
+
+any_crossing : (a b : ℕ) (edges : List TaskEdge) (k : ℕ) (edge : TaskEdge) → slice_get edges k ≡ Some edge → crosses a b edge ≡ true → list_any (crosses a b) edges ≡ true
+any_crossing a b [] k edge found crossing = cc
+any_crossing a b (x ∷ xs) zero edge found crossing =
+    let e : x ≡ edge = cc in or_left (crosses a b x) (list_any (crosses a b) xs) (ap (crosses a b) e ∙ crossing)
+any_crossing a b (x ∷ xs) (suc k) edge found crossing =
+    or_right (crosses a b x) (list_any (crosses a b) xs) (any_crossing a b xs k edge found crossing)
+
+-- sets that no edge joins have no joins
+pub not_joined : (task : Task) (list : Order) (fronts : List Front) (left right : List Cell) (a b f cost : ℕ) → list_any (crosses a b) task.edges ≡ false → JoinsBound task list fronts left right a b f cost
+not_joined task list fronts left right a b f cost none =
+    record {
+      hash = record { bound = λ crossed nothing. absurd (false≢true (sym none ∙ crossed)) };
+      merges = λ k within. record {
+          each = λ o r m begins. absurd (false≢true (sym none ∙ any_crossing a b task.edges k m.edge m.found m.crossing))
+        }
+    }

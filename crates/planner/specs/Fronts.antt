@@ -65,3 +65,8 @@ pub record AreWays (task : Task) (fronts : List Front) (heads : List (Option Ite
 -- the front that serves the side of an edge that has a set
 abbrev pub side_front : TaskEdge → Tie → ℕ → ℕ
 side_front edge tie set = if has_slot set edge.left then tie.left else tie.right
+
+-- what the ways say of one edge
+pub record IsWay (task : Task) (fronts : List Front) (k : ℕ) (edge : TaskEdge) (tie : Tie) : Type 0 where
+  pub found : slice_get task.edges k ≡ Some edge
+  pub tied : IsTie (listed task) fronts edge tie

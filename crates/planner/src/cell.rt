@@ -1,7 +1,7 @@
 //! What the search keeps for a set of slots and a front.
 ghost use Rattle.std.specs.Prelude.{◌≡◌, ◌+◌, ◌<◌, ◌≤◌, ◌^◌, length};
 ghost use Rattle.std.specs.Option.{ForSome};
-ghost use Rattle.planner.specs.Cells.{better as better_of, merged as merged_of, hashed as hashed_of, any_at};
+ghost use Rattle.planner.specs.Cells.{better as better_of, merged as merged_of, hashed as hashed_of, cost_at, any_at};
 
 use adv_base::Item;
 
@@ -95,4 +95,20 @@ pub(crate) fn hashed(cell: Cell, head: Option<Item>, left: usize, cost: u128) ->
         None => better(cell, cost, Choice::HashOf { left }),
         Some(_) => cell,
     }
+}
+
+/// What a front's cell costs without a sort at the top.
+pub(crate) fn cost_of(row: &[Cell], front: usize) -> u128
+    requires { front < length row.now }
+    ensures { result ≡ cost_at row.now front }
+{
+    row[front].cost
+}
+
+/// What a front's cell costs with or without one.
+pub(crate) fn any_of(row: &[Cell], front: usize) -> u128
+    requires { front < length row.now }
+    ensures { result ≡ any_at row.now front }
+{
+    row[front].any
 }

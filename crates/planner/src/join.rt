@@ -2,15 +2,15 @@
 ghost use Rattle.std.specs.Prelude.{◌≡◌, ℕ, ◌+◌, ◌<◌, ◌≤◌, ◌^◌, bit_and, length, None, slice_index_or};
 ghost use Rattle.std.specs.List.{list_any};
 ghost use Rattle.plan_model.specs.Plans.{crosses as edge_crosses};
-ghost use Rattle.planner.specs.Fronts.{longer_front, listed, AreWays};
+ghost use Rattle.planner.specs.Fronts.{longer_front, listed, AreWays, IsWay};
 ghost use Rattle.planner.specs.Cells.{cell_at, cost_at, any_at, merged as merged_of, hashed as hashed_of};
 ghost use Rattle.planner.specs.Rows.{IsCapped, IsStep, MergesBound, JoinsBound};
 
-use crate::cell::{Cell, Merge, hashed, merged};
-use crate::front::{Ways, crosses, longer, side};
+use crate::cell::{Cell, Merge, any_of, cost_of, hashed, merged};
+use crate::front::{Tie, Ways, crosses, longer, side};
 use crate::price::{hash_price, merge_price};
 use adv_base::Item;
-use plan_model::Task;
+use plan_model::{Task, TaskEdge};
 
 /// Offers each cell of a row a merge; `base` is its cost without the left side.
 pub(crate) fn merge_row(row: &mut [Cell], heads: &[Option<Item>], left: &[Cell], merge: Merge, base: u128)
@@ -38,6 +38,19 @@ pub(crate) fn hash_row(row: &mut [Cell], heads: &[Option<Item>], left: usize, co
     }
 }
 
+/// An edge of the task and the fronts of its needs.
+fn way_at(task: &Task, ways: &Ways, k: usize) -> (TaskEdge, Tie)
+    requires ways { AreWays task.now ways.now.fronts.items ways.now.heads.items ways.now.ties.items }
+    requires number { k < length task.now.edges }
+    ensures left { result.0.left < 8 }
+    ensures right { result.0.right < 8 }
+    ensures way { IsWay task.now ways.now.fronts.items k result.0 result.1 }
+{
+    let edge = task.edges.as_slice()[k];
+    let tie = ways.ties[k];
+    (edge, tie)
+}
+
 /// Offers each cell of a row for the set of a and b the merges on one edge.
 fn merge_on(row: &mut [Cell], task: &Task, ways: &Ways, left: &[Cell], right: &[Cell], a: usize, b: usize, k: usize)
     requires ways { AreWays task.now ways.now.fronts.items ways.now.heads.items ways.now.ties.items }
@@ -51,17 +64,16 @@ fn merge_on(row: &mut [Cell], task: &Task, ways: &Ways, left: &[Cell], right: &[
     ensures step { IsStep task.now (listed task.now) ways.now.fronts.items left.now right.now a b row.old row.new }
     ensures bounds { (f : ℕ) → f < length ways.now.fronts.items → MergesBound task.now (listed task.now) ways.now.fronts.items left.now right.now a b f (cost_at row.new f) k }
 {
-    let edge = &task.edges.items[k];
-    if !crosses(a, b, edge) {
+    let (edge, tie) = way_at(task, ways, k);
+    if !crosses(a, b, &edge) {
         return;
     }
-    let tie = ways.ties[k];
-    let right_front = side(edge, tie, b);
-    let base = right[right_front].any + merge_price(task, a, b);
+    let right_front = side(&edge, tie, b);
+    let base = any_of(right, right_front) + merge_price(task, a, b);
     let merge = Merge {
         edge: k as u32,
         left: a,
-        left_need: side(edge, tie, a),
+        left_need: side(&edge, tie, a),
         right_front,
     };
     merge_row(row, &ways.heads, left, merge, base);
@@ -79,7 +91,7 @@ fn merge_sets(row: &mut [Cell], task: &Task, ways: &Ways, left: &[Cell], right: 
     ensures step { IsStep task.now (listed task.now) ways.now.fronts.items left.now right.now a b row.old row.new }
     ensures bounds { (k : ℕ) → k < length task.now.edges → (f : ℕ) → f < length ways.now.fronts.items → MergesBound task.now (listed task.now) ways.now.fronts.items left.now right.now a b f (cost_at row.new f) k }
 {
-    for k in 0..task.edges.items.len() {
+    for k in 0..task.edges.len() {
         merge_on(row, task, ways, left, right, a, b, k);
     }
 }
@@ -88,7 +100,7 @@ fn merge_sets(row: &mut [Cell], task: &Task, ways: &Ways, left: &[Cell], right: 
 fn are_joined(task: &Task, a: usize, b: usize) -> bool
     ensures { result ≡ list_any (edge_crosses a b) task.now.edges }
 {
-    for edge in task.edges.items.iter() {
+    for edge in task.edges.as_slice() {
         if crosses(a, b, edge) {
             return true;
         }
@@ -111,7 +123,9 @@ pub(crate) fn join_sets(row: &mut [Cell], task: &Task, ways: &Ways, left: &[Cell
     if !are_joined(task, a, b) {
         return;
     }
-    let cost = left[0].cost + right[0].cost + hash_price(task, a, b);
+    let left_cost = cost_of(left, 0);
+    let right_cost = cost_of(right, 0);
+    let cost = left_cost + right_cost + hash_price(task, a, b);
     hash_row(row, &ways.heads, a, cost);
     merge_sets(row, task, ways, left, right, a, b);
 }
