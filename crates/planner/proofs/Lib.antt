@@ -1,3 +1,5 @@
 pub mod Begins
 pub mod Lower
 pub mod Steps
+pub mod Reading
+pub mod Table

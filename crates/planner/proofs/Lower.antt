@@ -20,7 +20,7 @@ use Rattle.planner.specs.declared.cell.Cell.{Cell}
 use Rattle.planner.specs.Fronts.{asked}
 use Rattle.planner.specs.Cells.{cell_at, cost_at, any_at}
 use Rattle.planner.specs.Choices.{IsCut, IsRead, IsMerge, IsHash, IsSorting, merge_price, hash_price}
-use Rattle.planner.specs.Rows.{NoneLess, MergeBound, MergesBound, HashBound, JoinsBound, IsRow}
+use Rattle.planner.specs.Rows.{NoneLess, MergeBound, MergesBound, HashBound, JoinsBound, OffersBound, IsRow}
 use Rattle.planner.proofs.Begins.{begins_nil, begins_trans}
 
 -- only no order begins no order
@@ -38,10 +38,6 @@ covers_some (Hash' p left q right) = omega (arith, covers_some left, covers_some
 pub record IsLow (task : Task) (table : OfferTable) (list : Order) (fronts : List Front) (set : ℕ) (row : List Cell) : Type 0 where
   pub least : (f : ℕ) → f < length fronts → NoneLess false task table (asked list fronts f) set (cost_at row f)
   pub least_any : (f : ℕ) → f < length fronts → NoneLess true task table (asked list fronts f) set (any_at row f)
-
--- the offers of a set of one slot bound the cost
-pub record OffersBound (task : Task) (table : OfferTable) (order : Order) (set cost : ℕ) : Type 0 where
-  pub each : (slot offer : ℕ) → slot < task.slots → offer < length (table slot) → 2 ^ slot ≡ set → BeginsWith (order_at table slot offer) order → cost ≤ price_at table slot offer
 
 module _ (task : Task) (table : OfferTable) (list : Order) (fronts : List Front) (rows : ℕ → List Cell) (set f cost : ℕ) (some : 0 < length fronts) (nothing : asked list fronts 0 ≡ []) (offers : OffersBound task table (asked list fronts f) set cost) (joins : (a : ℕ) → IsCut set a → JoinsBound task list fronts (rows a) (rows (set - a)) a (set - a) f cost) (low : (s : ℕ) → s < set → IsLow task table list fronts s (rows s)) where
   least_of : (p : Plan) → IsValid false task table p → covers p ≡ set → BeginsWith (delivers table p) (asked list fronts f) → cost ≤ plan_cost task table p

@@ -1,10 +1,10 @@
 -- Rows of cells: one row for each set of slots, in it one cell for each front.
-use Rattle.std.specs.Prelude.{ℕ, ◌+◌, ◌*◌, nat_lt, Option, Some, None, if◌then◌else◌, List, take, drop, slice_index_or}
+use Rattle.std.specs.Prelude.{ℕ, ◌+◌, ◌*◌, nat_lt, Bool, ◌&&◌, Option, Some, None, if◌then◌else◌, List, take, drop, slice_index_or}
 use Rattle.adv_base.specs.declared.workload.parts.Item.{Item}
 use Rattle.planner.specs.declared.cell.Cell.{Cell}
 use Rattle.planner.specs.declared.cell.Merge.{Merge}
 use Rattle.planner.specs.declared.cell.Choice.{Choice}
-use Rattle.planner.specs.declared.cell.Choice.TheVariants.{Unknown, MergeOf, HashOf}
+use Rattle.planner.specs.declared.cell.Choice.TheVariants.{Unknown, Read, MergeOf, HashOf}
 use Rattle.planner.specs.declared.cell.TheConstants.{IMPOSSIBLE}
 
 -- no plan
@@ -38,3 +38,11 @@ merged cell (Some g) left merge base =
 abbrev pub hashed : Cell → Option Item → ℕ → ℕ → Cell
 hashed cell None left cost = better cell cost (HashOf left)
 hashed cell (Some head) left cost = cell
+
+-- the cell after an offer, which serves the front or not
+abbrev pub offered : Cell → Bool → ℕ → ℕ → ℕ → Cell
+offered cell serves price slot offer = if serves then better cell price (Read slot offer) else cell
+
+-- the cell once it is known what a sort of the set costs, and whether the front's columns can be sorted by
+abbrev pub finished : Cell → Bool → ℕ → Cell
+finished cell can_sort sorted = record cell { any = if can_sort && nat_lt sorted cell.cost then sorted else cell.cost }

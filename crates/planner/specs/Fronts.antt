@@ -1,5 +1,5 @@
 -- The orders that fronts ask for.
-use Rattle.std.specs.Prelude.{ℕ, ◌≡◌, ◌<◌, ◌≤◌, if◌then◌else◌, List, [], ◌∷◌, length, Option, Some, None, unwrap_or, slice_get, slice_index_or}
+use Rattle.std.specs.Prelude.{ℕ, ◌≡◌, ◌<◌, ◌≤◌, Bool, true, false, ◌&&◌, if◌then◌else◌, List, [], ◌∷◌, length, Option, Some, None, unwrap_or, slice_get, slice_index_or}
 use Rattle.adv_base.specs.Items.{Order}
 use Rattle.adv_base.specs.Sets.{has_slot}
 use Rattle.plan_model.specs.declared.edge.TaskEdge.{TaskEdge}
@@ -70,3 +70,9 @@ side_front edge tie set = if has_slot set edge.left then tie.left else tie.right
 pub record IsWay (task : Task) (fronts : List Front) (k : ℕ) (edge : TaskEdge) (tie : Tie) : Type 0 where
   pub found : slice_get task.edges k ≡ Some edge
   pub tied : IsTie (listed task) fronts edge tie
+
+-- whether the order o begins with another
+abbrev pub begins_test : Order → Order → Bool
+begins_test o [] = true
+begins_test [] (y ∷ ys) = false
+begins_test (x ∷ xs) (y ∷ ys) = is_same_item x y && begins_test xs ys

@@ -1,10 +1,11 @@
 -- What the rows of the table keep.
-use Rattle.std.specs.Prelude.{◌≡◌, ℕ, ◌+◌, ◌*◌, ◌<◌, ◌≤◌, ◌⊎◌, Bool, true, false, List, [], length}
+use Rattle.std.specs.Prelude.{◌≡◌, ℕ, ◌+◌, ◌*◌, ◌^◌, ◌<◌, ◌≤◌, ◌⊎◌, Bool, true, false, List, [], length}
 use Rattle.std.specs.List.{list_any}
 use Rattle.adv_base.specs.Items.{Order, BeginsWith}
 use Rattle.adv_base.specs.Offers.{OfferTable}
 use Rattle.plan_model.specs.declared.plan.Plan.{Plan}
 use Rattle.plan_model.specs.declared.task.Task.{Task}
+use Rattle.plan_model.specs.OfferTables.{price_at, order_at}
 use Rattle.plan_model.specs.Plans.{IsValid, Merges, covers, crosses, delivers}
 use Rattle.plan_model.specs.Costs.{plan_cost}
 use Rattle.planner.specs.declared.front.Front.{Front}
@@ -40,6 +41,18 @@ pub record HashBound (task : Task) (list : Order) (fronts : List Front) (left ri
 pub record JoinsBound (task : Task) (list : Order) (fronts : List Front) (left right : List Cell) (a b f cost : ℕ) : Type 0 where
   pub hash : HashBound task list fronts left right a b f cost
   pub merges : (number : ℕ) → number < length task.edges → MergesBound task list fronts left right a b f cost number
+
+-- the offers of a set of one slot bound the cost
+pub record OffersBound (task : Task) (table : OfferTable) (order : Order) (set cost : ℕ) : Type 0 where
+  pub each : (slot offer : ℕ) → slot < task.slots → offer < length (table slot) → 2 ^ slot ≡ set → BeginsWith (order_at table slot offer) order → cost ≤ price_at table slot offer
+
+-- the offers of one slot bound the cost
+pub record SlotBound (table : OfferTable) (order : Order) (slot cost : ℕ) : Type 0 where
+  pub each : (offer : ℕ) → offer < length (table slot) → BeginsWith (order_at table slot offer) order → cost ≤ price_at table slot offer
+
+-- offers made all cells of a row, or nothing did
+pub record AreOffers (task : Task) (table : OfferTable) (list : Order) (fronts : List Front) (set : ℕ) (row : List Cell) : Type 0 where
+  pub each : (f : ℕ) → f < length fronts → IsOffer task table (asked list fronts f) set (cost_at row f) (cell_at row f).choice
 
 -- a row after some joins of a and b were offered to its cells: none costs more, and a cell that changed was made by one
 pub record IsStep (task : Task) (list : Order) (fronts : List Front) (left right : List Cell) (a b : ℕ) (old new : List Cell) : Type 0 where

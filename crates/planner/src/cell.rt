@@ -1,7 +1,7 @@
 //! What the search keeps for a set of slots and a front.
 ghost use Rattle.std.specs.Prelude.{◌≡◌, ◌+◌, ◌<◌, ◌≤◌, ◌^◌, length};
 ghost use Rattle.std.specs.Option.{ForSome};
-ghost use Rattle.planner.specs.Cells.{better as better_of, merged as merged_of, hashed as hashed_of, cost_at, any_at};
+ghost use Rattle.planner.specs.Cells.{better as better_of, merged as merged_of, hashed as hashed_of, finished as finished_of, blank as blank_cell, cost_at, any_at};
 
 use adv_base::Item;
 
@@ -111,4 +111,31 @@ pub(crate) fn any_of(row: &[Cell], front: usize) -> u128
     ensures { result ≡ any_at row.now front }
 {
     row[front].any
+}
+
+/// No plan.
+pub(crate) fn blank() -> Cell
+    ensures { result ≡ blank_cell }
+{
+    Cell {
+        cost: IMPOSSIBLE,
+        any: IMPOSSIBLE,
+        choice: Choice::Unknown,
+    }
+}
+
+/// The cell once it is known what a sort of the set costs, and whether the front's columns can be sorted by.
+pub(crate) fn finished(cell: Cell, can_sort: bool, sorted: u128) -> Cell
+    ensures { result ≡ finished_of cell can_sort sorted }
+{
+    let any = if can_sort && sorted < cell.cost {
+        sorted
+    } else {
+        cell.cost
+    };
+    Cell {
+        cost: cell.cost,
+        any,
+        choice: cell.choice,
+    }
 }

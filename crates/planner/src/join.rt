@@ -42,9 +42,7 @@ pub(crate) fn hash_row(row: &mut [Cell], heads: &[Option<Item>], left: usize, co
 fn way_at(task: &Task, ways: &Ways, k: usize) -> (TaskEdge, Tie)
     requires ways { AreWays task.now ways.now.fronts.items ways.now.heads.items ways.now.ties.items }
     requires number { k < length task.now.edges }
-    ensures left { result.0.left < 8 }
-    ensures right { result.0.right < 8 }
-    ensures way { IsWay task.now ways.now.fronts.items k result.0 result.1 }
+    ensures { IsWay task.now ways.now.fronts.items k result.0 result.1 }
 {
     let edge = task.edges.as_slice()[k];
     let tie = ways.ties[k];

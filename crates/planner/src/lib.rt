@@ -9,3 +9,5 @@ mod cell;
 mod front;
 mod join;
 mod price;
+mod read;
+mod row;

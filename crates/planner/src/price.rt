@@ -50,3 +50,12 @@ pub(crate) fn sort_price(task: &Task, rows: u64) -> u128
     let digits = binary_digits(rows) as u128;
     task.rates.sort_cpu as u128 * (rows as u128 * digits)
 }
+
+/// Sorting the rows of a set.
+pub(crate) fn sort_set(task: &Task, set: usize) -> u128
+    requires { set < length task.now.rows }
+    ensures exact { result ≡ sort_cost task.now.rates (rows_in task.now set) }
+    ensures most { result ≤ 64000000000000000000 }
+{
+    sort_price(task, rows_of(task, set))
+}

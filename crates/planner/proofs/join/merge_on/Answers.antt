@@ -27,7 +27,7 @@ each c f within =
     let list = listed c.args.task.now in
     let fronts = c.args.ways.now.fronts.items in
     let first : AreHeads list fronts c.deref.result.now = subst (AreHeads list fronts) (sym c.deref.ensures.value) c.requires.ways.first in
-    let asks = side_asks list fronts c.way_at.result.0 c.way_at.result.1 c.args.a c.way_at.ensures.way.tied in
+    let asks = side_asks list fronts c.way_at.result.0 c.way_at.result.1 c.args.a c.way_at.ensures.tied in
     let need : c.side.result < length fronts = omega (arith, asks.0, c.side.ensures) in
     heads_each list fronts c.deref.result.now c.args.row.now c.merge_row.new.row c.args.left.now (merge_of c) (c.any_of.result + c.merge_price.result) f first need (omega (arith, c.requires.row_each)) (c.merge_row.ensures f within)
 
@@ -40,9 +40,9 @@ crossing c = sym c.crosses.ensures ∙ c.if-not-crosses.false
 pub returns-clause-step : goal.returns-clause-step
 unfolding merge_of
 returns-clause-step c =
-    merge_step c.args.task.now (listed c.args.task.now) c.args.ways.now.fronts.items c.args.left.now c.args.right.now c.args.row.now c.merge_row.new.row c.args.a c.args.b c.way_at.result.0 c.way_at.result.1 (merge_of c) c.way_at.ensures.way.found (crossing c) c.way_at.ensures.way.tied refl c.side.ensures c.side-right_front.ensures c.requires.row_each (omega arith) (c.any_of.result + c.merge_price.result) (price c) (each c)
+    merge_step c.args.task.now (listed c.args.task.now) c.args.ways.now.fronts.items c.args.left.now c.args.right.now c.args.row.now c.merge_row.new.row c.args.a c.args.b c.way_at.result.0 c.way_at.result.1 (merge_of c) c.way_at.ensures.found (crossing c) c.way_at.ensures.tied refl c.side.ensures c.side-right_front.ensures c.requires.row_each (omega arith) (c.any_of.result + c.merge_price.result) (price c) (each c)
 
 pub returns-clause-bounds : goal.returns-clause-bounds
 unfolding merge_of
 returns-clause-bounds c =
-    merge_bounds c.args.task.now (listed c.args.task.now) c.args.ways.now.fronts.items c.args.left.now c.args.right.now c.args.row.now c.merge_row.new.row c.args.a c.args.b c.way_at.result.0 c.way_at.result.1 (merge_of c) c.way_at.ensures.way.found (crossing c) c.way_at.ensures.way.tied refl c.side.ensures c.side-right_front.ensures c.requires.row_each (omega arith) (c.any_of.result + c.merge_price.result) (price c) (each c)
+    merge_bounds c.args.task.now (listed c.args.task.now) c.args.ways.now.fronts.items c.args.left.now c.args.right.now c.args.row.now c.merge_row.new.row c.args.a c.args.b c.way_at.result.0 c.way_at.result.1 (merge_of c) c.way_at.ensures.found (crossing c) c.way_at.ensures.tied refl c.side.ensures c.side-right_front.ensures c.requires.row_each (omega arith) (c.any_of.result + c.merge_price.result) (price c) (each c)
