@@ -3,3 +3,4 @@ pub mod Lower
 pub mod Steps
 pub mod Reading
 pub mod Table
+pub mod Growing

@@ -1,10 +1,10 @@
 -- Rows after joins, and the table of rows.
-use Rattle.std.proofs.Common.{◌≡◌, ◌≢◌, ℕ, zero, suc, ◌+◌, ◌-◌, ◌*◌, ◌^◌, ◌<◌, ◌≤◌, ◌⊎◌, inl, inr, Bool, true, false, cond, ◌&&◌, nat_lt, List, [], ◌∷◌, ◌++◌, length, take, drop, All, slice_index_or, refl, sym, ap, ◌∙◌, subst, arith}
+use Rattle.std.proofs.Common.{◌≡◌, ◌≢◌, ℕ, zero, suc, ◌+◌, ◌-◌, ◌*◌, ◌^◌, ◌<◌, ◌≤◌, ◌⊎◌, inl, inr, Bool, true, false, cond, ◌&&◌, nat_lt, List, [], ◌∷◌, ◌++◌, length, take, drop, All, Option, slice_index_or, refl, sym, ap, ◌∙◌, subst, arith}
 use Rattle.std.specs.List.{list_all}
 use Rattle.std.proofs.lemmas.Nat.{row_fits}
 use Rattle.std.proofs.lemmas.Bool.{false≢true, cases_lt, cases_Bool, and_parts, and_from}
 use Rattle.std.proofs.lemmas.Bool.Decides.{nat_tests}
-use Rattle.std.proofs.lemmas.List.{get_or_past, take-append-le, drop-append-le, drop_at, take_all, length-append, length-drop}
+use Rattle.std.proofs.lemmas.List.{get_or_past, get_or_default, take-append-le, drop-append-le, drop_at, take_all, length-append, length-drop}
 use Rattle.std.proofs.lemmas.List.Elements.{All-head, All-tail, All-nil, All-cons}
 use Rattle.adv_base.specs.Items.{Order, BeginsWith}
 use Rattle.adv_base.specs.Offers.{OfferTable}
@@ -17,7 +17,9 @@ use Rattle.planner.specs.declared.cell.Cell.{Cell}
 use Rattle.planner.specs.declared.cell.Choice.{Choice}
 use Rattle.planner.specs.declared.cell.Choice.TheVariants.{Unknown}
 use Rattle.planner.specs.declared.cell.TheConstants.{IMPOSSIBLE}
-use Rattle.planner.specs.Fronts.{asked}
+use Rattle.planner.specs.declared.front.Front.TheVariants.{Any, Listed}
+use Rattle.planner.specs.declared.front.Tie.{Tie}
+use Rattle.planner.specs.Fronts.{asked, front_order, listed, AreWays}
 use Rattle.planner.specs.Cells.{blank, cell_at, cost_at, any_at, row_of, finished}
 use Rattle.planner.specs.Choices.{IsCut, IsOffer, IsJoinOf, IsJoin, IsSorting}
 use Rattle.planner.specs.Rows.{NoneLess, JoinsBound, OffersBound, AreOffers, IsStep, IsGrown, IsCapped, IsRow, IsTable}
@@ -233,3 +235,12 @@ table_none task table list fronts = record { whole = omega arith; rows = λ s h.
 
 pub row_low : (task : Task) (table : OfferTable) (list : Order) (fronts : List Front) (rows : ℕ → List Cell) (set : ℕ) (row : List Cell) → IsRow task table list fronts rows set row → IsLow task table list fronts set row
 row_low task table list fronts rows set row h = record { least = h.least; least_any = h.least_any }
+
+-- the first front asks nothing
+pub nothing_asked : (task : Task) (fronts : List Front) (heads : List (Option Item)) (ties : List Tie) → AreWays task fronts heads ties → asked (listed task) fronts 0 ≡ []
+nothing_asked task fronts heads ties ways =
+    let same : slice_index_or fronts 0 Any ≡ Any = get_or_default fronts 0 Any Listed (omega (arith, ways.some)) ∙ ways.nothing in
+    ap (front_order (listed task)) same
+
+pub all_asked : (task : Task) (fronts : List Front) (heads : List (Option Item)) (ties : List Tie) → AreWays task fronts heads ties → asked (listed task) fronts 1 ≡ listed task
+all_asked task fronts heads ties ways = ap (front_order (listed task)) ways.all

@@ -76,3 +76,24 @@ abbrev pub begins_test : Order → Order → Bool
 begins_test o [] = true
 begins_test [] (y ∷ ys) = false
 begins_test (x ∷ xs) (y ∷ ys) = is_same_item x y && begins_test xs ys
+
+-- the front that asks for a need
+abbrev pub need_front : Option Item → Front
+need_front None = Any
+need_front (Some item) = Need item
+
+-- fronts that begin with others
+pub record IsGrowing (old new : List Front) : Type 0 where
+  pub longer : length old ≤ length new
+  pub keeps : (k : ℕ) → k < length old → slice_index_or new k Any ≡ slice_index_or old k Any
+
+-- fronts that begin with those that ask nothing and for the list
+pub record AreFronts (fronts : List Front) : Type 0 where
+  pub some : 2 ≤ length fronts
+  pub nothing : slice_index_or fronts 0 Listed ≡ Any
+  pub all : slice_index_or fronts 1 Any ≡ Listed
+
+-- the fronts of each of the first n edges
+pub record AreTiesBelow (list : Order) (fronts : List Front) (edges : List TaskEdge) (ties : List Tie) (n : ℕ) : Type 0 where
+  pub count : length ties ≡ n
+  pub each : (k : ℕ) (edge : TaskEdge) → k < n → slice_get edges k ≡ Some edge → IsTie list fronts edge (slice_index_or ties k no_tie)

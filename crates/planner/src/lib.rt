@@ -11,3 +11,4 @@ mod join;
 mod price;
 mod read;
 mod row;
+mod ways;

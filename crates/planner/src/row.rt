@@ -28,6 +28,13 @@ pub(crate) fn row_at(cells: &[Cell], width: usize, sets: usize, set: usize) -> &
     &cells[from..from + width]
 }
 
+/// How many cells a row has.
+pub(crate) fn width_of(ways: &Ways) -> usize
+    ensures { result ≡ length ways.now.fronts.items }
+{
+    ways.fronts.len()
+}
+
 /// Offers each cell of a set's row the joins of two of its parts, where a and the rest are apart.
 fn join_cut(row: &mut [Cell], done: &[Cell], task: &Task, ways: &Ways, set: usize, a: usize)
     requires ways { AreWays task.now ways.now.fronts.items ways.now.heads.items ways.now.ties.items }
@@ -44,7 +51,7 @@ fn join_cut(row: &mut [Cell], done: &[Cell], task: &Task, ways: &Ways, set: usiz
     if a & b != 0 {
         return;
     }
-    let width = ways.fronts.len();
+    let width = width_of(ways);
     let left = row_at(done, width, set, a);
     let right = row_at(done, width, set, b);
     join_sets(row, task, ways, left, right, a, b);
@@ -98,10 +105,11 @@ fn plan_set<O: Offers>(row: &mut [Cell], done: &[Cell], task: &Task, offers: &O,
     requires done { IsTable task.now (O.table offers.now) (list_of task.now) ways.now.fronts.items done.now set }
     ensures { IsRow task.now (O.table offers.now) (list_of task.now) ways.now.fronts.items (row_of (length ways.now.fronts.items) done.now) set row.new }
 {
+    let fronts = ways.fronts.as_slice();
     clear_row(row);
-    read_row(row, task, offers, &ways.fronts, set);
+    read_row(row, task, offers, fronts, set);
     join_row(row, done, task, ways, set);
-    finish_row(row, task, &ways.fronts, set);
+    finish_row(row, task, fronts, set);
 }
 
 /// Adds the row of the next set to a table.
@@ -112,8 +120,9 @@ fn add_set<O: Offers>(cells: &mut Vec<Cell>, row: &mut [Cell], task: &Task, offe
     requires done { IsTable task.now (O.table offers.now) (list_of task.now) ways.now.fronts.items cells.old.items set }
     ensures { IfOk result (λ _. IsTable task.now (O.table offers.now) (list_of task.now) ways.now.fronts.items cells.new.items (set + 1)) }
 {
-    plan_set(row, cells, task, offers, ways, set);
-    cells.extend_from_slice(row)
+    plan_set(row, cells.as_slice(), task, offers, ways, set);
+    cells.extend_from_slice(row)?;
+    Ok(())
 }
 
 /// The table of all sets.
@@ -121,11 +130,11 @@ pub(crate) fn plan_sets<O: Offers>(alloc: Global, task: &Task, offers: &O, ways:
     requires ways { AreWays task.now ways.now.fronts.items ways.now.heads.items ways.now.ties.items }
     ensures { IfOk result (λ cells. IsTable task.now (O.table offers.now) (list_of task.now) ways.now.fronts.items cells.items (length task.now.rows)) }
 {
-    let width = ways.fronts.len();
+    let width = width_of(ways);
     let mut cells = Vec::new(alloc);
     let mut row = vec![in alloc; blank(); width]?;
     for set in 0..task.rows.len() {
-        add_set(&mut cells, &mut row, task, offers, ways, set)?;
+        add_set(&mut cells, row.as_mut_slice(), task, offers, ways, set)?;
     }
     Ok(cells)
 }
