@@ -2,7 +2,7 @@
 use Rattle.std.proofs.Common.{◌≡◌, ℕ, zero, suc, ◌+◌, ◌<◌, ◌≤◌, ◌⊎◌, inl, inr, List, [], ◌∷◌, ◌++◌, length, Option, Some, None, slice_get, slice_index_or, get_or, refl, sym, ap, ◌∙◌, subst, arith}
 use Rattle.std.proofs.lemmas.Bool.{cases_lt}
 use Rattle.std.proofs.lemmas.List.{get_or_append_left, get_or_push, length_push, get_or_default}
-use Rattle.std.proofs.lemmas.Option.{slice_get_within, same_Some, get_or_from_slice_get}
+use Rattle.std.proofs.lemmas.Option.{slice_get_within, same_Some, slice_get-get_or}
 use Rattle.adv_base.specs.Items.{Order}
 use Rattle.adv_base.specs.declared.workload.parts.Item.{Item}
 use Rattle.plan_model.specs.declared.edge.TaskEdge.{TaskEdge}
@@ -91,3 +91,7 @@ ways_from task fronts heads ties f h t =
       first = h;
       tied = record { count = t.count; each = λ k e at. t.each k e (slice_get_within task.edges k e at) at }
     }
+
+pub edge_found : (xs edges : List TaskEdge) (k : ℕ) (d : TaskEdge) → xs ≡ edges → k < length edges → slice_get edges k ≡ Some (slice_index_or xs k d)
+edge_found xs edges k d same within =
+    subst (λ ys. slice_get edges k ≡ Some (slice_index_or ys k d)) (sym same) (slice_get-get_or edges k d within)

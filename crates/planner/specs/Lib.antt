@@ -2,3 +2,4 @@ pub mod Fronts
 pub mod Cells
 pub mod Choices
 pub mod Rows
+pub mod Built

@@ -5,6 +5,7 @@
 //! it. Join trees may be bushy. At the end the plan is built from the choices.
 #![tactic(auto)]
 
+mod build;
 mod cell;
 mod front;
 mod join;
