@@ -4,3 +4,5 @@ pub mod Steps
 pub mod Reading
 pub mod Table
 pub mod Growing
+pub mod Building
+pub mod Exists

@@ -1,5 +1,5 @@
 -- Plans that are built from the choices.
-use Rattle.std.specs.Prelude.{◌≡◌, ℕ, Bool, if◌then◌else◌, List}
+use Rattle.std.specs.Prelude.{◌≡◌, ℕ, ◌-◌, ◌==◌, Bool, ◌&&◌, not, if◌then◌else◌, List}
 use Rattle.adv_base.specs.Items.{Order, BeginsWith}
 use Rattle.adv_base.specs.Offers.{OfferTable}
 use Rattle.plan_model.specs.declared.plan.Plan.{Plan}
@@ -7,7 +7,12 @@ use Rattle.plan_model.specs.declared.plan.Plan.TheVariants.{Leaf, Sort', Merge',
 use Rattle.plan_model.specs.declared.task.Task.{Task}
 use Rattle.plan_model.specs.Plans.{IsValid, covers, delivers}
 use Rattle.plan_model.specs.Costs.{plan_cost}
+use Rattle.planner.specs.declared.front.Front.{Front}
 use Rattle.planner.specs.declared.cell.Cell.{Cell}
+use Rattle.planner.specs.declared.cell.Choice.{Choice}
+use Rattle.planner.specs.declared.cell.Choice.TheVariants.{Unknown, Read, MergeOf, HashOf}
+use Rattle.planner.specs.Fronts.{asked}
+use Rattle.planner.specs.Choices.{IsCut, IsRead, IsMerge, IsHash}
 use Rattle.planner.specs.Cells.{cost_at, any_at}
 
 -- the cost of a front in a row, with or without a sort at the top
@@ -41,3 +46,17 @@ IsHashOf left right (Leaf slot offer) = ⊥
 IsHashOf left right (Sort' o p i) = ⊥
 IsHashOf left right (Merge' e p l q r) = ⊥
 IsHashOf left right (Hash' p l q r) = (l ≡ left) × (r ≡ right)
+
+-- whether a sort is the cheapest top of a cell's plan
+abbrev pub is_sorted : Cell → Bool → Bool
+is_sorted cell sorts = sorts && not (cell.any == cell.cost)
+
+-- what the choice of a cell that has a plan says
+abbrev pub IsChosen : Task → OfferTable → Order → List Front → (ℕ → List Cell) → ℕ → ℕ → ℕ → Choice → Type 0
+IsChosen task table list fronts rows set f cost Unknown = ⊥
+IsChosen task table list fronts rows set f cost (Read slot offer) =
+    IsRead task table (asked list fronts f) set cost slot offer
+IsChosen task table list fronts rows set f cost (MergeOf edge a g h) =
+    IsCut set a × IsMerge task list fronts (rows a) (rows (set - a)) a (set - a) f cost edge g h
+IsChosen task table list fronts rows set f cost (HashOf a) =
+    IsCut set a × IsHash task list fronts (rows a) (rows (set - a)) a (set - a) f cost
