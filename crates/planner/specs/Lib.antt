@@ -3,3 +3,4 @@ pub mod Cells
 pub mod Choices
 pub mod Rows
 pub mod Built
+pub mod Shapes

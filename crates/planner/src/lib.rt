@@ -13,3 +13,4 @@ mod price;
 mod read;
 mod row;
 mod ways;
+mod whole;
