@@ -1,5 +1,7 @@
 -- Some plan joins all slots.
 use Rattle.std.proofs.Common.{◌≡◌, ◌≢◌, ℕ, zero, suc, ◌+◌, ◌-◌, ◌*◌, ◌/◌, ◌%◌, ◌^◌, ◌<◌, ◌≤◌, ◌⊎◌, inl, inr, Bool, true, false, cond, not, ◌&&◌, ◌||◌, ◌==◌, List, [], ◌∷◌, length, map, bit_and, min, All, Option, Some, None, slice_get, slice_index, refl, sym, ap, ◌∙◌, subst, arith}
+use denote.RawPtr.{null_ptr}
+use Rattle.std.proofs.Common.{Box, Global}
 use Rattle.std.specs.List.{list_any}
 use Rattle.std.proofs.Math.Nat.{one-le-pow, mul-le-mul}
 use Rattle.std.proofs.Math.Pow.{pow_mono}
@@ -128,7 +130,7 @@ pub record Joined (task : Task) (table : OfferTable) : Type 0 where
   pub covers_all : covers plan ≡ all_slots task.slots
   pub cost : plan_cost task table plan ≤ 20000000000000000000 * all_slots task.slots
 
-module _ (task : Task) (table : OfferTable) (limits : TableLimits table) (has : HasOffers task.slots table) where
+module _ (alloc : Global) (task : Task) (table : OfferTable) (limits : TableLimits table) (has : HasOffers task.slots table) where
   grow : (n : ℕ) (p : Plan) → all_slots task.slots ≤ covers p + n → IsValid false task table p → covers p ≤ all_slots task.slots → plan_cost task table p ≤ 20000000000000000000 * covers p → Joined task table
   grow zero p near valid within cost =
       let same : covers p ≡ all_slots task.slots = omega arith in
@@ -147,7 +149,8 @@ module _ (task : Task) (table : OfferTable) (limits : TableLimits table) (has : 
             let fits : 2 ^ j.slot ≤ b = slot_fits b j.slot j.in_rest in
             let some : 1 ≤ 2 ^ j.slot = one-le-pow j.slot 2 (omega arith) in
             let leaf : Plan = Leaf j.slot 0 in
-            let next : Plan = Hash' 0 p 0 leaf in
+            let at : Box (Unit {0}) Global = record { ptr = null_ptr; alloc = alloc; value = tt } in
+            let next : Plan = Hash' at p at leaf in
             let price : price_at table j.slot 0 ≤ 10000000000000000000 = first_price j.slot (table j.slot) (limits.each j.slot) in
             let rows = task.limits.rows_limits in
             let join : hash_cost task.rates (rows_in task a) (rows_in task (2 ^ j.slot)) (rows_in task (a + 2 ^ j.slot)) ≤ 4000000000000000000 = hash_most task (rows_in task a) (rows_in task (2 ^ j.slot)) (rows_in task (a + 2 ^ j.slot)) (rows_most task.rows a rows) (rows_most task.rows (2 ^ j.slot) rows) (rows_most task.rows (a + 2 ^ j.slot) rows) in

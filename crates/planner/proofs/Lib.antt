@@ -6,3 +6,4 @@ pub mod Table
 pub mod Growing
 pub mod Building
 pub mod Exists
+pub mod Wholes

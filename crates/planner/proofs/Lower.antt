@@ -24,7 +24,7 @@ use Rattle.planner.specs.Rows.{NoneLess, MergeBound, MergesBound, HashBound, Joi
 use Rattle.planner.proofs.Begins.{begins_nil, begins_trans}
 
 -- only no order begins no order
-begun_nil : (f : Order) → BeginsWith [] f → f ≡ []
+pub begun_nil : (f : Order) → BeginsWith [] f → f ≡ []
 begun_nil [] h = refl
 begun_nil (x ∷ xs) h = cc
 

@@ -7,10 +7,14 @@
 
 mod build;
 mod cell;
+mod found;
 mod front;
 mod join;
+
 mod price;
 mod read;
 mod row;
 mod ways;
 mod whole;
+
+pub use found::{Found, least};
