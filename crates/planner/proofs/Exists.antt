@@ -102,7 +102,7 @@ joining slots a b (x ∷ xs) limits h =
           }
     ]
 
-rows_most : (rows : List ℕ) (s : ℕ) → All RowLimits rows → slice_index rows s ≤ 1000000000000
+pub rows_most : (rows : List ℕ) (s : ℕ) → All RowLimits rows → slice_index rows s ≤ 1000000000000
 rows_most rows s limits =
     elim (cases_lt s (length rows)) [
       | inl within ↦ (All-get_or RowLimits rows s 0 within limits).most

@@ -7,3 +7,4 @@ pub mod Growing
 pub mod Building
 pub mod Exists
 pub mod Wholes
+pub mod Finding
