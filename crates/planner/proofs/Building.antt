@@ -70,11 +70,11 @@ sort_built task table list fronts row set f any input (Sort' o p i) is inner sor
     let columns : All (λ item. is_column_of (covers input) item ≡ true) order = subst (λ s. All (λ item. is_column_of s item ≡ true) order) (sym inner.covers_set) sorting.columns in
     let price : sort_cost task.rates (rows_in task (covers input)) ≡ sort_cost task.rates (rows_in task set) = ap (λ s. sort_cost task.rates (rows_in task s)) inner.covers_set in
     let whole : IsPlanFor true task table order set any (Sort' order p input) = record {
-          valid = (refl, inner.valid, columns);
-          covers_set = inner.covers_set;
-          begins = begins_self order;
-          costs = omega (arith, inner.costs, sorting.costs, price)
-        } in
+      valid = (refl, inner.valid, columns);
+      covers_set = inner.covers_set;
+      begins = begins_self order;
+      costs = omega (arith, inner.costs, sorting.costs, price);
+    } in
     subst (λ x. IsPlanFor true task table order set any (Sort' x p i)) (sym is.0) (subst (λ y. IsPlanFor true task table order set any (Sort' order p y)) (sym is.1) whole)
 
 pub merge_built : (sorts : Bool) (task : Task) (table : OfferTable) (list : Order) (fronts : List Front) (left right : List Cell) (set a f cost edge g h : ℕ) (l r plan : Plan) → IsMergeOf edge l r plan → IsCut set a → IsMerge task list fronts left right a (set - a) f cost edge g h → IsPlanFor true task table (asked list fronts g) a (any_at left g) l → IsPlanFor true task table (asked list fronts h) (set - a) (any_at right h) r → IsPlanFor sorts task table (asked list fronts f) set cost plan
@@ -87,20 +87,20 @@ merge_built sorts task table list fronts left right set a f cost edge g h l r (M
     let both : covers l + covers r ≡ set = omega (arith, pl.covers_set, pr.covers_set) in
     let apart : bit_and (covers l) (covers r) ≡ 0 = subst (λ s. bit_and s (covers r) ≡ 0) (sym pl.covers_set) (subst (λ s. bit_and a s ≡ 0) (sym pr.covers_set) cut.apart) in
     let at : Merges task edge a (set - a) (delivers table l) (delivers table r) = record {
-          edge = m.merges.edge;
-          found = m.merges.found;
-          crossing = m.merges.crossing;
-          left_begins = begins_trans (delivers table l) (asked list fronts g) (side_need m.merges.edge a) pl.begins m.merges.left_begins;
-          right_begins = begins_trans (delivers table r) (asked list fronts h) (side_need m.merges.edge (set - a)) pr.begins m.merges.right_begins
-        } in
+      edge = m.merges.edge;
+      found = m.merges.found;
+      crossing = m.merges.crossing;
+      left_begins = begins_trans (delivers table l) (asked list fronts g) (side_need m.merges.edge a) pl.begins m.merges.left_begins;
+      right_begins = begins_trans (delivers table r) (asked list fronts h) (side_need m.merges.edge (set - a)) pr.begins m.merges.right_begins;
+    } in
     let merges : Merges task edge (covers l) (covers r) (delivers table l) (delivers table r) = subst (λ s. Merges task edge s (covers r) (delivers table l) (delivers table r)) (sym pl.covers_set) (subst (λ s. Merges task edge a s (delivers table l) (delivers table r)) (sym pr.covers_set) at) in
     let price : merge_price task (covers l) (covers r) ≡ merge_price task a (set - a) = ap (λ s. merge_price task s (covers r)) pl.covers_set ∙ ap (merge_price task a) pr.covers_set in
     let whole : IsPlanFor sorts task table (asked list fronts f) set cost (Merge' edge p l q r) = record {
-          valid = (pl.valid, pr.valid, apart, merges);
-          covers_set = both;
-          begins = begins_trans (delivers table l) (asked list fronts g) (asked list fronts f) pl.begins m.keeps;
-          costs = omega (arith, pl.costs, pr.costs, m.costs, price)
-        } in
+      valid = (pl.valid, pr.valid, apart, merges);
+      covers_set = both;
+      begins = begins_trans (delivers table l) (asked list fronts g) (asked list fronts f) pl.begins m.keeps;
+      costs = omega (arith, pl.costs, pr.costs, m.costs, price);
+    } in
     subst (λ k. IsPlanFor sorts task table (asked list fronts f) set cost (Merge' k p x q y)) (sym is.0) (subst (λ s. IsPlanFor sorts task table (asked list fronts f) set cost (Merge' edge p s q y)) (sym is.1) (subst (λ t. IsPlanFor sorts task table (asked list fronts f) set cost (Merge' edge p l q t)) (sym is.2) whole))
 
 pub hash_built : (sorts : Bool) (task : Task) (table : OfferTable) (list : Order) (fronts : List Front) (left right : List Cell) (set a f cost : ℕ) (l r plan : Plan) → IsHashOf l r plan → IsCut set a → IsHash task list fronts left right a (set - a) f cost → IsPlanFor false task table (asked list fronts 0) a (cost_at left 0) l → IsPlanFor false task table (asked list fronts 0) (set - a) (cost_at right 0) r → IsPlanFor sorts task table (asked list fronts f) set cost plan
@@ -115,11 +115,11 @@ hash_built sorts task table list fronts left right set a f cost l r (Hash' p x q
     let crossed : list_any (crosses (covers l) (covers r)) task.edges ≡ true = subst (λ s. list_any (crosses s (covers r)) task.edges ≡ true) (sym pl.covers_set) (subst (λ s. list_any (crosses a s) task.edges ≡ true) (sym pr.covers_set) m.crossed) in
     let price : hash_price task (covers l) (covers r) ≡ hash_price task a (set - a) = ap (λ s. hash_price task s (covers r)) pl.covers_set ∙ ap (hash_price task a) pr.covers_set in
     let whole : IsPlanFor sorts task table (asked list fronts f) set cost (Hash' p l q r) = record {
-          valid = (pl.valid, pr.valid, apart, crossed);
-          covers_set = both;
-          begins = subst (BeginsWith []) (sym m.asks_nothing) refl;
-          costs = omega (arith, pl.costs, pr.costs, m.costs, price)
-        } in
+      valid = (pl.valid, pr.valid, apart, crossed);
+      covers_set = both;
+      begins = subst (BeginsWith []) (sym m.asks_nothing) refl;
+      costs = omega (arith, pl.costs, pr.costs, m.costs, price);
+    } in
     subst (λ s. IsPlanFor sorts task table (asked list fronts f) set cost (Hash' p s q y)) (sym is.0) (subst (λ t. IsPlanFor sorts task table (asked list fronts f) set cost (Hash' p l q t)) (sym is.1) whole)
 
 chosen_cases : (task : Task) (table : OfferTable) (list : Order) (fronts : List Front) (rows : ℕ → List Cell) (set f cost : ℕ) (choice : Choice) → IsOffer task table (asked list fronts f) set cost choice ⊎ IsJoin task list fronts rows set f cost choice → cost < IMPOSSIBLE → IsChosen task table list fronts rows set f cost choice

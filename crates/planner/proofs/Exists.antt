@@ -81,7 +81,7 @@ joining slots a b (x ∷ xs) limits h =
                   slot = x.right;
                   slot_in = here.right_slot;
                   in_rest = q.1;
-                  joined = or_left (crosses a (2 ^ x.right) x) (list_any (crosses a (2 ^ x.right)) xs) (or_left (has_slot a x.left && has_slot (2 ^ x.right) x.right) (has_slot a x.right && has_slot (2 ^ x.right) x.left) (and_from (has_slot a x.left) (has_slot (2 ^ x.right) x.right) q.0 (self_slot x.right)))
+                  joined = or_left (crosses a (2 ^ x.right) x) (list_any (crosses a (2 ^ x.right)) xs) (or_left (has_slot a x.left && has_slot (2 ^ x.right) x.right) (has_slot a x.right && has_slot (2 ^ x.right) x.left) (and_from (has_slot a x.left) (has_slot (2 ^ x.right) x.right) q.0 (self_slot x.right)));
                 }
             | inr p ↦
                 let q = and_parts (has_slot a x.right) (has_slot b x.left) p in
@@ -89,7 +89,7 @@ joining slots a b (x ∷ xs) limits h =
                   slot = x.left;
                   slot_in = here.left_slot;
                   in_rest = q.1;
-                  joined = or_left (crosses a (2 ^ x.left) x) (list_any (crosses a (2 ^ x.left)) xs) (or_right (has_slot a x.left && has_slot (2 ^ x.left) x.right) (has_slot a x.right && has_slot (2 ^ x.left) x.left) (and_from (has_slot a x.right) (has_slot (2 ^ x.left) x.left) q.0 (self_slot x.left)))
+                  joined = or_left (crosses a (2 ^ x.left) x) (list_any (crosses a (2 ^ x.left)) xs) (or_right (has_slot a x.left && has_slot (2 ^ x.left) x.right) (has_slot a x.right && has_slot (2 ^ x.left) x.left) (and_from (has_slot a x.right) (has_slot (2 ^ x.left) x.left) q.0 (self_slot x.left)));
                 }
           ]
       | inr later ↦
@@ -98,7 +98,7 @@ joining slots a b (x ∷ xs) limits h =
             slot = w.slot;
             slot_in = w.slot_in;
             in_rest = w.in_rest;
-            joined = or_right (crosses a (2 ^ w.slot) x) (list_any (crosses a (2 ^ w.slot)) xs) w.joined
+            joined = or_right (crosses a (2 ^ w.slot) x) (list_any (crosses a (2 ^ w.slot)) xs) w.joined;
           }
     ]
 

@@ -74,7 +74,7 @@ module _ (task : Task) (table : OfferTable) (fronts : List Front) (row : List Ce
           covers_all = b.covers_set ∙ full_all;
           group_fits = s.fits.fits (delivers table body) b.begins;
           sorts_by_something = s.fits.sorts_by;
-          ordered = s.fits.ordered (delivers table body) b.begins
+          ordered = s.fits.ordered (delivers table body) b.begins;
         }
 
     pub whole_costs : whole_cost task table (record { body = body; group = shape.group; final_sort = shape.final_sort }) ≡ shape.cost
@@ -90,5 +90,5 @@ module _ (task : Task) (table : OfferTable) (fronts : List Front) (row : List Ce
     whole_least =
         record {
           plan = record { whole = record { body = body; group = shape.group; final_sort = shape.final_sort }; valid = whole_valid; costs = whole_costs };
-          none_less = s.least
+          none_less = s.least;
         }

@@ -33,7 +33,7 @@ fronts_grow x y f g =
     record {
       some = omega arith;
       nothing = get_or_default y 0 Listed Any (omega arith) ∙ g.keeps 0 (omega arith) ∙ get_or_default x 0 Any Listed (omega arith) ∙ f.nothing;
-      all = g.keeps 1 (omega arith) ∙ f.all
+      all = g.keeps 1 (omega arith) ∙ f.all;
     }
 
 pub need_asks : (list : Order) (need : Option Item) → front_order list (need_front need) ≡ need_order need
@@ -49,7 +49,7 @@ tie_grows list x y edge tie g t =
       left_in = omega arith;
       right_in = omega arith;
       left_asks = ap (front_order list) (g.keeps tie.left left) ∙ t.left_asks;
-      right_asks = ap (front_order list) (g.keeps tie.right right) ∙ t.right_asks
+      right_asks = ap (front_order list) (g.keeps tie.right right) ∙ t.right_asks;
     }
 
 -- one more edge, whose needs have these fronts
@@ -59,24 +59,24 @@ ties_more list x y z edges ties n edge tie found g h left_in left_is right_in ri
     let longer = h.longer in
     let count = t.count in
     let here : IsTie list z edge tie = record {
-          left_in = omega arith;
-          right_in = right_in;
-          left_asks = ap (front_order list) (h.keeps tie.left left_in ∙ left_is) ∙ need_asks list edge.left_need;
-          right_asks = ap (front_order list) right_is ∙ need_asks list edge.right_need
-        } in
+      left_in = omega arith;
+      right_in = right_in;
+      left_asks = ap (front_order list) (h.keeps tie.left left_in ∙ left_is) ∙ need_asks list edge.left_need;
+      right_asks = ap (front_order list) right_is ∙ need_asks list edge.right_need;
+    } in
     record {
       count = omega (arith, length_push ties tie);
       each = λ k e within at.
-        elim (cases_lt k n) [
-          | inl less ↦
-              let is : slice_index_or (ties ++ tie ∷ []) k no_tie ≡ slice_index_or ties k no_tie = get_or_append_left ties (tie ∷ []) no_tie k (omega arith) in
-              subst (IsTie list z e) (sym is) (tie_grows list x z e (slice_index_or ties k no_tie) grown (t.each k e less at))
-          | inr past ↦
-              let same : n ≡ k = omega arith in
-              let is : slice_index_or (ties ++ tie ∷ []) k no_tie ≡ tie = get_or_push ties tie no_tie k (omega arith) in
-              let edges_same : edge ≡ e = same_Some edge e (sym found ∙ subst (λ j. slice_get edges j ≡ Some e) (sym same) at) in
-              subst (IsTie list z e) (sym is) (subst (λ d. IsTie list z d tie) edges_same here)
-        ]
+          elim (cases_lt k n) [
+            | inl less ↦
+                let is : slice_index_or (ties ++ tie ∷ []) k no_tie ≡ slice_index_or ties k no_tie = get_or_append_left ties (tie ∷ []) no_tie k (omega arith) in
+                subst (IsTie list z e) (sym is) (tie_grows list x z e (slice_index_or ties k no_tie) grown (t.each k e less at))
+            | inr past ↦
+                let same : n ≡ k = omega arith in
+                let is : slice_index_or (ties ++ tie ∷ []) k no_tie ≡ tie = get_or_push ties tie no_tie k (omega arith) in
+                let edges_same : edge ≡ e = same_Some edge e (sym found ∙ subst (λ j. slice_get edges j ≡ Some e) (sym same) at) in
+                subst (IsTie list z e) (sym is) (subst (λ d. IsTie list z d tie) edges_same here)
+          ];
     }
 
 pub ties_none : (list : Order) (fronts : List Front) (edges : List TaskEdge) → AreTiesBelow list fronts edges [] 0
@@ -89,7 +89,7 @@ ways_from task fronts heads ties f h t =
       nothing = f.nothing;
       all = f.all;
       first = h;
-      tied = record { count = t.count; each = λ k e at. t.each k e (slice_get_within task.edges k e at) at }
+      tied = record { count = t.count; each = λ k e at. t.each k e (slice_get_within task.edges k e at) at };
     }
 
 pub edge_found : (xs edges : List TaskEdge) (k : ℕ) (d : TaskEdge) → xs ≡ edges → k < length edges → slice_get edges k ≡ Some (slice_index_or xs k d)

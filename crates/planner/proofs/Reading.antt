@@ -63,12 +63,12 @@ module _ (task : Task) (table : OfferTable) (list : Order) (fronts : List Front)
             let choice : (cell_at new f).choice ≡ Read slot offer = ap (λ (x : Cell). x.choice) is ∙ h.1 in
             let cost : cost_at new f ≡ price_at table slot offer = ap (λ (x : Cell). x.cost) is ∙ h.0 in
             let read : IsRead task table (asked list fronts f) set (cost_at new f) slot offer = record {
-                  slot_in = slot_in;
-                  offer_in = offer_in;
-                  set_is = set_is;
-                  begins = begins_from_test (order_at table slot offer) (asked list fronts f) test;
-                  costs = cost
-                } in
+              slot_in = slot_in;
+              offer_in = offer_in;
+              set_is = set_is;
+              begins = begins_from_test (order_at table slot offer) (asked list fronts f) test;
+              costs = cost;
+            } in
             subst (IsOffer task table (asked list fronts f) set (cost_at new f)) (sym choice) read
       ]
 

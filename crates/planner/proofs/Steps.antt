@@ -109,19 +109,19 @@ module _ (task : Task) (list : Order) (fronts : List Front) (left right old new 
             let choice : (cell_at new f).choice ≡ MergeOf merge.edge merge.left g merge.right_front = ap (λ (x : Cell). x.choice) is ∙ h.1 in
             let cost : cost_at new f ≡ any_at left g + base = ap (λ (x : Cell). x.cost) is ∙ h.0 in
             let merges : Merges task merge.edge a b (asked list fronts g) (asked list fronts merge.right_front) = record {
-                  edge = edge;
-                  found = found;
-                  crossing = crossing;
-                  left_begins = subst (BeginsWith (asked list fronts g)) need_asks asks.0;
-                  right_begins = subst (BeginsWith (asked list fronts merge.right_front)) other_asks (begins_self (asked list fronts merge.right_front))
-                } in
+              edge = edge;
+              found = found;
+              crossing = crossing;
+              left_begins = subst (BeginsWith (asked list fronts g)) need_asks asks.0;
+              right_begins = subst (BeginsWith (asked list fronts merge.right_front)) other_asks (begins_self (asked list fronts merge.right_front));
+            } in
             let join : IsMerge task list fronts left right a b f (cost_at new f) merge.edge g merge.right_front = record {
-                  left_in = longer_in (length fronts) merge.left_need f g (first_item (asked list fronts merge.left_need)) (first_item (asked list fronts f)) need_in within e;
-                  right_in = other_in;
-                  merges = merges;
-                  keeps = asks.1;
-                  costs = omega arith
-                } in
+              left_in = longer_in (length fronts) merge.left_need f g (first_item (asked list fronts merge.left_need)) (first_item (asked list fronts f)) need_in within e;
+              right_in = other_in;
+              merges = merges;
+              keeps = asks.1;
+              costs = omega arith;
+            } in
             inr (subst (IsJoinOf task list fronts left right a b f (cost_at new f)) (sym choice) (from, join))
       ]
 
@@ -130,29 +130,29 @@ module _ (task : Task) (list : Order) (fronts : List Front) (left right old new 
       record {
         width = same;
         lower = lower_past old new same (λ f h. subst (λ (x : Cell). x.cost ≤ cost_at old f) (sym (each f h)) (merged_lower (cell_at old f) (longer_front (first_item (asked list fronts merge.left_need)) (first_item (asked list fronts f)) merge.left_need f) left merge base));
-        made = λ f h. made_split f h _ refl (each f (omega arith))
+        made = λ f h. made_split f h _ refl (each f (omega arith));
       }
 
   pub merge_bounds : (f : ℕ) → f < length fronts → MergesBound task list fronts left right a b f (cost_at new f) merge.edge
   merge_bounds f within =
       record {
         each = λ o r m begins.
-          let here : edge ≡ m.edge = same_Some edge m.edge (sym found ∙ m.found) in
-          let o_need : BeginsWith o (asked list fronts merge.left_need) = subst (BeginsWith o) (sym (need_asks ∙ ap (λ t. side_need t a) here)) m.left_begins in
-          let r_need : BeginsWith r (asked list fronts merge.right_front) = subst (BeginsWith r) (sym (other_asks ∙ ap (λ t. side_need t b) here)) m.right_begins in
-          let g = longer_serves (asked list fronts) o merge.left_need f o_need begins in
-          let is : cell_at new f ≡ merged (cell_at old f) (Some g.0) left merge base = each f (omega arith) ∙ ap (λ t. merged (cell_at old f) t left merge base) g.1 in
-          let cost : cost_at new f ≡ (merged (cell_at old f) (Some g.0) left merge base).cost = ap (λ (x : Cell). x.cost) is in
-          let bound : cost_at new f ≤ any_at left g.0 + base = rw cost (better_lower (cell_at old f) (any_at left g.0 + base) (MergeOf merge.edge merge.left g.0 merge.right_front)).1 in
-          record {
-            g = g.0;
-            h = merge.right_front;
-            left_in = longer_in (length fronts) merge.left_need f g.0 (first_item (asked list fronts merge.left_need)) (first_item (asked list fronts f)) need_in within g.1;
-            right_in = other_in;
-            left_begins = g.2;
-            right_begins = r_need;
-            bound = omega arith
-          }
+            let here : edge ≡ m.edge = same_Some edge m.edge (sym found ∙ m.found) in
+            let o_need : BeginsWith o (asked list fronts merge.left_need) = subst (BeginsWith o) (sym (need_asks ∙ ap (λ t. side_need t a) here)) m.left_begins in
+            let r_need : BeginsWith r (asked list fronts merge.right_front) = subst (BeginsWith r) (sym (other_asks ∙ ap (λ t. side_need t b) here)) m.right_begins in
+            let g = longer_serves (asked list fronts) o merge.left_need f o_need begins in
+            let is : cell_at new f ≡ merged (cell_at old f) (Some g.0) left merge base = each f (omega arith) ∙ ap (λ t. merged (cell_at old f) t left merge base) g.1 in
+            let cost : cost_at new f ≡ (merged (cell_at old f) (Some g.0) left merge base).cost = ap (λ (x : Cell). x.cost) is in
+            let bound : cost_at new f ≤ any_at left g.0 + base = rw cost (better_lower (cell_at old f) (any_at left g.0 + base) (MergeOf merge.edge merge.left g.0 merge.right_front)).1 in
+            record {
+              g = g.0;
+              h = merge.right_front;
+              left_in = longer_in (length fronts) merge.left_need f g.0 (first_item (asked list fronts merge.left_need)) (first_item (asked list fronts f)) need_in within g.1;
+              right_in = other_in;
+              left_begins = g.2;
+              right_begins = r_need;
+              bound = omega arith;
+            };
       }
 
 -- an edge that doesn't cross has no merge
@@ -160,8 +160,8 @@ pub merge_skipped : (task : Task) (list : Order) (fronts : List Front) (left rig
 merge_skipped task list fronts left right a b f cost k edge found crossing =
     record {
       each = λ o r m begins.
-        let here : edge ≡ m.edge = same_Some edge m.edge (sym found ∙ m.found) in
-        absurd (false≢true (sym crossing ∙ ap (crosses a b) here ∙ m.crossing))
+          let here : edge ≡ m.edge = same_Some edge m.edge (sym found ∙ m.found) in
+          absurd (false≢true (sym crossing ∙ ap (crosses a b) here ∙ m.crossing));
     }
 
 -- a hash join, offered to each cell
@@ -183,17 +183,17 @@ module _ (task : Task) (list : Order) (fronts : List Front) (left right old new 
       record {
         width = same;
         lower = lower_past old new same (λ f h. subst (λ (x : Cell). x.cost ≤ cost_at old f) (sym (each f h)) (hashed_lower (cell_at old f) (first_item (asked list fronts f)) a cost));
-        made = λ f h. hash_made_split f h (first_item (asked list fronts f)) refl (each f (omega arith))
+        made = λ f h. hash_made_split f h (first_item (asked list fronts f)) refl (each f (omega arith));
       }
 
   pub hash_bounds : (f : ℕ) → f < length fronts → HashBound task list fronts left right a b f (cost_at new f)
   hash_bounds f within =
       record {
         bound = λ crossed' nothing.
-          let is : cell_at new f ≡ better (cell_at old f) cost (HashOf a) = each f (omega arith) ∙ ap (λ t. hashed (cell_at old f) (first_item t) a cost) nothing in
-          let low : (better (cell_at old f) cost (HashOf a)).cost ≤ cost = (better_lower (cell_at old f) cost (HashOf a)).1 in
-          let here : cost_at new f ≡ (better (cell_at old f) cost (HashOf a)).cost = ap (λ (x : Cell). x.cost) is in
-          omega arith
+            let is : cell_at new f ≡ better (cell_at old f) cost (HashOf a) = each f (omega arith) ∙ ap (λ t. hashed (cell_at old f) (first_item t) a cost) nothing in
+            let low : (better (cell_at old f) cost (HashOf a)).cost ≤ cost = (better_lower (cell_at old f) cost (HashOf a)).1 in
+            let here : cost_at new f ≡ (better (cell_at old f) cost (HashOf a)).cost = ap (λ (x : Cell). x.cost) is in
+            omega arith;
       }
 
 -- laws of steps
@@ -207,14 +207,14 @@ step_then task list fronts left right a b x y z s t =
       width = t.width ∙ s.width;
       lower = λ f. omega (arith, s.lower f, t.lower f);
       made = λ f h.
-        elim (t.made f h) [
-          | inr join ↦ inr join
-          | inl same ↦
-              elim (s.made f h) [
-                | inl before ↦ inl (same ∙ before)
-                | inr join ↦ inr (subst (λ (c : Cell). IsJoinOf task list fronts left right a b f c.cost c.choice) (sym same) join)
-              ]
-        ]
+          elim (t.made f h) [
+            | inr join ↦ inr join
+            | inl same ↦
+                elim (s.made f h) [
+                  | inl before ↦ inl (same ∙ before)
+                  | inr join ↦ inr (subst (λ (c : Cell). IsJoinOf task list fronts left right a b f c.cost c.choice) (sym same) join)
+                ]
+          ];
     }
 
 -- a bound stays where the cost falls
@@ -222,17 +222,17 @@ pub merges_lower : (task : Task) (list : Order) (fronts : List Front) (left righ
 merges_lower task list fronts left right a b f cost less k low h =
     record {
       each = λ o r m begins.
-        let w = h.each o r m begins in
-        let bound : less ≤ any_at left w.g + any_at right w.h + merge_price task a b = omega (arith, w.bound) in
-        record {
-          g = w.g;
-          h = w.h;
-          left_in = w.left_in;
-          right_in = w.right_in;
-          left_begins = w.left_begins;
-          right_begins = w.right_begins;
-          bound = bound
-        }
+          let w = h.each o r m begins in
+          let bound : less ≤ any_at left w.g + any_at right w.h + merge_price task a b = omega (arith, w.bound) in
+          record {
+            g = w.g;
+            h = w.h;
+            left_in = w.left_in;
+            right_in = w.right_in;
+            left_begins = w.left_begins;
+            right_begins = w.right_begins;
+            bound = bound;
+          };
     }
 
 pub hash_lower : (task : Task) (list : Order) (fronts : List Front) (left right : List Cell) (a b f cost less : ℕ) → less ≤ cost → HashBound task list fronts left right a b f cost → HashBound task list fronts left right a b f less
@@ -275,6 +275,6 @@ not_joined task list fronts left right a b f cost none =
     record {
       hash = record { bound = λ crossed nothing. absurd (false≢true (sym none ∙ crossed)) };
       merges = λ k within. record {
-          each = λ o r m begins. absurd (false≢true (sym none ∙ any_crossing a b task.edges k m.edge m.found m.crossing))
-        }
+        each = λ o r m begins. absurd (false≢true (sym none ∙ any_crossing a b task.edges k m.edge m.found m.crossing));
+      };
     }

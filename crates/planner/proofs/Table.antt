@@ -30,7 +30,7 @@ pub joins_lower : (task : Task) (list : Order) (fronts : List Front) (left right
 joins_lower task list fronts left right a b f cost less low h =
     record {
       hash = hash_lower task list fronts left right a b f cost less low h.hash;
-      merges = λ k number. merges_lower task list fronts left right a b f cost less k low (h.merges k number)
+      merges = λ k number. merges_lower task list fronts left right a b f cost less k low (h.merges k number);
     }
 
 module _ (task : Task) (list : Order) (fronts : List Front) (rows : ℕ → List Cell) (set : ℕ) where
@@ -43,14 +43,14 @@ module _ (task : Task) (list : Order) (fronts : List Front) (rows : ℕ → List
         width = t.width ∙ s.width;
         lower = λ f. omega (arith, s.lower f, t.lower f);
         made = λ f h.
-          elim (t.made f h) [
-            | inr join ↦ inr join
-            | inl same ↦
-                elim (s.made f h) [
-                  | inl before ↦ inl (same ∙ before)
-                  | inr join ↦ inr (subst (λ (c : Cell). IsJoin task list fronts rows set f c.cost c.choice) (sym same) join)
-                ]
-          ]
+            elim (t.made f h) [
+              | inr join ↦ inr join
+              | inl same ↦
+                  elim (s.made f h) [
+                    | inl before ↦ inl (same ∙ before)
+                    | inr join ↦ inr (subst (λ (c : Cell). IsJoin task list fronts rows set f c.cost c.choice) (sym same) join)
+                  ]
+            ];
       }
 
   pub step_grown : (a : ℕ) (x y left right : List Cell) → IsCut set a → left ≡ rows a → right ≡ rows (set - a) → IsStep task list fronts left right a (set - a) x y → IsGrown task list fronts rows set x y
@@ -59,14 +59,14 @@ module _ (task : Task) (list : Order) (fronts : List Front) (rows : ℕ → List
         width = s.width;
         lower = s.lower;
         made = λ f h.
-          elim (s.made f h) [
-            | inl same ↦ inl same
-            | inr join ↦ inr (record {
-                  a = a;
-                  cut = cut;
-                  join = subst (λ l. IsJoinOf task list fronts l (rows (set - a)) a (set - a) f (cost_at y f) (cell_at y f).choice) is_left (subst (λ r. IsJoinOf task list fronts left r a (set - a) f (cost_at y f) (cell_at y f).choice) is_right join)
-                })
-          ]
+            elim (s.made f h) [
+              | inl same ↦ inl same
+              | inr join ↦ inr (record {
+                a = a;
+                cut = cut;
+                join = subst (λ l. IsJoinOf task list fronts l (rows (set - a)) a (set - a) f (cost_at y f) (cell_at y f).choice) is_left (subst (λ r. IsJoinOf task list fronts left r a (set - a) f (cost_at y f) (cell_at y f).choice) is_right join);
+              })
+            ];
       }
 
 -- what `finished` gives
@@ -127,15 +127,15 @@ module _ (task : Task) (table : OfferTable) (list : Order) (fronts : List Front)
   row_capped =
       record {
         cost = λ f.
-          elim (cases_lt f (length fronts)) [
-            | inl h ↦ omega (arith, same_cost f h, grown.lower f, capped f h)
-            | inr h ↦ omega (arith, ap (λ (x : Cell). x.cost) (past_blank f h))
-          ];
+            elim (cases_lt f (length fronts)) [
+              | inl h ↦ omega (arith, same_cost f h, grown.lower f, capped f h)
+              | inr h ↦ omega (arith, ap (λ (x : Cell). x.cost) (past_blank f h))
+            ];
         any = λ f.
-          elim (cases_lt f (length fronts)) [
-            | inl h ↦ omega (arith, any_lower f h, same_cost f h, grown.lower f, capped f h)
-            | inr h ↦ omega (arith, ap (λ (x : Cell). x.any) (past_blank f h))
-          ]
+            elim (cases_lt f (length fronts)) [
+              | inl h ↦ omega (arith, any_lower f h, same_cost f h, grown.lower f, capped f h)
+              | inr h ↦ omega (arith, ap (λ (x : Cell). x.any) (past_blank f h))
+            ];
       }
 
   row_chosen : (f : ℕ) → f < length fronts → IsOffer task table (asked list fronts f) set (cost_at r3 f) (cell_at r3 f).choice ⊎ IsJoin task list fronts rows set f (cost_at r3 f) (cell_at r3 f).choice
@@ -154,9 +154,9 @@ module _ (task : Task) (table : OfferTable) (list : Order) (fronts : List Front)
       elim (finished_cases (cell_at r2 f) (list_all (is_column_of set) (asked list fronts f)) (cost_at r2 0 + sort_cost task.rates (rows_in task set))) [
         | inl same ↦ inl (any_is f h ∙ same ∙ sym (same_cost f h))
         | inr s ↦ inr (record {
-              columns = all_columns set (asked list fronts f) s.0;
-              costs = omega (arith, any_is f h, s.1, same_cost 0 some)
-            })
+          columns = all_columns set (asked list fronts f) s.0;
+          costs = omega (arith, any_is f h, s.1, same_cost 0 some);
+        })
       ]
 
   row_least : (f : ℕ) → f < length fronts → NoneLess false task table (asked list fronts f) set (cost_at r3 f)
@@ -174,7 +174,7 @@ module _ (task : Task) (table : OfferTable) (list : Order) (fronts : List Front)
         least = row_least;
         least_any = λ f h. none_less_any task table list fronts r3 set f (any_at r3 f) some nothing (row_least f h) (row_least 0 some) (any_lower f h) (λ columns.
             let w = finished_sorted (cell_at r2 f) (list_all (is_column_of set) (asked list fronts f)) (cost_at r2 0 + sort_cost task.rates (rows_in task set)) (columns_all set (asked list fronts f) columns) in
-            omega (arith, any_is f h, w, same_cost 0 some))
+            omega (arith, any_is f h, w, same_cost 0 some));
       }
 
 -- rows keep their meaning where those below are the same
@@ -184,22 +184,22 @@ row_frame task table list fronts rows others set row agree h =
       width = h.width;
       capped = h.capped;
       chosen = λ f within.
-        elim (h.chosen f within) [
-          | inl offer ↦ inl offer
-          | inr join ↦ inr (record {
-                a = join.a;
-                cut = join.cut;
-                join =
+          elim (h.chosen f within) [
+            | inl offer ↦ inl offer
+            | inr join ↦ inr (record {
+              a = join.a;
+              cut = join.cut;
+              join =
                   let cut = join.cut in
                   let less = cut.less in
                   let some = cut.some in
                   let rest : set - join.a < set = omega arith in
-                  subst (λ l. IsJoinOf task list fronts l (others (set - join.a)) join.a (set - join.a) f (cost_at row f) (cell_at row f).choice) (agree join.a less) (subst (λ r. IsJoinOf task list fronts (rows join.a) r join.a (set - join.a) f (cost_at row f) (cell_at row f).choice) (agree (set - join.a) rest) join.join)
-              })
-        ];
+                  subst (λ l. IsJoinOf task list fronts l (others (set - join.a)) join.a (set - join.a) f (cost_at row f) (cell_at row f).choice) (agree join.a less) (subst (λ r. IsJoinOf task list fronts (rows join.a) r join.a (set - join.a) f (cost_at row f) (cell_at row f).choice) (agree (set - join.a) rest) join.join);
+            })
+          ];
       sorted = h.sorted;
       least = h.least;
-      least_any = h.least_any
+      least_any = h.least_any;
     }
 
 pub row_of_append : (width n s : ℕ) (cells row : List Cell) → length cells ≡ n * width → s < n → row_of width cells s ≡ row_of width (cells ++ row) s
@@ -221,13 +221,13 @@ table_more task table list fronts cells row n t r =
     record {
       whole = omega (arith, length-append cells row, t.whole, r.width);
       rows = λ s h.
-        elim (cases_lt s n) [
-          | inl less ↦
-              subst (IsRow task table list fronts (row_of width (cells ++ row)) s) (agree s less) (row_frame task table list fronts (row_of width cells) (row_of width (cells ++ row)) s (row_of width cells s) (λ k below. agree k (omega arith)) (t.rows s less))
-          | inr past ↦
-              let here : n ≡ s = omega arith in
-              subst (λ k. IsRow task table list fronts (row_of width (cells ++ row)) k (row_of width (cells ++ row) k)) here (subst (IsRow task table list fronts (row_of width (cells ++ row)) n) (sym (row_of_last width n cells row t.whole r.width)) (row_frame task table list fronts (row_of width cells) (row_of width (cells ++ row)) n row agree r))
-        ]
+          elim (cases_lt s n) [
+            | inl less ↦
+                subst (IsRow task table list fronts (row_of width (cells ++ row)) s) (agree s less) (row_frame task table list fronts (row_of width cells) (row_of width (cells ++ row)) s (row_of width cells s) (λ k below. agree k (omega arith)) (t.rows s less))
+            | inr past ↦
+                let here : n ≡ s = omega arith in
+                subst (λ k. IsRow task table list fronts (row_of width (cells ++ row)) k (row_of width (cells ++ row) k)) here (subst (IsRow task table list fronts (row_of width (cells ++ row)) n) (sym (row_of_last width n cells row t.whole r.width)) (row_frame task table list fronts (row_of width cells) (row_of width (cells ++ row)) n row agree r))
+          ];
     }
 
 pub table_none : (task : Task) (table : OfferTable) (list : Order) (fronts : List Front) → IsTable task table list fronts [] 0

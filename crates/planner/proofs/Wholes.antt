@@ -72,7 +72,7 @@ module _ (task : Task) (table : OfferTable) (list : Order) (fronts : List Front)
           fits = λ o h. tt;
           sorts_by = λ h. absurd (false≢true h);
           ordered = λ o h. subst (BeginsWith o) (sym (nil_true task.order e)) (begins_nil o);
-          costs = omega arith
+          costs = omega arith;
         }
 
     fits_ordered : Fits None task list fronts row (rows_in task (all_slots task.slots)) (record { cost = cost_at row 1; front = 1; group = Nothing; final_sort = false })
@@ -82,7 +82,7 @@ module _ (task : Task) (table : OfferTable) (list : Order) (fronts : List Front)
           fits = λ o h. tt;
           sorts_by = λ h. absurd (false≢true h);
           ordered = λ o h. subst (BeginsWith o) (all_list ∙ list_is) h;
-          costs = omega arith
+          costs = omega arith;
         }
 
     fits_sorted : is_nil task.order ≡ false → Fits None task list fronts row (rows_in task (all_slots task.slots)) (record { cost = cost_at row 0 + sort_cost task.rates (rows_in task (all_slots task.slots)); front = 0; group = Nothing; final_sort = true })
@@ -92,7 +92,7 @@ module _ (task : Task) (table : OfferTable) (list : Order) (fronts : List Front)
           fits = λ o h. tt;
           sorts_by = λ h. nil_false task.order e;
           ordered = λ o h. begins_self task.order;
-          costs = omega arith
+          costs = omega arith;
         }
 
     ungrouped_bound : (body : Plan) (group : GroupStep) (final_sort : Bool) → IsValid (body_sorts group) task table body → covers body ≡ all_slots task.slots → FitsGroup None group (delivers table body) → BeginsWith (cond final_sort task.order (group_order None group (delivers table body))) task.order → (cost_at row 0 ≤ plan_cost task table body + group_cost task.rates group (rows_in task (covers body)) + cond final_sort (sort_cost task.rates (final_rows task None (rows_in task (covers body)))) 0) × ((cost_at row 1 ≤ plan_cost task table body + group_cost task.rates group (rows_in task (covers body)) + cond final_sort (sort_cost task.rates (final_rows task None (rows_in task (covers body)))) 0) ⊎ (cost_at row 0 + sort_cost task.rates (rows_in task (all_slots task.slots)) ≤ plan_cost task table body + group_cost task.rates group (rows_in task (covers body)) + cond final_sort (sort_cost task.rates (final_rows task None (rows_in task (covers body)))) 0))
@@ -132,7 +132,7 @@ module _ (task : Task) (table : OfferTable) (list : Order) (fronts : List Front)
           fits = λ o h. subst (BeginsWith o) (all_list ∙ list_is) h;
           sorts_by = sorts_by_group (begins_test group task.order) refl;
           ordered = λ o h. ordered_group (begins_test group task.order) refl;
-          costs = refl
+          costs = refl;
         }
 
     fits_hashed_group : Fits (Some group) task list fronts row (rows_in task (all_slots task.slots)) (hashed_shape task row (rows_in task (all_slots task.slots)))
@@ -142,7 +142,7 @@ module _ (task : Task) (table : OfferTable) (list : Order) (fronts : List Front)
           fits = λ o h. tt;
           sorts_by = sorts_by_hashed (is_nil task.order) refl;
           ordered = λ o h. ordered_hashed (is_nil task.order) refl;
-          costs = refl
+          costs = refl;
         }
 
     final_most : (b : Bool) → final_cost task task.group_rows b ≤ sort_cost task.rates task.group_rows
@@ -212,28 +212,28 @@ module _ (task : Task) (table : OfferTable) (fronts : List Front) (row : List Ce
       let shape : Shape = record { cost = cost_at row 0; front = 0; group = Nothing; final_sort = false } in
       let is : ungrouped_shape task row (rows_in task (all_slots task.slots)) ≡ shape = ap (λ t. cond t shape (cheaper (record { cost = cost_at row 1; front = 1; group = Nothing; final_sort = false }) (record { cost = cost_at row 0 + sort_cost task.rates (rows_in task (all_slots task.slots)); front = 0; group = Nothing; final_sort = true }))) nil in
       let here : IsLeastShape task table (listed task) fronts row shape = record {
-            fits = none_fits shape e (fits_nil task table (listed task) fronts row wide nothing all_list low list_is nil);
-            possible = omega arith;
-            least = λ whole w. (none_bound e list_is whole w).0
-          } in
+        fits = none_fits shape e (fits_nil task table (listed task) fronts row wide nothing all_list low list_is nil);
+        possible = omega arith;
+        least = λ whole w. (none_bound e list_is whole w).0;
+      } in
       subst (IsLeastShape task table (listed task) fronts row) (sym is) here
   none_split e list_is sort false some =
       let a : Shape = record { cost = cost_at row 1; front = 1; group = Nothing; final_sort = false } in
       let b : Shape = record { cost = cost_at row 0 + sort_cost task.rates (rows_in task (all_slots task.slots)); front = 0; group = Nothing; final_sort = true } in
       let is : ungrouped_shape task row (rows_in task (all_slots task.slots)) ≡ cheaper a b = ap (λ t. cond t (record { cost = cost_at row 0; front = 0; group = Nothing; final_sort = false }) (cheaper a b)) some in
       let here : IsLeastShape task table (listed task) fronts row (cheaper a b) =
-            elim (cheaper_cases a b) [
-              | inl h ↦ subst (IsLeastShape task table (listed task) fronts row) (sym h.0) (record {
-                    fits = none_fits a e (fits_ordered task table (listed task) fronts row wide nothing all_list low list_is);
-                    possible = (let most = h.1 in omega arith);
-                    least = λ whole w. (let most = h.1 in elim ((none_bound e list_is whole w).1) [ | inl x ↦ x | inr x ↦ omega arith ])
-                  })
-              | inr h ↦ subst (IsLeastShape task table (listed task) fronts row) (sym h.0) (record {
-                    fits = none_fits b e (fits_sorted task table (listed task) fronts row wide nothing all_list low list_is some);
-                    possible = omega arith;
-                    least = λ whole w. (let less = h.1 in elim ((none_bound e list_is whole w).1) [ | inl x ↦ omega arith | inr x ↦ x ])
-                  })
-            ] in
+      elim (cheaper_cases a b) [
+        | inl h ↦ subst (IsLeastShape task table (listed task) fronts row) (sym h.0) (record {
+          fits = none_fits a e (fits_ordered task table (listed task) fronts row wide nothing all_list low list_is);
+          possible = (let most = h.1 in omega arith);
+          least = λ whole w. (let most = h.1 in elim ((none_bound e list_is whole w).1) [ inl x ↦ x | inr x ↦ omega arith ]);
+        })
+        | inr h ↦ subst (IsLeastShape task table (listed task) fronts row) (sym h.0) (record {
+          fits = none_fits b e (fits_sorted task table (listed task) fronts row wide nothing all_list low list_is some);
+          possible = omega arith;
+          least = λ whole w. (let less = h.1 in elim ((none_bound e list_is whole w).1) [ inl x ↦ omega arith | inr x ↦ x ]);
+        })
+      ] in
       subst (IsLeastShape task table (listed task) fronts row) (sym is) here
 
   pub none_shape : task.group ≡ None → IsLeastShape task table (listed task) fronts row (ungrouped_shape task row (rows_in task (all_slots task.slots)))
@@ -260,15 +260,15 @@ module _ (task : Task) (table : OfferTable) (fronts : List Front) (row : List Ce
       let low_b : b.cost < IMPOSSIBLE = omega arith in
       elim (cheaper_cases a b) [
         | inl h ↦ subst (IsLeastShape task table (listed task) fronts row) (sym h.0) (record {
-              fits = subst (λ (g : Option Order). Fits g task (listed task) fronts row (rows_in task (all_slots task.slots)) a) (sym e) (fits_sorted_group task table (listed task) fronts row wide nothing all_list low group list_is);
-              possible = (let m = h.1 in omega arith);
-              least = λ whole w. (let m = h.1 in elim (some_bound group e list_is whole w) [ | inl x ↦ x | inr x ↦ omega arith ])
-            })
+          fits = subst (λ (g : Option Order). Fits g task (listed task) fronts row (rows_in task (all_slots task.slots)) a) (sym e) (fits_sorted_group task table (listed task) fronts row wide nothing all_list low group list_is);
+          possible = (let m = h.1 in omega arith);
+          least = λ whole w. (let m = h.1 in elim (some_bound group e list_is whole w) [ inl x ↦ x | inr x ↦ omega arith ]);
+        })
         | inr h ↦ subst (IsLeastShape task table (listed task) fronts row) (sym h.0) (record {
-              fits = subst (λ (g : Option Order). Fits g task (listed task) fronts row (rows_in task (all_slots task.slots)) b) (sym e) (fits_hashed_group task table (listed task) fronts row wide nothing all_list low group list_is);
-              possible = low_b;
-              least = λ whole w. (let m = h.1 in elim (some_bound group e list_is whole w) [ | inl x ↦ omega arith | inr x ↦ x ])
-            })
+          fits = subst (λ (g : Option Order). Fits g task (listed task) fronts row (rows_in task (all_slots task.slots)) b) (sym e) (fits_hashed_group task table (listed task) fronts row wide nothing all_list low group list_is);
+          possible = low_b;
+          least = λ whole w. (let m = h.1 in elim (some_bound group e list_is whole w) [ inl x ↦ omega arith | inr x ↦ x ]);
+        })
       ]
 
   shape_split : (g : Option Order) → task.group ≡ g → IsLeastShape task table (listed task) fronts row (least_shape g task row (rows_in task (all_slots task.slots)))

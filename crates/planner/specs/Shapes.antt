@@ -24,9 +24,9 @@ final_cost task rows sorts = if sorts then sort_cost task.rates rows else 0
 abbrev pub ungrouped_shape : Task → List Cell → ℕ → Shape
 ungrouped_shape task row rows =
     if is_nil task.order then
-      (record { cost = cost_at row 0; front = 0; group = Nothing; final_sort = false })
+    (record { cost = cost_at row 0; front = 0; group = Nothing; final_sort = false })
     else
-      cheaper (record { cost = cost_at row 1; front = 1; group = Nothing; final_sort = false }) (record { cost = cost_at row 0 + sort_cost task.rates rows; front = 0; group = Nothing; final_sort = true })
+    cheaper (record { cost = cost_at row 1; front = 1; group = Nothing; final_sort = false }) (record { cost = cost_at row 0 + sort_cost task.rates rows; front = 0; group = Nothing; final_sort = true })
 
 abbrev pub sorted_shape : Task → Order → List Cell → ℕ → Shape
 sorted_shape task group row rows =
@@ -34,7 +34,7 @@ sorted_shape task group row rows =
       cost = any_at row 1 + task.rates.group_cpu * rows + final_cost task task.group_rows (not (begins_test group task.order));
       front = 1;
       group = Sorted;
-      final_sort = not (begins_test group task.order)
+      final_sort = not (begins_test group task.order);
     }
 
 abbrev pub hashed_shape : Task → List Cell → ℕ → Shape
@@ -43,7 +43,7 @@ hashed_shape task row rows =
       cost = cost_at row 0 + 2 * (task.rates.hash_cpu * rows) + final_cost task task.group_rows (not (is_nil task.order));
       front = 0;
       group = Hashed;
-      final_sort = not (is_nil task.order)
+      final_sort = not (is_nil task.order);
     }
 
 -- the cheapest of them over the row of all slots

@@ -80,7 +80,14 @@ fn is_sorted(cell: Cell, sorts: bool) -> bool
 }
 
 /// How the cheapest plan without a sort at its top is made, where there is one.
-fn choice_of<O: Offers>(task: &Task, offers: &O, ways: &Ways, cells: &[Cell], set: usize, front: usize) -> Choice
+fn choice_of<O: Offers>(
+    task: &Task,
+    offers: &O,
+    ways: &Ways,
+    cells: &[Cell],
+    set: usize,
+    front: usize,
+) -> Choice
     requires table { IsTable task.now (O.table offers.now) (list_of task.now) ways.now.fronts.items cells.now (length task.now.rows) }
     requires set_in { set < length task.now.rows }
     requires front_in { front < length ways.now.fronts.items }
@@ -92,7 +99,16 @@ fn choice_of<O: Offers>(task: &Task, offers: &O, ways: &Ways, cells: &[Cell], se
 
 /// The cheapest plan of a set whose order begins as a front asks, with or without a sort at its top. The offers tell
 /// what the leaves mean.
-pub(crate) fn build<O: Offers>(alloc: Global, task: &Task, offers: &O, ways: &Ways, cells: &[Cell], set: usize, front: usize, sorts: bool) -> Result<Plan, AllocError>
+pub(crate) fn build<O: Offers>(
+    alloc: Global,
+    task: &Task,
+    offers: &O,
+    ways: &Ways,
+    cells: &[Cell],
+    set: usize,
+    front: usize,
+    sorts: bool,
+) -> Result<Plan, AllocError>
     requires ways { AreWays task.now ways.now.fronts.items ways.now.heads.items ways.now.ties.items }
     requires table { IsTable task.now (O.table offers.now) (list_of task.now) ways.now.fronts.items cells.now (length task.now.rows) }
     requires set_in { set < length task.now.rows }
@@ -116,7 +132,16 @@ pub(crate) fn build<O: Offers>(alloc: Global, task: &Task, offers: &O, ways: &Wa
             right_front,
         } => {
             let a = build(alloc, task, offers, ways, cells, left, left_front, true)?;
-            let b = build(alloc, task, offers, ways, cells, set - left, right_front, true)?;
+            let b = build(
+                alloc,
+                task,
+                offers,
+                ways,
+                cells,
+                set - left,
+                right_front,
+                true,
+            )?;
             let plan = merge_plan(alloc, edge, a, b)?;
             Ok(plan)
         }

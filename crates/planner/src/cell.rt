@@ -67,7 +67,13 @@ pub(crate) fn better(cell: Cell, cost: u128, choice: Choice) -> Cell
 }
 
 /// The cell after a merge whose left side serves the front given, if any; `base` is the cost of all else.
-pub(crate) fn merged(cell: Cell, front: Option<usize>, left: &[Cell], merge: Merge, base: u128) -> Cell
+pub(crate) fn merged(
+    cell: Cell,
+    front: Option<usize>,
+    left: &[Cell],
+    merge: Merge,
+    base: u128,
+) -> Cell
     requires within { ForSome front (λ g. g < length left.now) }
     requires fits { ForSome front (λ g. any_at left.now g + base < 2 ^ 128) }
     ensures { result ≡ merged_of cell front left.now merge base }

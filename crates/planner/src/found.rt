@@ -26,7 +26,13 @@ pub struct Found {
 }
 
 /// The least plan, from the table of all sets.
-fn whole_of<O: Offers>(alloc: Global, task: &Task, offers: &O, ways: &Ways, cells: &[Cell]) -> Result<Found, AllocError>
+fn whole_of<O: Offers>(
+    alloc: Global,
+    task: &Task,
+    offers: &O,
+    ways: &Ways,
+    cells: &[Cell],
+) -> Result<Found, AllocError>
     requires offers { HasOffers task.now.slots (O.table offers.now) }
     requires ways { AreWays task.now ways.now.fronts.items ways.now.heads.items ways.now.ties.items }
     requires table { IsTable task.now (O.table offers.now) (list_of task.now) ways.now.fronts.items cells.now (length task.now.rows) }
@@ -39,7 +45,16 @@ fn whole_of<O: Offers>(alloc: Global, task: &Task, offers: &O, ways: &Ways, cell
     let full = sets - 1;
     let row = row_at(cells, width_of(ways), sets, full);
     let shape = shape_of(task, row, rows_of(task, full));
-    let body = build(alloc, task, offers, ways, cells, full, shape.front, sorts_body(shape.group))?;
+    let body = build(
+        alloc,
+        task,
+        offers,
+        ways,
+        cells,
+        full,
+        shape.front,
+        sorts_body(shape.group),
+    )?;
     Ok(Found {
         cost: shape.cost,
         plan: Whole {

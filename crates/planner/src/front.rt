@@ -35,13 +35,7 @@ pub(crate) fn longer(need: Option<Item>, head: Option<Item>, x: usize, f: usize)
     match (need, head) {
         (None, _) => Some(f),
         (Some(_), None) => Some(x),
-        (Some(y), Some(z)) => {
-            if y == z {
-                Some(f)
-            } else {
-                None
-            }
-        }
+        (Some(y), Some(z)) => { if y == z { Some(f) } else { None } }
     }
 }
 
@@ -56,7 +50,8 @@ pub(crate) fn has_slot(set: usize, slot: u8) -> bool
 pub(crate) fn crosses(a: usize, b: usize, edge: &TaskEdge) -> bool
     ensures { result ≡ edge_crosses a b edge.now }
 {
-    has_slot(a, edge.left) && has_slot(b, edge.right) || has_slot(a, edge.right) && has_slot(b, edge.left)
+    has_slot(a, edge.left) && has_slot(b, edge.right)
+        || has_slot(a, edge.right) && has_slot(b, edge.left)
 }
 
 /// The front that a set's side of a merge on the edge has to serve.

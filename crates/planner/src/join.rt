@@ -13,7 +13,13 @@ use adv_base::Item;
 use plan_model::{Task, TaskEdge};
 
 /// Offers each cell of a row a merge; `base` is its cost without the left side.
-pub(crate) fn merge_row(row: &mut [Cell], heads: &[Option<Item>], left: &[Cell], merge: Merge, base: u128)
+pub(crate) fn merge_row(
+    row: &mut [Cell],
+    heads: &[Option<Item>],
+    left: &[Cell],
+    merge: Merge,
+    base: u128,
+)
     requires heads_each { length heads.now ≡ length row.old }
     requires left_each { length left.now ≡ length row.old }
     requires need_in { merge.left_need < length row.old }
@@ -50,7 +56,16 @@ fn way_at(task: &Task, ways: &Ways, k: usize) -> (TaskEdge, Tie)
 }
 
 /// Offers each cell of a row for the set of a and b the merges on one edge.
-fn merge_on(row: &mut [Cell], task: &Task, ways: &Ways, left: &[Cell], right: &[Cell], a: usize, b: usize, k: usize)
+fn merge_on(
+    row: &mut [Cell],
+    task: &Task,
+    ways: &Ways,
+    left: &[Cell],
+    right: &[Cell],
+    a: usize,
+    b: usize,
+    k: usize,
+)
     requires ways { AreWays task.now ways.now.fronts.items ways.now.heads.items ways.now.ties.items }
     requires row_each { length row.old ≡ length ways.now.fronts.items }
     requires left_each { length left.now ≡ length ways.now.fronts.items }
@@ -78,7 +93,15 @@ fn merge_on(row: &mut [Cell], task: &Task, ways: &Ways, left: &[Cell], right: &[
 }
 
 /// Offers each cell of a row for the set of a and b all merges of these two.
-fn merge_sets(row: &mut [Cell], task: &Task, ways: &Ways, left: &[Cell], right: &[Cell], a: usize, b: usize)
+fn merge_sets(
+    row: &mut [Cell],
+    task: &Task,
+    ways: &Ways,
+    left: &[Cell],
+    right: &[Cell],
+    a: usize,
+    b: usize,
+)
     requires ways { AreWays task.now ways.now.fronts.items ways.now.heads.items ways.now.ties.items }
     requires row_each { length row.old ≡ length ways.now.fronts.items }
     requires left_each { length left.now ≡ length ways.now.fronts.items }
@@ -107,7 +130,15 @@ fn are_joined(task: &Task, a: usize, b: usize) -> bool
 }
 
 /// Offers each cell of a row for the set of a and b all joins of these two, whose own rows are given.
-pub(crate) fn join_sets(row: &mut [Cell], task: &Task, ways: &Ways, left: &[Cell], right: &[Cell], a: usize, b: usize)
+pub(crate) fn join_sets(
+    row: &mut [Cell],
+    task: &Task,
+    ways: &Ways,
+    left: &[Cell],
+    right: &[Cell],
+    a: usize,
+    b: usize,
+)
     requires ways { AreWays task.now ways.now.fronts.items ways.now.heads.items ways.now.ties.items }
     requires row_each { length row.old ≡ length ways.now.fronts.items }
     requires left_each { length left.now ≡ length ways.now.fronts.items }

@@ -10,7 +10,6 @@ mod cell;
 mod found;
 mod front;
 mod join;
-
 mod price;
 mod read;
 mod row;

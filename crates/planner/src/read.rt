@@ -23,7 +23,14 @@ fn offered(cell: Cell, fits: bool, price: u64, slot: u8, offer: u32) -> Cell
 }
 
 /// Offers each cell of a row an offer of the slot; `list` is what `Listed` stands for.
-fn read_offer<O: Offers>(row: &mut [Cell], offers: &O, fronts: &[Front], list: &[Item], slot: u8, offer: u32)
+fn read_offer<O: Offers>(
+    row: &mut [Cell],
+    offers: &O,
+    fronts: &[Front],
+    list: &[Item],
+    slot: u8,
+    offer: u32,
+)
     requires row_each { length row.old ≡ length fronts.now }
     requires offer_in { offer < length (O.table offers.now slot) }
     ensures { (f : ℕ) → f < length fronts.now → cell_at row.new f ≡ offered_of (cell_at row.old f) (begins_test (order_at (O.table offers.now) slot offer) (asked list.now fronts.now f)) (price_at (O.table offers.now) slot offer) slot offer }
@@ -37,7 +44,14 @@ fn read_offer<O: Offers>(row: &mut [Cell], offers: &O, fronts: &[Front], list: &
 }
 
 /// Offers each cell of a row all offers of the slot, which is the set's only one.
-fn read_slot<O: Offers>(row: &mut [Cell], task: &Task, offers: &O, fronts: &[Front], set: usize, slot: u8)
+fn read_slot<O: Offers>(
+    row: &mut [Cell],
+    task: &Task,
+    offers: &O,
+    fronts: &[Front],
+    set: usize,
+    slot: u8,
+)
     requires row_each { length row.old ≡ length fronts.now }
     requires offers { AreOffers task.now (O.table offers.now) (list_of task.now) fronts.now set row.old }
     requires slot_in { slot < task.now.slots }
@@ -53,7 +67,14 @@ fn read_slot<O: Offers>(row: &mut [Cell], task: &Task, offers: &O, fronts: &[Fro
 }
 
 /// Offers each cell of a row all offers of the slot, where it is the set's only one.
-fn read_if<O: Offers>(row: &mut [Cell], task: &Task, offers: &O, fronts: &[Front], set: usize, slot: u8)
+fn read_if<O: Offers>(
+    row: &mut [Cell],
+    task: &Task,
+    offers: &O,
+    fronts: &[Front],
+    set: usize,
+    slot: u8,
+)
     requires row_each { length row.old ≡ length fronts.now }
     requires offers { AreOffers task.now (O.table offers.now) (list_of task.now) fronts.now set row.old }
     requires slot_in { slot < task.now.slots }
@@ -67,7 +88,13 @@ fn read_if<O: Offers>(row: &mut [Cell], task: &Task, offers: &O, fronts: &[Front
 }
 
 /// Offers each cell of a set's row all offers of the set's slot, where it has one alone.
-pub(crate) fn read_row<O: Offers>(row: &mut [Cell], task: &Task, offers: &O, fronts: &[Front], set: usize)
+pub(crate) fn read_row<O: Offers>(
+    row: &mut [Cell],
+    task: &Task,
+    offers: &O,
+    fronts: &[Front],
+    set: usize,
+)
     requires row_each { length row.old ≡ length fronts.now }
     requires offers { AreOffers task.now (O.table offers.now) (list_of task.now) fronts.now set row.old }
     ensures offers { AreOffers task.now (O.table offers.now) (list_of task.now) fronts.now set row.new }

@@ -98,7 +98,14 @@ fn finish_row(row: &mut [Cell], task: &Task, fronts: &[Front], set: usize)
 }
 
 /// Makes the row of a set, from those of smaller sets.
-fn plan_set<O: Offers>(row: &mut [Cell], done: &[Cell], task: &Task, offers: &O, ways: &Ways, set: usize)
+fn plan_set<O: Offers>(
+    row: &mut [Cell],
+    done: &[Cell],
+    task: &Task,
+    offers: &O,
+    ways: &Ways,
+    set: usize,
+)
     requires ways { AreWays task.now ways.now.fronts.items ways.now.heads.items ways.now.ties.items }
     requires row_each { length row.old ≡ length ways.now.fronts.items }
     requires set_in { set < length task.now.rows }
@@ -113,7 +120,14 @@ fn plan_set<O: Offers>(row: &mut [Cell], done: &[Cell], task: &Task, offers: &O,
 }
 
 /// Adds the row of the next set to a table.
-fn add_set<O: Offers>(cells: &mut Vec<Cell>, row: &mut [Cell], task: &Task, offers: &O, ways: &Ways, set: usize) -> Result<(), AllocError>
+fn add_set<O: Offers>(
+    cells: &mut Vec<Cell>,
+    row: &mut [Cell],
+    task: &Task,
+    offers: &O,
+    ways: &Ways,
+    set: usize,
+) -> Result<(), AllocError>
     requires ways { AreWays task.now ways.now.fronts.items ways.now.heads.items ways.now.ties.items }
     requires row_each { length row.old ≡ length ways.now.fronts.items }
     requires set_in { set < length task.now.rows }
@@ -126,7 +140,12 @@ fn add_set<O: Offers>(cells: &mut Vec<Cell>, row: &mut [Cell], task: &Task, offe
 }
 
 /// The table of all sets.
-pub(crate) fn plan_sets<O: Offers>(alloc: Global, task: &Task, offers: &O, ways: &Ways) -> Result<Vec<Cell>, AllocError>
+pub(crate) fn plan_sets<O: Offers>(
+    alloc: Global,
+    task: &Task,
+    offers: &O,
+    ways: &Ways,
+) -> Result<Vec<Cell>, AllocError>
     requires ways { AreWays task.now ways.now.fronts.items ways.now.heads.items ways.now.ties.items }
     ensures { IfOk result (λ cells. IsTable task.now (O.table offers.now) (list_of task.now) ways.now.fronts.items cells.items (length task.now.rows)) }
 {

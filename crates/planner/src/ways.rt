@@ -87,7 +87,12 @@ fn add_front(fronts: &mut Vec<Front>, need: Option<Item>) -> Result<usize, Alloc
 }
 
 /// Adds the fronts of an edge's needs.
-fn add_tie(fronts: &mut Vec<Front>, ties: &mut Vec<Tie>, task: &Task, k: usize) -> Result<(), AllocError>
+fn add_tie(
+    fronts: &mut Vec<Front>,
+    ties: &mut Vec<Tie>,
+    task: &Task,
+    k: usize,
+) -> Result<(), AllocError>
     requires fronts { AreFronts fronts.old.items }
     requires number { k < length task.now.edges }
     requires ties { AreTiesBelow (list_of task.now) fronts.old.items task.now.edges ties.old.items k }
@@ -111,5 +116,9 @@ pub(crate) fn ways_of(alloc: Global, task: &Task) -> Result<Ways, AllocError>
         add_tie(&mut fronts, &mut ties, task, k)?;
     }
     let heads = heads_of(alloc, fronts.as_slice(), listed(task))?;
-    Ok(Ways { fronts, heads, ties })
+    Ok(Ways {
+        fronts,
+        heads,
+        ties,
+    })
 }

@@ -39,7 +39,7 @@ build-requires g c =
       table = c.requires.table;
       set_in = f.1;
       front_in = shape_front c.args.task.now table fronts (row_of (length fronts) c.args.cells.now full) c.shape_of-shape.result s;
-      possible = subst (λ (b : Bool). front_cost b (row_of (length fronts) c.args.cells.now full) c.shape_of-shape.result.front < IMPOSSIBLE) (sym c.sorts_body.ensures) (shape_possible c.args.task.now table fronts (row_of (length fronts) c.args.cells.now full) c.shape_of-shape.result s)
+      possible = subst (λ (b : Bool). front_cost b (row_of (length fronts) c.args.cells.now full) c.shape_of-shape.result.front < IMPOSSIBLE) (sym c.sorts_body.ensures) (shape_possible c.args.task.now table fronts (row_of (length fronts) c.args.cells.now full) c.shape_of-shape.result s);
     }
 
 pub returns : goal.returns
@@ -59,5 +59,5 @@ returns g c =
     record {
       valid = whole_valid task table fronts row shape s full f.0 c.in_ok-body.body b;
       costs = whole_costs task table fronts row shape s full f.0 c.in_ok-body.body b;
-      least = whole_least task table fronts row shape s full f.0 c.in_ok-body.body b
+      least = whole_least task table fronts row shape s full f.0 c.in_ok-body.body b;
     }

@@ -10,7 +10,7 @@ use Rattle.planner.proofs.join.join_sets.Goals as goal
 pub returns-then-not-are_joined-clause-bounds : goal.returns-then-not-are_joined-clause-bounds
 returns-then-not-are_joined-clause-bounds c =
     λ f within.
-      not_joined c.args.task.now (listed c.args.task.now) c.args.ways.now.fronts.items c.args.left.now c.args.right.now c.args.a c.args.b f (cost_at c.args.row.now f) (sym c.are_joined.ensures ∙ c.if-not-are_joined.true)
+    not_joined c.args.task.now (listed c.args.task.now) c.args.ways.now.fronts.items c.args.left.now c.args.right.now c.args.a c.args.b f (cost_at c.args.row.now f) (sym c.are_joined.ensures ∙ c.if-not-are_joined.true)
 
 each : (c : goal.After-row-2-1) (f : ℕ) → f < length c.args.row.now → cell_at c.hash_row.new.row f ≡ hashed (cell_at c.args.row.now f) (first_item (asked (listed c.args.task.now) c.args.ways.now.fronts.items f)) c.args.a (c.cost_of-left_cost.result + c.cost_of-right_cost.result + c.hash_price.result)
 each c f within =
@@ -33,8 +33,8 @@ returns-clause-step c =
 pub returns-clause-bounds : goal.returns-clause-bounds
 returns-clause-bounds c =
     λ f within.
-      let hash = hash_bounds c.args.task.now (listed c.args.task.now) c.args.ways.now.fronts.items c.args.left.now c.args.right.now c.args.row.now c.hash_row.new.row c.args.a c.args.b (crossed c) c.requires.row_each (omega arith) (c.cost_of-left_cost.result + c.cost_of-right_cost.result + c.hash_price.result) (price c) (each c) f within in
-      record {
-        hash = hash_lower c.args.task.now (listed c.args.task.now) c.args.ways.now.fronts.items c.args.left.now c.args.right.now c.args.a c.args.b f (cost_at c.hash_row.new.row f) (cost_at c.merge_sets.new.row f) (c.merge_sets.ensures.step.lower f) hash;
-        merges = λ k number. c.merge_sets.ensures.bounds k number f within
-      }
+    let hash = hash_bounds c.args.task.now (listed c.args.task.now) c.args.ways.now.fronts.items c.args.left.now c.args.right.now c.args.row.now c.hash_row.new.row c.args.a c.args.b (crossed c) c.requires.row_each (omega arith) (c.cost_of-left_cost.result + c.cost_of-right_cost.result + c.hash_price.result) (price c) (each c) f within in
+    record {
+      hash = hash_lower c.args.task.now (listed c.args.task.now) c.args.ways.now.fronts.items c.args.left.now c.args.right.now c.args.a c.args.b f (cost_at c.hash_row.new.row f) (cost_at c.merge_sets.new.row f) (c.merge_sets.ensures.step.lower f) hash;
+      merges = λ k number. c.merge_sets.ensures.bounds k number f within;
+    }

@@ -15,5 +15,5 @@ loop-k-preserved c =
     let P : ℕ → Type 0 = λ k. (f : ℕ) → f < length fronts → MergesBound task (listed task) fronts left right c.args.a c.args.b f (cost_at new f) k in
     record {
       step = step_then task (listed task) fronts left right c.args.a c.args.b c.args.row.now c.loop-k.row new c.loop-k.invariant.step c.merge_on.ensures.step;
-      bounds = below_more P c.loop-k.k (λ k h f within. merges_lower task (listed task) fronts left right c.args.a c.args.b f (cost_at c.loop-k.row f) (cost_at new f) k (c.merge_on.ensures.step.lower f) (c.loop-k.invariant.bounds k h f within)) c.merge_on.ensures.bounds
+      bounds = below_more P c.loop-k.k (λ k h f within. merges_lower task (listed task) fronts left right c.args.a c.args.b f (cost_at c.loop-k.row f) (cost_at new f) k (c.merge_on.ensures.step.lower f) (c.loop-k.invariant.bounds k h f within)) c.merge_on.ensures.bounds;
     }

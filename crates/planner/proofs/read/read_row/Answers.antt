@@ -15,7 +15,7 @@ loop-slot-preserved g c =
     record {
       offers = c.read_if.ensures.offers;
       lower = λ f within. let a = c.read_if.ensures.lower f within in let b = c.loop-slot.invariant.lower f within in omega arith;
-      bounds = below_more P c.loop-slot.slot (λ s h is f within. slot_lower table (asked list fronts f) s (cost_at c.loop-slot.row f) (cost_at new f) (c.read_if.ensures.lower f within) (c.loop-slot.invariant.bounds s h is f within)) c.read_if.ensures.bounds
+      bounds = below_more P c.loop-slot.slot (λ s h is f within. slot_lower table (asked list fronts f) s (cost_at c.loop-slot.row f) (cost_at new f) (c.read_if.ensures.lower f within) (c.loop-slot.invariant.bounds s h is f within)) c.read_if.ensures.bounds;
     }
 
 pub returns-clause-bounds : goal.returns-clause-bounds

@@ -21,5 +21,5 @@ loop-offer-preserved g c =
     record {
       offers = offered_offers task table list fronts c.args.set c.args.slot offer old new each c.requires.slot_in (omega (arith, c.count-offer-end.ensures, c.loop-offer-test.true)) c.requires.set_is c.loop-offer.invariant.offers;
       lower = λ f within. let a = lower f within in let b = c.loop-offer.invariant.lower f within in omega arith;
-      bounds = below_more P offer (λ k h f within begins. let a = lower f within in let b = c.loop-offer.invariant.bounds k h f within begins in omega arith) (offered_bound task table list fronts c.args.set c.args.slot offer old new each)
+      bounds = below_more P offer (λ k h f within begins. let a = lower f within in let b = c.loop-offer.invariant.bounds k h f within begins in omega arith) (offered_bound task table list fronts c.args.set c.args.slot offer old new each);
     }

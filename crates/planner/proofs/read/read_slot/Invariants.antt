@@ -11,5 +11,5 @@ invariant-loop-offer g l =
     record {
       offers : AreOffers l.task (g.O.Offers.table l.offers) (listed l.task) l.fronts l.set l.row;
       lower : (f : ℕ) → f < length l.fronts → cost_at l.row f ≤ cost_at l.initial.row f;
-      bounds : (k : ℕ) → k < l.offer → (f : ℕ) → f < length l.fronts → BeginsWith (order_at (g.O.Offers.table l.offers) l.slot k) (asked (listed l.task) l.fronts f) → cost_at l.row f ≤ price_at (g.O.Offers.table l.offers) l.slot k
+      bounds : (k : ℕ) → k < l.offer → (f : ℕ) → f < length l.fronts → BeginsWith (order_at (g.O.Offers.table l.offers) l.slot k) (asked (listed l.task) l.fronts f) → cost_at l.row f ≤ price_at (g.O.Offers.table l.offers) l.slot k;
     }

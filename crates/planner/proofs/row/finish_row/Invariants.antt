@@ -9,5 +9,5 @@ abbrev pub invariant-loop-f : goal.invariant-loop-f
 invariant-loop-f l =
     record {
       done : (k : ℕ) → k < l.f → cell_at l.row k ≡ finished (cell_at l.initial.row k) (list_all (is_column_of l.set) (asked l.list l.fronts k)) l.sorted;
-      left : (k : ℕ) → l.f ≤ k → cell_at l.row k ≡ cell_at l.initial.row k
+      left : (k : ℕ) → l.f ≤ k → cell_at l.row k ≡ cell_at l.initial.row k;
     }

@@ -10,7 +10,7 @@ pub loop-a-init : goal.loop-a-init
 loop-a-init c =
     record {
       grown = grown_none c.args.task.now (listed c.args.task.now) c.args.ways.now.fronts.items (row_of (length c.args.ways.now.fronts.items) c.args.done.now) c.args.set c.args.row.now;
-      bounds = λ a less cut. let some = cut.some in absurd (omega arith)
+      bounds = λ a less cut. let some = cut.some in absurd (omega arith);
     }
 
 pub loop-a-preserved : goal.loop-a-preserved
@@ -23,7 +23,7 @@ loop-a-preserved c =
     let P : ℕ → Type 0 = λ a. IsCut set a → (f : ℕ) → f < length fronts → JoinsBound task (listed task) fronts (rows a) (rows (set - a)) a (set - a) f (cost_at new f) in
     record {
       grown = grown_then task (listed task) fronts rows set c.args.row.now c.loop-a.row new c.loop-a.invariant.grown c.join_cut.ensures.grown;
-      bounds = below_more P c.loop-a.a (λ a h cut f within. joins_lower task (listed task) fronts (rows a) (rows (set - a)) a (set - a) f (cost_at c.loop-a.row f) (cost_at new f) (c.join_cut.ensures.grown.lower f) (c.loop-a.invariant.bounds a h cut f within)) c.join_cut.ensures.bounds
+      bounds = below_more P c.loop-a.a (λ a h cut f within. joins_lower task (listed task) fronts (rows a) (rows (set - a)) a (set - a) f (cost_at c.loop-a.row f) (cost_at new f) (c.join_cut.ensures.grown.lower f) (c.loop-a.invariant.bounds a h cut f within)) c.join_cut.ensures.bounds;
     }
 
 pub returns-clause-bounds : goal.returns-clause-bounds

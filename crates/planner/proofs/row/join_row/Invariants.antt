@@ -9,5 +9,5 @@ abbrev pub invariant-loop-a : goal.invariant-loop-a
 invariant-loop-a l =
     record {
       grown : IsGrown l.task (listed l.task) l.ways.fronts.items (row_of (length l.ways.fronts.items) l.done) l.set l.initial.row l.row;
-      bounds : (a : ℕ) → a < l.a → IsCut l.set a → (f : ℕ) → f < length l.ways.fronts.items → JoinsBound l.task (listed l.task) l.ways.fronts.items (row_of (length l.ways.fronts.items) l.done a) (row_of (length l.ways.fronts.items) l.done (l.set - a)) a (l.set - a) f (cost_at l.row f)
+      bounds : (a : ℕ) → a < l.a → IsCut l.set a → (f : ℕ) → f < length l.ways.fronts.items → JoinsBound l.task (listed l.task) l.ways.fronts.items (row_of (length l.ways.fronts.items) l.done a) (row_of (length l.ways.fronts.items) l.done (l.set - a)) a (l.set - a) f (cost_at l.row f);
     }

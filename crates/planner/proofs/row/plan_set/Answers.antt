@@ -45,9 +45,9 @@ returns g c =
     let e = c.as_slice-fronts.ensures.value in
     let lower = subst (λ (fs : List Front). (f : ℕ) → f < length fs → cost_at r1 f ≤ cost_at r0 f) e c.read_row.ensures.lower in
     let capped : (f : ℕ) → f < length fronts → cost_at r1 f ≤ IMPOSSIBLE = λ f h. (
-          let low = lower f h in
-          let clear : cost_at r0 f ≡ IMPOSSIBLE = ap (λ (x : Cell). x.cost) (c.clear_row.ensures f) in
-          omega arith) in
+    let low = lower f h in
+    let clear : cost_at r0 f ≡ IMPOSSIBLE = ap (λ (x : Cell). x.cost) (c.clear_row.ensures f) in
+    omega arith) in
     let offers = subst (λ (fs : List Front). AreOffers task table list fs set r1) e c.read_row.ensures.offers in
     let reads = subst (λ (fs : List Front). (f : ℕ) → f < length fs → OffersBound task table (asked list fs f) set (cost_at r1 f)) e c.read_row.ensures.bounds in
     let each = subst (λ (fs : List Front). (f : ℕ) → f < length fs → cell_at r3 f ≡ finished (cell_at r2 f) (list_all (is_column_of set) (asked list fs f)) (cost_at r2 0 + sort_cost task.rates (rows_in task set))) e c.finish_row.ensures in

@@ -7,5 +7,5 @@ abbrev pub invariant-loop-set : goal.invariant-loop-set
 invariant-loop-set g l =
     record {
       row_each : length l.row.items ≡ length l.ways.fronts.items;
-      table : IsTable l.task (g.O.Offers.table l.offers) (listed l.task) l.ways.fronts.items l.cells.items l.set
+      table : IsTable l.task (g.O.Offers.table l.offers) (listed l.task) l.ways.fronts.items l.cells.items l.set;
     }

@@ -6,5 +6,5 @@ abbrev pub invariant-loop-f : goal.invariant-loop-f
 invariant-loop-f l =
     record {
       count : length l.heads.items ≡ l.f;
-      each : (k : ℕ) → k < l.f → slice_index_or l.heads.items k None ≡ first_item (asked l.list l.fronts k)
+      each : (k : ℕ) → k < l.f → slice_index_or l.heads.items k None ≡ first_item (asked l.list l.fronts k);
     }
