@@ -6,14 +6,14 @@ use Rattle.adv_base.specs.declared.workload.block.Block.{Block}
 use Rattle.adv_base.specs.declared.workload.parts.Edge.{Edge}
 use Rattle.adv_base.specs.declared.workload.parts.Item.{Item}
 use Rattle.adv_base.specs.declared.workload.parts.Item.TheVariants.{Up}
-use Rattle.adv_base.specs.Access.{is_bound}
+use Rattle.adv_base.specs.Predicates.{is_bound}
 use Rattle.adv_base.specs.Rows.{set_rows, group_rows}
 use Rattle.plan_model.specs.declared.edge.TaskEdge.{TaskEdge}
 use Rattle.plan_model.specs.declared.task.Task.{Task}
 
 -- a column upwards, where it isn't bound
 abbrev pub need : Block → ℕ → ℕ → Option Item
-need block slot column = if is_bound block slot column then None else Some (Up slot column)
+need block slot column = if is_bound block.preds slot column then None else Some (Up slot column)
 
 abbrev pub task_edge : Block → Edge → TaskEdge
 task_edge block edge =

@@ -1,5 +1,5 @@
 -- Tables of offers: for each slot a list of an order and a price.
-use Rattle.std.specs.Prelude.{◌≡◌, ℕ, ◌<◌, ◌≤◌, ◌^◌, ◌==◌, Bool, true, false, List, [], length, All, slice_get, Some}
+use Rattle.std.specs.Prelude.{◌≡◌, ℕ, ◌<◌, ◌≤◌, ◌==◌, Bool, true, false, List, [], length, All, slice_get, Some}
 use Rattle.std.specs.Option.{option_map_or}
 use Rattle.adv_base.specs.declared.workload.parts.Item.{Item}
 use Rattle.adv_base.specs.declared.workload.parts.Item.TheVariants.{Up, Down, Made}
@@ -26,9 +26,9 @@ pub record OfferLimits (slot : ℕ) (offer : Offer) : Type 0 where
   pub own : All (λ item. is_up_of slot item ≡ true) offer.0
   pub apart : AreApart offer.0
 
-pub record TableLimits (table : OfferTable) : Type 0 where
-  pub count : (slot : ℕ) → length (table slot) < 2 ^ 32
-  pub each : (slot : ℕ) → All (OfferLimits slot) (table slot)
+-- each offer of each slot keeps its limits
+abbrev pub OfferTableLimits : OfferTable → Type 0
+OfferTableLimits table = (slot : ℕ) → All (OfferLimits slot) (table slot)
 
 -- each slot below n has an offer
 abbrev pub HasOffers : ℕ → OfferTable → Type 0

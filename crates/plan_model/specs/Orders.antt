@@ -58,7 +58,8 @@ without_repeats before [] = []
 without_repeats before (x ∷ xs) =
     if list_any (is_same_order x) before then without_repeats before xs else x ∷ without_repeats (before ++ x ∷ []) xs
 
--- No order; the column of each edge at the slot; the list to group or to order by, where it is of that slot alone.
+-- First none at all; then the columns by which merges may want the slot; then the list to group or order by, if its
+-- columns are all the slot's.
 unfoldable pub interesting_orders : Task → ℕ → List Order
 interesting_orders task slot =
     without_repeats [] ([] ∷ (flat_map (edge_orders slot) task.edges ++ list_orders slot task.group task.order))

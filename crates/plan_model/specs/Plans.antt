@@ -44,8 +44,8 @@ crosses a b edge = is_crossing a b (ends edge)
 abbrev pub side_need : TaskEdge → ℕ → Order
 side_need edge set = need_order (if has_slot set edge.left then edge.left_need else edge.right_need)
 
--- Sides that cover a and b and deliver o and r can be merged on the edge of a number: it has one end in each, and each
--- side begins with its column, where that isn't bound.
+-- Sides that cover a and b and deliver o and r can be merged on the edge of a number: it crosses between them, and what
+-- each side delivers serves the edge's need there.
 pub record Merges (task : Task) (number a b : ℕ) (o r : Order) : Type 0 where
   pub edge : TaskEdge
   pub found : slice_get task.edges number ≡ Some edge

@@ -11,8 +11,10 @@ mod edge;
 mod offers;
 mod plan;
 mod task;
+mod template;
 
 pub use edge::TaskEdge;
 pub use offers::Offers;
 pub use plan::{GroupStep, Plan, Whole};
 pub use task::Task;
+pub use template::Template;

@@ -1,7 +1,7 @@
 //! Offers.
 ghost use Rattle.std.specs.Prelude.{◌≡◌, ◌<◌, length};
 ghost use Rattle.adv_base.specs.Offers.{OfferTable};
-ghost use Rattle.plan_model.specs.OfferTables.{price_at, order_at, TableLimits};
+ghost use Rattle.plan_model.specs.OfferTables.{price_at, order_at, OfferTableLimits};
 
 use adv_base::Item;
 
@@ -27,5 +27,5 @@ pub trait Offers {
     /// Does nothing: it tells that a price is at most 10^19, and that an order is of upward items of its own slot,
     /// none of them twice.
     fn limits(&self)
-        ensures { TableLimits (table self.now) };
+        ensures { OfferTableLimits (table self.now) };
 }
