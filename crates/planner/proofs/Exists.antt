@@ -21,7 +21,7 @@ use Rattle.plan_model.specs.declared.plan.Plan.{Plan}
 use Rattle.plan_model.specs.declared.plan.Plan.TheVariants.{Leaf, Sort', Merge', Hash'}
 use Rattle.plan_model.specs.declared.task.Task.{Task}
 use Rattle.plan_model.specs.Limits.Tasks.{ends, EdgeLimits, RowLimits}
-use Rattle.plan_model.specs.OfferTables.{price_at, order_at, OfferLimits, TableLimits, HasOffers}
+use Rattle.plan_model.specs.OfferTables.{price_at, order_at, OfferLimits, OfferTableLimits, HasOffers}
 use Rattle.plan_model.specs.Plans.{IsValid, covers, crosses, delivers}
 use Rattle.plan_model.specs.Costs.{plan_cost, rows_in, hash_cost}
 use Rattle.planner.proofs.Lower.{covers_some}
@@ -130,7 +130,7 @@ pub record Joined (task : Task) (table : OfferTable) : Type 0 where
   pub covers_all : covers plan ≡ all_slots task.slots
   pub cost : plan_cost task table plan ≤ 20000000000000000000 * all_slots task.slots
 
-module _ (alloc : Global) (task : Task) (table : OfferTable) (limits : TableLimits table) (has : HasOffers task.slots table) where
+module _ (alloc : Global) (task : Task) (table : OfferTable) (limits : OfferTableLimits table) (has : HasOffers task.slots table) where
   grow : (n : ℕ) (p : Plan) → all_slots task.slots ≤ covers p + n → IsValid false task table p → covers p ≤ all_slots task.slots → plan_cost task table p ≤ 20000000000000000000 * covers p → Joined task table
   grow zero p near valid within cost =
       let same : covers p ≡ all_slots task.slots = omega arith in
@@ -151,7 +151,7 @@ module _ (alloc : Global) (task : Task) (table : OfferTable) (limits : TableLimi
             let leaf : Plan = Leaf j.slot 0 in
             let at : Box (Unit {0}) Global = record { ptr = null_ptr; alloc = alloc; value = tt } in
             let next : Plan = Hash' at p at leaf in
-            let price : price_at table j.slot 0 ≤ 10000000000000000000 = first_price j.slot (table j.slot) (limits.each j.slot) in
+            let price : price_at table j.slot 0 ≤ 10000000000000000000 = first_price j.slot (table j.slot) (limits j.slot) in
             let rows = task.limits.rows_limits in
             let join : hash_cost task.rates (rows_in task a) (rows_in task (2 ^ j.slot)) (rows_in task (a + 2 ^ j.slot)) ≤ 4000000000000000000 = hash_most task (rows_in task a) (rows_in task (2 ^ j.slot)) (rows_in task (a + 2 ^ j.slot)) (rows_most task.rows a rows) (rows_most task.rows (2 ^ j.slot) rows) (rows_most task.rows (a + 2 ^ j.slot) rows) in
             grow n next (omega arith) (valid, (j.slot_in, has j.slot j.slot_in), slot_apart a b j.slot apart j.in_rest, j.joined) (omega arith) (omega arith)
@@ -163,5 +163,5 @@ module _ (alloc : Global) (task : Task) (table : OfferTable) (limits : TableLimi
       let slots = task.limits.slots_some in
       let more : 2 ^ 1 ≤ 2 ^ task.slots = pow_mono slots in
       let leaf : Plan = Leaf 0 0 in
-      let price : price_at table 0 0 ≤ 10000000000000000000 = first_price 0 (table 0) (limits.each 0) in
+      let price : price_at table 0 0 ≤ 10000000000000000000 = first_price 0 (table 0) (limits 0) in
       grow (all_slots task.slots) leaf (omega arith) (slots, has 0 slots) (omega arith) (omega arith)

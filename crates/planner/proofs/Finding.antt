@@ -10,7 +10,7 @@ use Rattle.plan_model.specs.declared.plan.GroupStep.{GroupStep}
 use Rattle.plan_model.specs.declared.plan.Plan.{Plan}
 use Rattle.plan_model.specs.declared.plan.Whole.{Whole}
 use Rattle.plan_model.specs.declared.task.Task.{Task}
-use Rattle.plan_model.specs.OfferTables.{TableLimits, HasOffers}
+use Rattle.plan_model.specs.OfferTables.{OfferTableLimits, HasOffers}
 use Rattle.plan_model.specs.Plans.{IsWhole, covers, delivers, body_sorts}
 use Rattle.plan_model.specs.Costs.{plan_cost, whole_cost, rows_in, sort_cost, group_cost, final_rows}
 use Rattle.plan_model.specs.Least.{Least, IsCostOfPlan}
@@ -35,7 +35,7 @@ full_is task full is =
     let some : 1 ≤ 2 ^ task.slots = one-le-pow task.slots 2 (omega arith) in
     (omega arith, omega arith)
 
-shape_at_all : (alloc : Global) (task : Task) (table : OfferTable) (fronts : List Front) (heads : List (Option Item)) (ties : List Tie) (row : List Cell) (shape : Shape) → TableLimits table → HasOffers task.slots table → AreWays task fronts heads ties → IsLow task table (listed task) fronts (all_slots task.slots) row → shape ≡ least_shape task.group task row (rows_in task (all_slots task.slots)) → IsLeastShape task table (listed task) fronts row shape
+shape_at_all : (alloc : Global) (task : Task) (table : OfferTable) (fronts : List Front) (heads : List (Option Item)) (ties : List Tie) (row : List Cell) (shape : Shape) → OfferTableLimits table → HasOffers task.slots table → AreWays task fronts heads ties → IsLow task table (listed task) fronts (all_slots task.slots) row → shape ≡ least_shape task.group task row (rows_in task (all_slots task.slots)) → IsLeastShape task table (listed task) fronts row shape
 shape_at_all alloc task table fronts heads ties row shape limits has ways low is =
     let some = ways.some in
     let nothing = nothing_asked task fronts heads ties ways in
@@ -48,7 +48,7 @@ shape_at_all alloc task table fronts heads ties row shape limits has ways low is
     let cheap : cost_at row 0 ≤ 10000000000000000000000 = omega arith in
     shape_is task table fronts row some nothing (all_asked task fronts heads ties ways) low cheap (rows_most task.rows (all_slots task.slots) task.limits.rows_limits) shape is
 
-pub shape_at : (alloc : Global) (task : Task) (table : OfferTable) (fronts : List Front) (heads : List (Option Item)) (ties : List Tie) (cells : List Cell) (full : ℕ) (row : List Cell) (shape : Shape) → TableLimits table → HasOffers task.slots table → AreWays task fronts heads ties → IsTable task table (listed task) fronts cells (length task.rows) → full ≡ length task.rows - 1 → row ≡ row_of (length fronts) cells full → shape ≡ least_shape task.group task row (rows_in task full) → IsLeastShape task table (listed task) fronts (row_of (length fronts) cells full) shape
+pub shape_at : (alloc : Global) (task : Task) (table : OfferTable) (fronts : List Front) (heads : List (Option Item)) (ties : List Tie) (cells : List Cell) (full : ℕ) (row : List Cell) (shape : Shape) → OfferTableLimits table → HasOffers task.slots table → AreWays task fronts heads ties → IsTable task table (listed task) fronts cells (length task.rows) → full ≡ length task.rows - 1 → row ≡ row_of (length fronts) cells full → shape ≡ least_shape task.group task row (rows_in task full) → IsLeastShape task table (listed task) fronts (row_of (length fronts) cells full) shape
 shape_at alloc task table fronts heads ties cells full row shape limits has ways t full_last row_is is =
     let f = full_is task full full_last in
     let low : IsLow task table (listed task) fronts full (row_of (length fronts) cells full) = row_low task table (listed task) fronts (row_of (length fronts) cells) full (row_of (length fronts) cells full) (t.rows full f.1) in
