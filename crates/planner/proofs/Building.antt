@@ -1,5 +1,5 @@
 -- Plans that are built from the choices.
-use Rattle.std.proofs.Common.{◌≡◌, ◌≢◌, ℕ, zero, suc, ◌+◌, ◌-◌, ◌*◌, ◌^◌, ◌<◌, ◌≤◌, ◌⊎◌, inl, inr, Bool, true, false, cond, not, ◌==◌, List, [], ◌∷◌, length, take, bit_and, All, slice_index_or, refl, sym, ap, ◌∙◌, subst, arith}
+use Rattle.std.proofs.Common.{◌≡◌, ℕ, ◌+◌, ◌-◌, ◌<◌, ◌⊎◌, inl, inr, Bool, true, false, not, ◌==◌, List, [], length, bit_and, All, slice_index_or, refl, sym, ap, ◌∙◌, subst, arith}
 use Rattle.std.specs.List.{list_any}
 use Rattle.std.proofs.lemmas.Bool.{eqb-true, eqb-false, not-true, not-false, false≢true}
 use Rattle.adv_base.specs.Items.{Order, BeginsWith}
@@ -7,9 +7,8 @@ use Rattle.adv_base.specs.Offers.{OfferTable}
 use Rattle.plan_model.specs.declared.plan.Plan.{Plan}
 use Rattle.plan_model.specs.declared.plan.Plan.TheVariants.{Leaf, Sort', Merge', Hash'}
 use Rattle.plan_model.specs.declared.task.Task.{Task}
-use Rattle.plan_model.specs.OfferTables.{price_at, order_at}
-use Rattle.plan_model.specs.Plans.{IsValid, Merges, covers, crosses, delivers, is_column_of, side_need}
-use Rattle.plan_model.specs.Costs.{plan_cost, rows_in, sort_cost}
+use Rattle.plan_model.specs.Plans.{Merges, covers, crosses, delivers, is_column_of, side_need}
+use Rattle.plan_model.specs.Costs.{rows_in, sort_cost}
 use Rattle.planner.specs.declared.front.Front.{Front}
 use Rattle.planner.specs.declared.front.Front.TheVariants.{Any}
 use Rattle.planner.specs.declared.cell.Cell.{Cell}

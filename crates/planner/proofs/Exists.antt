@@ -1,11 +1,11 @@
 -- Some plan joins all slots.
-use Rattle.std.proofs.Common.{◌≡◌, ◌≢◌, ℕ, zero, suc, ◌+◌, ◌-◌, ◌*◌, ◌/◌, ◌%◌, ◌^◌, ◌<◌, ◌≤◌, ◌⊎◌, inl, inr, Bool, true, false, cond, not, ◌&&◌, ◌||◌, ◌==◌, List, [], ◌∷◌, length, map, bit_and, min, All, Option, Some, None, slice_get, slice_index, refl, sym, ap, ◌∙◌, subst, arith}
+use Rattle.std.proofs.Common.{◌≡◌, ℕ, zero, suc, ◌+◌, ◌-◌, ◌*◌, ◌^◌, ◌<◌, ◌≤◌, inl, inr, true, false, not, ◌&&◌, ◌==◌, List, [], ◌∷◌, length, map, bit_and, min, All, slice_get, slice_index, sym, ap, ◌∙◌, subst, arith}
 use denote.RawPtr.{null_ptr}
 use Rattle.std.proofs.Common.{Box, Global}
 use Rattle.std.specs.List.{list_any}
 use Rattle.std.proofs.Math.Nat.{one-le-pow, mul-le-mul}
 use Rattle.std.proofs.Math.Pow.{pow_mono}
-use Rattle.std.proofs.lemmas.Bool.{false≢true, cases_Bool, cases_lt, or_cases, or_left, or_right, and_parts, and_from, eqb-false, ne_eqb, not-true, cases_eq}
+use Rattle.std.proofs.lemmas.Bool.{false≢true, cases_lt, or_cases, or_left, or_right, and_parts, and_from, eqb-false, ne_eqb, not-true, cases_eq}
 use Rattle.std.proofs.lemmas.Nat.{and-not, and_comm, and_le_l}
 use Rattle.std.proofs.lemmas.Nat.Bits.{and_pow, bit_at_and, bit_at-zero, bit_at-lt}
 use Rattle.std.proofs.lemmas.List.Elements.{All-head, All-tail, All-get_or}
@@ -13,16 +13,15 @@ use Rattle.std.specs.Int.{bit_at}
 use Rattle.std.specs.Int.Bits.{and_self}
 use Rattle.std.specs.Option.{option_map_or}
 use Rattle.std.proofs.lemmas.List.{get_or_past}
-use Rattle.adv_base.specs.Items.{Order, BeginsWith}
 use Rattle.adv_base.specs.Offers.{Offer, OfferTable}
-use Rattle.adv_base.specs.Sets.{all_slots, has_slot, is_crossing, IsConnected}
+use Rattle.adv_base.specs.Sets.{all_slots, has_slot, is_crossing}
 use Rattle.plan_model.specs.declared.edge.TaskEdge.{TaskEdge}
 use Rattle.plan_model.specs.declared.plan.Plan.{Plan}
-use Rattle.plan_model.specs.declared.plan.Plan.TheVariants.{Leaf, Sort', Merge', Hash'}
+use Rattle.plan_model.specs.declared.plan.Plan.TheVariants.{Leaf, Hash'}
 use Rattle.plan_model.specs.declared.task.Task.{Task}
 use Rattle.plan_model.specs.Limits.Tasks.{ends, EdgeLimits, RowLimits}
-use Rattle.plan_model.specs.OfferTables.{price_at, order_at, OfferLimits, OfferTableLimits, HasOffers}
-use Rattle.plan_model.specs.Plans.{IsValid, covers, crosses, delivers}
+use Rattle.plan_model.specs.OfferTables.{price_at, OfferLimits, OfferTableLimits, HasOffers}
+use Rattle.plan_model.specs.Plans.{IsValid, covers, crosses}
 use Rattle.plan_model.specs.Costs.{plan_cost, rows_in, hash_cost}
 use Rattle.planner.proofs.Lower.{covers_some}
 

@@ -1,19 +1,18 @@
 -- The least plan, from the table of all sets.
-use Rattle.std.proofs.Common.{Global, ◌≡◌, ◌≢◌, ℕ, ◌+◌, ◌-◌, ◌*◌, ◌^◌, ◌<◌, ◌≤◌, Bool, true, false, cond, IsTrue, List, [], length, Option, refl, sym, ap, ◌∙◌, subst, arith}
+use Rattle.std.proofs.Common.{Global, ◌≡◌, ℕ, ◌-◌, ◌^◌, ◌<◌, ◌≤◌, cond, List, length, Option, refl, sym, ap, ◌∙◌, subst, arith}
 use Rattle.std.proofs.Math.Nat.{one-le-pow}
 use Rattle.std.proofs.Math.Pow.{pow_mono}
-use Rattle.adv_base.specs.Items.{Order, BeginsWith}
+use Rattle.adv_base.specs.Items.{BeginsWith}
 use Rattle.adv_base.specs.Offers.{OfferTable}
 use Rattle.adv_base.specs.Sets.{all_slots}
 use Rattle.adv_base.specs.declared.workload.parts.Item.{Item}
-use Rattle.plan_model.specs.declared.plan.GroupStep.{GroupStep}
 use Rattle.plan_model.specs.declared.plan.Plan.{Plan}
 use Rattle.plan_model.specs.declared.plan.Whole.{Whole}
 use Rattle.plan_model.specs.declared.task.Task.{Task}
 use Rattle.plan_model.specs.OfferTables.{OfferTableLimits, HasOffers}
 use Rattle.plan_model.specs.Plans.{IsWhole, covers, delivers, body_sorts}
-use Rattle.plan_model.specs.Costs.{plan_cost, whole_cost, rows_in, sort_cost, group_cost, final_rows}
-use Rattle.plan_model.specs.Least.{Least, IsCostOfPlan}
+use Rattle.plan_model.specs.Costs.{whole_cost, rows_in, sort_cost, group_cost, final_rows}
+use Rattle.plan_model.specs.Least.{Least}
 use Rattle.planner.specs.declared.front.Front.{Front}
 use Rattle.planner.specs.declared.front.Tie.{Tie}
 use Rattle.planner.specs.declared.cell.Cell.{Cell}

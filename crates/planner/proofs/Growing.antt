@@ -1,5 +1,5 @@
 -- Fronts that grow.
-use Rattle.std.proofs.Common.{◌≡◌, ℕ, zero, suc, ◌+◌, ◌<◌, ◌≤◌, ◌⊎◌, inl, inr, List, [], ◌∷◌, ◌++◌, length, Option, Some, None, slice_get, slice_index_or, get_or, refl, sym, ap, ◌∙◌, subst, arith}
+use Rattle.std.proofs.Common.{◌≡◌, ℕ, ◌+◌, ◌<◌, inl, inr, List, [], ◌∷◌, ◌++◌, length, Option, Some, None, slice_get, slice_index_or, refl, sym, ap, ◌∙◌, subst, arith}
 use Rattle.std.proofs.lemmas.Bool.{cases_lt}
 use Rattle.std.proofs.lemmas.List.{get_or_append_left, get_or_push, length_push, get_or_default}
 use Rattle.std.proofs.lemmas.Option.{slice_get_within, same_Some, slice_get-get_or}
@@ -9,9 +9,9 @@ use Rattle.plan_model.specs.declared.edge.TaskEdge.{TaskEdge}
 use Rattle.plan_model.specs.declared.task.Task.{Task}
 use Rattle.plan_model.specs.Orders.{need_order}
 use Rattle.planner.specs.declared.front.Front.{Front}
-use Rattle.planner.specs.declared.front.Front.TheVariants.{Any, Listed, Need}
+use Rattle.planner.specs.declared.front.Front.TheVariants.{Any, Listed}
 use Rattle.planner.specs.declared.front.Tie.{Tie}
-use Rattle.planner.specs.Fronts.{front_order, asked, need_front, no_tie, listed, IsTie, IsGrowing, AreFronts, AreHeads, AreTiesBelow, AreWays}
+use Rattle.planner.specs.Fronts.{front_order, need_front, no_tie, listed, IsTie, IsGrowing, AreFronts, AreHeads, AreTiesBelow, AreWays}
 
 pub growing_none : (fronts : List Front) → IsGrowing fronts fronts
 growing_none fronts = record { longer = omega arith; keeps = λ k h. refl }

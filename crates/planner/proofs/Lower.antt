@@ -1,5 +1,5 @@
 -- No plan costs less than its cell.
-use Rattle.std.proofs.Common.{◌≡◌, ◌≢◌, ℕ, zero, suc, ◌+◌, ◌-◌, ◌*◌, ◌^◌, ◌<◌, ◌≤◌, ◌⊎◌, inl, inr, Bool, true, false, IsTrue, List, [], ◌∷◌, length, take, All, bit_and, Option, Some, None, slice_get, refl, sym, ap, ◌∙◌, subst, arith}
+use Rattle.std.proofs.Common.{◌≡◌, ℕ, ◌+◌, ◌-◌, ◌<◌, ◌≤◌, true, false, List, [], ◌∷◌, length, All, bit_and, refl, sym, ap, subst, arith}
 use Rattle.std.specs.List.{list_any}
 use Rattle.std.proofs.Math.Nat.{one-le-pow}
 use Rattle.std.proofs.lemmas.Bool.{false≢true}
@@ -7,21 +7,17 @@ use Rattle.std.proofs.lemmas.Option.{slice_get_within}
 use Rattle.std.proofs.lemmas.List.Elements.{All-take, All-same}
 use Rattle.adv_base.specs.Items.{Order, BeginsWith}
 use Rattle.adv_base.specs.Offers.{OfferTable}
-use Rattle.adv_base.specs.declared.workload.parts.Item.{Item}
-use Rattle.plan_model.specs.declared.edge.TaskEdge.{TaskEdge}
 use Rattle.plan_model.specs.declared.plan.Plan.{Plan}
 use Rattle.plan_model.specs.declared.plan.Plan.TheVariants.{Leaf, Sort', Merge', Hash'}
 use Rattle.plan_model.specs.declared.task.Task.{Task}
-use Rattle.plan_model.specs.OfferTables.{price_at, order_at}
-use Rattle.plan_model.specs.Plans.{IsValid, Merges, covers, crosses, delivers, is_column_of, side_need}
-use Rattle.plan_model.specs.Costs.{plan_cost, rows_in, sort_cost, merge_cost, hash_cost}
+use Rattle.plan_model.specs.Plans.{IsValid, Merges, covers, crosses, delivers, is_column_of}
+use Rattle.plan_model.specs.Costs.{plan_cost, rows_in, sort_cost}
 use Rattle.planner.specs.declared.front.Front.{Front}
 use Rattle.planner.specs.declared.cell.Cell.{Cell}
 use Rattle.planner.specs.Fronts.{asked}
-use Rattle.planner.specs.Cells.{cell_at, cost_at, any_at}
-use Rattle.planner.specs.Choices.{IsCut, IsRead, IsMerge, IsHash, IsSorting, merge_price, hash_price}
-use Rattle.planner.specs.Rows.{NoneLess, MergeBound, MergesBound, HashBound, JoinsBound, OffersBound, IsRow}
-use Rattle.planner.proofs.Begins.{begins_nil, begins_trans}
+use Rattle.planner.specs.Cells.{cost_at, any_at}
+use Rattle.planner.specs.Choices.{IsCut, merge_price, hash_price}
+use Rattle.planner.specs.Rows.{NoneLess, JoinsBound, OffersBound}
 
 -- only no order begins no order
 pub begun_nil : (f : Order) → BeginsWith [] f → f ≡ []

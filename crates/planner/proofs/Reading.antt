@@ -1,5 +1,5 @@
 -- What offering the offers of a slot to the cells of a row gives.
-use Rattle.std.proofs.Common.{◌≡◌, ℕ, zero, suc, ◌+◌, ◌*◌, ◌^◌, ◌<◌, ◌≤◌, ◌⊎◌, inl, inr, Bool, true, false, cond, ◌&&◌, List, [], ◌∷◌, length, take, drop, get_or, refl, sym, ap, ◌∙◌, subst, arith}
+use Rattle.std.proofs.Common.{◌≡◌, ℕ, ◌+◌, ◌^◌, ◌<◌, ◌≤◌, inl, inr, Bool, true, false, ◌&&◌, List, [], ◌∷◌, length, take, drop, get_or, refl, sym, ap, ◌∙◌, subst, arith}
 use Rattle.std.proofs.lemmas.Bool.{false≢true, and_parts, and_from}
 use Rattle.std.proofs.lemmas.List.{drop_all, drop_more}
 use Rattle.adv_base.specs.declared.workload.parts.Item.{Item}
@@ -15,7 +15,7 @@ use Rattle.planner.specs.declared.cell.Choice.TheVariants.{Read}
 use Rattle.planner.specs.Fronts.{asked, begins_test}
 use Rattle.planner.specs.Cells.{cell_at, cost_at, offered, better}
 use Rattle.planner.specs.Choices.{IsRead, IsOffer}
-use Rattle.planner.specs.Rows.{AreOffers, OffersBound, SlotBound}
+use Rattle.planner.specs.Rows.{AreOffers, SlotBound}
 use Rattle.planner.proofs.Begins.{same_item, same_from}
 use Rattle.planner.proofs.Steps.{better_cases, better_lower}
 

@@ -1,9 +1,9 @@
 -- What offering joins to the cells of a row gives.
-use Rattle.std.proofs.Common.{◌≡◌, ◌≢◌, ℕ, zero, suc, ◌+◌, ◌-◌, ◌*◌, ◌^◌, ◌<◌, ◌≤◌, ◌⊎◌, inl, inr, Bool, true, false, cond, nat_lt, List, [], ◌∷◌, length, take, All, bit_and, Option, Some, None, slice_get, slice_index_or, refl, sym, ap, ◌∙◌, subst, arith}
+use Rattle.std.proofs.Common.{◌≡◌, ℕ, zero, suc, ◌+◌, ◌<◌, ◌≤◌, ◌⊎◌, inl, inr, Bool, true, false, cond, nat_lt, List, [], ◌∷◌, length, Option, Some, None, slice_get, slice_index_or, refl, sym, ap, ◌∙◌, subst, arith}
 use Rattle.std.specs.List.{list_any}
-use Rattle.std.proofs.lemmas.Bool.{false≢true, cases_Bool, cases_lt, or_left, or_right}
+use Rattle.std.proofs.lemmas.Bool.{false≢true, cases_lt, or_left, or_right}
 use Rattle.std.proofs.lemmas.Bool.Decides.{nat_tests}
-use Rattle.std.proofs.lemmas.Option.{slice_get_within, slice_get_read, same_Some}
+use Rattle.std.proofs.lemmas.Option.{slice_get_read, same_Some}
 use Rattle.std.proofs.lemmas.List.{get_or_past, get_or_default, get_or_read}
 use Rattle.adv_base.specs.Items.{Order, BeginsWith}
 use Rattle.adv_base.specs.Sets.{has_slot}
@@ -18,11 +18,11 @@ use Rattle.planner.specs.declared.cell.Cell.{Cell}
 use Rattle.planner.specs.declared.cell.Merge.{Merge}
 use Rattle.planner.specs.declared.cell.Choice.{Choice}
 use Rattle.planner.specs.declared.cell.Choice.TheVariants.{MergeOf, HashOf}
-use Rattle.planner.specs.Fronts.{asked, first_item, longer_front, listed, side_front, no_tie, IsTie, AreTies, AreHeads, AreWays, IsWay}
+use Rattle.planner.specs.Fronts.{asked, first_item, longer_front, listed, side_front, no_tie, IsTie, AreHeads, AreWays, IsWay}
 use Rattle.planner.specs.Cells.{blank, cell_at, cost_at, any_at, better, merged, hashed}
 use Rattle.planner.specs.Choices.{IsMerge, IsHash, IsJoinOf, merge_price, hash_price}
-use Rattle.planner.specs.Rows.{MergeBound, MergesBound, HashBound, JoinsBound, IsStep}
-use Rattle.planner.proofs.Begins.{IsShort, begins_nil, begins_self, longer_serves, longer_asks, longer_in, nil_from_first}
+use Rattle.planner.specs.Rows.{MergesBound, HashBound, JoinsBound, IsStep}
+use Rattle.planner.proofs.Begins.{IsShort, begins_self, longer_serves, longer_asks, longer_in, nil_from_first}
 
 pub short_need : (n : Option Item) → IsShort (need_order n)
 short_need None = tt

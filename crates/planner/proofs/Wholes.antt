@@ -1,5 +1,5 @@
 -- The shape of a least whole plan.
-use Rattle.std.proofs.Common.{◌≡◌, ◌≢◌, ℕ, zero, suc, ◌+◌, ◌-◌, ◌*◌, ◌^◌, ◌<◌, ◌≤◌, ◌⊎◌, inl, inr, Bool, true, false, cond, not, IsTrue, nat_lt, List, [], ◌∷◌, length, take, Option, Some, None, unwrap_or, refl, sym, ap, ◌∙◌, subst, arith}
+use Rattle.std.proofs.Common.{◌≡◌, ◌≢◌, ℕ, zero, suc, ◌+◌, ◌*◌, ◌^◌, ◌<◌, ◌≤◌, ◌⊎◌, inl, inr, Bool, true, false, cond, not, IsTrue, nat_lt, List, [], ◌∷◌, length, Option, Some, None, unwrap_or, refl, sym, ap, ◌∙◌, subst, arith}
 use Rattle.std.proofs.Math.Nat.{mul-le-mul}
 use Rattle.std.proofs.lemmas.Bool.{false≢true, cases_Bool}
 use Rattle.std.proofs.lemmas.Bool.Decides.{nat_tests}
@@ -19,10 +19,10 @@ use Rattle.planner.specs.declared.cell.Cell.{Cell}
 use Rattle.planner.specs.declared.cell.TheConstants.{IMPOSSIBLE}
 use Rattle.planner.specs.declared.whole.Shape.{Shape}
 use Rattle.planner.specs.Fronts.{asked, begins_test, listed}
-use Rattle.planner.specs.Cells.{cost_at, any_at}
-use Rattle.planner.specs.Built.{front_cost, IsPlanFor}
+use Rattle.planner.specs.Cells.{cost_at}
+use Rattle.planner.specs.Built.{front_cost}
 use Rattle.planner.specs.Shapes.{is_nil, cheaper, final_cost, ungrouped_shape, sorted_shape, hashed_shape, least_shape}
-use Rattle.planner.proofs.Begins.{begins_nil, begins_self, begins_trans}
+use Rattle.planner.proofs.Begins.{begins_nil, begins_self}
 use Rattle.planner.proofs.Reading.{begins_from_test, test_from_begins}
 use Rattle.planner.proofs.Lower.{IsLow, begun_nil}
 

@@ -1,5 +1,5 @@
 -- What the choices of cells say.
-use Rattle.std.specs.Prelude.{◌≡◌, ℕ, ◌+◌, ◌-◌, ◌^◌, ◌<◌, ◌⊎◌, bit_and, Bool, true, List, [], length, All}
+use Rattle.std.specs.Prelude.{◌≡◌, ℕ, ◌+◌, ◌-◌, ◌^◌, ◌<◌, bit_and, true, List, [], length, All}
 use Rattle.std.specs.List.{list_any}
 use Rattle.adv_base.specs.Items.{Order, BeginsWith}
 use Rattle.adv_base.specs.Offers.{OfferTable}
@@ -13,7 +13,7 @@ use Rattle.planner.specs.declared.cell.Choice.{Choice}
 use Rattle.planner.specs.declared.cell.Choice.TheVariants.{Unknown, Read, MergeOf, HashOf}
 use Rattle.planner.specs.declared.cell.TheConstants.{IMPOSSIBLE}
 use Rattle.planner.specs.Fronts.{asked}
-use Rattle.planner.specs.Cells.{cell_at, cost_at, any_at}
+use Rattle.planner.specs.Cells.{cost_at, any_at}
 
 -- what merging two sets costs, without the sides
 abbrev pub merge_price : Task → ℕ → ℕ → ℕ

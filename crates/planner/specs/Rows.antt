@@ -13,7 +13,7 @@ use Rattle.planner.specs.declared.cell.Cell.{Cell}
 use Rattle.planner.specs.declared.cell.TheConstants.{IMPOSSIBLE}
 use Rattle.planner.specs.Fronts.{asked}
 use Rattle.planner.specs.Cells.{cell_at, cost_at, any_at, row_of}
-use Rattle.planner.specs.Choices.{merge_price, hash_price, IsCut, IsJoinOf, IsJoin, IsOffer, IsSorting}
+use Rattle.planner.specs.Choices.{merge_price, hash_price, IsJoinOf, IsJoin, IsOffer, IsSorting}
 
 -- no plan of the set whose order begins so costs less; `sorts` says that a sort may stand at its top
 pub record NoneLess (sorts : Bool) (task : Task) (table : OfferTable) (order : Order) (set cost : ℕ) : Type 0 where

@@ -1,11 +1,8 @@
-use Rattle.std.proofs.Common.{◌≡◌, ℕ, ◌+◌, ◌-◌, ◌*◌, ◌<◌, ◌≤◌, Bool, true, false, List, length, refl, sym, ap, subst, ◌∙◌, arith}
-use Rattle.adv_base.specs.Items.{Order}
-use Rattle.planner.specs.declared.front.Front.{Front}
-use Rattle.planner.specs.Fronts.{asked, front_order, listed}
-use Rattle.planner.specs.Cells.{cell_at, cost_at, any_at, row_of}
-use Rattle.planner.specs.Built.{IsPlanFor, IsSortOf, front_cost}
+use Rattle.std.proofs.Common.{◌-◌, Bool, length, sym, subst, ◌∙◌, arith}
+use Rattle.planner.specs.Fronts.{asked, listed}
+use Rattle.planner.specs.Cells.{cost_at, any_at, row_of}
+use Rattle.planner.specs.Built.{IsPlanFor, front_cost}
 use Rattle.planner.proofs.Building.{asked_sort, sort_built, merge_built, hash_built, plain_cost, sorted_top}
-use Rattle.planner.proofs.Table.{nothing_asked}
 use Rattle.planner.proofs.build.+build.Goals as goal
 
 pub choice_of-requires-clause-possible : goal.choice_of-requires-clause-possible

@@ -1,13 +1,10 @@
-use Rattle.std.proofs.Common.{◌≡◌, ℕ, ◌+◌, ◌-◌, ◌*◌, ◌<◌, ◌≤◌, Bool, List, length, refl, sym, ap, subst, ◌∙◌, arith}
-use Rattle.plan_model.specs.Plans.{body_sorts}
-use Rattle.planner.specs.declared.cell.Cell.{Cell}
+use Rattle.std.proofs.Common.{◌≡◌, ◌-◌, ◌<◌, Bool, length, refl, sym, ap, subst, ◌∙◌, arith}
 use Rattle.planner.specs.declared.cell.TheConstants.{IMPOSSIBLE}
 use Rattle.planner.specs.Fronts.{asked, listed}
 use Rattle.planner.specs.Cells.{row_of}
 use Rattle.planner.specs.Rows.{IsCapped}
 use Rattle.planner.specs.Built.{front_cost, IsPlanFor}
 use Rattle.planner.specs.Shapes.{least_shape}
-use Rattle.plan_model.specs.Costs.{rows_in}
 use Rattle.planner.proofs.Finding.{full_is, shape_at, shape_front, shape_possible, whole_valid, whole_costs, whole_least}
 use Rattle.planner.proofs.found.whole_of.Goals as goal
 

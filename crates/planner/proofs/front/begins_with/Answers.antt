@@ -1,7 +1,5 @@
-use Rattle.std.proofs.Common.{◌≡◌, ◌<◌, ◌≤◌, Bool, true, false, ◌&&◌, drop, length, sym, ap, ◌∙◌, arith}
-use Rattle.adv_base.specs.declared.workload.parts.Item.TheVariants.{Up, Made}
-use Rattle.planner.specs.Fronts.{begins_test}
-use Rattle.planner.proofs.Reading.{test_short, test_step}
+use Rattle.std.proofs.Common.{sym, ◌∙◌}
+use Rattle.planner.proofs.Reading.{test_short}
 use Rattle.planner.proofs.front.begins_with.Goals as goal
 
 pub returns-then-i-order : goal.returns-then-i-order

@@ -1,4 +1,4 @@
-use Rattle.std.proofs.Common.{◌≡◌, ℕ, ◌<◌, ◌≤◌, length, None, slice_index_or}
+use Rattle.std.proofs.Common.{◌≡◌, ℕ, ◌<◌, ◌≤◌, None, slice_index_or}
 use Rattle.planner.specs.Cells.{cell_at, hashed}
 use Rattle.planner.proofs.join.hash_row.Given as goal
 

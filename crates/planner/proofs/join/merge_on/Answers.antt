@@ -1,10 +1,10 @@
-use Rattle.std.proofs.Common.{◌≡◌, ℕ, ◌+◌, ◌<◌, ◌≤◌, length, true, false, refl, sym, subst, ◌∙◌, arith}
+use Rattle.std.proofs.Common.{◌≡◌, ℕ, ◌+◌, ◌<◌, length, true, refl, sym, subst, ◌∙◌, arith}
 use Rattle.plan_model.specs.Plans.{crosses}
 use Rattle.planner.specs.declared.cell.Merge.{Merge}
 use Rattle.planner.specs.Fronts.{listed, asked, first_item, longer_front, AreHeads}
-use Rattle.planner.specs.Cells.{any_at, cost_at, cell_at, merged}
+use Rattle.planner.specs.Cells.{any_at, cell_at, merged}
 use Rattle.planner.specs.Choices.{merge_price}
-use Rattle.planner.proofs.Steps.{side_asks, heads_each, merge_step, merge_bounds, merge_skipped}
+use Rattle.planner.proofs.Steps.{side_asks, heads_each, merge_step, merge_bounds}
 use Rattle.planner.proofs.join.merge_on.Goals as goal
 
 pub overflow_add-base : goal.overflow_add-base

@@ -1,4 +1,4 @@
-use Rattle.std.proofs.Common.{◌≡◌, ℕ, ◌<◌, ◌≤◌, length, None, slice_index_or}
+use Rattle.std.proofs.Common.{◌≡◌, ℕ, ◌<◌, ◌≤◌, None, slice_index_or}
 use Rattle.planner.specs.Fronts.{longer_front}
 use Rattle.planner.specs.Cells.{cell_at, merged}
 use Rattle.planner.proofs.join.merge_row.Given as goal

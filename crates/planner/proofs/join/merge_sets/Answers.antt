@@ -1,7 +1,7 @@
-use Rattle.std.proofs.Common.{◌≡◌, ℕ, ◌+◌, ◌<◌, ◌≤◌, length, below_more, arith}
+use Rattle.std.proofs.Common.{ℕ, ◌<◌, length, below_more}
 use Rattle.planner.specs.Fronts.{listed}
 use Rattle.planner.specs.Cells.{cost_at}
-use Rattle.planner.specs.Rows.{IsStep, MergesBound}
+use Rattle.planner.specs.Rows.{MergesBound}
 use Rattle.planner.proofs.Steps.{step_then, merges_lower}
 use Rattle.planner.proofs.join.merge_sets.Goals as goal
 

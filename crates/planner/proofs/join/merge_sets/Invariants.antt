@@ -1,4 +1,4 @@
-use Rattle.std.proofs.Common.{◌≡◌, ℕ, ◌<◌, length}
+use Rattle.std.proofs.Common.{ℕ, ◌<◌, length}
 use Rattle.planner.specs.Fronts.{listed}
 use Rattle.planner.specs.Cells.{cost_at}
 use Rattle.planner.specs.Rows.{IsStep, MergesBound}

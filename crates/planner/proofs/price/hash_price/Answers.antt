@@ -1,4 +1,3 @@
-use Rattle.std.proofs.Common.{rules, arith}
 use Rattle.plan_model.specs.Costs.{hash_cost}
 use Rattle.planner.proofs.price.hash_price.Goals as goal
 

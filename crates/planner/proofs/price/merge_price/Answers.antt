@@ -1,4 +1,3 @@
-use Rattle.std.proofs.Common.{rules, arith}
 use Rattle.plan_model.specs.Costs.{merge_cost}
 use Rattle.planner.proofs.price.merge_price.Goals as goal
 

@@ -1,4 +1,4 @@
-use Rattle.std.proofs.Common.{◌≡◌, ℕ, ◌+◌, ◌<◌, ◌≤◌, length, below_more, sym, subst, arith}
+use Rattle.std.proofs.Common.{◌≡◌, ℕ, ◌<◌, ◌≤◌, length, below_more, subst, arith}
 use Rattle.adv_base.specs.Items.{Order, BeginsWith}
 use Rattle.plan_model.specs.OfferTables.{price_at, order_at}
 use Rattle.planner.specs.Fronts.{asked, begins_test, listed}

@@ -1,4 +1,4 @@
-use Rattle.std.proofs.Common.{◌≡◌, ℕ, ◌<◌, ◌≤◌, length}
+use Rattle.std.proofs.Common.{ℕ, ◌<◌, ◌≤◌, length}
 use Rattle.adv_base.specs.Items.{BeginsWith}
 use Rattle.plan_model.specs.OfferTables.{price_at, order_at}
 use Rattle.planner.specs.Fronts.{asked, listed}

@@ -1,4 +1,4 @@
-use Rattle.std.proofs.Common.{◌≡◌, ◌+◌, ◌++◌, List, length, refl, sym, ap, subst, ◌∙◌, arith}
+use Rattle.std.proofs.Common.{◌+◌, List, length, sym, subst}
 use Rattle.planner.specs.declared.cell.Cell.{Cell}
 use Rattle.planner.specs.Fronts.{listed}
 use Rattle.planner.specs.Cells.{row_of}

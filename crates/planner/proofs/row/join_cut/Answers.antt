@@ -1,10 +1,10 @@
-use Rattle.std.proofs.Common.{◌≡◌, ℕ, ◌+◌, ◌-◌, ◌<◌, ◌≤◌, List, length, bit_and, refl, sym, ap, subst, ◌∙◌, arith}
+use Rattle.std.proofs.Common.{◌≡◌, ℕ, ◌-◌, ◌<◌, List, length, sym, ap, subst, ◌∙◌, arith}
 use Rattle.planner.specs.declared.cell.Cell.{Cell}
 use Rattle.planner.specs.Fronts.{listed}
 use Rattle.planner.specs.Cells.{cost_at, row_of}
 use Rattle.planner.specs.Choices.{IsCut}
 use Rattle.planner.specs.Rows.{IsCapped, JoinsBound}
-use Rattle.planner.proofs.Table.{step_grown, grown_none}
+use Rattle.planner.proofs.Table.{step_grown}
 use Rattle.planner.proofs.row.join_cut.Goals as goal
 
 -- a row at a width that is the number of fronts

@@ -1,8 +1,8 @@
-use Rattle.std.proofs.Common.{◌≡◌, ℕ, ◌+◌, ◌-◌, ◌<◌, ◌≤◌, length, below_more, arith}
+use Rattle.std.proofs.Common.{ℕ, ◌-◌, ◌<◌, length, below_more, arith}
 use Rattle.planner.specs.Fronts.{listed}
 use Rattle.planner.specs.Cells.{cost_at, row_of}
 use Rattle.planner.specs.Choices.{IsCut}
-use Rattle.planner.specs.Rows.{IsGrown, JoinsBound}
+use Rattle.planner.specs.Rows.{JoinsBound}
 use Rattle.planner.proofs.Table.{grown_none, grown_then, joins_lower}
 use Rattle.planner.proofs.row.join_row.Goals as goal
 

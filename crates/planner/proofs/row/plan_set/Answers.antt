@@ -1,4 +1,4 @@
-use Rattle.std.proofs.Common.{◌≡◌, ℕ, ◌+◌, ◌-◌, ◌<◌, ◌≤◌, List, length, refl, sym, ap, subst, ◌∙◌, arith}
+use Rattle.std.proofs.Common.{◌≡◌, ℕ, ◌+◌, ◌<◌, ◌≤◌, List, length, ap, subst, arith}
 use Rattle.std.specs.List.{list_all}
 use Rattle.plan_model.specs.Plans.{is_column_of}
 use Rattle.plan_model.specs.Costs.{rows_in, sort_cost}

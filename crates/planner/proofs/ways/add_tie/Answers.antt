@@ -1,4 +1,4 @@
-use Rattle.std.proofs.Common.{◌≡◌, ◌+◌, List, None, slice_index_or, refl, sym, subst, arith}
+use Rattle.std.proofs.Common.{◌+◌, List, None, slice_index_or, sym, subst}
 use Rattle.plan_model.specs.declared.edge.TaskEdge.{TaskEdge}
 use Rattle.planner.specs.declared.front.Tie.{Tie}
 use Rattle.planner.specs.Fronts.{listed, AreTiesBelow}

@@ -1,4 +1,4 @@
-use Rattle.std.proofs.Common.{◌≡◌, List, length, refl, sym, subst, arith}
+use Rattle.std.proofs.Common.{◌≡◌, List, length, subst, arith}
 use Rattle.planner.specs.declared.front.Front.{Front}
 use Rattle.adv_base.specs.Items.{Order}
 use Rattle.planner.specs.Fronts.{listed, AreHeads, AreTiesBelow}
