@@ -1,0 +1,155 @@
+-- Plans that are built from the choices.
+use Rattle.std.proofs.Common.{◌≡◌, ℕ, ◌+◌, ◌-◌, ◌<◌, ◌⊎◌, inl, inr, Bool, true, false, not, ◌==◌, List, [], length, bit_and, All, slice_index_or, refl, sym, ap, ◌∙◌, subst, arith}
+use Rattle.std.specs.List.{list_any}
+use Rattle.std.proofs.lemmas.Bool.{eqb-true, eqb-false, not-true, not-false, false≢true}
+use Rattle.adv_base.specs.Items.{Order, BeginsWith}
+use Rattle.adv_base.specs.Offers.{OfferTable}
+use Rattle.plan_model.specs.declared.plan.Plan.{Plan}
+use Rattle.plan_model.specs.declared.plan.Plan.TheVariants.{Leaf, Sort', Merge', Hash'}
+use Rattle.plan_model.specs.declared.task.Task.{Task}
+use Rattle.plan_model.specs.Plans.{Merges, covers, crosses, delivers, is_column_of, side_need}
+use Rattle.plan_model.specs.Costs.{rows_in, sort_cost}
+use Rattle.planner.specs.declared.front.Front.{Front}
+use Rattle.planner.specs.declared.front.Front.TheVariants.{Any}
+use Rattle.planner.specs.declared.cell.Cell.{Cell}
+use Rattle.planner.specs.declared.cell.Choice.{Choice}
+use Rattle.planner.specs.declared.cell.Choice.TheVariants.{Unknown, Read, MergeOf, HashOf}
+use Rattle.planner.specs.declared.cell.TheConstants.{IMPOSSIBLE}
+use Rattle.planner.specs.Fronts.{asked, front_order}
+use Rattle.planner.specs.Cells.{cell_at, cost_at, any_at}
+use Rattle.planner.specs.Choices.{IsCut, IsRead, IsMerge, IsHash, IsJoinOf, IsJoin, IsOffer, IsSorting, merge_price, hash_price}
+use Rattle.planner.specs.Built.{IsPlanFor, IsSortOf, IsMergeOf, IsHashOf, IsChosen, is_sorted, front_cost}
+use Rattle.planner.specs.Rows.{IsRow}
+use Rattle.planner.proofs.Begins.{begins_self, begins_trans}
+
+-- what a choice says
+module _ (task : Task) (table : OfferTable) (list : Order) (fronts : List Front) (rows : ℕ → List Cell) (set f cost : ℕ) (choice : Choice) (chosen : IsOffer task table (asked list fronts f) set cost choice ⊎ IsJoin task list fronts rows set f cost choice) where
+  pub chosen_unknown : choice ≡ Unknown → cost ≡ IMPOSSIBLE
+  chosen_unknown e =
+      elim chosen [
+        | inl offer ↦ subst (IsOffer task table (asked list fronts f) set cost) e offer
+        | inr join ↦ absurd (subst (IsJoinOf task list fronts (rows join.a) (rows (set - join.a)) join.a (set - join.a) f cost) e join.join)
+      ]
+
+  pub chosen_read : (slot offer : ℕ) → choice ≡ Read slot offer → IsRead task table (asked list fronts f) set cost slot offer
+  chosen_read slot offer e =
+      elim chosen [
+        | inl o ↦ subst (IsOffer task table (asked list fronts f) set cost) e o
+        | inr join ↦ absurd (subst (IsJoinOf task list fronts (rows join.a) (rows (set - join.a)) join.a (set - join.a) f cost) e join.join)
+      ]
+
+  pub chosen_merge : (edge a g h : ℕ) → choice ≡ MergeOf edge a g h → IsCut set a × IsMerge task list fronts (rows a) (rows (set - a)) a (set - a) f cost edge g h
+  chosen_merge edge a g h e =
+      elim chosen [
+        | inl o ↦ absurd (subst (IsOffer task table (asked list fronts f) set cost) e o)
+        | inr join ↦
+            let w = subst (IsJoinOf task list fronts (rows join.a) (rows (set - join.a)) join.a (set - join.a) f cost) e join.join in
+            subst (λ x. IsCut set x × IsMerge task list fronts (rows x) (rows (set - x)) x (set - x) f cost edge g h) (sym w.0) (join.cut, w.1)
+      ]
+
+  pub chosen_hash : (a : ℕ) → choice ≡ HashOf a → IsCut set a × IsHash task list fronts (rows a) (rows (set - a)) a (set - a) f cost
+  chosen_hash a e =
+      elim chosen [
+        | inl o ↦ absurd (subst (IsOffer task table (asked list fronts f) set cost) e o)
+        | inr join ↦
+            let w = subst (IsJoinOf task list fronts (rows join.a) (rows (set - join.a)) join.a (set - join.a) f cost) e join.join in
+            subst (λ x. IsCut set x × IsHash task list fronts (rows x) (rows (set - x)) x (set - x) f cost) (sym w.0) (join.cut, w.1)
+      ]
+
+pub read_built : (sorts : Bool) (task : Task) (table : OfferTable) (order : Order) (set cost slot offer : ℕ) → IsRead task table order set cost slot offer → IsPlanFor sorts task table order set cost (Leaf slot offer)
+read_built sorts task table order set cost slot offer h =
+    record { valid = (h.slot_in, h.offer_in); covers_set = h.set_is; begins = h.begins; costs = sym h.costs }
+
+pub sort_built : (task : Task) (table : OfferTable) (list : Order) (fronts : List Front) (row : List Cell) (set f any : ℕ) (input plan : Plan) → IsSortOf (asked list fronts f) input plan → IsPlanFor false task table (asked list fronts 0) set (cost_at row 0) input → IsSorting task list fronts row set f any → IsPlanFor true task table (asked list fronts f) set any plan
+sort_built task table list fronts row set f any input (Leaf slot offer) is inner sorting = absurd is
+sort_built task table list fronts row set f any input (Merge' e p l q r) is inner sorting = absurd is
+sort_built task table list fronts row set f any input (Hash' p l q r) is inner sorting = absurd is
+sort_built task table list fronts row set f any input (Sort' o p i) is inner sorting =
+    let order = asked list fronts f in
+    let columns : All (λ item. is_column_of (covers input) item ≡ true) order = subst (λ s. All (λ item. is_column_of s item ≡ true) order) (sym inner.covers_set) sorting.columns in
+    let price : sort_cost task.rates (rows_in task (covers input)) ≡ sort_cost task.rates (rows_in task set) = ap (λ s. sort_cost task.rates (rows_in task s)) inner.covers_set in
+    let whole : IsPlanFor true task table order set any (Sort' order p input) = record {
+      valid = (refl, inner.valid, columns);
+      covers_set = inner.covers_set;
+      begins = begins_self order;
+      costs = omega (arith, inner.costs, sorting.costs, price);
+    } in
+    subst (λ x. IsPlanFor true task table order set any (Sort' x p i)) (sym is.0) (subst (λ y. IsPlanFor true task table order set any (Sort' order p y)) (sym is.1) whole)
+
+pub merge_built : (sorts : Bool) (task : Task) (table : OfferTable) (list : Order) (fronts : List Front) (left right : List Cell) (set a f cost edge g h : ℕ) (l r plan : Plan) → IsMergeOf edge l r plan → IsCut set a → IsMerge task list fronts left right a (set - a) f cost edge g h → IsPlanFor true task table (asked list fronts g) a (any_at left g) l → IsPlanFor true task table (asked list fronts h) (set - a) (any_at right h) r → IsPlanFor sorts task table (asked list fronts f) set cost plan
+merge_built sorts task table list fronts left right set a f cost edge g h l r (Leaf slot offer) is cut m pl pr = absurd is
+merge_built sorts task table list fronts left right set a f cost edge g h l r (Sort' o p i) is cut m pl pr = absurd is
+merge_built sorts task table list fronts left right set a f cost edge g h l r (Hash' p x q y) is cut m pl pr = absurd is
+merge_built sorts task table list fronts left right set a f cost edge g h l r (Merge' e p x q y) is cut m pl pr =
+    let less = cut.less in
+    let sum : a + (set - a) ≡ set = omega arith in
+    let both : covers l + covers r ≡ set = omega (arith, pl.covers_set, pr.covers_set) in
+    let apart : bit_and (covers l) (covers r) ≡ 0 = subst (λ s. bit_and s (covers r) ≡ 0) (sym pl.covers_set) (subst (λ s. bit_and a s ≡ 0) (sym pr.covers_set) cut.apart) in
+    let at : Merges task edge a (set - a) (delivers table l) (delivers table r) = record {
+      edge = m.merges.edge;
+      found = m.merges.found;
+      crossing = m.merges.crossing;
+      left_begins = begins_trans (delivers table l) (asked list fronts g) (side_need m.merges.edge a) pl.begins m.merges.left_begins;
+      right_begins = begins_trans (delivers table r) (asked list fronts h) (side_need m.merges.edge (set - a)) pr.begins m.merges.right_begins;
+    } in
+    let merges : Merges task edge (covers l) (covers r) (delivers table l) (delivers table r) = subst (λ s. Merges task edge s (covers r) (delivers table l) (delivers table r)) (sym pl.covers_set) (subst (λ s. Merges task edge a s (delivers table l) (delivers table r)) (sym pr.covers_set) at) in
+    let price : merge_price task (covers l) (covers r) ≡ merge_price task a (set - a) = ap (λ s. merge_price task s (covers r)) pl.covers_set ∙ ap (merge_price task a) pr.covers_set in
+    let whole : IsPlanFor sorts task table (asked list fronts f) set cost (Merge' edge p l q r) = record {
+      valid = (pl.valid, pr.valid, apart, merges);
+      covers_set = both;
+      begins = begins_trans (delivers table l) (asked list fronts g) (asked list fronts f) pl.begins m.keeps;
+      costs = omega (arith, pl.costs, pr.costs, m.costs, price);
+    } in
+    subst (λ k. IsPlanFor sorts task table (asked list fronts f) set cost (Merge' k p x q y)) (sym is.0) (subst (λ s. IsPlanFor sorts task table (asked list fronts f) set cost (Merge' edge p s q y)) (sym is.1) (subst (λ t. IsPlanFor sorts task table (asked list fronts f) set cost (Merge' edge p l q t)) (sym is.2) whole))
+
+pub hash_built : (sorts : Bool) (task : Task) (table : OfferTable) (list : Order) (fronts : List Front) (left right : List Cell) (set a f cost : ℕ) (l r plan : Plan) → IsHashOf l r plan → IsCut set a → IsHash task list fronts left right a (set - a) f cost → IsPlanFor false task table (asked list fronts 0) a (cost_at left 0) l → IsPlanFor false task table (asked list fronts 0) (set - a) (cost_at right 0) r → IsPlanFor sorts task table (asked list fronts f) set cost plan
+hash_built sorts task table list fronts left right set a f cost l r (Leaf slot offer) is cut m pl pr = absurd is
+hash_built sorts task table list fronts left right set a f cost l r (Sort' o p i) is cut m pl pr = absurd is
+hash_built sorts task table list fronts left right set a f cost l r (Merge' e p x q y) is cut m pl pr = absurd is
+hash_built sorts task table list fronts left right set a f cost l r (Hash' p x q y) is cut m pl pr =
+    let less = cut.less in
+    let sum : a + (set - a) ≡ set = omega arith in
+    let both : covers l + covers r ≡ set = omega (arith, pl.covers_set, pr.covers_set) in
+    let apart : bit_and (covers l) (covers r) ≡ 0 = subst (λ s. bit_and s (covers r) ≡ 0) (sym pl.covers_set) (subst (λ s. bit_and a s ≡ 0) (sym pr.covers_set) cut.apart) in
+    let crossed : list_any (crosses (covers l) (covers r)) task.edges ≡ true = subst (λ s. list_any (crosses s (covers r)) task.edges ≡ true) (sym pl.covers_set) (subst (λ s. list_any (crosses a s) task.edges ≡ true) (sym pr.covers_set) m.crossed) in
+    let price : hash_price task (covers l) (covers r) ≡ hash_price task a (set - a) = ap (λ s. hash_price task s (covers r)) pl.covers_set ∙ ap (hash_price task a) pr.covers_set in
+    let whole : IsPlanFor sorts task table (asked list fronts f) set cost (Hash' p l q r) = record {
+      valid = (pl.valid, pr.valid, apart, crossed);
+      covers_set = both;
+      begins = subst (BeginsWith []) (sym m.asks_nothing) refl;
+      costs = omega (arith, pl.costs, pr.costs, m.costs, price);
+    } in
+    subst (λ s. IsPlanFor sorts task table (asked list fronts f) set cost (Hash' p s q y)) (sym is.0) (subst (λ t. IsPlanFor sorts task table (asked list fronts f) set cost (Hash' p l q t)) (sym is.1) whole)
+
+chosen_cases : (task : Task) (table : OfferTable) (list : Order) (fronts : List Front) (rows : ℕ → List Cell) (set f cost : ℕ) (choice : Choice) → IsOffer task table (asked list fronts f) set cost choice ⊎ IsJoin task list fronts rows set f cost choice → cost < IMPOSSIBLE → IsChosen task table list fronts rows set f cost choice
+chosen_cases task table list fronts rows set f cost Unknown chosen possible =
+    let none = chosen_unknown task table list fronts rows set f cost Unknown chosen refl in absurd (omega arith)
+chosen_cases task table list fronts rows set f cost (Read slot offer) chosen possible =
+    chosen_read task table list fronts rows set f cost (Read slot offer) chosen slot offer refl
+chosen_cases task table list fronts rows set f cost (MergeOf edge a g h) chosen possible =
+    chosen_merge task table list fronts rows set f cost (MergeOf edge a g h) chosen edge a g h refl
+chosen_cases task table list fronts rows set f cost (HashOf a) chosen possible =
+    chosen_hash task table list fronts rows set f cost (HashOf a) chosen a refl
+
+pub chosen_of : (task : Task) (table : OfferTable) (list : Order) (fronts : List Front) (rows : ℕ → List Cell) (set f : ℕ) (row : List Cell) (cell : Cell) → IsRow task table list fronts rows set row → f < length fronts → cost_at row f < IMPOSSIBLE → cell ≡ cell_at row f → IsChosen task table list fronts rows set f (cost_at row f) cell.choice
+chosen_of task table list fronts rows set f row cell h within possible is =
+    subst (λ (x : Cell). IsChosen task table list fronts rows set f (cost_at row f) x.choice) (sym is) (chosen_cases task table list fronts rows set f (cost_at row f) (cell_at row f).choice (h.chosen f within) possible)
+
+-- where no sort is on top, the cost is the one without
+pub plain_cost : (row : List Cell) (f : ℕ) (sorts : Bool) (cell : Cell) → cell ≡ cell_at row f → is_sorted cell sorts ≡ false → front_cost sorts row f ≡ cost_at row f
+plain_cost row f false cell is e = refl
+plain_cost row f true cell is e =
+    let same : (cell_at row f).any ≡ (cell_at row f).cost = eqb-true (cell_at row f).any (cell_at row f).cost (not-false ((cell_at row f).any == (cell_at row f).cost) (subst (λ (x : Cell). not (x.any == x.cost) ≡ false) is e)) in
+    same
+
+-- and where one is, it made the cost
+pub sorted_top : (task : Task) (list : Order) (fronts : List Front) (row : List Cell) (set f : ℕ) (sorts : Bool) (cell : Cell) → cell ≡ cell_at row f → is_sorted cell sorts ≡ true → (any_at row f ≡ cost_at row f) ⊎ IsSorting task list fronts row set f (any_at row f) → (sorts ≡ true) × IsSorting task list fronts row set f (any_at row f)
+sorted_top task list fronts row set f false cell is e h = absurd (false≢true e)
+sorted_top task list fronts row set f true cell is e (inr h) = (refl, h)
+sorted_top task list fronts row set f true cell is e (inl h) =
+    let differ : ((cell_at row f).any == (cell_at row f).cost) ≡ false = not-true ((cell_at row f).any == (cell_at row f).cost) (subst (λ (x : Cell). not (x.any == x.cost) ≡ true) is e) in
+    absurd (eqb-false (cell_at row f).any (cell_at row f).cost differ h)
+
+pub asked_sort : (l list : Order) (x : Front) (fronts : List Front) (f : ℕ) (input plan : Plan) → l ≡ list → x ≡ slice_index_or fronts f Any → IsSortOf (front_order l x) input plan → IsSortOf (asked list fronts f) input plan
+asked_sort l list x fronts f input plan same is h =
+    subst (λ y. IsSortOf (front_order list y) input plan) is (subst (λ m. IsSortOf (front_order m x) input plan) same h)

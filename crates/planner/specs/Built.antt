@@ -1,0 +1,62 @@
+-- Plans that are built from the choices.
+use Rattle.std.specs.Prelude.{◌≡◌, ℕ, ◌-◌, ◌==◌, Bool, ◌&&◌, not, if◌then◌else◌, List}
+use Rattle.adv_base.specs.Items.{Order, BeginsWith}
+use Rattle.adv_base.specs.Offers.{OfferTable}
+use Rattle.plan_model.specs.declared.plan.Plan.{Plan}
+use Rattle.plan_model.specs.declared.plan.Plan.TheVariants.{Leaf, Sort', Merge', Hash'}
+use Rattle.plan_model.specs.declared.task.Task.{Task}
+use Rattle.plan_model.specs.Plans.{IsValid, covers, delivers}
+use Rattle.plan_model.specs.Costs.{plan_cost}
+use Rattle.planner.specs.declared.front.Front.{Front}
+use Rattle.planner.specs.declared.cell.Cell.{Cell}
+use Rattle.planner.specs.declared.cell.Choice.{Choice}
+use Rattle.planner.specs.declared.cell.Choice.TheVariants.{Unknown, Read, MergeOf, HashOf}
+use Rattle.planner.specs.Fronts.{asked}
+use Rattle.planner.specs.Choices.{IsCut, IsRead, IsMerge, IsHash}
+use Rattle.planner.specs.Cells.{cost_at, any_at}
+
+-- the cost of a front in a row, with or without a sort at the top
+abbrev pub front_cost : Bool → List Cell → ℕ → ℕ
+front_cost sorts row f = if sorts then any_at row f else cost_at row f
+
+-- a valid plan of the set whose order begins so, of that cost
+pub record IsPlanFor (sorts : Bool) (task : Task) (table : OfferTable) (order : Order) (set cost : ℕ) (plan : Plan) : Type 0 where
+  pub valid : IsValid sorts task table plan
+  pub covers_set : covers plan ≡ set
+  pub begins : BeginsWith (delivers table plan) order
+  pub costs : plan_cost task table plan ≡ cost
+
+-- a sort of the input by the order
+abbrev pub IsSortOf : Order → Plan → Plan → Type 0
+IsSortOf order input (Leaf slot offer) = ⊥
+IsSortOf order input (Sort' o p i) = (o ≡ order) × (i ≡ input)
+IsSortOf order input (Merge' e p l q r) = ⊥
+IsSortOf order input (Hash' p l q r) = ⊥
+
+-- a merge of two plans on the edge
+abbrev pub IsMergeOf : ℕ → Plan → Plan → Plan → Type 0
+IsMergeOf edge left right (Leaf slot offer) = ⊥
+IsMergeOf edge left right (Sort' o p i) = ⊥
+IsMergeOf edge left right (Merge' e p l q r) = (e ≡ edge) × (l ≡ left) × (r ≡ right)
+IsMergeOf edge left right (Hash' p l q r) = ⊥
+
+-- a hash join of two plans
+abbrev pub IsHashOf : Plan → Plan → Plan → Type 0
+IsHashOf left right (Leaf slot offer) = ⊥
+IsHashOf left right (Sort' o p i) = ⊥
+IsHashOf left right (Merge' e p l q r) = ⊥
+IsHashOf left right (Hash' p l q r) = (l ≡ left) × (r ≡ right)
+
+-- whether a sort is the cheapest top of a cell's plan
+abbrev pub is_sorted : Cell → Bool → Bool
+is_sorted cell sorts = sorts && not (cell.any == cell.cost)
+
+-- what the choice of a cell that has a plan says
+abbrev pub IsChosen : Task → OfferTable → Order → List Front → (ℕ → List Cell) → ℕ → ℕ → ℕ → Choice → Type 0
+IsChosen task table list fronts rows set f cost Unknown = ⊥
+IsChosen task table list fronts rows set f cost (Read slot offer) =
+    IsRead task table (asked list fronts f) set cost slot offer
+IsChosen task table list fronts rows set f cost (MergeOf edge a g h) =
+    IsCut set a × IsMerge task list fronts (rows a) (rows (set - a)) a (set - a) f cost edge g h
+IsChosen task table list fronts rows set f cost (HashOf a) =
+    IsCut set a × IsHash task list fronts (rows a) (rows (set - a)) a (set - a) f cost

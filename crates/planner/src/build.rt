@@ -1,0 +1,155 @@
+//! Plans from the choices of the table.
+ghost use Rattle.std.specs.Prelude.{◌≡◌, ℕ, ◌+◌, ◌*◌, ◌<◌, ◌≤◌, Bool, IfOk, length, slice_index_or};
+ghost use Rattle.planner.specs.declared.cell.TheConstants.{IMPOSSIBLE as NO_COST};
+ghost use Rattle.planner.specs.declared.front.Front.TheVariants.{Any as ANY};
+ghost use Rattle.planner.specs.Fronts.{asked, front_order, listed as list_of, AreWays};
+ghost use Rattle.planner.specs.Cells.{cell_at, cost_at, row_of};
+ghost use Rattle.planner.specs.Rows.{IsTable};
+ghost use Rattle.planner.specs.Built.{front_cost, is_sorted as sorted_top, IsPlanFor, IsSortOf, IsMergeOf, IsHashOf, IsChosen};
+
+use crate::cell::{Cell, Choice};
+use crate::front::{Front, Ways, listed};
+use crate::row::{row_at, width_of};
+use adv_base::{Item, List};
+use plan_model::{Offers, Plan, Task};
+use std::alloc::{AllocError, Global};
+
+/// What a front asks for, as a list of its own.
+fn order_of(alloc: Global, front: Front, list: &[Item]) -> Result<List<Item>, AllocError>
+    ensures { IfOk result (λ order. order ≡ front_order list.now front) }
+{
+    let mut items = Vec::new(alloc);
+    match front {
+        Front::Any => {}
+        Front::Listed => items.extend_from_slice(list)?,
+        Front::Need(item) => items.push(item)?,
+    }
+    Ok(List { items })
+}
+
+/// A plan sorted by what a front asks for.
+fn sort_plan(alloc: Global, front: Front, list: &[Item], input: Plan) -> Result<Plan, AllocError>
+    ensures { IfOk result (λ plan. IsSortOf (front_order list.now front) input plan) }
+{
+    let order = order_of(alloc, front, list)?;
+    let input = Box::new(alloc, input)?;
+    Ok(Plan::Sort { order, input })
+}
+
+/// A merge of two plans.
+fn merge_plan(alloc: Global, edge: u32, left: Plan, right: Plan) -> Result<Plan, AllocError>
+    ensures { IfOk result (λ plan. IsMergeOf edge left right plan) }
+{
+    let left = Box::new(alloc, left)?;
+    let right = Box::new(alloc, right)?;
+    Ok(Plan::Merge { edge, left, right })
+}
+
+/// A hash join of two plans.
+fn hash_plan(alloc: Global, left: Plan, right: Plan) -> Result<Plan, AllocError>
+    ensures { IfOk result (λ plan. IsHashOf left right plan) }
+{
+    let left = Box::new(alloc, left)?;
+    let right = Box::new(alloc, right)?;
+    Ok(Plan::Hash { left, right })
+}
+
+/// The cell of a front in a set's row.
+fn cell_of(cells: &[Cell], ways: &Ways, sets: usize, set: usize, front: usize) -> Cell
+    requires whole { length cells.now ≡ sets * length ways.now.fronts.items }
+    requires set_in { set < sets }
+    requires front_in { front < length ways.now.fronts.items }
+    ensures { result ≡ cell_at (row_of (length ways.now.fronts.items) cells.now set) front }
+{
+    row_at(cells, width_of(ways), sets, set)[front]
+}
+
+/// A front by its number.
+fn front_at(ways: &Ways, front: usize) -> Front
+    requires { front < length ways.now.fronts.items }
+    ensures { result ≡ slice_index_or ways.now.fronts.items front ANY }
+{
+    ways.fronts.as_slice()[front]
+}
+
+/// Whether a sort is the cheapest top of a cell's plan.
+fn is_sorted(cell: Cell, sorts: bool) -> bool
+    ensures { result ≡ sorted_top cell sorts }
+{
+    sorts && cell.any != cell.cost
+}
+
+/// How the cheapest plan without a sort at its top is made, where there is one.
+fn choice_of<O: Offers>(
+    task: &Task,
+    offers: &O,
+    ways: &Ways,
+    cells: &[Cell],
+    set: usize,
+    front: usize,
+) -> Choice
+    requires table { IsTable task.now (O.table offers.now) (list_of task.now) ways.now.fronts.items cells.now (length task.now.rows) }
+    requires set_in { set < length task.now.rows }
+    requires front_in { front < length ways.now.fronts.items }
+    requires possible { cost_at (row_of (length ways.now.fronts.items) cells.now set) front < NO_COST }
+    ensures { IsChosen task.now (O.table offers.now) (list_of task.now) ways.now.fronts.items (row_of (length ways.now.fronts.items) cells.now) set front (cost_at (row_of (length ways.now.fronts.items) cells.now set) front) result }
+{
+    cell_of(cells, ways, task.rows.len(), set, front).choice
+}
+
+/// The cheapest plan of a set whose order begins as a front asks, with or without a sort at its top. The offers tell
+/// what the leaves mean.
+pub(crate) fn build<O: Offers>(
+    alloc: Global,
+    task: &Task,
+    offers: &O,
+    ways: &Ways,
+    cells: &[Cell],
+    set: usize,
+    front: usize,
+    sorts: bool,
+) -> Result<Plan, AllocError>
+    requires ways { AreWays task.now ways.now.fronts.items ways.now.heads.items ways.now.ties.items }
+    requires table { IsTable task.now (O.table offers.now) (list_of task.now) ways.now.fronts.items cells.now (length task.now.rows) }
+    requires set_in { set < length task.now.rows }
+    requires front_in { front < length ways.now.fronts.items }
+    requires possible { front_cost sorts (row_of (length ways.now.fronts.items) cells.now set) front < NO_COST }
+    ensures { IfOk result (λ plan. IsPlanFor sorts task.now (O.table offers.now) (asked (list_of task.now) ways.now.fronts.items front) set (front_cost sorts (row_of (length ways.now.fronts.items) cells.now set) front) plan) }
+{
+    let cell = cell_of(cells, ways, task.rows.len(), set, front);
+    if is_sorted(cell, sorts) {
+        let input = build(alloc, task, offers, ways, cells, set, 0, false)?;
+        let plan = sort_plan(alloc, front_at(ways, front), listed(task), input)?;
+        return Ok(plan);
+    }
+    match choice_of(task, offers, ways, cells, set, front) {
+        Choice::Unknown => unreachable!(),
+        Choice::Read { slot, offer } => Ok(Plan::Leaf { slot, offer }),
+        Choice::MergeOf {
+            edge,
+            left,
+            left_front,
+            right_front,
+        } => {
+            let a = build(alloc, task, offers, ways, cells, left, left_front, true)?;
+            let b = build(
+                alloc,
+                task,
+                offers,
+                ways,
+                cells,
+                set - left,
+                right_front,
+                true,
+            )?;
+            let plan = merge_plan(alloc, edge, a, b)?;
+            Ok(plan)
+        }
+        Choice::HashOf { left } => {
+            let a = build(alloc, task, offers, ways, cells, left, 0, false)?;
+            let b = build(alloc, task, offers, ways, cells, set - left, 0, false)?;
+            let plan = hash_plan(alloc, a, b)?;
+            Ok(plan)
+        }
+    }
+}

@@ -1,0 +1,96 @@
+//! The least plan of a task.
+ghost use Rattle.std.specs.Prelude.{◌≡◌, ◌-◌, ◌<◌, IfOk, length};
+ghost use Rattle.plan_model.specs.OfferTables.{HasOffers};
+ghost use Rattle.plan_model.specs.Plans.{IsWhole};
+ghost use Rattle.plan_model.specs.Costs.{whole_cost};
+ghost use Rattle.plan_model.specs.Least.{Least};
+ghost use Rattle.planner.specs.Fronts.{listed as list_of, AreWays};
+ghost use Rattle.planner.specs.Rows.{IsTable};
+
+use crate::build::build;
+use crate::cell::Cell;
+use crate::front::Ways;
+use crate::price::rows_of;
+use crate::row::{plan_sets, row_at, width_of};
+use crate::ways::ways_of;
+use crate::whole::{shape_of, sorts_body};
+use adv_base::NoMemory;
+use plan_model::{Offers, Task, Whole};
+use std::alloc::{AllocError, Global};
+
+/// A whole plan and its cost, in thousandths of a page read.
+#[derive(Drop)]
+pub struct Found {
+    pub cost: u128,
+    pub plan: Whole,
+}
+
+/// The least plan, from the table of all sets.
+fn whole_of<O: Offers>(
+    alloc: Global,
+    task: &Task,
+    offers: &O,
+    ways: &Ways,
+    cells: &[Cell],
+) -> Result<Found, AllocError>
+    requires offers { HasOffers task.now.slots (O.table offers.now) }
+    requires ways { AreWays task.now ways.now.fronts.items ways.now.heads.items ways.now.ties.items }
+    requires table { IsTable task.now (O.table offers.now) (list_of task.now) ways.now.fronts.items cells.now (length task.now.rows) }
+    ensures valid { IfOk result (λ found. IsWhole task.now (O.table offers.now) found.plan) }
+    ensures costs { IfOk result (λ found. whole_cost task.now (O.table offers.now) found.plan ≡ found.cost) }
+    ensures least { IfOk result (λ found. Least task.now (O.table offers.now) found.cost) }
+{
+    offers.limits();
+    let sets = task.rows.len();
+    let full = sets - 1;
+    let row = row_at(cells, width_of(ways), sets, full);
+    let shape = shape_of(task, row, rows_of(task, full));
+    let body = build(
+        alloc,
+        task,
+        offers,
+        ways,
+        cells,
+        full,
+        shape.front,
+        sorts_body(shape.group),
+    )?;
+    Ok(Found {
+        cost: shape.cost,
+        plan: Whole {
+            body,
+            group: shape.group,
+            final_sort: shape.final_sort,
+        },
+    })
+}
+
+/// The least plan, or the want of memory as the allocator gives it.
+fn find<O: Offers>(alloc: Global, task: &Task, offers: &O) -> Result<Found, AllocError>
+    requires { HasOffers task.now.slots (O.table offers.now) }
+    ensures valid { IfOk result (λ found. IsWhole task.now (O.table offers.now) found.plan) }
+    ensures costs { IfOk result (λ found. whole_cost task.now (O.table offers.now) found.plan ≡ found.cost) }
+    ensures least { IfOk result (λ found. Least task.now (O.table offers.now) found.cost) }
+{
+    let ways = ways_of(alloc, task)?;
+    let cells = plan_sets(alloc, task, offers, &ways)?;
+    let found = whole_of(alloc, task, offers, &ways, cells.as_slice())?;
+    Ok(found)
+}
+
+/// A least plan of a task over a table of offers, with its cost. The plan is valid and whole, it costs `cost`, and no
+/// valid whole plan costs less: over all bushy trees, merges on every crossing edge in both directions, hash joins, sorts
+/// under merges and groups by any list, both ways to group, and final sorts. Which of several least plans is given is
+/// left open. Each slot has an offer. The search is that of System R (Selinger and others, 1979), over bushy trees and
+/// with hash joins. `NoMemory` is want of memory.
+pub fn least<O: Offers>(alloc: Global, task: &Task, offers: &O) -> Result<Found, NoMemory>
+    requires { HasOffers task.now.slots (O.table offers.now) }
+    ensures valid { IfOk result (λ found. IsWhole task.now (O.table offers.now) found.plan) }
+    ensures costs { IfOk result (λ found. whole_cost task.now (O.table offers.now) found.plan ≡ found.cost) }
+    ensures least { IfOk result (λ found. Least task.now (O.table offers.now) found.cost) }
+{
+    match find(alloc, task, offers) {
+        Ok(found) => Ok(found),
+        Err(_) => Err(NoMemory),
+    }
+}

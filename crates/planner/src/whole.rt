@@ -1,0 +1,141 @@
+//! What stands above the joins: the group step and the final sort.
+ghost use Rattle.std.specs.Prelude.{◌≡◌, ◌+◌, ◌*◌, ◌<◌, ◌≤◌, length};
+ghost use Rattle.plan_model.specs.Plans.{body_sorts};
+ghost use Rattle.planner.specs.Cells.{cost_at, any_at};
+ghost use Rattle.planner.specs.Rows.{IsCapped};
+ghost use Rattle.planner.specs.Shapes.{is_nil as has_none, cheaper as cheaper_of, final_cost as final_price, ungrouped_shape, sorted_shape, hashed_shape, least_shape};
+
+use crate::cell::{Cell, any_of, cost_of};
+use crate::front::begins_with;
+use crate::price::sort_price;
+use adv_base::Item;
+use plan_model::{GroupStep, Task};
+
+/// A whole plan without its body: the front that the body serves, the steps above it, and what all costs.
+#[derive(Clone, Copy)]
+pub(crate) struct Shape {
+    pub cost: u128,
+    pub front: usize,
+    pub group: GroupStep,
+    pub final_sort: bool,
+}
+
+/// The cheaper of two.
+fn cheaper(a: Shape, b: Shape) -> Shape
+    ensures { result ≡ cheaper_of a b }
+{
+    if b.cost < a.cost { b } else { a }
+}
+
+/// Whether a list is empty.
+fn is_nil(order: &[Item]) -> bool
+    ensures { result ≡ has_none order.now }
+{
+    order.is_empty()
+}
+
+/// What a final sort of rows costs, where there is one.
+fn final_cost(task: &Task, rows: u64, sorts: bool) -> u128
+    requires some { 1 ≤ rows }
+    requires most { rows ≤ 1000000000000 }
+    ensures exact { result ≡ final_price task.now rows sorts }
+    ensures few { result ≤ 64000000000000000000 }
+{
+    if sorts { sort_price(task, rows) } else { 0 }
+}
+
+/// The body in order, or sorted at the end.
+fn ungrouped(task: &Task, row: &[Cell], rows: u64) -> Shape
+    requires wide { 2 ≤ length row.now }
+    requires capped { IsCapped row.now }
+    requires some { 1 ≤ rows }
+    requires most { rows ≤ 1000000000000 }
+    ensures { result ≡ ungrouped_shape task.now row.now rows }
+{
+    if is_nil(task.order.as_slice()) {
+        return Shape {
+            cost: cost_of(row, 0),
+            front: 0,
+            group: GroupStep::Nothing,
+            final_sort: false,
+        };
+    }
+    let ordered = Shape {
+        cost: cost_of(row, 1),
+        front: 1,
+        group: GroupStep::Nothing,
+        final_sort: false,
+    };
+    let sorted = Shape {
+        cost: cost_of(row, 0) + sort_price(task, rows),
+        front: 0,
+        group: GroupStep::Nothing,
+        final_sort: true,
+    };
+    cheaper(ordered, sorted)
+}
+
+/// Groups of a sorted body.
+fn sorted_group(task: &Task, group: &[Item], row: &[Cell], rows: u64) -> Shape
+    requires wide { 2 ≤ length row.now }
+    requires capped { IsCapped row.now }
+    requires most { rows ≤ 1000000000000 }
+    ensures { result ≡ sorted_shape task.now group.now row.now rows }
+{
+    let final_sort = !begins_with(group, task.order.as_slice());
+    let grouping = task.rates.group_cpu as u128 * rows as u128;
+    let cost = any_of(row, 1) + grouping + final_cost(task, task.group_rows, final_sort);
+    Shape {
+        cost,
+        front: 1,
+        group: GroupStep::Sorted,
+        final_sort,
+    }
+}
+
+/// Groups by hashing.
+fn hashed_group(task: &Task, row: &[Cell], rows: u64) -> Shape
+    requires wide { 2 ≤ length row.now }
+    requires capped { IsCapped row.now }
+    requires most { rows ≤ 1000000000000 }
+    ensures { result ≡ hashed_shape task.now row.now rows }
+{
+    let final_sort = !is_nil(task.order.as_slice());
+    let grouping = 2 * (task.rates.hash_cpu as u128 * rows as u128);
+    let cost = cost_of(row, 0) + grouping + final_cost(task, task.group_rows, final_sort);
+    Shape {
+        cost,
+        front: 0,
+        group: GroupStep::Hashed,
+        final_sort,
+    }
+}
+
+/// The cheapest whole plan over the row of all slots, whose rows are given.
+pub(crate) fn shape_of(task: &Task, row: &[Cell], rows: u64) -> Shape
+    requires wide { 2 ≤ length row.now }
+    requires capped { IsCapped row.now }
+    requires some { 1 ≤ rows }
+    requires most { rows ≤ 1000000000000 }
+    ensures { result ≡ least_shape task.now.group task.now row.now rows }
+{
+    match &task.group {
+        None => ungrouped(task, row, rows),
+        Some(group) => {
+            let sorted = sorted_group(task, group.as_slice(), row, rows);
+            let hashed = hashed_group(task, row, rows);
+            cheaper(sorted, hashed)
+        }
+    }
+}
+
+/// Whether a sort may stand at the top of the body.
+pub(crate) fn sorts_body(group: GroupStep) -> bool
+    ensures { result ≡ body_sorts group }
+{
+    match group {
+        GroupStep::Nothing => false,
+        GroupStep::Sorted => true,
+        GroupStep::Hashed => false,
+    }
+}
