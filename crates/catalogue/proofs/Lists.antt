@@ -9,7 +9,7 @@ use Rattle.indexmap.specs.IndexSet.{insert_key}
 use Rattle.toml.specs.View.{items_view}
 use Rattle.toml.specs.declared.value.Value.{Value}
 use Rattle.catalogue.specs.Values.{item_count, has_name}
-use Rattle.catalogue.specs.Catalogue.{number_of}
+use Rattle.catalogue.specs.Keys.{number_of}
 
 pub item_count-view : (vs : List Value) → item_count (items_view vs) ≡ length vs
 item_count-view [] = refl

@@ -1,5 +1,6 @@
 -- Readings that give a value or the first fault.
-use Rattle.std.specs.Prelude.{◌≡◌, ◌≢◌, Result, Ok, Err, Option, Some, None, Bool, if◌then◌else◌}
+use Rattle.std.specs.Prelude.{◌≡◌, ◌≢◌, List, [], ◌∷◌, ◌++◌, Result, Ok, Err, Option, Some, None, Bool, if◌then◌else◌}
+use Rattle.toml.specs.Data.{Data, Items, no_items, item}
 use Rattle.catalogue.specs.declared.fault.CatFault.{CatFault}
 use Rattle.catalogue.specs.declared.fault.CatFault.TheVariants.{Memory}
 
@@ -22,3 +23,8 @@ or_fault fault (Some x) = Ok x
 -- a value where a test holds, or else the fault
 abbrev pub where_holds : {A : Type 0} → CatFault → Bool → A → Result A CatFault
 where_holds fault holds x = if holds then Ok x else Err fault
+
+-- each element of an array in turn, knowing what was read before it, behind the earlier ones
+unfoldable pub read_each : {A : Type 0} → (List A → Data → Result A CatFault) → List A → Items → Result (List A) CatFault
+read_each next earlier no_items = Ok earlier
+read_each next earlier (item d ds) = next earlier d >>= λ x. read_each next (earlier ++ x ∷ []) ds

@@ -1,7 +1,7 @@
 //! Names in the order in which they came, looked up with their letters folded.
 ghost use Rattle.std.specs.Prelude.{◌≡◌, [], ◌∷◌, ◌++◌, length, not, if◌then◌else◌, IfOk, IfSome, ◌<◌};
 ghost use Rattle.catalogue.specs.Values.{folded, has_name};
-ghost use Rattle.catalogue.specs.Catalogue.{number_of};
+ghost use Rattle.catalogue.specs.Keys.{number_of};
 
 use indexmap::IndexSet;
 use std::alloc::{AllocError, Global};

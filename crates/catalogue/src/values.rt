@@ -1,14 +1,13 @@
 //! The kinds of values that keys hold, and their ranges. A TOML float is no integer, and a native date no text.
 ghost use Rattle.std.specs.Prelude.{◌≡◌, ◌≤◌, ◌^◌, ◌<◌, length, IfOk, IfSome, option_map, option_copied};
 ghost use Rattle.std.specs.List.{list_all};
-ghost use Rattle.toml.specs.View.{view, array_view, table_view};
+ghost use Rattle.toml.specs.View.{view, items_view, table_view};
 ghost use Rattle.adv_base.specs.Limits.Numbers.{EndLimits};
 ghost use Rattle.catalogue.specs.Results.{Gives};
 ghost use Rattle.catalogue.specs.Values as values;
 
 use adv_base::{Kind, day_of};
 use toml::{Table, Value};
-use toml::value::Array;
 
 use crate::fault::{CatFault, KeyPath};
 
@@ -89,11 +88,11 @@ pub fn keys_of<'a>(value: &'a Value, path: KeyPath) -> Result<&'a Table, CatFaul
 }
 
 /// An array.
-pub fn elements<'a>(value: &'a Value, path: KeyPath) -> Result<&'a Array, CatFault>
-    ensures { Gives (λ a. array_view a.now) result (values.elements path (view value.now)) }
+pub fn elements<'a>(value: &'a Value, path: KeyPath) -> Result<&'a [Value], CatFault>
+    ensures { Gives (λ a. items_view a.now) result (values.elements path (view value.now)) }
 {
     match value.as_array() {
-        Some(items) => Ok(items),
+        Some(items) => Ok(items.as_slice()),
         None => Err(CatFault::WrongKind(path)),
     }
 }
@@ -104,9 +103,9 @@ pub fn elements_within<'a>(
     path: KeyPath,
     low: usize,
     high: usize,
-) -> Result<&'a Array, CatFault>
-    ensures exact { Gives (λ a. array_view a.now) result (values.elements_within low high path (view value.now)) }
-    ensures within { IfOk result (λ a. (low ≤ length a.now.items) × (length a.now.items ≤ high)) }
+) -> Result<&'a [Value], CatFault>
+    ensures exact { Gives (λ a. items_view a.now) result (values.elements_within low high path (view value.now)) }
+    ensures within { IfOk result (λ a. (low ≤ length a.now) × (length a.now ≤ high)) }
 {
     let items = elements(value, path)?;
     if items.len() < low || items.len() > high {
