@@ -1,2 +1,5 @@
 pub mod Lists
 pub mod Loops
+pub mod Documents
+pub mod KeyLists
+pub mod IndexLists

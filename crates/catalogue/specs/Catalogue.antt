@@ -51,16 +51,16 @@ not_below low path high = Ok high
 -- a column of table t, behind those that have the earlier names
 unfoldable pub column_at : ℕ → List (List ℕ) → Data → Result PlainColumn CatFault
 column_at t earlier d =
-  let c = length earlier + 1 in do
-  keys ← keys_of (column_path t c Itself) d
-  name ← needed (codes "name") (column_path t c Name) (new_name earlier) keys
-  kind ← needed (codes "kind") (column_path t c KindKey) column_kind keys
-  width ← needed (codes "width") (column_path t c Width) (natural 1 1000) keys
-  distinct ← optional (codes "distinct") (column_path t c Distinct) (natural 1 1000000000000) keys
-  low ← end_of kind (codes "low") (column_path t c Low) keys
-  high ← end_of kind (codes "high") (column_path t c High) keys
-  end ← not_below low (column_path t c High) high
-  Ok (record { name = name; kind = kind; width = width; distinct = distinct; low = low; high = end })
+    let c = length earlier + 1 in do
+      keys ← keys_of (column_path t c Itself) d
+      name ← needed (codes "name") (column_path t c Name) (new_name earlier) keys
+      kind ← needed (codes "kind") (column_path t c KindKey) column_kind keys
+      width ← needed (codes "width") (column_path t c Width) (natural 1 1000) keys
+      distinct ← optional (codes "distinct") (column_path t c Distinct) (natural 1 1000000000000) keys
+      low ← end_of kind (codes "low") (column_path t c Low) keys
+      high ← end_of kind (codes "high") (column_path t c High) keys
+      end ← not_below low (column_path t c High) high
+      Ok (record { name = name; kind = kind; width = width; distinct = distinct; low = low; high = end })
 
 -- the names by which columns are known
 abbrev pub column_names : List PlainColumn → List (List ℕ)
@@ -110,13 +110,13 @@ index_keys path before d = do
 -- an index of table t, which has these columns, behind those that have the earlier names
 unfoldable pub index_at : ℕ → List (List ℕ) → ℕ → List (List ℕ) → Bool → Data → Result PlainIndex CatFault
 index_at t columns before earlier taken d =
-  let i = length earlier + 1 in do
-  keys ← index_keys (index_path t i Itself) before d
-  name ← needed (codes "name") (index_path t i Name) (new_name earlier) keys
-  key_columns ← keys_needed t i columns keys
-  unique ← flag (codes "unique") (index_path t i Unique) keys
-  clustered ← clustered (index_path t i Clustered) taken keys
-  Ok (record { name = name; table = t - 1; keys = key_columns; unique = unique; clustered = clustered })
+    let i = length earlier + 1 in do
+      keys ← index_keys (index_path t i Itself) before d
+      name ← needed (codes "name") (index_path t i Name) (new_name earlier) keys
+      key_columns ← keys_needed t i columns keys
+      unique ← flag (codes "unique") (index_path t i Unique) keys
+      clustered ← clustered (index_path t i Clustered) taken keys
+      Ok (record { name = name; table = t - 1; keys = key_columns; unique = unique; clustered = clustered })
 
 abbrev pub index_names : List PlainIndex → List (List ℕ)
 index_names indexes = map (λ index. folded index.name) indexes
@@ -134,14 +134,14 @@ indexes_of t columns before path d = elements path d >>= read_each (next_index t
 -- a table behind those that have the earlier names, before which there are that many indexes
 unfoldable pub table_at : ℕ → List (List ℕ) → Data → Result PlainTable CatFault
 table_at before earlier d =
-  let t = length earlier + 1 in do
-  keys ← keys_of (table_path t Itself) d
-  name ← needed (codes "name") (table_path t Name) (new_name earlier) keys
-  rows ← needed (codes "rows") (table_path t Rows) (natural 0 1000000000000) keys
-  pages ← needed (codes "pages") (table_path t Pages) (natural 0 1000000000000) keys
-  columns ← needed (codes "column") (table_path t Columns) (columns_of t) keys
-  indexes ← given_or [] (codes "index") (table_path t Indexes) (indexes_of t (column_names columns) before) keys
-  Ok (record { name = name; rows = rows; pages = pages; columns = columns; indexes = indexes })
+    let t = length earlier + 1 in do
+      keys ← keys_of (table_path t Itself) d
+      name ← needed (codes "name") (table_path t Name) (new_name earlier) keys
+      rows ← needed (codes "rows") (table_path t Rows) (natural 0 1000000000000) keys
+      pages ← needed (codes "pages") (table_path t Pages) (natural 0 1000000000000) keys
+      columns ← needed (codes "column") (table_path t Columns) (columns_of t) keys
+      indexes ← given_or [] (codes "index") (table_path t Indexes) (indexes_of t (column_names columns) before) keys
+      Ok (record { name = name; rows = rows; pages = pages; columns = columns; indexes = indexes })
 
 abbrev pub table_names : List PlainTable → List (List ℕ)
 table_names tables = map (λ table. folded table.name) tables

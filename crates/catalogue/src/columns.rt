@@ -8,15 +8,13 @@ ghost use Rattle.catalogue.specs.Content.{plain_column, plain_columns};
 ghost use Rattle.catalogue.specs.Results.{Gives, read_each};
 ghost use Rattle.catalogue.specs.Values.{folded};
 
+use crate::fault::{CatFault, KeyField, KeyPath};
+use crate::names::Names;
+use crate::paths::column_path;
+use crate::{keys, values};
 use adv_base::{Column, List};
 use std::alloc::Global;
 use toml::Value;
-
-use crate::fault::{CatFault, KeyField, KeyPath};
-use crate::keys;
-use crate::names::Names;
-use crate::paths::column_path;
-use crate::values;
 
 /// The upper end of a column's values, which isn't below the lower one.
 fn not_below(low: Option<i64>, path: KeyPath, high: Option<i64>) -> Result<Option<i64>, CatFault>
@@ -45,7 +43,12 @@ fn column(alloc: Global, table: u32, names: &mut Names, value: &Value) -> Result
     let width = keys::needed_natural(found, "width", path, 1, 1000)?;
     let path = column_path(table, number, KeyField::Distinct);
     let distinct = keys::optional_natural(found, "distinct", path, 1, 1000000000000)?;
-    let low = keys::end(found, "low", column_path(table, number, KeyField::Low), kind)?;
+    let low = keys::end(
+        found,
+        "low",
+        column_path(table, number, KeyField::Low),
+        kind,
+    )?;
     let path = column_path(table, number, KeyField::High);
     let high = keys::end(found, "high", path, kind)?;
     let high = not_below(low, path, high)?;
@@ -60,11 +63,7 @@ fn column(alloc: Global, table: u32, names: &mut Names, value: &Value) -> Result
 }
 
 /// The columns of the table of this number, and their names.
-fn columns_in(
-    alloc: Global,
-    table: u32,
-    items: &[Value],
-) -> Result<(List<Column>, Names), CatFault>
+fn columns_in(alloc: Global, table: u32, items: &[Value]) -> Result<(List<Column>, Names), CatFault>
     requires { length items.now ≤ 200 }
     ensures exact { Gives (λ x. plain_columns x.0) result (read_each (next_column table) [] (items_view items.now)) }
     ensures names { IfOk result (λ x. x.1 ≡ column_names (plain_columns x.0)) }

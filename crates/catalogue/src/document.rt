@@ -1,5 +1,6 @@
 //! The document that a file holds, and its keys.
 ghost use Rattle.std.specs.Prelude.{◌≡◌, codes};
+ghost use Rattle.toml.specs.Parse.{parse_document};
 ghost use Rattle.toml.specs.View.{table_view};
 ghost use Rattle.catalogue.specs.declared.fault.CatFault.TheVariants.{NotToml};
 ghost use Rattle.catalogue.specs.Catalogue.{document as document_in, catalogue_of, catalogue_in, rates_of, default_rates as rates_by_default};
@@ -8,27 +9,36 @@ ghost use Rattle.catalogue.specs.Keys.{given_or};
 ghost use Rattle.catalogue.specs.Paths.{rates_path as path_of_rates};
 ghost use Rattle.catalogue.specs.Results.{Gives, or_fault};
 
-use adv_base::{Catalogue, Rates};
-use std::alloc::Global;
-use toml::Table;
-
 use crate::fault::{CatFault, KeyField};
 use crate::keys;
 use crate::paths::{rates_path, whole_path};
 use crate::rates::{default_rates, rates};
 use crate::tables::tables;
+use adv_base::{Catalogue, Rates};
+use std::alloc::Global;
+use toml::Table;
+
+/// The document that a text is.
+fn parsed(alloc: Global, text: &str) -> Result<Table, CatFault>
+    ensures { Gives table_view result (or_fault NotToml (parse_document text.now)) }
+{
+    match toml::table_from_str(alloc, text) {
+        Ok(keys) => Ok(keys),
+        Err(fault) => {
+            if fault.is_memory() {
+                return Err(CatFault::Memory);
+            }
+            Err(CatFault::NotToml)
+        }
+    }
+}
 
 /// The document that bytes hold.
-#[tactic(auto, unfolding(crate::specs::Catalogue::document))]
 fn document(alloc: Global, bytes: &[u8]) -> Result<Table, CatFault>
     ensures { Gives table_view result (or_fault NotToml (document_in bytes.now)) }
 {
-    let Ok(text) = std::str::from_utf8(bytes) else {
-        return Err(CatFault::NotToml);
-    };
-    match toml::table_from_str(alloc, text) {
-        Ok(keys) => Ok(keys),
-        Err(fault) if fault.is_memory() => Err(CatFault::Memory),
+    match std::str::from_utf8(bytes) {
+        Ok(text) => parsed(alloc, text),
         Err(_) => Err(CatFault::NotToml),
     }
 }

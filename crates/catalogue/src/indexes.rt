@@ -9,29 +9,30 @@ ghost use Rattle.catalogue.specs.Keys.{given_or};
 ghost use Rattle.catalogue.specs.Results.{Gives, read_each};
 ghost use Rattle.catalogue.specs.Values.{folded};
 
+use crate::fault::{CatFault, KeyField, KeyPath};
+use crate::names::Names;
+use crate::paths::{index_path, key_column_path};
+use crate::{keys, values};
 use adv_base::{Index, IndexShape, List};
 use std::alloc::Global;
 use toml::{Table, Value};
 
-use crate::fault::{CatFault, KeyField, KeyPath};
-use crate::keys;
-use crate::names::Names;
-use crate::paths::{index_path, key_column_path};
-use crate::values;
-
-/// A key column by its number among the table's columns: none that came earlier.
+/// The key column of an index behind the earlier ones, by its number among the table's columns.
 fn key_column(
     alloc: Global,
+    table: u32,
+    index: u32,
     columns: &Names,
     earlier: &[u16],
-    path: KeyPath,
     value: &Value,
 ) -> Result<u16, CatFault>
-    requires { length columns.now ≤ 200 }
-    ensures exact { Gives (λ k. k) result (rows.key_column columns.now earlier.now path (view value.now)) }
+    requires known { length columns.now ≤ 200 }
+    requires few { length earlier.now < 8 }
+    ensures exact { Gives (λ k. k) result (rows.next_key table index columns.now earlier.now (view value.now)) }
     ensures known { IfOk result (λ k. k < length columns.now) }
     ensures apart { IfOk result (λ k. list_any (λ y. nat_eq y k) earlier.now ≡ false) }
 {
+    let path = key_column_path(table, index, earlier.len() as u32 + 1);
     let word = values::text(value, path)?;
     let Some(number) = columns.number_of(alloc, word)? else {
         return Err(CatFault::UnknownName(path));
@@ -60,8 +61,7 @@ fn keys_in(
 {
     let mut keys = Vec::new(alloc);
     for value in items {
-        let path = key_column_path(table, index, keys.len() as u32 + 1);
-        let key = key_column(alloc, columns, keys.as_slice(), path, value)?;
+        let key = key_column(alloc, table, index, columns, keys.as_slice(), value)?;
         keys.push(key)?;
     }
     Ok(List { items: keys })

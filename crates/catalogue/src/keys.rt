@@ -9,13 +9,12 @@ ghost use Rattle.catalogue.specs.Keys as rows;
 ghost use Rattle.catalogue.specs.Catalogue as table;
 ghost use Rattle.adv_base.specs.Limits.Numbers.{EndLimits};
 
-use adv_base::{Kind, Name};
-use std::alloc::Global;
-use toml::{Table, Value};
-
 use crate::fault::{CatFault, KeyPath};
 use crate::names::Names;
 use crate::values;
+use adv_base::{Kind, Name};
+use std::alloc::Global;
+use toml::{Table, Value};
 
 /// The value at a key, where there is one.
 pub fn value_at<'a>(keys: &'a Table, key: &str) -> Option<&'a Value>
@@ -120,12 +119,7 @@ pub fn flag(keys: &Table, key: &str, path: KeyPath) -> Result<bool, CatFault>
 }
 
 /// An end of a column's values, by the column's kind. Whatever a column of texts has there is passed over.
-pub fn end(
-    keys: &Table,
-    key: &str,
-    path: KeyPath,
-    kind: Kind,
-) -> Result<Option<i64>, CatFault>
+pub fn end(keys: &Table, key: &str, path: KeyPath, kind: Kind) -> Result<Option<i64>, CatFault>
     ensures exact { Gives (λ o. o) result (table.end_of kind key.now path (table_view keys.now)) }
     ensures within { IfOk result (λ o. ForSome o EndLimits) }
 {

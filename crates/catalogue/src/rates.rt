@@ -5,13 +5,12 @@ ghost use Rattle.catalogue.specs.Catalogue.{rate as rate_of, rates_of, default_r
 ghost use Rattle.catalogue.specs.Content.{plain_rates};
 ghost use Rattle.catalogue.specs.Results.{Gives};
 
-use adv_base::Rates;
-use toml::{Table, Value};
-
 use crate::fault::{CatFault, KeyField, KeyPath};
 use crate::keys::optional_natural;
 use crate::paths::rates_path;
 use crate::values::keys_of;
+use adv_base::Rates;
+use toml::{Table, Value};
 
 /// The rates where none are given.
 pub fn default_rates() -> Rates

@@ -9,17 +9,15 @@ ghost use Rattle.catalogue.specs.Keys.{needed as needed_of, given_or};
 ghost use Rattle.catalogue.specs.Results.{Gives, read_each};
 ghost use Rattle.catalogue.specs.Values.{folded};
 
-use adv_base::{Column, List, Table};
-use std::alloc::Global;
-use toml::Value;
-
 use crate::columns::columns;
 use crate::fault::{CatFault, KeyField};
 use crate::indexes::indexes;
-use crate::keys;
 use crate::names::Names;
 use crate::paths::table_path;
-use crate::values;
+use crate::{keys, values};
+use adv_base::{Column, List, Table};
+use std::alloc::Global;
+use toml::Value;
 
 /// The columns of the table of this number, which are needed, and their names.
 fn needed_columns(

@@ -6,10 +6,9 @@ ghost use Rattle.adv_base.specs.Limits.Numbers.{EndLimits};
 ghost use Rattle.catalogue.specs.Results.{Gives};
 ghost use Rattle.catalogue.specs.Values as values;
 
+use crate::fault::{CatFault, KeyPath};
 use adv_base::{Kind, day_of};
 use toml::{Table, Value};
-
-use crate::fault::{CatFault, KeyPath};
 
 /// A whole number from `low` to `high`.
 pub fn natural(value: &Value, path: KeyPath, low: u64, high: u64) -> Result<u64, CatFault>
