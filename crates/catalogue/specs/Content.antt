@@ -1,5 +1,5 @@
 -- What a catalogue holds, without the proofs of its limits.
-use Rattle.std.specs.Prelude.{ℕ, ◌+◌, Bool, ℤ, List, map, Option}
+use Rattle.std.specs.Prelude.{ℕ, Bool, ℤ, List, map, Option}
 use Rattle.adv_base.specs.declared.catalogue.Catalogue.{Catalogue}
 use Rattle.adv_base.specs.declared.catalogue.column.Column.{Column}
 use Rattle.adv_base.specs.declared.catalogue.column.Kind.{Kind}

@@ -1,5 +1,5 @@
 -- Keys that are needed, keys that may be left out, and key columns by their names.
-use Rattle.std.specs.Prelude.{ℕ, List, position, Result, Ok, Err, Option, Some, None, unwrap_or}
+use Rattle.std.specs.Prelude.{ℕ, List, position, Result, Ok, Option, Some, None, unwrap_or}
 use Rattle.std.specs.Str.{bytes_eq}
 use Rattle.toml.specs.Data.{Data, Members, get_member}
 use Rattle.catalogue.specs.declared.fault.CatFault.{CatFault}

@@ -1,5 +1,5 @@
 -- The kinds of values, and their ranges.
-use Rattle.std.specs.Prelude.{ℕ, suc, Bool, true, false, not, ◌&&◌, ◌||◌, ◌==◌, nat_le, int_le, if◌then◌else◌, ℤ, pos, negsuc, neg_ℤ, List, [], ◌∷◌, length, codes, Result, Ok, Err, Option, Some, None}
+use Rattle.std.specs.Prelude.{ℕ, suc, Bool, true, not, ◌&&◌, ◌||◌, ◌==◌, nat_le, int_le, if◌then◌else◌, ℤ, pos, negsuc, neg_ℤ, List, [], ◌∷◌, length, codes, Result, Err, Option, Some, None}
 use Rattle.std.specs.Char.{is_ascii_digit, is_ascii_alphanumeric}
 use Rattle.std.specs.Str.{bytes_eq, str_to_ascii_lowercase}
 use Rattle.std.specs.List.{list_all, list_any}
@@ -8,7 +8,7 @@ use Rattle.adv_base.specs.Days.{day_number}
 use Rattle.adv_base.specs.declared.catalogue.column.Kind.{Kind}
 use Rattle.adv_base.specs.declared.catalogue.column.Kind.TheVariants.{Int, Text, Date}
 use Rattle.catalogue.specs.declared.fault.CatFault.{CatFault}
-use Rattle.catalogue.specs.declared.fault.CatFault.TheVariants.{WrongKind, OutOfRange, TwoNames, UnknownName}
+use Rattle.catalogue.specs.declared.fault.CatFault.TheVariants.{WrongKind, OutOfRange, TwoNames}
 use Rattle.catalogue.specs.declared.fault.KeyPath.{KeyPath}
 use Rattle.catalogue.specs.Results.{◌>>=◌, or_fault, where_holds}
 

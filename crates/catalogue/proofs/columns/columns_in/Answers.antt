@@ -1,8 +1,7 @@
-use Rattle.std.proofs.Common.{◌≡◌, ◌∷◌, ◌++◌, [], ℕ, List, Ok, refl, sym, ap, ◌∙◌, arith}
+use Rattle.std.proofs.Common.{◌≡◌, ◌∷◌, ◌++◌, [], sym, arith}
 use Rattle.std.proofs.lemmas.Result.{err_from_is_err_and}
 use Rattle.std.proofs.lemmas.List.{map_push}
-use Rattle.toml.specs.View.{view}
-use Rattle.catalogue.specs.Catalogue.{column_names, next_column}
+use Rattle.catalogue.specs.Catalogue.{next_column}
 use Rattle.catalogue.specs.Content.{PlainColumn, plain_column, plain_columns}
 use Rattle.catalogue.specs.Values.{folded}
 use Rattle.catalogue.proofs.Loops.{goes_on, ends, is_done}

@@ -1,4 +1,4 @@
-use Rattle.std.proofs.Common.{refl, ap}
+use Rattle.std.proofs.Common.{refl}
 use Rattle.catalogue.proofs.Documents.{document-of_text, document-of_no_text}
 use Rattle.catalogue.proofs.document.document.Goals as goal
 

@@ -1,4 +1,4 @@
-use Rattle.std.proofs.Common.{length, arith}
+use Rattle.std.proofs.Common.{length}
 use Rattle.catalogue.proofs.IndexLists.{length-column_names, known-same}
 use Rattle.catalogue.proofs.tables.table.Goals as goal
 
