@@ -10,6 +10,8 @@ mod names;
 mod paths;
 mod rates;
 mod tables;
+#[cfg(test)]
+mod tests;
 mod values;
 
 pub use document::read_catalogue;

@@ -53,7 +53,7 @@ impl Names {
         ensures exact { IfOk result (λ n. n ≡ number_of self.now (folded name.now)) }
         ensures within { IfOk result (λ n. IfSome n (λ k. k < length self.now)) }
     {
-        let folded = name.to_ascii_lowercase(alloc)?;
-        Ok(self.seen.get_index_of(folded.as_str()))
+        let wanted = name.to_ascii_lowercase(alloc)?;
+        Ok(self.seen.get_index_of(wanted.as_str()))
     }
 }

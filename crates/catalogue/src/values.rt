@@ -33,13 +33,13 @@ pub fn end_number(value: &Value, path: KeyPath) -> Result<i64, CatFault>
     ensures exact { result ≡ values.end_number path (view value.now) }
     ensures within { IfOk result EndLimits }
 {
-    let Some(number) = value.as_integer() else {
+    let Some(end) = value.as_integer() else {
         return Err(CatFault::WrongKind(path));
     };
-    if number < -1000000000000000000 || number > 1000000000000000000 {
+    if end < -1000000000000000000 || end > 1000000000000000000 {
         return Err(CatFault::OutOfRange(path));
     }
-    Ok(number)
+    Ok(end)
 }
 
 /// A text.
