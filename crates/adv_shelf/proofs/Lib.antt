@@ -1,0 +1,4 @@
+pub mod CallerLemmas
+pub mod Entries
+pub mod Fronts
+pub mod MemoryCalls

@@ -1,0 +1,5 @@
+pub mod Faults
+pub mod Memory
+pub mod Shelf
+pub mod Sink
+pub mod System
