@@ -3,3 +3,4 @@ pub mod Loops
 pub mod Documents
 pub mod KeyLists
 pub mod IndexLists
+pub mod KeyFaults

@@ -1,5 +1,5 @@
 //! The document that a file holds, and its keys.
-ghost use Rattle.std.specs.Prelude.{◌≡◌, codes};
+ghost use Rattle.std.specs.Prelude.{◌≡◌, codes, IsErrOf, None};
 ghost use Rattle.toml.specs.Parse.{parse_document};
 ghost use Rattle.toml.specs.View.{table_view};
 ghost use Rattle.catalogue.specs.declared.fault.CatFault.TheVariants.{NotToml};
@@ -45,7 +45,8 @@ fn document(alloc: Global, bytes: &[u8]) -> Result<Table, CatFault>
 
 /// The rates of a document, or those by default.
 fn given_rates(keys: &Table) -> Result<Rates, CatFault>
-    ensures { Gives plain_rates result (given_or rates_by_default (codes "rates") (path_of_rates KeyField.Itself) rates_of (table_view keys.now)) }
+    ensures { Gives plain_rates result
+        (given_or rates_by_default (codes "rates") (path_of_rates KeyField.Itself) rates_of (table_view keys.now)) }
 {
     match keys::value_at(keys, "rates") {
         Some(value) => rates(value, rates_path(KeyField::Itself)),
@@ -64,6 +65,15 @@ fn catalogue(alloc: Global, keys: &Table) -> Result<Catalogue, CatFault>
     Ok(Catalogue { rates, tables })
 }
 
+/// The catalogue of the document that bytes hold.
+#[tactic(auto, unfolding(crate::specs::Catalogue::catalogue_in))]
+fn catalogue_of_file(alloc: Global, bytes: &[u8]) -> Result<Catalogue, CatFault>
+    ensures { Gives plain_catalogue result (catalogue_in bytes.now) }
+{
+    let keys = document(alloc, bytes)?;
+    catalogue(alloc, &keys)
+}
+
 /// The catalogue that a TOML text describes.
 ///
 /// The keys are checked in order: `version`, `rates` with its keys, and `table`; of each table the element, `name`,
@@ -72,10 +82,11 @@ fn catalogue(alloc: Global, keys: &Table) -> Result<Catalogue, CatFault>
 /// stands twice, and that before an unknown name. Keys that have no meaning here are passed over.
 ///
 /// `NotToml` comes exactly where the bytes are no UTF-8 or no document of TOML 1.0, and `Memory` where memory runs out.
-#[tactic(auto, unfolding(crate::specs::Catalogue::catalogue_in))]
 pub fn read_catalogue(alloc: Global, bytes: &[u8]) -> Result<Catalogue, CatFault>
-    ensures { Gives plain_catalogue result (catalogue_in bytes.now) }
+    // The catalogue, or the first fault, unless memory ran out.
+    ensures exact { Gives plain_catalogue result (catalogue_in bytes.now) }
+    // Only bytes that hold no document are answered so.
+    ensures not_toml { IsErrOf result CatFault.NotToml → document_in bytes.now ≡ None }
 {
-    let keys = document(alloc, bytes)?;
-    catalogue(alloc, &keys)
+    catalogue_of_file(alloc, bytes)
 }

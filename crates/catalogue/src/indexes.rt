@@ -55,7 +55,8 @@ fn keys_in(
     requires some { 1 ≤ length items.now }
     requires few { length items.now ≤ 8 }
     requires known { length columns.now ≤ 200 }
-    ensures exact { Gives (λ k. k) result (read_each (rows.next_key table index columns.now) [] (items_view items.now)) }
+    ensures exact { Gives (λ k. k) result
+        (read_each (rows.next_key table index columns.now) [] (items_view items.now)) }
     ensures known { IfOk result (All (λ k. k < length columns.now)) }
     ensures limits { IfOk result KeyLimits }
 {
@@ -161,7 +162,8 @@ fn indexes_in(
     requires most { table ≤ 200 }
     requires known { length columns.now ≤ 200 }
     requires few { before ≤ 1000 }
-    ensures exact { Gives plain_indexes result (read_each (rows.next_index table columns.now before) [] (items_view items.now)) }
+    ensures exact { Gives plain_indexes result
+        (read_each (rows.next_index table columns.now before) [] (items_view items.now)) }
     ensures room { IfOk result (λ x. before + length x ≤ 1000) }
     ensures own { IfOk result (All (λ index. index.shape.table + 1 ≡ table)) }
     ensures known { IfOk result (All (λ index. All (λ k. k < length columns.now) index.shape.keys)) }
@@ -191,7 +193,8 @@ pub fn indexes(
     requires most { table ≤ 200 }
     requires known { length columns.now ≤ 200 }
     requires few { before ≤ 1000 }
-    ensures exact { Gives plain_indexes result (given_or [] (codes "index") path (rows.indexes_of table columns.now before) (table_view keys.now)) }
+    ensures exact { Gives plain_indexes result
+        (given_or [] (codes "index") path (rows.indexes_of table columns.now before) (table_view keys.now)) }
     ensures room { IfOk result (λ x. before + length x ≤ 1000) }
     ensures own { IfOk result (All (λ index. index.shape.table + 1 ≡ table)) }
     ensures known { IfOk result (All (λ index. All (λ k. k < length columns.now) index.shape.keys)) }

@@ -41,7 +41,8 @@ pub fn needed_natural(
     low: u64,
     high: u64,
 ) -> Result<u64, CatFault>
-    ensures exact { Gives (λ n. n) result (rows.needed key.now path (values.natural low high) (table_view keys.now)) }
+    ensures exact { Gives (λ n. n) result
+        (rows.needed key.now path (values.natural low high) (table_view keys.now)) }
     ensures within { IfOk result (λ n. (low ≤ n) × (n ≤ high)) }
 {
     let value = needed(keys, key, path)?;
@@ -56,7 +57,8 @@ pub fn optional_natural(
     low: u64,
     high: u64,
 ) -> Result<Option<u64>, CatFault>
-    ensures exact { Gives (λ n. n) result (rows.optional key.now path (values.natural low high) (table_view keys.now)) }
+    ensures exact { Gives (λ n. n) result
+        (rows.optional key.now path (values.natural low high) (table_view keys.now)) }
     ensures within { IfOk result (λ o. IfSome o (λ n. (low ≤ n) × (n ≤ high))) }
 {
     match value_at(keys, key) {
@@ -75,7 +77,8 @@ pub fn needed_name(
     path: KeyPath,
     names: &mut Names,
 ) -> Result<Name, CatFault>
-    ensures exact { Gives (λ n. n) result (rows.needed (codes "name") path (values.new_name names.old) (table_view keys.now)) }
+    ensures exact { Gives (λ n. n) result
+        (rows.needed (codes "name") path (values.new_name names.old) (table_view keys.now)) }
     ensures joins { IfOk result (λ n. names.new ≡ names.old ++ values.folded n ∷ []) }
 {
     let value = needed(keys, "name", path)?;

@@ -41,7 +41,8 @@ impl Names {
     /// Puts a name behind the others, unless it is there; says whether it was put.
     pub fn add(&mut self, alloc: Global, name: &str) -> Result<bool, AllocError>
         ensures is_new { IfOk result (λ added. added ≡ not (has_name self.old (folded name.now))) }
-        ensures names { IfOk result (λ added. self.new ≡ (if added then self.old ++ folded name.now ∷ [] else self.old)) }
+        ensures names { IfOk result
+            (λ added. self.new ≡ (if added then self.old ++ folded name.now ∷ [] else self.old)) }
     {
         let folded = name.to_ascii_lowercase(alloc)?;
         let (_, added) = self.seen.insert_full(folded)?;

@@ -25,7 +25,9 @@ fn needed_columns(
     table: u32,
     keys: &toml::Table,
 ) -> Result<(List<Column>, Names), CatFault>
-    ensures exact { Gives (λ x. plain_columns x.0) result (needed_of (codes "column") (paths.table_path table KeyField.Columns) (rows.columns_of table) (table_view keys.now)) }
+    ensures exact { Gives (λ x. plain_columns x.0) result
+        (needed_of (codes "column") (paths.table_path table KeyField.Columns) (rows.columns_of table)
+        (table_view keys.now)) }
     ensures names { IfOk result (λ x. x.1 ≡ rows.column_names (plain_columns x.0)) }
     ensures count { IfOk result (λ x. (1 ≤ length x.0) × (length x.0 ≤ 200)) }
 {
@@ -83,7 +85,8 @@ fn tables_in(alloc: Global, items: &[Value]) -> Result<List<Table>, CatFault>
 
 /// The tables of a document, at most 200, which may be left out.
 pub fn tables(alloc: Global, keys: &toml::Table) -> Result<List<Table>, CatFault>
-    ensures exact { Gives plain_tables result (given_or [] (codes "table") (paths.table_path 0 KeyField.Itself) rows.tables_of (table_view keys.now)) }
+    ensures exact { Gives plain_tables result
+        (given_or [] (codes "table") (paths.table_path 0 KeyField.Itself) rows.tables_of (table_view keys.now)) }
     ensures limits { IfOk result CatalogueLimits }
 {
     let path = table_path(0, KeyField::Itself);

@@ -491,18 +491,27 @@ const RANGES: [Range; 20] = [
     ),
 ];
 
+fn try_values(
+    rt: &impl Abort,
+    alloc: Global,
+    front: &str,
+    key: &str,
+    values: [&str; 2],
+    wanted: Option<CatFault>,
+) -> Result<(), Fail> {
+    for value in values {
+        let text = format!(in alloc; "{front}{key} = {value}\n")?;
+        assert_eq!(rt; fault_of(alloc, text.as_str()), wanted, "{text}");
+    }
+    Ok(())
+}
+
 #[test]
 fn ends_of_ranges(rt: HostRuntime) -> Result<(), Fail> {
     for (front, key, inside, outside, parts) in RANGES {
-        for value in inside {
-            let text = format!(in rt.alloc(); "{front}{key} = {value}\n")?;
-            assert_eq!(rt; fault_of(rt.alloc(), text.as_str()), None, "{text}");
-        }
-        for value in outside {
-            let text = format!(in rt.alloc(); "{front}{key} = {value}\n")?;
-            let fault = fault_of(rt.alloc(), text.as_str());
-            assert_eq!(rt; fault, Some(CatFault::OutOfRange(path_of(parts))), "{text}");
-        }
+        let fault = CatFault::OutOfRange(path_of(parts));
+        try_values(&rt, rt.alloc(), front, key, inside, None)?;
+        try_values(&rt, rt.alloc(), front, key, outside, Some(fault))?;
     }
     Ok(())
 }
