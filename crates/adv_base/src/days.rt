@@ -1,5 +1,6 @@
 //! Days, written as ISO 8601 writes them.
 ghost use Rattle.std.specs.Prelude.{◌≡◌, ◌<◌, ◌≤◌, IfSome};
+ghost use Rattle.jiff_core.specs.Calendar.{IsEpochDay};
 ghost use Rattle.adv_base.specs.Days.{two_digits as pair_of, day_number, calendar_day};
 
 use jiff_core::civil::Date;
@@ -7,7 +8,8 @@ use jiff_core::civil::Date;
 /// The day that the ten bytes `yyyy-mm-dd` name, by its number from 1970-01-01, which is 0. The calendar is ISO
 /// 8601's, with a year 0000. `None` for bytes of any other form, and where the calendar has no such day.
 pub fn day_of(text: &[u8]) -> Option<i64>
-    ensures { result ≡ day_number text.now }
+    ensures exact { result ≡ day_number text.now }
+    ensures within { IfSome result IsEpochDay }
 {
     if text.len() != 10 || text[4] != b'-' || text[7] != b'-' {
         return None;
@@ -35,7 +37,8 @@ fn day_in_calendar(year: u16, month: u16, day: u16) -> Option<i64>
     requires year { year ≤ 9999 }
     requires month { month < 100 }
     requires day { day < 100 }
-    ensures { result ≡ calendar_day year month day }
+    ensures exact { result ≡ calendar_day year month day }
+    ensures within { IfSome result IsEpochDay }
 {
     match Date::new(year as i16, month as i8, day as i8) {
         Ok(date) => Some(date.to_unix_epoch_day() as i64),

@@ -1,0 +1,6 @@
+pub mod Lists
+pub mod Loops
+pub mod Documents
+pub mod KeyLists
+pub mod IndexLists
+pub mod KeyFaults

@@ -1,0 +1,174 @@
+-- The keys of a catalogue with their kinds and ranges, in the order in which they are checked: one line is one key.
+use Rattle.std.specs.Prelude.{ℕ, ◌+◌, ◌-◌, Bool, false, not, ◌&&◌, nat_eq, nat_lt, int_le, if◌then◌else◌, ℤ, List, [], length, map, sum_by, codes, Result, Ok, Option, Some, None}
+use Rattle.std.specs.List.{list_any}
+use Rattle.std.specs.Str.{is_utf8}
+use Rattle.toml.specs.Data.{Data, Members}
+use Rattle.toml.specs.Parse.{parse_document}
+use Rattle.adv_base.specs.declared.catalogue.column.Kind.{Kind}
+use Rattle.adv_base.specs.declared.catalogue.column.Kind.TheVariants.{Int, Text, Date}
+use Rattle.catalogue.specs.declared.fault.CatFault.{CatFault}
+use Rattle.catalogue.specs.declared.fault.CatFault.TheVariants.{NotToml, OutOfRange, TwoNames, UnknownName}
+use Rattle.catalogue.specs.declared.fault.KeyField.{KeyField}
+use Rattle.catalogue.specs.declared.fault.KeyField.TheVariants.{Itself, Version, SeqPage, RandPage, RowCpu, SortCpu, MergeCpu, HashCpu, GroupCpu, Name, Rows, Pages, Columns, Indexes, Kind as KindKey, Width, Distinct, Low, High, Keys, Unique, Clustered}
+use Rattle.catalogue.specs.declared.fault.KeyPath.{KeyPath}
+use Rattle.catalogue.specs.Content.{PlainColumn, PlainIndex, PlainTable, PlainRates, PlainCatalogue}
+use Rattle.catalogue.specs.Keys.{needed, optional, given_or, number_of}
+use Rattle.catalogue.specs.Paths.{whole_path, rates_path, table_path, column_path, index_path, key_column_path}
+use Rattle.catalogue.specs.Results.{◌>>=◌, or_fault, where_holds, read_each}
+use Rattle.catalogue.specs.Values.{Rule, natural, end_number, end_day, text, boolean, keys_of, elements, elements_within, column_kind, folded, new_name}
+
+-- a rate, or its default
+abbrev pub rate : List ℕ → KeyField → ℕ → Members → Result ℕ CatFault
+rate key field otherwise keys = given_or otherwise key (rates_path field) (natural 0 1000000) keys
+
+unfoldable pub rates_of : Rule PlainRates
+rates_of path d = do
+  keys ← keys_of path d
+  seq_page ← rate (codes "seq_page") SeqPage 1000 keys
+  rand_page ← rate (codes "rand_page") RandPage 4000 keys
+  row_cpu ← rate (codes "row_cpu") RowCpu 10 keys
+  sort_cpu ← rate (codes "sort_cpu") SortCpu 5 keys
+  merge_cpu ← rate (codes "merge_cpu") MergeCpu 5 keys
+  hash_cpu ← rate (codes "hash_cpu") HashCpu 8 keys
+  group_cpu ← rate (codes "group_cpu") GroupCpu 5 keys
+  Ok (record { seq_page = seq_page; rand_page = rand_page; row_cpu = row_cpu; sort_cpu = sort_cpu; merge_cpu = merge_cpu; hash_cpu = hash_cpu; group_cpu = group_cpu })
+
+-- the rates where none are given
+abbrev pub default_rates : PlainRates
+default_rates = record { seq_page = 1000; rand_page = 4000; row_cpu = 10; sort_cpu = 5; merge_cpu = 5; hash_cpu = 8; group_cpu = 5 }
+
+-- an end of a column's values, by the column's kind: whatever a column of texts has there is passed over
+abbrev pub end_of : Kind → List ℕ → KeyPath → Members → Result (Option ℤ) CatFault
+end_of Int key path keys = optional key path end_number keys
+end_of Date key path keys = optional key path end_day keys
+end_of Text key path keys = Ok None
+
+-- the upper end, which isn't below the lower one
+abbrev pub not_below : Option ℤ → KeyPath → Option ℤ → Result (Option ℤ) CatFault
+not_below (Some low) path (Some high) = where_holds (OutOfRange path) (int_le low high) (Some high)
+not_below low path high = Ok high
+
+-- a column of table t, behind those that have the earlier names
+unfoldable pub column_at : ℕ → List (List ℕ) → Data → Result PlainColumn CatFault
+column_at t earlier d =
+    let c = length earlier + 1 in do
+      keys ← keys_of (column_path t c Itself) d
+      name ← needed (codes "name") (column_path t c Name) (new_name earlier) keys
+      kind ← needed (codes "kind") (column_path t c KindKey) column_kind keys
+      width ← needed (codes "width") (column_path t c Width) (natural 1 1000) keys
+      distinct ← optional (codes "distinct") (column_path t c Distinct) (natural 1 1000000000000) keys
+      low ← end_of kind (codes "low") (column_path t c Low) keys
+      high ← end_of kind (codes "high") (column_path t c High) keys
+      end ← not_below low (column_path t c High) high
+      Ok (record { name = name; kind = kind; width = width; distinct = distinct; low = low; high = end })
+
+-- the names by which columns are known
+abbrev pub column_names : List PlainColumn → List (List ℕ)
+column_names columns = map (λ column. folded column.name) columns
+
+-- the column of table t behind the earlier ones
+abbrev pub next_column : ℕ → List PlainColumn → Data → Result PlainColumn CatFault
+next_column t earlier d = column_at t (column_names earlier) d
+
+abbrev pub columns_of : ℕ → Rule (List PlainColumn)
+columns_of t path d = elements_within 1 200 path d >>= read_each (next_column t) []
+
+-- a key column by its number; one that the table doesn't have can't be an earlier one
+abbrev pub key_column : List (List ℕ) → List ℕ → Rule ℕ
+key_column columns earlier path d = do
+  word ← text path d
+  k ← or_fault (UnknownName path) (number_of columns (folded word))
+  where_holds (TwoNames path) (not (list_any (λ y. nat_eq y k) earlier)) k
+
+-- the key column of index i of table t behind the earlier ones
+abbrev pub next_key : ℕ → ℕ → List (List ℕ) → List ℕ → Data → Result ℕ CatFault
+next_key t i columns earlier d = key_column columns earlier (key_column_path t i (length earlier + 1)) d
+
+abbrev pub key_columns_of : ℕ → ℕ → List (List ℕ) → Rule (List ℕ)
+key_columns_of t i columns path d = elements_within 1 8 path d >>= read_each (next_key t i columns) []
+
+-- true, false, or false where the key is left out
+abbrev pub flag : List ℕ → KeyPath → Members → Result Bool CatFault
+flag key path keys = given_or false key path boolean keys
+
+-- the key columns of index i of table t
+abbrev pub keys_needed : ℕ → ℕ → List (List ℕ) → Members → Result (List ℕ) CatFault
+keys_needed t i columns keys = needed (codes "keys") (index_path t i Keys) (key_columns_of t i columns) keys
+
+-- whether an index is clustered, of which a table has one at most; `taken` says that it has one
+abbrev pub clustered : KeyPath → Bool → Members → Result Bool CatFault
+clustered path taken keys = do
+  holds ← flag (codes "clustered") path keys
+  where_holds (OutOfRange path) (not (holds && taken)) holds
+
+-- the keys of an index, of which there are at most 1000 over all tables; `before` counts those before it
+abbrev pub index_keys : KeyPath → ℕ → Data → Result Members CatFault
+index_keys path before d = do
+  keys ← keys_of path d
+  where_holds (OutOfRange path) (nat_lt before 1000) keys
+
+-- an index of table t, which has these columns, behind those that have the earlier names
+unfoldable pub index_at : ℕ → List (List ℕ) → ℕ → List (List ℕ) → Bool → Data → Result PlainIndex CatFault
+index_at t columns before earlier taken d =
+    let i = length earlier + 1 in do
+      keys ← index_keys (index_path t i Itself) before d
+      name ← needed (codes "name") (index_path t i Name) (new_name earlier) keys
+      key_columns ← keys_needed t i columns keys
+      unique ← flag (codes "unique") (index_path t i Unique) keys
+      clustered ← clustered (index_path t i Clustered) taken keys
+      Ok (record { name = name; table = t - 1; keys = key_columns; unique = unique; clustered = clustered })
+
+abbrev pub index_names : List PlainIndex → List (List ℕ)
+index_names indexes = map (λ index. folded index.name) indexes
+
+abbrev pub has_clustered : List PlainIndex → Bool
+has_clustered indexes = list_any (λ index. index.clustered) indexes
+
+-- the index of table t behind the earlier ones
+abbrev pub next_index : ℕ → List (List ℕ) → ℕ → List PlainIndex → Data → Result PlainIndex CatFault
+next_index t columns before earlier d = index_at t columns (before + length earlier) (index_names earlier) (has_clustered earlier) d
+
+abbrev pub indexes_of : ℕ → List (List ℕ) → ℕ → Rule (List PlainIndex)
+indexes_of t columns before path d = elements path d >>= read_each (next_index t columns before) []
+
+-- a table behind those that have the earlier names, before which there are that many indexes
+unfoldable pub table_at : ℕ → List (List ℕ) → Data → Result PlainTable CatFault
+table_at before earlier d =
+    let t = length earlier + 1 in do
+      keys ← keys_of (table_path t Itself) d
+      name ← needed (codes "name") (table_path t Name) (new_name earlier) keys
+      rows ← needed (codes "rows") (table_path t Rows) (natural 0 1000000000000) keys
+      pages ← needed (codes "pages") (table_path t Pages) (natural 0 1000000000000) keys
+      columns ← needed (codes "column") (table_path t Columns) (columns_of t) keys
+      indexes ← given_or [] (codes "index") (table_path t Indexes) (indexes_of t (column_names columns) before) keys
+      Ok (record { name = name; rows = rows; pages = pages; columns = columns; indexes = indexes })
+
+abbrev pub table_names : List PlainTable → List (List ℕ)
+table_names tables = map (λ table. folded table.name) tables
+
+-- how many indexes tables have
+abbrev pub index_count : List PlainTable → ℕ
+index_count tables = sum_by (λ table. length table.indexes) tables
+
+-- the table behind the earlier ones
+abbrev pub next_table : List PlainTable → Data → Result PlainTable CatFault
+next_table earlier d = table_at (index_count earlier) (table_names earlier) d
+
+abbrev pub tables_of : Rule (List PlainTable)
+tables_of path d = elements_within 0 200 path d >>= read_each next_table []
+
+-- the catalogue of a document
+unfoldable pub catalogue_of : Members → Result PlainCatalogue CatFault
+catalogue_of keys = do
+  version ← needed (codes "version") (whole_path Version) (natural 1 1) keys
+  rates ← given_or default_rates (codes "rates") (rates_path Itself) rates_of keys
+  tables ← given_or [] (codes "table") (table_path 0 Itself) tables_of keys
+  Ok (record { rates = rates; tables = tables })
+
+-- the document that bytes hold, where they are UTF-8 and a document
+unfoldable pub document : List ℕ → Option Members
+document bytes = if is_utf8 bytes then parse_document bytes else None
+
+-- the catalogue of a file, or its first fault
+unfoldable pub catalogue_in : List ℕ → Result PlainCatalogue CatFault
+catalogue_in bytes = or_fault NotToml (document bytes) >>= catalogue_of
