@@ -4,5 +4,7 @@ pub mod KindSets
 pub mod Loops
 pub mod Nested
 pub mod Outcome
+pub mod Same
 pub mod Steps
 pub mod Theory
+pub mod Unique

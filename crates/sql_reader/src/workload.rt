@@ -3,8 +3,10 @@ ghost use Rattle.sql_reader.specs.Pieces.{ArePieces, bad_weight, no_mark, start_
 ghost use Rattle.sql_reader.specs.Values.{no_statements};
 ghost use Rattle.sql_reader.specs.Workload as workload;
 ghost use Rattle.sql_reader.specs.declared.cursor.Stop.TheVariants.{Here, Memory};
+ghost use Rattle.sql_reader.specs.declared.parsed.ParsedStatement.{ParsedStatement};
+ghost use Rattle.sql_reader.specs.declared.parsed.SqlFault.{SqlFault};
 ghost use Rattle.sql_tokens.specs.Cut.{AreTokens};
-ghost use Rattle.std.specs.Prelude.{◌≡◌, ◌+◌, ◌<◌, ◌^◌, ◌⊎◌, IfErr, IfOk, length, option_map};
+ghost use Rattle.std.specs.Prelude.{◌≡◌, ◌+◌, ◌<◌, ◌^◌, ◌⊎◌, IfErr, IfOk, List, MatchResult, length, option_map};
 
 use crate::cursor::{Cursor, Reader, Stop, has};
 use crate::scan::{bad_weight, scan, start_behind_1000};
@@ -213,12 +215,17 @@ fn read_tokens<'a>(alloc: Global, tokens: Tokens<'a>) -> Result<Parsed<'a>, SqlF
 /// BadByte and OpenText, come before all others. Of the others the first in the text comes: Syntax or
 /// Unsupported at the first token at which no workload goes on, and Unsupported exactly where that is a word
 /// of a form that is left out; BadWeight at a weight comment whose number isn't 1 to 10^6; TooManyStatements
-/// at the first token of the 1001st statement. Memory may come at any time.
+/// at the first token of the 1001st statement. Memory may come at any time; but for it, a text that is a
+/// workload gives its statements, and one that has a fault gives that fault.
 pub fn read_workload<'a>(alloc: Global, text: &'a [u8]) -> Result<Parsed<'a>, SqlFault>
     requires { length text.now < 2 ^ 32 }
     ensures same_text { IfOk result (λ parsed. parsed.text.now ≡ text.now) }
     ensures found { IfOk result (λ parsed. workload.IsWorkload text.now parsed.statements) }
+    ensures only { (statements : List ParsedStatement) → workload.IsWorkload text.now statements →
+        MatchResult result (λ parsed. parsed.statements ≡ statements) (λ e. e ≡ SqlFault.Memory) }
     ensures fault { IfErr result (λ e. (e ≡ SqlFault.Memory) ⊎ workload.HasSqlFault text.now e) }
+    ensures fault_only { (e : SqlFault) → workload.HasSqlFault text.now e →
+        MatchResult result (λ _. ⊥) (λ f. (f ≡ e) ⊎ (f ≡ SqlFault.Memory)) }
 {
     match tokens(alloc, text) {
         Ok(list) => read_tokens(alloc, list),
