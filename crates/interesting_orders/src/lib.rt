@@ -9,3 +9,6 @@ mod columns;
 mod orders;
 
 pub use orders::{combinations, slot_orders};
+
+#[cfg(test)]
+mod tests;

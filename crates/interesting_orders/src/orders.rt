@@ -81,10 +81,10 @@ fn push_list(
     Ok(())
 }
 
-/// The orders of a slot: none; the column of each edge at the slot, where that isn't bound to a literal; and the list to
-/// group by, or where the block doesn't group the list to order by, where that isn't empty and is of upward columns of
-/// the slot alone. They stand in this sequence, without repeats, so the empty order comes first. These are System R's
-/// interesting orders, as INUM takes them. `NoMemory` is want of memory.
+/// What operators above a slot may want of its order, as System R's and INUM's interesting orders: first nothing; then
+/// for each edge with an end here, unless a literal binds its column, that column; last the list to group by, or without
+/// groups the list to order by, if it has items and all are upward columns of this slot. Each comes once, where it is met
+/// first. `NoMemory` is want of memory.
 pub fn slot_orders(alloc: Global, task: &Task, slot: u8) -> Result<List<List<Item>>, NoMemory>
     requires { slot < task.now.slots }
     ensures { IfOk result (λ orders. orders ≡ orders_of task.now slot) }
@@ -118,8 +118,7 @@ fn order_count(task: &Task, slot: u8) -> u64
     }
 }
 
-/// How many ways there are to choose an order for each slot: the product of the numbers of orders of the slots. It takes
-/// no memory.
+/// How many ways there are to give each slot one of its orders. No memory is taken.
 pub fn combinations(task: &Task) -> u64
     ensures exact { result ≡ choices_of task.now }
     ensures small { result < 2 ^ 63 }

@@ -282,9 +282,8 @@ fn push_final<O: Offers>(
     )
 }
 
-/// The lines of a plan that is a valid one of the whole task over these offers: one for each operator, two spaces further
-/// in than the operator above it, with what all from there down costs. Names that the labels lack are left empty.
-/// `NoMemory` is want of memory.
+/// A valid whole plan as a text: a line for each operator, before those that it reads from and two spaces to their left,
+/// with what it and all below it cost. A name that the labels lack is left empty. `NoMemory` is want of memory.
 pub fn plan_text<O: Offers>(
     alloc: Global,
     task: &Task,

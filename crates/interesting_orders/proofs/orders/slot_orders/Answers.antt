@@ -1,12 +1,11 @@
 use Rattle.std.proofs.Common.{◌≡◌, ◌∷◌, [], length, arith, ap}
-use Rattle.std.proofs.lemmas.List.{nil_from_length}
 use Rattle.std.proofs.lemmas.Grind.{common_steps}
 use Rattle.interesting_orders.proofs.MarkLemmas.{AreMarks-start, interesting_orders-fold}
 use Rattle.interesting_orders.proofs.orders.slot_orders.Goals as goal
 
 pub loop-edge-init : goal.loop-edge-init
 loop-edge-init c =
-    let empty = nil_from_length c.new.result c.new.ensures in
+    let empty = c.new.ensures in
     let first : c.push_order.new.orders.items ≡ [] ∷ [] = cc (c.in_ok-push_order.ensures, c.new-orders.ensures.items, empty) in
     record { gathered = first; marks = rw first (AreMarks-start c.args.slot) }
 
