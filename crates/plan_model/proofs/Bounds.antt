@@ -1,7 +1,5 @@
 -- A valid plan covers slots of the task, and its costs are far below what 128 bits hold.
-use Rattle.std.proofs.Common.{◌≡◌, ◌⊎◌, inl, inr, ℕ, zero, suc, ◌+◌, ◌*◌, ◌^◌, ◌<◌, ◌≤◌, Bool, true, false, if◌then◌else◌, nat_lt, List, [], length, get_or, All, Option, Some, None, bit_and, bit_or, refl, sym, ap, ◌∙◌, arith}
-use Rattle.std.specs.Prelude.{slice_get, slice_index}
-use Rattle.std.specs.Option.{option_map_or}
+use Rattle.std.proofs.Common.{◌≡◌, inl, inr, ℕ, zero, suc, ◌+◌, ◌*◌, ◌^◌, ◌<◌, ◌≤◌, Bool, true, false, [], length, bit_and, bit_or, arith}
 use Rattle.std.proofs.Math.Nat.{one-le-pow, mul-le-mul}
 use Rattle.std.proofs.Math.Pow.{pow-lt}
 use Rattle.std.proofs.lemmas.Bool.{cases_lt, false≢true}
@@ -15,8 +13,7 @@ use Rattle.adv_base.specs.Sums.{digits_within, binary_digits}
 use Rattle.plan_model.specs.declared.plan.Plan.{Plan}
 use Rattle.plan_model.specs.declared.plan.Plan.TheVariants.{Leaf, Sort', Merge', Hash'}
 use Rattle.plan_model.specs.declared.task.Task.{Task}
-use Rattle.plan_model.specs.OfferTables.{price_at, OfferLimits, OfferTableLimits}
-use Rattle.plan_model.specs.Limits.Tasks.{RowLimits}
+use Rattle.plan_model.specs.OfferTables.{price_at, OfferTableLimits}
 use Rattle.plan_model.specs.Plans.{covers, IsValid}
 use Rattle.plan_model.specs.Costs.{rows_in, sort_cost, merge_cost, hash_cost, plan_cost}
 use Rattle.plan_model.specs.Judging.{plan_judged, IsKept}

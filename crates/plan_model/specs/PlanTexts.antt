@@ -1,5 +1,5 @@
 -- The lines of a plan: one for each operator, the operators below it further in.
-use Rattle.std.specs.Prelude.{ℕ, suc, ◌+◌, ◌*◌, Bool, true, false, if◌then◌else◌, List, [], ◌∷◌, ◌++◌, replicate, codes, decimal, Option, Some, None, slice_get, slice_index_or}
+use Rattle.std.specs.Prelude.{ℕ, ◌+◌, ◌*◌, if◌then◌else◌, List, [], ◌++◌, replicate, codes, decimal, Option, Some, None, slice_get, slice_index_or}
 use Rattle.std.specs.List.{join_by}
 use Rattle.adv_base.specs.declared.workload.parts.Item.{Item}
 use Rattle.adv_base.specs.declared.workload.parts.Item.TheVariants.{Up, Down, Made}

@@ -1,6 +1,5 @@
-use Rattle.std.proofs.Common.{◌≡◌, ℕ, ◌-◌, ◌^◌, ◌<◌, bit_and, true}
+use Rattle.std.proofs.Common.{◌≡◌, ℕ, ◌-◌, ◌<◌, bit_and, true}
 use Rattle.std.specs.List.{list_any}
-use Rattle.adv_base.specs.Sets.{all_slots}
 use Rattle.plan_model.specs.Plans.{crosses}
 use Rattle.plan_model.proofs.checked.is_connected.Given as goal
 

@@ -1,4 +1,4 @@
-use Rattle.std.proofs.Common.{true, false, arith, rules}
+use Rattle.std.proofs.Common.{true, false}
 use Rattle.plan_model.proofs.Bounds.{valid-kept}
 use Rattle.plan_model.proofs.judge.+judge.Goals as goal
 

@@ -1,6 +1,5 @@
-use Rattle.std.proofs.Common.{◌≡◌, Decides, sym, rules}
+use Rattle.std.proofs.Common.{sym, rules}
 use Rattle.std.proofs.lemmas.Slice.Eq.{slice_eq-Decides}
-use Rattle.adv_base.specs.Items.{BeginsWith}
 use Rattle.plan_model.proofs.order.begins_with.Goals as goal
 
 pub returns : goal.returns

@@ -1,7 +1,6 @@
-use Rattle.std.proofs.Common.{◌≡◌, ◌==◌, ◌^◌, ◌<◌, ◌≤◌, ℕ, bit_and, not, refl, sym, ap, ◌∙◌, arith}
+use Rattle.std.proofs.Common.{◌≡◌, ◌==◌, ◌^◌, ◌<◌, ◌≤◌, ℕ, bit_and, not, sym, ap, ◌∙◌, arith}
 use Rattle.std.proofs.lemmas.Bool.{le-ltb}
 use Rattle.std.proofs.lemmas.Nat.Bits.{and_pow, bit_at_above}
-use Rattle.adv_base.specs.Sets.{has_slot}
 use Rattle.plan_model.proofs.order.has_slot.Goals as goal
 
 none-above : (set slot : ℕ) → set < 256 → 8 ≤ slot → bit_and set (2 ^ slot) ≡ 0

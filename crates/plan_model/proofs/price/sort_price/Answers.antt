@@ -1,4 +1,3 @@
-use Rattle.std.proofs.Common.{arith}
 use Rattle.plan_model.specs.Costs.{sort_cost}
 use Rattle.plan_model.proofs.Bounds.{sort_cost-most}
 use Rattle.plan_model.proofs.price.sort_price.Goals as goal

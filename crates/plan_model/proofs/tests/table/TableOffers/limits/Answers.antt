@@ -1,10 +1,9 @@
-use Rattle.std.proofs.Common.{◌≡◌, ◌==◌, ℕ, ◌<◌, ◌≤◌, Bool, true, false, cond, if◌then◌else◌, List, [], ◌∷◌, All, Option, Some, None, inl, inr, refl, sym, ◌∙◌, subst, arith}
+use Rattle.std.proofs.Common.{◌≡◌, ◌==◌, ℕ, ◌≤◌, Bool, true, cond, if◌then◌else◌, List, [], ◌∷◌, All, Option, Some, None, inl, inr, refl, subst, arith}
 use Rattle.std.specs.List.{find}
 use Rattle.std.specs.Option.{option_map_or}
 use Rattle.std.proofs.lemmas.Bool.{cases_Bool, eqb-true}
 use Rattle.std.proofs.lemmas.List.Elements.{All-cons, All-nil}
 use Rattle.adv_base.specs.declared.workload.parts.Item.{Item}
-use Rattle.adv_base.specs.Offers.{Offer}
 use Rattle.plan_model.specs.declared.tests.table.Reads.{Reads}
 use Rattle.plan_model.specs.OfferTables.{is_up_of, OfferLimits}
 use Rattle.plan_model.proofs.tests.table.TableOffers.limits.Goals as goal
