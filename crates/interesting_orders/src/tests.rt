@@ -1,11 +1,10 @@
 //! Orders of the slots of small tasks.
+use crate::orders::{combinations, slot_orders};
 use adv_base::{Item, List, Rates};
 use plan_model::{Task, TaskEdge, checked_task};
 use std::alloc::{AllocError, Global};
 use std::process::Abort;
 use std::test::Fail;
-
-use crate::orders::{combinations, slot_orders};
 
 fn up(slot: u8, column: u16) -> Item {
     Item::Up { slot, column }
@@ -53,7 +52,13 @@ fn list<T: Copy>(alloc: Global, items: &[T]) -> Result<List<T>, AllocError> {
 }
 
 /// A task of so many slots, where each set of slots has one row.
-fn task(alloc: Global, slots: u8, edges: &[TaskEdge], group: Option<&[Item]>, order: &[Item]) -> Result<Task, Fail> {
+fn task(
+    alloc: Global,
+    slots: u8,
+    edges: &[TaskEdge],
+    group: Option<&[Item]>,
+    order: &[Item],
+) -> Result<Task, Fail> {
     let ones = [1; 256];
     let sets = 1usize.checked_shl(slots as u32).ok_or("no sets")?;
     if sets > 256 {
@@ -94,7 +99,13 @@ fn told(alloc: Global, task: &Task, slot: u8) -> Result<Vec<u8>, Fail> {
     Ok(text)
 }
 
-fn all_told(rt: &impl Abort, alloc: Global, task: &Task, orders: &[&str], count: u64) -> Result<(), Fail> {
+fn all_told(
+    rt: &impl Abort,
+    alloc: Global,
+    task: &Task,
+    orders: &[&str],
+    count: u64,
+) -> Result<(), Fail> {
     let mut slot: u8 = 0;
     for want in orders {
         assert_eq!(rt; told(alloc, task, slot)?.as_slice(), want.as_bytes());
@@ -153,7 +164,11 @@ fn star(rt: HostRuntime) -> Result<(), Fail> {
     let alloc = rt.alloc();
     let mut edges = Vec::new(alloc);
     for column in 0..13 {
-        let slot = if column < 12 { 1 + (column / 3) as u8 } else { 4 };
+        let slot = if column < 12 {
+            1 + (column / 3) as u8
+        } else {
+            4
+        };
         edges.push(edge(0, column, slot, column))?;
     }
     let star = task(alloc, 5, edges.as_slice(), None, &[])?;
