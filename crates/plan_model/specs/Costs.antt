@@ -1,5 +1,5 @@
 -- What plans cost, in thousandths of a page read: the sum over their operators.
-use Rattle.std.specs.Prelude.{ℕ, ◌+◌, ◌*◌, Bool, true, false, if◌then◌else◌, Option, Some, None, slice_index}
+use Rattle.std.specs.Prelude.{ℕ, ◌+◌, ◌*◌, if◌then◌else◌, Option, Some, None, slice_index}
 use Rattle.adv_base.specs.declared.catalogue.rates.Rates.{Rates}
 use Rattle.adv_base.specs.Items.{Order}
 use Rattle.adv_base.specs.Offers.{OfferTable}

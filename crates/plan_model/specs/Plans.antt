@@ -1,5 +1,5 @@
 -- Which plans are valid for a task over a table of offers.
-use Rattle.std.specs.Prelude.{◌≡◌, ◌≢◌, ℕ, ◌+◌, ◌^◌, ◌<◌, bit_and, Bool, true, false, IsTrue, if◌then◌else◌, List, [], length, All, Option, Some, None, slice_get}
+use Rattle.std.specs.Prelude.{◌≡◌, ◌≢◌, ℕ, ◌+◌, ◌^◌, ◌<◌, bit_and, Bool, true, false, IsTrue, if◌then◌else◌, [], length, All, Option, Some, None, slice_get}
 use Rattle.std.specs.List.{list_any}
 use Rattle.adv_base.specs.declared.workload.parts.Item.{Item}
 use Rattle.adv_base.specs.declared.workload.parts.Item.TheVariants.{Up, Down, Made}
