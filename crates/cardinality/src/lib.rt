@@ -8,7 +8,9 @@
 mod lookups;
 mod parts;
 mod range;
+mod rows;
 mod sums;
 
 pub use lookups::{slot_table, table_column};
 pub use parts::{edge_part, part_of};
+pub use rows::{slot_rows, table_pages, table_rows};
