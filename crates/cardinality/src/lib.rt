@@ -10,7 +10,10 @@ mod parts;
 mod range;
 mod rows;
 mod sums;
+mod table;
+mod ties;
 
 pub use lookups::{slot_table, table_column};
 pub use parts::{edge_part, part_of};
 pub use rows::{slot_rows, table_pages, table_rows};
+pub use table::{Rows, rows_table};
