@@ -1,8 +1,8 @@
 -- Laws of the definitions, for callers: each part is from 1 to 10^9, each number of rows from 1 to 10^12.
-use Rattle.std.proofs.Common.{◌≡◌, ℕ, zero, suc, ◌+◌, ◌-◌, ◌*◌, ◌<◌, ◌≤◌, List, [], ◌∷◌, length, map, refl, sym, ◌∙◌, ap, cond, arith, min, max}
-use Rattle.std.specs.Prelude.{Bool, true, false, filter, fold, if◌then◌else◌, Option, Some, None, ℤ, All}
+use Rattle.std.proofs.Common.{ℕ, zero, suc, ◌*◌, ◌≤◌, List, [], ◌∷◌, length, map, refl, arith, min, max}
+use Rattle.std.specs.Prelude.{Bool, true, false, fold, if◌then◌else◌, Option, Some, None, ℤ}
+use Rattle.std.specs.Option.{option_map_or}
 use Rattle.std.proofs.Math.Nat.{mul-le-mul}
-use Rattle.std.proofs.lemmas.List.Elements.{All-head, All-tail, All-nil, All-cons}
 use Rattle.adv_base.specs.declared.catalogue.Catalogue.{Catalogue}
 use Rattle.adv_base.specs.declared.catalogue.column.Column.{Column}
 use Rattle.adv_base.specs.declared.catalogue.table.Table.{Table}
@@ -16,8 +16,11 @@ use Rattle.adv_base.specs.declared.workload.predicate.Value.TheVariants.{Number,
 use Rattle.adv_base.specs.Limits.Tests.{TestLimits}
 use Rattle.adv_base.specs.Lookups.{slot_table, slot_distinct, table_distinct}
 use Rattle.adv_base.specs.Parts.{equal_part, tied_part, range_part, above_part, below_part, between_part, test_part, column_test_part, table_pred_part, pred_part, edge_part}
-use Rattle.adv_base.specs.Sums.{clamped_part, times_part, height, capped}
+use Rattle.adv_base.specs.Rows.{table_rows, slot_preds, filtered_rows, edges_back, rows_below, set_rows}
+use Rattle.adv_base.specs.Sets.{has_slot}
+use Rattle.adv_base.specs.Sums.{clamped_part, times_part, capped}
 use Rattle.adv_base.proofs.SumLemmas.{times_part-bounds}
+use Rattle.cardinality.specs.Tables.{AreRows}
 
 -- a selectivity: a part of 10^9, at least 1
 pub record IsPart (part : ℕ) : Type 0 where
@@ -113,3 +116,39 @@ through-bounds part is start some (x ∷ xs) =
     let one : (1 ≤ times_part start (part x)) × (times_part start (part x) ≤ start) = times_part-bounds start (part x) some p.least p.most in
     let rest : IsWithin (fold times_part (times_part start (part x)) (map part xs)) (times_part start (part x)) = through-bounds part is (times_part start (part x)) one.0 xs in
     record { least = rest.least; most = omega arith }
+
+table_rows-bounds : (table : Option Table) → AreRows (option_map_or table_rows table 1)
+table_rows-bounds (Some table) = record { least = omega arith; most = let most : table.rows ≤ 1000000000000 = table.limits.rows_most in omega arith }
+table_rows-bounds None = record { least = omega arith; most = omega arith }
+
+-- the filtered rows of a slot
+pub filtered_rows-bounds : (cat : Catalogue) (block : Block) (s : ℕ) → AreRows (filtered_rows cat block s)
+unfolding filtered_rows
+filtered_rows-bounds cat block s =
+    let start : AreRows (option_map_or table_rows (slot_table cat block s) 1) = table_rows-bounds (slot_table cat block s) in
+    let within : IsWithin (fold times_part (option_map_or table_rows (slot_table cat block s) 1) (map (pred_part cat block) (slot_preds block s))) (option_map_or table_rows (slot_table cat block s) 1) =
+    through-bounds (pred_part cat block) (pred_part-bounds cat block) (option_map_or table_rows (slot_table cat block s) 1) start.least (slot_preds block s) in
+    record { least = within.least; most = omega (arith, start.most, within.most) }
+
+capped-bounds : (m n : ℕ) → 1 ≤ m → 1 ≤ n → AreRows (capped (m * n))
+capped-bounds m n m_some n_some = let least : 1 * 1 ≤ m * n = mul-le-mul m_some n_some in record { least = omega arith; most = omega arith }
+
+one_more-bounds : (cat : Catalogue) (block : Block) (set s rows : ℕ) → AreRows rows → (b : Bool) →
+    AreRows (if b then fold times_part (capped (rows * filtered_rows cat block s)) (map (edge_part cat block) (edges_back block set s)) else rows)
+one_more-bounds cat block set s rows are true =
+    let own : AreRows (filtered_rows cat block s) = filtered_rows-bounds cat block s in
+    let start : AreRows (capped (rows * filtered_rows cat block s)) = capped-bounds rows (filtered_rows cat block s) are.least own.least in
+    let within : IsWithin (fold times_part (capped (rows * filtered_rows cat block s)) (map (edge_part cat block) (edges_back block set s))) (capped (rows * filtered_rows cat block s)) =
+    through-bounds (edge_part cat block) (edge_part-bounds cat block) (capped (rows * filtered_rows cat block s)) start.least (edges_back block set s) in
+    record { least = within.least; most = omega (arith, start.most, within.most) }
+one_more-bounds cat block set s rows are false = are
+
+rows_below-bounds : (cat : Catalogue) (block : Block) (set s : ℕ) → AreRows (rows_below cat block set s)
+unfolding rows_below
+rows_below-bounds cat block set zero = record { least = omega arith; most = omega arith }
+rows_below-bounds cat block set (suc s) = one_more-bounds cat block set s (rows_below cat block set s) (rows_below-bounds cat block set s) (has_slot set s)
+
+-- the rows of the join of a set of slots
+pub set_rows-bounds : (cat : Catalogue) (block : Block) (set : ℕ) → AreRows (set_rows cat block set)
+unfolding set_rows
+set_rows-bounds cat block set = rows_below-bounds cat block set (length block.slots)

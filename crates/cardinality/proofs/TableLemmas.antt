@@ -1,16 +1,13 @@
 -- Laws of tables of rows.
-use Rattle.std.proofs.Common.{◌≡◌, ℕ, ◌+◌, ◌*◌, ◌^◌, ◌<◌, ◌≤◌, List, [], ◌∷◌, ◌++◌, length, map, get_or, refl, sym, ◌∙◌, ap, arith, ◌⊎◌, inl, inr, length-append}
-use Rattle.std.specs.Prelude.{fold}
+use Rattle.std.proofs.Common.{◌≡◌, ℕ, ◌+◌, ◌<◌, List, [], ◌∷◌, ◌++◌, length, get_or, refl, sym, arith, inl, inr, length-append}
 use Rattle.std.proofs.lemmas.Bool.{cases_lt}
-use Rattle.std.proofs.lemmas.Grind.{common_steps, elements}
+use Rattle.std.proofs.lemmas.Grind.{common_steps}
 use Rattle.std.proofs.lemmas.List.Elements.{All-push, All-nil, All-get_or}
 use Rattle.adv_base.specs.declared.catalogue.Catalogue.{Catalogue}
 use Rattle.adv_base.specs.declared.workload.block.Block.{Block}
-use Rattle.adv_base.specs.Parts.{edge_part}
-use Rattle.adv_base.specs.Rows.{set_rows, filtered_rows, edges_back}
-use Rattle.adv_base.specs.Sums.{times_part, capped}
+use Rattle.adv_base.specs.Rows.{set_rows}
 use Rattle.cardinality.specs.Tables.{AreRows, HoldsRows}
-use Rattle.cardinality.proofs.RowLemmas.{set_rows-added, set_rows-empty}
+use Rattle.cardinality.proofs.RowLemmas.{set_rows-empty}
 
 -- the rows of one set more
 pub HoldsRows-push : (cat : Catalogue) (block : Block) (sets : ℕ) (of : List ℕ) (rows : ℕ) →

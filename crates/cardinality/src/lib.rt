@@ -5,6 +5,7 @@
 //! go from 1 to 10^12. The definitions that the contracts cite stand in `adv_base`.
 #![tactic(auto)]
 
+mod groups;
 mod lookups;
 mod parts;
 mod range;
@@ -13,6 +14,7 @@ mod sums;
 mod table;
 mod ties;
 
+pub use groups::group_rows;
 pub use lookups::{slot_table, table_column};
 pub use parts::{edge_part, part_of};
 pub use rows::{slot_rows, table_pages, table_rows};

@@ -138,12 +138,13 @@ pub fn part_of(cat: &Catalogue, block: &Block, pred: &Pred) -> u64
 }
 
 /// The number of distinct values of a slot's column, where it is known.
-fn slot_distinct_count(cat: &Catalogue, block: &Block, slot: u8, column: u16) -> Option<u64>
+pub fn slot_distinct_count(cat: &Catalogue, block: &Block, slot: u8, column: u16) -> Option<u64>
     requires named { NamesBlock cat.now block.now }
     requires slot_there { slot < length block.now.slots }
     requires column_there { column < slot_columns cat.now block.now slot }
     ensures exact { result ≡ slot_distinct cat.now block.now slot column }
     ensures some { ForSome result (λ d. 1 ≤ d) }
+    ensures few { ForSome result (λ d. d ≤ 1000000000000) }
 {
     table_column(slot_table(cat, block, slot), column).distinct
 }

@@ -1,5 +1,5 @@
 //! The rows of each set of slots.
-ghost use Rattle.std.specs.Prelude.{◌≡◌, ◌<◌, ◌≤◌, ◌^◌, ◌+◌, ◌*◌, ◌++◌, ◌∷◌, [], length, IfOk, OnOk};
+ghost use Rattle.std.specs.Prelude.{◌≡◌, ◌<◌, ◌≤◌, ◌^◌, ◌+◌, ◌-◌, ◌*◌, ◌++◌, ◌∷◌, [], length, slice_index, IfOk, OnOk};
 ghost use Rattle.adv_base.specs.Named.{NamesBlock};
 ghost use Rattle.adv_base.specs.Sums.{capped};
 ghost use Rattle.cardinality.specs.Tables.{HoldsRows};
@@ -19,6 +19,16 @@ pub struct Rows {
     pub of: List<u64>,
 }
 
+impl Rows {
+    /// The rows of the join of all slots, which is the last number.
+    pub fn of_all(&self) -> u64
+        requires { 0 < length self.now.of }
+        ensures { result ≡ slice_index self.now.of (length self.now.of - 1) }
+    {
+        self.of.items[self.of.len() - 1]
+    }
+}
+
 /// Puts a number at the end of a table.
 fn put(of: &mut Vec<u64>, rows: u64) -> Result<(), NoMemory>
     ensures { OnOk result (of.new.items ≡ of.old.items ++ rows ∷ []) }
@@ -27,7 +37,7 @@ fn put(of: &mut Vec<u64>, rows: u64) -> Result<(), NoMemory>
 }
 
 /// At each slot the rows so far times the slot's own, at most 10^12.
-fn crossed(rows: u64, own: u64) -> u64
+pub fn crossed(rows: u64, own: u64) -> u64
     requires rows_some { 1 ≤ rows }
     requires rows_few { rows ≤ 1000000000000 }
     requires own_some { 1 ≤ own }

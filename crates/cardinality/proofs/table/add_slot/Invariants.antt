@@ -1,4 +1,4 @@
-use Rattle.std.proofs.Common.{◌≡◌, ◌+◌, ◌^◌}
+use Rattle.std.proofs.Common.{◌+◌, ◌^◌}
 use Rattle.cardinality.specs.Tables.{HoldsRows}
 use Rattle.cardinality.proofs.table.add_slot.Given as goal
 

@@ -1,4 +1,4 @@
-use Rattle.std.proofs.Common.{◌≡◌, ◌<◌, length, get_or, map, ap, ◌∙◌, sym, rules}
+use Rattle.std.proofs.Common.{◌≡◌, ◌<◌, length, get_or, ap, ◌∙◌, rules}
 use Rattle.std.proofs.lemmas.List.{get_or-map}
 use Rattle.adv_base.specs.declared.workload.parts.Edge.{Edge}
 use Rattle.adv_base.specs.Parts.{edge_part}
