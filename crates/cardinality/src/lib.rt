@@ -12,6 +12,8 @@ mod range;
 mod rows;
 mod sums;
 mod table;
+#[cfg(test)]
+mod tests;
 mod ties;
 
 pub use groups::group_rows;

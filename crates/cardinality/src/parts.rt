@@ -102,7 +102,7 @@ fn between_part(column: &Column, from: Value, to: Value) -> u64
 }
 
 /// Any test of a column of the table.
-fn test_part(table: &Table, column: &Column, test: Test) -> u64
+pub fn test_part(table: &Table, column: &Column, test: Test) -> u64
     requires same { (other : ℕ) → test ≡ Same other → other < length table.now.columns }
     requires items { (n : ℕ) → test ≡ OneOf n → 1 ≤ n }
     ensures exact { result ≡ part_of_test table.now column.now test }
