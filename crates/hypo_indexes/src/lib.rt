@@ -5,6 +5,8 @@
 
 mod budget;
 mod size;
+#[cfg(test)]
+mod tests;
 
 pub use budget::fits;
 pub use size::{index_pages, pages};
