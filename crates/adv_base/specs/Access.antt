@@ -1,5 +1,5 @@
 -- What an index matches of a slot's predicates, and what it costs to read the slot through it.
-use Rattle.std.specs.Prelude.{ℕ, ◌+◌, ◌*◌, ◌==◌, Bool, true, false, not, ◌&&◌, if◌then◌else◌, List, [], ◌++◌, length, drop, take, take_while, filter, map, fold}
+use Rattle.std.specs.Prelude.{ℕ, ◌+◌, ◌*◌, ◌==◌, Bool, not, ◌&&◌, if◌then◌else◌, List, ◌++◌, length, drop, take, take_while, filter, map, fold}
 use Rattle.std.specs.List.{list_any, list_all, flat_map}
 use Rattle.adv_base.specs.declared.catalogue.Catalogue.{Catalogue}
 use Rattle.adv_base.specs.declared.catalogue.index.IndexShape.{IndexShape}
@@ -8,67 +8,16 @@ use Rattle.adv_base.specs.declared.workload.block.Block.{Block}
 use Rattle.adv_base.specs.declared.workload.parts.Item.TheVariants.{Up}
 use Rattle.adv_base.specs.declared.workload.parts.Slot.{Slot}
 use Rattle.adv_base.specs.declared.workload.predicate.Pred.{Pred}
-use Rattle.adv_base.specs.declared.workload.predicate.Test.{Test}
-use Rattle.adv_base.specs.declared.workload.predicate.Test.TheVariants.{Equal, NotEqual, Below, Above, Between, OneOf, Like, IsNull, NotNull, Same}
 use Rattle.adv_base.specs.Items.{Order}
 use Rattle.adv_base.specs.Sums.{times_part}
 use Rattle.adv_base.specs.Parts.{pred_part}
+use Rattle.adv_base.specs.Predicates.{is_point, is_range, preds_on, has_pred, is_bound}
 use Rattle.adv_base.specs.Rows.{table_rows, table_pages}
 use Rattle.adv_base.specs.Sizes.{index_pages}
 
--- `column = literal`
-abbrev pub is_equality : Test → Bool
-is_equality Equal = true
-is_equality NotEqual = false
-is_equality (Below v) = false
-is_equality (Above v) = false
-is_equality (Between v w) = false
-is_equality (OneOf items) = false
-is_equality Like = false
-is_equality IsNull = false
-is_equality NotNull = false
-is_equality (Same other) = false
-
--- `column = literal` or IN
-abbrev pub is_point : Test → Bool
-is_point Equal = true
-is_point NotEqual = false
-is_point (Below v) = false
-is_point (Above v) = false
-is_point (Between v w) = false
-is_point (OneOf items) = true
-is_point Like = false
-is_point IsNull = false
-is_point NotNull = false
-is_point (Same other) = false
-
--- `<`, `<=`, `>`, `>=` or BETWEEN
-abbrev pub is_range : Test → Bool
-is_range Equal = false
-is_range NotEqual = false
-is_range (Below v) = true
-is_range (Above v) = true
-is_range (Between v w) = true
-is_range (OneOf items) = false
-is_range Like = false
-is_range IsNull = false
-is_range NotNull = false
-is_range (Same other) = false
-
--- the predicates on a column of a slot whose test is of a kind, in written order
-abbrev pub preds_on : (Test → Bool) → Block → ℕ → ℕ → List Pred
-preds_on kind block s c = filter (λ pred. (pred.slot == s && pred.column == c) && kind pred.test) block.preds
-
-abbrev pub has_pred : (Test → Bool) → Block → ℕ → ℕ → Bool
-has_pred kind block s c = list_any (λ pred. (pred.slot == s && pred.column == c) && kind pred.test) block.preds
-
--- a column is bound where a predicate gives it a literal
-abbrev pub is_bound : Block → ℕ → ℕ → Bool
-is_bound block s c = has_pred is_equality block s c
-
--- the longest prefix of the keys whose columns each have a point predicate
+-- the leading keys, as far as each has a point predicate on its column
 abbrev pub point_keys : Block → ℕ → List ℕ → List ℕ
-point_keys block s keys = take_while (has_pred is_point block s) keys
+point_keys block s keys = take_while (has_pred is_point block.preds s) keys
 
 -- the key after that prefix, where there is one
 abbrev pub range_keys : Block → ℕ → List ℕ → List ℕ
@@ -78,15 +27,15 @@ range_keys block s keys = take 1 (drop (length (point_keys block s keys)) keys)
 -- the order of the keys and then as written.
 unfoldable pub matched_preds : Block → ℕ → List ℕ → List Pred
 matched_preds block s keys =
-    flat_map (preds_on is_point block s) (point_keys block s keys) ++ flat_map (preds_on is_range block s) (range_keys block s keys)
+    flat_map (preds_on is_point block.preds s) (point_keys block s keys) ++ flat_map (preds_on is_range block.preds s) (range_keys block s keys)
 
--- the part of the index, and of its table, that is read
+-- the part of its entries that an index matches
 unfoldable pub matched_part : Catalogue → Block → ℕ → List ℕ → ℕ
 matched_part cat block s keys = fold times_part 1000000000 (map (pred_part cat block) (matched_preds block s keys))
 
 -- each key is bound, and no two rows agree on all
 abbrev pub finds_one_row : Block → ℕ → IndexShape → Bool
-finds_one_row block s shape = shape.unique && list_all (is_bound block s) shape.keys
+finds_one_row block s shape = shape.unique && list_all (is_bound block.preds s) shape.keys
 
 -- the rows that the index finds
 unfoldable pub matched_rows : Catalogue → Block → ℕ → Table → IndexShape → ℕ
@@ -115,6 +64,6 @@ index_price cat block s slot table shape =
 unfoldable pub table_price : Catalogue → Table → ℕ
 table_price cat table = table_pages table * cat.rates.seq_page + table_rows table * cat.rates.row_cpu
 
--- an index delivers its keys upwards, without the bound ones
+-- rows come from an index sorted by those of its keys that aren't bound
 unfoldable pub index_order : Block → ℕ → List ℕ → Order
-index_order block s keys = map (Up s) (filter (λ key. not (is_bound block s key)) keys)
+index_order block s keys = map (Up s) (filter (λ key. not (is_bound block.preds s key)) keys)

@@ -1,5 +1,5 @@
 -- Configurations as sets of candidates, and the space budget.
-use Rattle.std.specs.Prelude.{ℕ, ◌≤◌, Bool, true, false, List, [], ◌∷◌, sum_by}
+use Rattle.std.specs.Prelude.{◌≡◌, ℕ, ◌<◌, ◌≤◌, Bool, true, false, List, [], ◌∷◌, length, sum_by, slice_get, Some}
 use Rattle.adv_base.specs.declared.catalogue.Catalogue.{Catalogue}
 use Rattle.adv_base.specs.declared.catalogue.index.IndexShape.{IndexShape}
 use Rattle.adv_base.specs.declared.setting.Config.{Config}
@@ -11,6 +11,10 @@ chosen [] xs = []
 chosen (flag ∷ flags) [] = []
 chosen (true ∷ flags) (x ∷ xs) = x ∷ chosen flags xs
 chosen (false ∷ flags) (x ∷ xs) = chosen flags xs
+
+-- each flag that is on stands for a candidate
+abbrev pub IsConfigOf : List IndexShape → Config → Type 0
+IsConfigOf shapes config = (a : ℕ) → slice_get config.on a ≡ Some true → a < length shapes
 
 -- the candidates of a configuration
 abbrev pub candidates_in : List IndexShape → Config → List IndexShape

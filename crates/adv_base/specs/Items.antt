@@ -3,7 +3,7 @@ use Rattle.std.specs.Prelude.{◌≡◌, ℕ, nat_lt, ◌==◌, Bool, true, fals
 use Rattle.adv_base.specs.declared.workload.parts.Item.{Item}
 use Rattle.adv_base.specs.declared.workload.parts.Item.TheVariants.{Up, Down, Made}
 
--- an order is a list of items
+-- what rows are sorted by, the leading item first
 abbrev pub Order : Type 0
 Order = List Item
 

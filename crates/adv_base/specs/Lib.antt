@@ -1,6 +1,7 @@
 pub mod Sums
 pub mod Sets
 pub mod Items
+pub mod Predicates
 pub mod Limits
 pub mod Lookups
 pub mod Named
@@ -11,3 +12,4 @@ pub mod Configs
 pub mod Upkeep
 pub mod Access
 pub mod Offers
+pub mod Days

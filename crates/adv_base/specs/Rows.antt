@@ -13,7 +13,7 @@ use Rattle.adv_base.specs.Sets.{all_slots, has_slot}
 use Rattle.adv_base.specs.Lookups.{slot_table, slot_distinct}
 use Rattle.adv_base.specs.Parts.{pred_part, edge_part}
 
--- a table's rows and pages count as at least 1
+-- an empty table is priced like one of a single row and page
 abbrev pub table_rows : Table → ℕ
 table_rows table = max 1 table.rows
 
@@ -24,7 +24,7 @@ table_pages table = max 1 table.pages
 abbrev pub slot_preds : Block → ℕ → List Pred
 slot_preds block s = filter (λ pred. pred.slot == s) block.preds
 
--- the filtered rows of a slot: the table's, taken through each predicate in written order
+-- what is left of a slot's rows behind its predicates, one after the other
 unfoldable pub filtered_rows : Catalogue → Block → ℕ → ℕ
 filtered_rows cat block s =
     fold times_part (option_map_or table_rows (slot_table cat block s) 1) (map (pred_part cat block) (slot_preds block s))
@@ -61,6 +61,6 @@ item_distinct cat block (Made number) = None
 abbrev pub group_product : Catalogue → Block → List Item → ℕ
 group_product cat block items = fold ◌*◌ 1 (map (λ item. unwrap_or (item_distinct cat block item) 10) items)
 
--- the rows of a group: no more than there are groups or rows
+-- the rows that grouping gives: no more than the list could make, nor than there are
 unfoldable pub group_rows : Catalogue → Block → List Item → ℕ
 group_rows cat block items = min (capped (group_product cat block items)) (set_rows cat block (all_slots (length block.slots)))

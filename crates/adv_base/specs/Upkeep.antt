@@ -21,7 +21,7 @@ is_on_table block shape = option_map_or (λ slot. slot.table == shape.table) (sl
 abbrev pub holds_some : List ℕ → List ℕ → Bool
 holds_some keys columns = list_any (λ key. list_any (λ column. column == key) columns) keys
 
--- a statement touches an index: INSERT and DELETE each of the table, UPDATE those whose keys hold a column that it sets
+-- which indexes a statement writes: all of the table for INSERT and DELETE, for UPDATE those with a key among the set columns
 abbrev pub touches : Work → IndexShape → Bool
 touches (Select block) shape = false
 touches (Update block columns) shape = is_on_table block shape && holds_some shape.keys columns

@@ -8,6 +8,8 @@
 #![tactic(auto)]
 
 mod catalogue;
+mod days;
+mod decimal;
 mod list;
 mod numbers;
 mod setting;
@@ -18,6 +20,8 @@ pub use catalogue::column::{Column, Kind};
 pub use catalogue::index::{Index, IndexShape};
 pub use catalogue::rates::Rates;
 pub use catalogue::table::Table;
+pub use days::day_of;
+pub use decimal::push_decimal;
 pub use list::{Bytes, List, Name};
 pub use numbers::{NoMemory, binary_digits, times_part};
 pub use setting::{Config, Setting};

@@ -5,7 +5,7 @@ use crate::catalogue::Catalogue;
 use crate::catalogue::index::IndexShape;
 use crate::workload::Statement;
 
-/// A set of candidates: `on[a]` stands for candidate `a + 1`.
+/// A set of candidates, a flag for each; candidates are counted from 1, flags from 0.
 #[derive(Clone, Copy, Debug)]
 pub struct Config {
     pub on: [bool; 256],

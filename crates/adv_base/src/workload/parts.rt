@@ -13,7 +13,8 @@ pub struct Edge {
     pub ghost apart: { left ≢ right },
 }
 
-/// An item of an order: a column upwards, a column downwards, or an ORDER BY item that is no column, by its number.
+/// An item of an order: a column in ascending or in descending direction, or the number of an ORDER BY item that isn't
+/// a column.
 #[derive(Clone, Copy, Debug, PartialEq, Eq)]
 pub enum Item {
     Up { slot: u8, column: u16 },

@@ -1,0 +1,3 @@
+pub mod Faults
+pub mod Shelf
+pub mod Sink

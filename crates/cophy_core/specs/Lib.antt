@@ -1,0 +1,2 @@
+pub mod FirstText
+pub mod FirstBlock

@@ -1,0 +1,2 @@
+-- The limits that the types keep.
+pub mod Tasks

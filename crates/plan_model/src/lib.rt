@@ -1,0 +1,20 @@
+//! Plans over the slots of a block: what they are, which are valid, what they cost, and which cost least.
+//!
+//! A task is what a planner needs of a block: its slots, edges, rows of each set of slots, and the lists by which it
+//! groups and orders. A table of offers gives each slot the ways to read it, each with an order and a price in
+//! thousandths of a sequential page read. Plans are trees in the manner of System R's and INUM's: leaves, sorts, merge
+//! and hash joins, bushy ones too; a whole plan adds a group step and a final sort. `specs/` says which plans are valid,
+//! what they cost, and what a least plan, the task of a block, and the cost of a workload are. Nothing here searches.
+#![tactic(auto)]
+
+mod edge;
+mod offers;
+mod plan;
+mod task;
+mod template;
+
+pub use edge::TaskEdge;
+pub use offers::Offers;
+pub use plan::{GroupStep, Plan, Whole};
+pub use task::Task;
+pub use template::Template;
