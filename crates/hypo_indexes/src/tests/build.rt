@@ -1,5 +1,6 @@
 //! Catalogues and shapes for tests.
 ghost use Rattle.std.specs.Prelude.{◌≡◌, ℕ, ◌<◌, ◌≤◌, IsTrue, IfSome, All, length, IfOk};
+ghost use Rattle.adv_base.specs.Lookups.{column_count as columns_of_table};
 ghost use Rattle.adv_base.specs.Named.{NamesShape};
 
 use crate::index_pages;
@@ -110,14 +111,24 @@ pub fn shapes(alloc: Global, count: u16) -> Result<Vec<IndexShape>, AllocError> 
     Ok(made)
 }
 
-/// Whether a key is a column of the table of a number.
+/// How many columns the table of a number has.
+fn column_count(cat: &Catalogue, table: u16) -> usize
+    ensures { result ≡ columns_of_table cat.now table }
+{
+    match cat.tables.items.get(table as usize) {
+        None => 0,
+        Some(table) => table.columns.len(),
+    }
+}
+
+/// Whether each key of a shape is a column of its table.
 fn names_keys(cat: &Catalogue, shape: &IndexShape) -> bool
     ensures { IsTrue result → NamesShape cat.now shape.now }
 {
-    let Some(table) = cat.tables.items.get(shape.table as usize) else {
+    if shape.table as usize >= cat.tables.len() {
         return false;
-    };
-    let count = table.columns.len();
+    }
+    let count = column_count(cat, shape.table);
     for key in shape.keys.items.iter() {
         if *key as usize >= count {
             return false;
