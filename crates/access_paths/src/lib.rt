@@ -4,6 +4,9 @@
 //! has a price, in thousandths of a sequential page read, and an order that it delivers, as System R's access paths.
 #![tactic(auto)]
 
+mod block_task;
 mod matching;
 mod predicates;
 mod price;
+
+pub use block_task::task;

@@ -121,15 +121,11 @@ fn column_count(cat: &Catalogue, table: u16) -> usize
     }
 }
 
-/// Whether each key of a shape is a column of its table.
-fn names_keys(cat: &Catalogue, shape: &IndexShape) -> bool
-    ensures { IsTrue result → NamesShape cat.now shape.now }
+/// Whether each key is below a count.
+fn are_below(keys: &[u16], count: usize) -> bool
+    ensures { IsTrue result → All (λ key. key < count) keys.now }
 {
-    if shape.table as usize >= cat.tables.len() {
-        return false;
-    }
-    let count = column_count(cat, shape.table);
-    for key in shape.keys.items.iter() {
+    for key in keys {
         if *key as usize >= count {
             return false;
         }
@@ -137,12 +133,20 @@ fn names_keys(cat: &Catalogue, shape: &IndexShape) -> bool
     true
 }
 
+/// Whether the catalogue has the table of a shape and the columns of its keys.
+fn names_shape(cat: &Catalogue, shape: &IndexShape) -> bool
+    ensures { IsTrue result → NamesShape cat.now shape.now }
+{
+    let count = column_count(cat, shape.table);
+    (shape.table as usize) < cat.tables.len() && are_below(shape.keys.as_slice(), count)
+}
+
 /// Whether the catalogue has what the shapes name.
 pub fn names_shapes(cat: &Catalogue, shapes: &[IndexShape]) -> bool
     ensures { IsTrue result → All (NamesShape cat.now) shapes.now }
 {
     for shape in shapes {
-        if !names_keys(cat, shape) {
+        if !names_shape(cat, shape) {
             return false;
         }
     }
