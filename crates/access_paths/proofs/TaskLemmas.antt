@@ -51,7 +51,7 @@ unbound_item false item = λ i is. cc
 
 -- an edge of the block, with its needs
 edge_limits : (cat : Catalogue) (block : Block) (edge : Edge) → edge.left < length block.slots → edge.right < length block.slots → NamesEdge cat block edge →
-  EdgeLimits (length block.slots) (task_edge block edge)
+    EdgeLimits (length block.slots) (task_edge block edge)
 edge_limits cat block edge left right named = record {
   left_slot = left;
   right_slot = right;
@@ -59,7 +59,7 @@ edge_limits cat block edge left right named = record {
   left_number = let most : slot_columns cat block edge.left ≤ 200 = slot_columns-most cat block edge.left in omega (arith, named.left);
   right_number = let most : slot_columns cat block edge.right ≤ 200 = slot_columns-most cat block edge.right in omega (arith, named.right);
   left_item = unbound_item _ (Up edge.left edge.left_column);
-  right_item = unbound_item _ (Up edge.right edge.right_column)
+  right_item = unbound_item _ (Up edge.right edge.right_column);
 }
 
 same_ends : (block : Block) (edges : List Edge) → map ends (map (task_edge block) edges) ≡ map block_ends edges
@@ -68,8 +68,8 @@ same_ends block (edge ∷ edges) = ap (λ (rest : List (ℕ × ℕ)). (edge.left
 
 -- the task of a block keeps a task's limits
 pub task_limits : (cat : Catalogue) (block : Block) → NamesBlock cat block → (rows : List ℕ) → HoldsRows cat block (2 ^ length block.slots) rows →
-  (groups : ℕ) → RowLimits groups →
-  TaskLimits (length block.slots) (map (task_edge block) block.edges) rows block.group groups block.order
+    (groups : ℕ) → RowLimits groups →
+    TaskLimits (length block.slots) (map (task_edge block) block.edges) rows block.group groups block.order
 task_limits cat block named rows holds groups are = record {
   slots_some = block.limits.slots_some;
   slots_most = block.limits.slots_most;
@@ -83,7 +83,7 @@ task_limits cat block named rows holds groups are = record {
   group_list = block.limits.group_list;
   group_numbers = group_numbered cat block block.group named.group;
   order_list = block.limits.order_list;
-  order_numbers = items_numbered cat block block.order named.order
+  order_numbers = items_numbered cat block block.order named.order;
 }
 
 -- a table of rows as a list over all sets
@@ -91,6 +91,6 @@ pub rows_listed : (cat : Catalogue) (block : Block) (sets : ℕ) (rows : List �
 rows_listed cat block sets rows holds =
     let long : length (map (set_rows cat block) (range_with_len 0 sets)) ≡ sets = length-map-range_with_len (set_rows cat block) 0 sets in
     same_number_lists rows (map (set_rows cat block) (range_with_len 0 sets)) (holds.count ∙ sym long)
-      (λ k within. let below : k < sets = omega (arith, holds.count) in
-        let at : 0 + k ≡ k = omega arith in
-        holds.exact k below ∙ sym (get_or-map-range_with_len (set_rows cat block) 0 sets k k 0 below at))
+    (λ k within. let below : k < sets = omega (arith, holds.count) in
+    let at : 0 + k ≡ k = omega arith in
+    holds.exact k below ∙ sym (get_or-map-range_with_len (set_rows cat block) 0 sets k k 0 below at))

@@ -6,7 +6,10 @@
 
 mod block_task;
 mod matching;
+mod orders;
 mod predicates;
 mod price;
+mod reader;
+mod slot_offer;
 
 pub use block_task::task;

@@ -13,9 +13,11 @@ invariant_of-result c =
     let block : Block = c.args.block.now in
     let holds : HoldsRows cat block (2 ^ length block.slots) c.in_ok-rows.rows.of = c.in_ok-rows.ensures in
     let are : RowLimits c.rows_of_groups-group_rows.result =
-        record { some = c.rows_of_groups-group_rows.ensures.least; most = c.rows_of_groups-group_rows.ensures.most } in
-    record { limits = rw (c.len.ensures, c.in_ok-edges.ensures, c.in_ok-group.ensures, c.in_ok-order.ensures)
-        (task_limits cat block c.requires c.in_ok-rows.rows.of holds c.rows_of_groups-group_rows.result are) }
+    record { some = c.rows_of_groups-group_rows.ensures.least; most = c.rows_of_groups-group_rows.ensures.most } in
+    record {
+      limits = rw (c.len.ensures, c.in_ok-edges.ensures, c.in_ok-group.ensures, c.in_ok-order.ensures)
+          (task_limits cat block c.requires c.in_ok-rows.rows.of holds c.rows_of_groups-group_rows.result are);
+    }
 
 pub returns : goal.returns
 returns c =
@@ -28,5 +30,5 @@ returns c =
       group_is = c.in_ok-group.ensures;
       group_rows_are = c.rows_of_groups-group_rows.ensures.exact;
       order_is = c.in_ok-order.ensures;
-      rates_are = refl
+      rates_are = refl;
     }
