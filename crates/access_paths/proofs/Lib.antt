@@ -1,2 +1,3 @@
 pub mod MatchLemmas
 pub mod TaskLemmas
+pub mod OrderLemmas

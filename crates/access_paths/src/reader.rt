@@ -1,5 +1,6 @@
 //! The ways to read one slot.
-ghost use Rattle.std.specs.Prelude.{◌≡◌, ◌<◌, false, IsTrue, slice_index_or};
+ghost use Rattle.std.specs.Prelude.{◌≡◌, ◌<◌, ◌++◌, ◌∷◌, [], false, IsTrue, OnOk, length, slice_index_or};
+ghost use Rattle.adv_base.specs.Lookups.{column_count};
 ghost use Rattle.adv_base.specs.Named.{NamesBlock};
 
 use crate::orders::index_order;
@@ -17,6 +18,7 @@ pub struct Reader<'a> {
     pub source: &'a Slot,
     pub table: &'a Table,
     pub ghost named: { NamesBlock cat.now block.now },
+    pub ghost columns_are: { column_count cat.now source.now.table ≡ length table.now.columns },
 }
 
 /// Whether a configuration has the candidate of a place, counted from 0.
@@ -27,12 +29,21 @@ fn has_candidate(config: &Config, place: usize) -> bool
     place < 256 && config.on[place]
 }
 
+/// Puts an offer at the end.
+fn put(offers: &mut Vec<SlotOffer>, offer: SlotOffer) -> Result<(), NoMemory>
+    ensures { OnOk result (offers.new.items ≡ offers.old.items ++ offer ∷ []) }
+{
+    offers.push(offer).map_err(|_| NoMemory)
+}
+
 impl<'a> Reader<'a> {
-    ghost use Rattle.std.specs.Prelude.{◌≡◌, ◌<◌, [], All, IfOk, length};
+    ghost use Rattle.std.specs.Prelude.{◌≡◌, ◌<◌, ◌+◌, ◌++◌, ◌∷◌, [], All, IfOk, if◌then◌else◌, map};
     ghost use Rattle.adv_base.specs.Access.{table_price as price_of_table};
     ghost use Rattle.adv_base.specs.Offers.{index_offer as offer_of_index};
     ghost use Rattle.plan_model.specs.OfferTables.{OfferLimits};
-    ghost use Rattle.access_paths.specs.SlotOffers.{offer_of};
+    ghost use Rattle.adv_base.specs.Named.{NamesShape};
+    ghost use Rattle.access_paths.specs.Readers.{existing_pairs, pair_of, indexes_of, is_taken};
+    ghost use Rattle.access_paths.specs.SlotOffers.{offer_of, pairs_of, numbers_of, KeepLimits};
 
     /// Reading the whole table, in no order.
     fn table_offer(&self, alloc: Global) -> SlotOffer
@@ -76,6 +87,45 @@ impl<'a> Reader<'a> {
                 order: List { items },
                 candidate,
             }),
+        }
+    }
+
+    /// Reading the table, and then through each of its indexes.
+    fn existing_offers(&self, alloc: Global) -> Result<Vec<SlotOffer>, NoMemory>
+        ensures pairs { IfOk result (λ os. pairs_of os.items ≡ existing_pairs self.now) }
+        ensures numbers { IfOk result (λ os. numbers_of os.items ≡ None ∷ map (λ index. None) (indexes_of self.now)) }
+        ensures limits { IfOk result (λ os. KeepLimits self.now.slot os.items) }
+    {
+        let mut offers = Vec::new(alloc);
+        put(&mut offers, self.table_offer(alloc))?;
+        let table = self.table;
+        for index in table.indexes.items.iter() {
+            let offer = self.index_offer(alloc, &index.shape, None)?;
+            put(&mut offers, offer)?;
+        }
+        Ok(offers)
+    }
+
+    /// Adds reading through the candidate of a place, counted from 0, where the configuration has it and it is on the
+    /// slot's table.
+    fn add_candidate(
+        &self,
+        alloc: Global,
+        offers: &mut Vec<SlotOffer>,
+        shape: &IndexShape,
+        config: &Config,
+        place: usize,
+    ) -> Result<(), NoMemory>
+        requires { NamesShape self.now.cat.now shape.now }
+        ensures pairs { OnOk result (pairs_of offers.new.items ≡ pairs_of offers.old.items ++ (if is_taken self.now config.now place shape.now then pair_of self.now shape.now ∷ [] else [])) }
+        ensures numbers { OnOk result (numbers_of offers.new.items ≡ numbers_of offers.old.items ++ (if is_taken self.now config.now place shape.now then Some (place + 1) ∷ [] else [])) }
+        ensures limits { OnOk result (KeepLimits self.now.slot offers.old.items → KeepLimits self.now.slot offers.new.items) }
+    {
+        if has_candidate(config, place) && shape.table == self.source.table {
+            let offer = self.index_offer(alloc, shape, Some(place as u16 + 1))?;
+            put(offers, offer)
+        } else {
+            Ok(())
         }
     }
 }
