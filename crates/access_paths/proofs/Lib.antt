@@ -1,3 +1,4 @@
 pub mod MatchLemmas
 pub mod TaskLemmas
 pub mod OrderLemmas
+pub mod ReaderLemmas

@@ -42,7 +42,7 @@ impl<'a> Reader<'a> {
     ghost use Rattle.adv_base.specs.Offers.{index_offer as offer_of_index};
     ghost use Rattle.plan_model.specs.OfferTables.{OfferLimits};
     ghost use Rattle.adv_base.specs.Named.{NamesShape};
-    ghost use Rattle.access_paths.specs.Readers.{existing_pairs, pair_of, indexes_of, is_taken};
+    ghost use Rattle.access_paths.specs.Readers.{all_numbers, all_pairs, existing_pairs, pair_of, indexes_of, is_taken};
     ghost use Rattle.access_paths.specs.SlotOffers.{offer_of, pairs_of, numbers_of, KeepLimits};
 
     /// Reading the whole table, in no order.
@@ -127,5 +127,24 @@ impl<'a> Reader<'a> {
         } else {
             Ok(())
         }
+    }
+
+    /// Reading the table, through each of its indexes, and through each of the configuration's candidates on it.
+    pub fn offers(
+        &self,
+        alloc: Global,
+        shapes: &[IndexShape],
+        config: &Config,
+    ) -> Result<Vec<SlotOffer>, NoMemory>
+        requires { All (NamesShape self.now.cat.now) shapes.now }
+        ensures pairs { IfOk result (λ os. pairs_of os.items ≡ all_pairs self.now config.now.on shapes.now) }
+        ensures numbers { IfOk result (λ os. numbers_of os.items ≡ all_numbers self.now config.now.on shapes.now) }
+        ensures limits { IfOk result (λ os. KeepLimits self.now.slot os.items) }
+    {
+        let mut offers = self.existing_offers(alloc)?;
+        for (place, shape) in shapes.iter().enumerate() {
+            self.add_candidate(alloc, &mut offers, shape, config, place)?;
+        }
+        Ok(offers)
     }
 }
