@@ -1,7 +1,8 @@
 -- The candidates of a configuration, one place after the other.
 use Rattle.std.proofs.Common.{◌≡◌, ℕ, suc, ◌+◌, ◌<◌, ◌≤◌, List, [], ◌∷◌, ◌++◌, length, drop, get_or, map, refl, sym, ◌∙◌, ap, arith, append_assoc, drop-cons, ◌⊎◌, inl, inr}
-use Rattle.std.specs.Prelude.{Bool, true, false, ◌==◌, ◌&&◌, filter, if◌then◌else◌, Option, Some}
+use Rattle.std.specs.Prelude.{Bool, true, false, ◌==◌, ◌&&◌, filter, nat_lt, min, if◌then◌else◌, Option, Some}
 use Rattle.std.proofs.lemmas.Bool.{cases_lt}
+use Rattle.std.proofs.lemmas.Bool.Decides.{nat_tests}
 use Rattle.std.proofs.Math.ListN.{get_or-eq_default}
 use Rattle.std.proofs.lemmas.List.{drop_all, map-append}
 use Rattle.adv_base.specs.declared.catalogue.index.IndexShape.{IndexShape}
@@ -86,3 +87,17 @@ shapes_on-past t flags xs i past = rw (drop_all i xs past) (no_shapes t (drop i 
 
 pub numbers_on-past : (t n : ℕ) (flags : List Bool) (xs : List IndexShape) (i : ℕ) → length xs ≤ i → numbers_on t n (drop i flags) (drop i xs) ≡ []
 numbers_on-past t n flags xs i past = rw (drop_all i xs past) (no_numbers t n (drop i flags))
+
+-- one more for a place below 256
+pub few_more : (old new indexes place : ℕ) → new ≤ old + (if nat_lt place 256 then 1 else 0) → old ≤ 1 + (indexes + min place 256) →
+    new ≤ 1 + (indexes + min (place + 1) 256)
+few_more old new indexes place one before =
+    elim (cases_lt place 256) [
+      | inl below ↦ let is : nat_lt place 256 ≡ true = grind (arith, nat_tests) in
+          let one' : new ≤ old + 1 = rw is at one in omega arith
+      | inr past ↦ let is : nat_lt place 256 ≡ false = grind (arith, nat_tests) in
+          let one' : new ≤ old + 0 = rw is at one in omega arith
+    ]
+
+pub few_all : (all indexes place : ℕ) → all ≤ 1 + (indexes + min place 256) → all ≤ 1 + (indexes + 256)
+few_all all indexes place most = omega arith

@@ -5,11 +5,15 @@
 #![tactic(auto)]
 
 mod block_task;
+mod config_offers;
 mod matching;
 mod orders;
 mod predicates;
 mod price;
 mod reader;
+mod slot_access;
 mod slot_offer;
+mod slot_offers;
 
 pub use block_task::task;
+pub use config_offers::ConfigOffers;

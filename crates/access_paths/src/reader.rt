@@ -1,5 +1,5 @@
 //! The ways to read one slot.
-ghost use Rattle.std.specs.Prelude.{◌≡◌, ◌<◌, ◌++◌, ◌∷◌, [], false, IsTrue, OnOk, length, slice_index_or};
+ghost use Rattle.std.specs.Prelude.{◌≡◌, ◌<◌, ◌≤◌, ◌++◌, ◌∷◌, [], false, IsTrue, OnOk, length, slice_index_or};
 ghost use Rattle.adv_base.specs.Lookups.{column_count};
 ghost use Rattle.adv_base.specs.Named.{NamesBlock};
 
@@ -37,7 +37,7 @@ fn put(offers: &mut Vec<SlotOffer>, offer: SlotOffer) -> Result<(), NoMemory>
 }
 
 impl<'a> Reader<'a> {
-    ghost use Rattle.std.specs.Prelude.{◌≡◌, ◌<◌, ◌+◌, ◌++◌, ◌∷◌, [], All, IfOk, if◌then◌else◌, map};
+    ghost use Rattle.std.specs.Prelude.{◌≡◌, ◌<◌, ◌+◌, ◌++◌, ◌∷◌, [], All, IfOk, nat_lt, if◌then◌else◌, map};
     ghost use Rattle.adv_base.specs.Access.{table_price as price_of_table};
     ghost use Rattle.adv_base.specs.Offers.{index_offer as offer_of_index};
     ghost use Rattle.plan_model.specs.OfferTables.{OfferLimits};
@@ -95,6 +95,7 @@ impl<'a> Reader<'a> {
         ensures pairs { IfOk result (λ os. pairs_of os.items ≡ existing_pairs self.now) }
         ensures numbers { IfOk result (λ os. numbers_of os.items ≡ None ∷ map (λ index. None) (indexes_of self.now)) }
         ensures limits { IfOk result (λ os. KeepLimits self.now.slot os.items) }
+        ensures few { IfOk result (λ os. length os.items ≡ 1 + length (indexes_of self.now)) }
     {
         let mut offers = Vec::new(alloc);
         put(&mut offers, self.table_offer(alloc))?;
@@ -120,6 +121,7 @@ impl<'a> Reader<'a> {
         ensures pairs { OnOk result (pairs_of offers.new.items ≡ pairs_of offers.old.items ++ (if is_taken self.now config.now place shape.now then pair_of self.now shape.now ∷ [] else [])) }
         ensures numbers { OnOk result (numbers_of offers.new.items ≡ numbers_of offers.old.items ++ (if is_taken self.now config.now place shape.now then Some (place + 1) ∷ [] else [])) }
         ensures limits { OnOk result (KeepLimits self.now.slot offers.old.items → KeepLimits self.now.slot offers.new.items) }
+        ensures few { OnOk result (length offers.new.items ≤ length offers.old.items + (if nat_lt place 256 then 1 else 0)) }
     {
         if has_candidate(config, place) && shape.table == self.source.table {
             let offer = self.index_offer(alloc, shape, Some(place as u16 + 1))?;
@@ -140,6 +142,7 @@ impl<'a> Reader<'a> {
         ensures pairs { IfOk result (λ os. pairs_of os.items ≡ all_pairs self.now config.now.on shapes.now) }
         ensures numbers { IfOk result (λ os. numbers_of os.items ≡ all_numbers self.now config.now.on shapes.now) }
         ensures limits { IfOk result (λ os. KeepLimits self.now.slot os.items) }
+        ensures few { IfOk result (λ os. length os.items ≤ 1 + (length (indexes_of self.now) + 256)) }
     {
         let mut offers = self.existing_offers(alloc)?;
         for (place, shape) in shapes.iter().enumerate() {

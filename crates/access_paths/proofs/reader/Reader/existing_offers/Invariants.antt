@@ -1,4 +1,4 @@
-use Rattle.std.proofs.Common.{◌≡◌, ◌∷◌, [], map, take}
+use Rattle.std.proofs.Common.{◌≡◌, ◌∷◌, [], ◌+◌, length, map, take}
 use Rattle.std.specs.Prelude.{None}
 use Rattle.adv_base.specs.Access.{table_price}
 use Rattle.access_paths.specs.Readers.{pair_of}

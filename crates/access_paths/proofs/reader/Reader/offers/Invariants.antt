@@ -1,7 +1,7 @@
-use Rattle.std.proofs.Common.{◌≡◌, ◌+◌, ◌++◌, map, drop}
+use Rattle.std.proofs.Common.{◌≡◌, ◌+◌, ◌++◌, ◌≤◌, length, min, map, drop}
 use Rattle.std.specs.Prelude.{Some}
 use Rattle.access_paths.specs.Candidates.{numbers_on}
-use Rattle.access_paths.specs.Readers.{all_numbers, all_pairs, pair_of}
+use Rattle.access_paths.specs.Readers.{all_numbers, all_pairs, pair_of, indexes_of}
 use Rattle.access_paths.specs.SlotOffers.{pairs_of, numbers_of, KeepLimits}
 use Rattle.access_paths.proofs.ReaderLemmas.{shapes_on}
 use Rattle.access_paths.proofs.reader.Reader.offers.Given as goal
@@ -13,4 +13,5 @@ invariant-loop-place l = record {
   numbers : numbers_of l.offers.items ++ map Some (numbers_on l.self.source.now.table (l.place + 1) (drop l.place l.config.on) (drop l.place l.shapes))
       ≡ all_numbers l.self l.config.on l.shapes;
   limits : KeepLimits l.self.slot l.offers.items;
+  few : length l.offers.items ≤ 1 + (length (indexes_of l.self) + min l.place 256);
 }
