@@ -1,7 +1,9 @@
 -- The offers of a slot, from its source and its table.
 use Rattle.std.proofs.Common.{◌≡◌, ℕ, ◌+◌, ◌<◌, ◌≤◌, List, [], ◌∷◌, ◌++◌, length, get_or, map, refl, sym, ◌∙◌, ap, arith}
-use Rattle.std.specs.Prelude.{◌==◌, filter, slice_get, sum_by, Option, Some, None, option_and_then}
+use Rattle.std.specs.Option.{option_map_or}
+use Rattle.std.specs.Prelude.{All, ◌==◌, filter, slice_get, sum_by, Option, Some, None, option_and_then}
 use Rattle.std.proofs.lemmas.List.{map-append}
+use Rattle.std.proofs.lemmas.List.Elements.{All-map, All-nil}
 use Rattle.std.proofs.lemmas.List.Sums.{get_or-le-sum_by}
 use Rattle.std.proofs.lemmas.Option.{slice_get_within, get_or_from_slice_get}
 use Rattle.adv_base.specs.declared.catalogue.Catalogue.{Catalogue}
@@ -14,7 +16,11 @@ use Rattle.adv_base.specs.Access.{table_price}
 use Rattle.adv_base.specs.Configs.{chosen}
 use Rattle.adv_base.specs.Lookups.{table_at, slot_table}
 use Rattle.adv_base.specs.Offers.{Offer, offers, index_offer}
+use Rattle.plan_model.specs.OfferTables.{OfferLimits, OfferTableLimits}
+use Rattle.access_paths.specs.declared.slot_offers.SlotOffers.{SlotOffers}
 use Rattle.access_paths.specs.Candidates.{numbers_on, offer_candidates}
+use Rattle.access_paths.specs.ConfigOffers.{AreInPlace, table_of, candidates_in_table}
+use Rattle.access_paths.specs.SlotOffers.{offer_of, pairs_of}
 
 -- the table that a slot's source names
 pub source_table : (cat : Catalogue) (block : Block) (s : ℕ) (source : Slot) (table : Table) →
@@ -60,3 +66,15 @@ offers_past cat block shapes config s none = rw none refl
 pub candidates_past : (cat : Catalogue) (block : Block) (shapes : List IndexShape) (config : Config) (s : ℕ) → slice_get block.slots s ≡ None → offer_candidates cat block shapes config s ≡ []
 unfolding offer_candidates
 candidates_past cat block shapes config s none = rw none refl
+
+limits_at : (slots : List SlotOffers) → AreInPlace slots → (s : ℕ) (o : Option SlotOffers) → slice_get slots s ≡ o →
+  All (OfferLimits s) (option_map_or (λ x. pairs_of x.offers.items) o [])
+limits_at slots in_place s (Some x) is =
+    let place : x.slot ≡ s = in_place.place s x is in
+    let kept : All (λ o. OfferLimits x.slot (offer_of o)) x.offers.items = x.limits in
+    rw (← place) (All-map (OfferLimits x.slot) offer_of x.offers.items kept)
+limits_at slots in_place s None is = All-nil (OfferLimits s)
+
+-- each offer that is kept for a slot keeps the limits of that slot's offers
+pub table_limits : (slots : List SlotOffers) → AreInPlace slots → OfferTableLimits (table_of slots)
+table_limits slots in_place = λ s. limits_at slots in_place s (slice_get slots s) refl

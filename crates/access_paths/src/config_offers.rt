@@ -1,4 +1,5 @@
 //! The offers of a block under a configuration.
+ghost use Rattle.std.specs.Prelude.{◌≡◌, ◌++◌, ◌∷◌, [], OnOk};
 ghost use Rattle.access_paths.specs.ConfigOffers.{AreInPlace};
 
 use crate::slot_access::slot_offers;
@@ -16,8 +17,15 @@ pub struct ConfigOffers {
     pub ghost in_place: { AreInPlace slots.items },
 }
 
+/// Puts the offers of the next slot at the end.
+fn put(slots: &mut Vec<SlotOffers>, offers: SlotOffers) -> Result<(), NoMemory>
+    ensures { OnOk result (slots.new.items ≡ slots.old.items ++ offers ∷ []) }
+{
+    slots.push(offers).map_err(|_| NoMemory)
+}
+
 impl ConfigOffers {
-    ghost use Rattle.std.specs.Prelude.{◌≡◌, ℕ, ◌<◌, All, IfOk, length, slice_get, Some};
+    ghost use Rattle.std.specs.Prelude.{◌<◌, All, IfOk, Some, length, slice_get};
     ghost use Rattle.adv_base.specs.Configs.{IsConfigOf};
     ghost use Rattle.adv_base.specs.Named.{NamesBlock, NamesShape};
     ghost use Rattle.adv_base.specs.Offers.{offers};
@@ -43,7 +51,7 @@ impl ConfigOffers {
         let count = block.slots.len() as u8;
         for slot in 0..count {
             let offers = slot_offers(alloc, cat, block, slot, shapes, config)?;
-            slots.push(offers).map_err(|_| NoMemory)?;
+            put(&mut slots, offers)?;
         }
         Ok(ConfigOffers { slots })
     }
