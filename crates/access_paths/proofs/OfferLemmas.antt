@@ -68,7 +68,7 @@ unfolding offer_candidates
 candidates_past cat block shapes config s none = rw none refl
 
 limits_at : (slots : List SlotOffers) → AreInPlace slots → (s : ℕ) (o : Option SlotOffers) → slice_get slots s ≡ o →
-  All (OfferLimits s) (option_map_or (λ x. pairs_of x.offers.items) o [])
+    All (OfferLimits s) (option_map_or (λ x. pairs_of x.offers.items) o [])
 limits_at slots in_place s (Some x) is =
     let place : x.slot ≡ s = in_place.place s x is in
     let kept : All (λ o. OfferLimits x.slot (offer_of o)) x.offers.items = x.limits in

@@ -26,7 +26,6 @@ fn put(slots: &mut Vec<SlotOffers>, offers: SlotOffers) -> Result<(), NoMemory>
 
 impl ConfigOffers {
     ghost use Rattle.std.specs.Prelude.{◌<◌, All, IfOk, Some, length, slice_get};
-    ghost use Rattle.adv_base.specs.Configs.{IsConfigOf};
     ghost use Rattle.adv_base.specs.Named.{NamesBlock, NamesShape};
     ghost use Rattle.adv_base.specs.Offers.{offers};
     ghost use Rattle.access_paths.specs.Candidates.{offer_candidates};
@@ -43,7 +42,6 @@ impl ConfigOffers {
     ) -> Result<ConfigOffers, NoMemory>
         requires named { NamesBlock cat.now block.now }
         requires shapes_named { All (NamesShape cat.now) shapes.now }
-        requires config_of { IsConfigOf shapes.now config.now }
         ensures offers_are { IfOk result (λ o. table_of o.slots.items ≡ offers cat.now block.now shapes.now config.now) }
         ensures candidates_are { IfOk result (λ o. candidates_in_table o.slots.items ≡ offer_candidates cat.now block.now shapes.now config.now) }
     {

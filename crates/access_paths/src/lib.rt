@@ -14,6 +14,8 @@ mod reader;
 mod slot_access;
 mod slot_offer;
 mod slot_offers;
+#[cfg(test)]
+mod tests;
 
 pub use block_task::task;
 pub use config_offers::ConfigOffers;
