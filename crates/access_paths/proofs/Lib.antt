@@ -1,0 +1,5 @@
+pub mod MatchLemmas
+pub mod TaskLemmas
+pub mod OrderLemmas
+pub mod ReaderLemmas
+pub mod OfferLemmas

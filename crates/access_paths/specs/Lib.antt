@@ -1,0 +1,4 @@
+pub mod Candidates
+pub mod SlotOffers
+pub mod Readers
+pub mod ConfigOffers

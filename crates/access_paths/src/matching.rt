@@ -1,0 +1,93 @@
+//! What an index matches of a slot's predicates.
+ghost use Rattle.std.specs.Prelude.{◌≡◌, ◌<◌, ◌≤◌, ◌==◌, length, Contains, map, fold, if◌then◌else◌, Bool};
+ghost use Rattle.adv_base.specs.Access.{point_keys, matched_part as part_matched};
+ghost use Rattle.adv_base.specs.Named.{NamesBlock};
+ghost use Rattle.adv_base.specs.Parts.{pred_part};
+ghost use Rattle.adv_base.specs.Predicates.{is_point, is_range, preds_on};
+ghost use Rattle.adv_base.specs.Sums.{times_part as part_of_number};
+
+use crate::predicates::{has_point, is_point_on, is_range_on};
+use adv_base::{Block, Catalogue, Pred, times_part};
+use cardinality::part_of;
+
+/// All entries of an index.
+const ALL: u64 = 1000000000;
+
+/// How many leading keys have a predicate that gives their column one or some literals.
+fn point_key_count(block: &Block, slot: u8, keys: &[u16]) -> usize
+    ensures { result ≡ length (point_keys block.now slot keys.now) }
+{
+    keys.iter()
+        .take_while(|key| has_point(block, slot, **key))
+        .count()
+}
+
+/// A part taken through that of one more predicate, which counts where it is matched.
+fn part_after(cat: &Catalogue, block: &Block, pred: &Pred, matched: bool, part: u64) -> u64
+    requires named { NamesBlock cat.now block.now }
+    requires own { Contains block.now.preds pred.now }
+    requires some { 1 ≤ part }
+    requires most { part ≤ 1000000000 }
+    ensures exact { result ≡ (if matched then part_of_number part (pred_part cat.now block.now pred.now) else part) }
+    ensures least { 1 ≤ result }
+    ensures most_after { result ≤ 1000000000 }
+{
+    if matched {
+        times_part(part, part_of(cat, block, pred))
+    } else {
+        part
+    }
+}
+
+/// A part taken through those of the predicates that give a column one or some literals.
+fn through_points(cat: &Catalogue, block: &Block, slot: u8, column: u16, start: u64) -> u64
+    requires named { NamesBlock cat.now block.now }
+    requires some { 1 ≤ start }
+    requires most { start ≤ 1000000000 }
+    ensures exact { result ≡ fold part_of_number start (map (pred_part cat.now block.now) (preds_on is_point block.now.preds slot column)) }
+    ensures least { 1 ≤ result }
+    ensures most_after { result ≤ 1000000000 }
+{
+    let mut part = start;
+    for pred in block.preds.items.iter() {
+        part = part_after(cat, block, pred, is_point_on(pred, slot, column), part);
+    }
+    part
+}
+
+/// A part taken through those of the predicates that ask for a range of a column.
+fn through_ranges(cat: &Catalogue, block: &Block, slot: u8, column: u16, start: u64) -> u64
+    requires named { NamesBlock cat.now block.now }
+    requires some { 1 ≤ start }
+    requires most { start ≤ 1000000000 }
+    ensures exact { result ≡ fold part_of_number start (map (pred_part cat.now block.now) (preds_on is_range block.now.preds slot column)) }
+    ensures least { 1 ≤ result }
+    ensures most_after { result ≤ 1000000000 }
+{
+    let mut part = start;
+    for pred in block.preds.items.iter() {
+        part = part_after(cat, block, pred, is_range_on(pred, slot, column), part);
+    }
+    part
+}
+
+/// The part of an index's entries that a slot's predicates match, of 10^9. The leading keys are taken as far as each has
+/// a predicate that gives its column one or some literals: these predicates match, and at the next key those that ask
+/// for a range. Their parts are taken one after the other, by keys and then as written.
+pub fn matched_part(cat: &Catalogue, block: &Block, slot: u8, keys: &[u16]) -> u64
+    requires { NamesBlock cat.now block.now }
+    ensures exact { result ≡ part_matched cat.now block.now slot keys.now }
+    ensures least { 1 ≤ result }
+    ensures most { result ≤ 1000000000 }
+{
+    let points = point_key_count(block, slot, keys);
+    let mut part = ALL;
+    for key in &keys[..points] {
+        part = through_points(cat, block, slot, *key, part);
+    }
+    if points < keys.len() {
+        through_ranges(cat, block, slot, keys[points], part)
+    } else {
+        part
+    }
+}

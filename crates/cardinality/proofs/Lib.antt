@@ -1,0 +1,4 @@
+pub mod CallerLemmas
+pub mod Folds
+pub mod RowLemmas
+pub mod TableLemmas

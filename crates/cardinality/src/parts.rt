@@ -1,0 +1,165 @@
+//! Selectivities, as parts of 10^9.
+ghost use Rattle.std.specs.Prelude.{◌≡◌, ℕ, ◌<◌, ◌≤◌, ◌*◌, length, Contains, slice_get, Some, MatchOption};
+ghost use Rattle.std.specs.Option.{ForSome};
+ghost use Rattle.adv_base.specs.Sums.{clamped_part as part_of_quotient, height as height_of};
+ghost use Rattle.adv_base.specs.Lookups.{slot_distinct, slot_columns, table_distinct};
+ghost use Rattle.adv_base.specs.declared.workload.predicate.Test.TheVariants.{Same, OneOf};
+ghost use Rattle.adv_base.specs.Named.{NamesBlock};
+ghost use Rattle.adv_base.specs.Parts.{equal_part as part_of_equal, tied_part as part_of_tie, above_part as part_above, below_part as part_below, between_part as part_between, test_part as part_of_test, pred_part, edge_part as part_of_edge};
+
+use crate::lookups::{slot_table, table_column};
+use crate::range::Range;
+use crate::sums::{clamped_part, height};
+use adv_base::{Block, Catalogue, Column, Edge, Pred, Table, Test, Value};
+
+/// What `c > v` keeps where the place of `v` isn't known: a third.
+const A_THIRD: u64 = 333333334;
+/// What BETWEEN keeps where a place isn't known: a quarter.
+const A_QUARTER: u64 = 250000000;
+/// What LIKE and IS NULL keep, and an equality without a number of distinct values: a tenth.
+const A_TENTH: u64 = 100000000;
+/// What IN keeps at most: a half.
+const A_HALF: u64 = 500000000;
+/// All rows.
+const ALL: u64 = 1000000000;
+
+/// `c = value`.
+fn equal_part(distinct: Option<u64>) -> u64
+    requires { ForSome distinct (λ d. 1 ≤ d) }
+    ensures exact { result ≡ part_of_equal distinct }
+    ensures least { 1 ≤ result }
+    ensures most { result ≤ 1000000000 }
+{
+    match distinct {
+        None => A_TENTH,
+        Some(count) => clamped_part(ALL as u128, count),
+    }
+}
+
+/// `c1 = c2`.
+fn tied_part(left: Option<u64>, right: Option<u64>) -> u64
+    requires left_some { ForSome left (λ d. 1 ≤ d) }
+    requires right_some { ForSome right (λ d. 1 ≤ d) }
+    ensures exact { result ≡ part_of_tie left right }
+    ensures least { 1 ≤ result }
+    ensures most { result ≤ 1000000000 }
+{
+    let Some(left_count) = left else {
+        return equal_part(right);
+    };
+    let Some(right_count) = right else {
+        return equal_part(left);
+    };
+    equal_part(Some(left_count.max(right_count)))
+}
+
+/// `c > v`.
+fn above_part(column: &Column, value: Value) -> u64
+    ensures exact { result ≡ part_above column.now value }
+    ensures least { 1 ≤ result }
+    ensures most { result ≤ 1000000000 }
+{
+    let Value::Number(number) = value else {
+        return A_THIRD;
+    };
+    match Range::of(column) {
+        None => A_THIRD,
+        Some(range) => range.share(height(range.high, number)),
+    }
+}
+
+/// `c < v`.
+fn below_part(column: &Column, value: Value) -> u64
+    ensures exact { result ≡ part_below column.now value }
+    ensures least { 1 ≤ result }
+    ensures most { result ≤ 1000000000 }
+{
+    let Value::Number(number) = value else {
+        return A_THIRD;
+    };
+    match Range::of(column) {
+        None => A_THIRD,
+        Some(range) => range.share(height(number, range.low)),
+    }
+}
+
+/// `c BETWEEN v AND w`.
+fn between_part(column: &Column, from: Value, to: Value) -> u64
+    ensures exact { result ≡ part_between column.now from to }
+    ensures least { 1 ≤ result }
+    ensures most { result ≤ 1000000000 }
+{
+    let Value::Number(first) = from else {
+        return A_QUARTER;
+    };
+    let Value::Number(last) = to else {
+        return A_QUARTER;
+    };
+    match Range::of(column) {
+        None => A_QUARTER,
+        Some(range) => range.share(height(last.min(range.high), first.max(range.low))),
+    }
+}
+
+/// Any test of a column of the table.
+pub fn test_part(table: &Table, column: &Column, test: Test) -> u64
+    requires same { (other : ℕ) → test ≡ Same other → other < length table.now.columns }
+    requires items { (n : ℕ) → test ≡ OneOf n → 1 ≤ n }
+    ensures exact { result ≡ part_of_test table.now column.now test }
+    ensures least { 1 ≤ result }
+    ensures most { result ≤ 1000000000 }
+{
+    match test {
+        Test::Equal => equal_part(column.distinct),
+        Test::NotEqual => (ALL - equal_part(column.distinct)).max(1),
+        Test::Below(value) => below_part(column, value),
+        Test::Above(value) => above_part(column, value),
+        Test::Between(from, to) => between_part(column, from, to),
+        Test::OneOf(items) => (items as u64 * equal_part(column.distinct)).min(A_HALF),
+        Test::Like => A_TENTH,
+        Test::IsNull => A_TENTH,
+        Test::NotNull => ALL,
+        Test::Same(other) => tied_part(column.distinct, table_column(table, other).distinct),
+    }
+}
+
+/// The part of its slot's rows that a predicate of the block keeps, of 10^9: by the number of distinct values of its
+/// column, or by the share of the column's range that it spans; a fixed part where the statistics don't tell.
+#[tactic(auto, unfolding(adv_base::specs::Parts::pred_part))]
+pub fn part_of(cat: &Catalogue, block: &Block, pred: &Pred) -> u64
+    requires named { NamesBlock cat.now block.now }
+    requires own { Contains block.now.preds pred.now }
+    ensures exact { result ≡ pred_part cat.now block.now pred.now }
+    ensures least { 1 ≤ result }
+    ensures most { result ≤ 1000000000 }
+{
+    let table = slot_table(cat, block, pred.slot);
+    test_part(table, table_column(table, pred.column), pred.test)
+}
+
+/// The number of distinct values of a slot's column, where it is known.
+pub fn slot_distinct_count(cat: &Catalogue, block: &Block, slot: u8, column: u16) -> Option<u64>
+    requires named { NamesBlock cat.now block.now }
+    requires slot_there { slot < length block.now.slots }
+    requires column_there { column < slot_columns cat.now block.now slot }
+    ensures exact { result ≡ slot_distinct cat.now block.now slot column }
+    ensures some { ForSome result (λ d. 1 ≤ d) }
+    ensures few { ForSome result (λ d. d ≤ 1000000000000) }
+{
+    table_column(slot_table(cat, block, slot), column).distinct
+}
+
+/// The part of all pairs of rows that a join edge of the block keeps, of 10^9: by the greater number of distinct values
+/// of its two columns that is known.
+#[tactic(auto, unfolding(adv_base::specs::Parts::edge_part))]
+pub fn edge_part(cat: &Catalogue, block: &Block, edge: &Edge) -> u64
+    requires named { NamesBlock cat.now block.now }
+    requires own { Contains block.now.edges edge.now }
+    ensures exact { result ≡ part_of_edge cat.now block.now edge.now }
+    ensures least { 1 ≤ result }
+    ensures most { result ≤ 1000000000 }
+{
+    let left = slot_distinct_count(cat, block, edge.left, edge.left_column);
+    let right = slot_distinct_count(cat, block, edge.right, edge.right_column);
+    tied_part(left, right)
+}

@@ -1,0 +1,63 @@
+//! Numbers of rows, from 1 to 10^12.
+ghost use Rattle.std.specs.Prelude.{◌≡◌, ℕ, ◌==◌, ◌+◌, ◌<◌, ◌≤◌, ◌^◌, length, Contains, map, fold, filter, take, if◌then◌else◌, MatchResult, OnOk, IfOk, List, All};
+ghost use Rattle.adv_base.specs.Lookups.{slot_table as table_of};
+ghost use Rattle.adv_base.specs.Named.{NamesBlock};
+ghost use Rattle.adv_base.specs.Parts.{pred_part};
+ghost use Rattle.adv_base.specs.Rows.{table_rows as rows_of_table, table_pages as pages_of_table, filtered_rows};
+ghost use Rattle.adv_base.specs.Sums.{times_part as part_of_number};
+
+use crate::lookups::slot_table;
+use crate::parts::part_of;
+use adv_base::{Block, Catalogue, Pred, Table, times_part};
+
+/// The rows of a table, which count as at least 1.
+pub fn table_rows(table: &Table) -> u64
+    ensures exact { result ≡ rows_of_table table.now }
+    ensures least { 1 ≤ result }
+    ensures most { result ≤ 1000000000000 }
+{
+    table.rows.max(1)
+}
+
+/// The pages of a table, which count as at least 1.
+pub fn table_pages(table: &Table) -> u64
+    ensures exact { result ≡ pages_of_table table.now }
+    ensures least { 1 ≤ result }
+    ensures most { result ≤ 1000000000000 }
+{
+    table.pages.max(1)
+}
+
+/// The rows of a slot after one more predicate of the block, which counts where it is of that slot.
+fn rows_after(cat: &Catalogue, block: &Block, slot: u8, rows: u64, pred: &Pred) -> u64
+    requires named { NamesBlock cat.now block.now }
+    requires own { Contains block.now.preds pred.now }
+    requires some { 1 ≤ rows }
+    requires few { rows ≤ 1000000000000 }
+    ensures exact { result ≡ (if pred.now.slot == slot then part_of_number rows (pred_part cat.now block.now pred.now) else rows) }
+    ensures least { 1 ≤ result }
+    ensures most { result ≤ 1000000000000 }
+{
+    if pred.slot == slot {
+        times_part(rows, part_of(cat, block, pred))
+    } else {
+        rows
+    }
+}
+
+/// The filtered rows of a slot of the block: those of its table, at least 1, taken through each predicate of the slot
+/// in written order.
+#[tactic(auto, unfolding(adv_base::specs::Rows::filtered_rows))]
+pub fn slot_rows(cat: &Catalogue, block: &Block, slot: u8) -> u64
+    requires named { NamesBlock cat.now block.now }
+    requires there { slot < length block.now.slots }
+    ensures exact { result ≡ filtered_rows cat.now block.now slot }
+    ensures least { 1 ≤ result }
+    ensures most { result ≤ 1000000000000 }
+{
+    let mut rows = table_rows(slot_table(cat, block, slot));
+    for pred in block.preds.items.iter() {
+        rows = rows_after(cat, block, slot, rows, pred);
+    }
+    rows
+}
