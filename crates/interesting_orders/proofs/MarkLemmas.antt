@@ -1,22 +1,21 @@
 -- Gathering orders one by one, with marks on the columns that have one.
-use Rattle.std.proofs.Common.{◌≡◌, ◌≢◌, ◌⊎◌, inl, inr, ℕ, ◌+◌, ◌<◌, ◌≤◌, ◌==◌, Bool, true, false, cond, not, ◌&&◌, ◌||◌, if◌then◌else◌, List, [], ◌∷◌, ◌++◌, length, get_or, set, replicate, take, fold, All, Option, Some, None, refl, sym, ap, ◌∙◌, append_assoc, arith, count_by, length-append}
+use Rattle.std.proofs.Common.{◌≡◌, inl, inr, ℕ, ◌<◌, ◌≤◌, ◌==◌, Bool, true, false, cond, not, ◌&&◌, ◌||◌, if◌then◌else◌, List, [], ◌∷◌, ◌++◌, length, get_or, set, replicate, fold, All, Option, Some, None, refl, sym, ◌∙◌, append_assoc, arith, length-append}
 use Rattle.std.specs.List.{list_any, list_all, flat_map}
-use Rattle.std.proofs.lemmas.Bool.{cases_Bool, ltb-true, false≢true, eqb-true, eq-eqb, ne_eqb, cases_eq, and_parts}
+use Rattle.std.proofs.lemmas.Bool.{cases_Bool, ltb-true, false≢true, eqb-true, cases_eq, and_parts}
 use Rattle.std.proofs.lemmas.Bool.Decides.{nat_tests}
-use Rattle.std.proofs.lemmas.Grind.{common_steps, flat_map-append, get_or-set_at}
+use Rattle.std.proofs.lemmas.Grind.{common_steps, get_or-set_at}
 use Rattle.std.proofs.lemmas.List.{set-get_or, get_or-set_other, get_or-replicate, length-replicate, length-set}
 use Rattle.std.proofs.lemmas.List.Elements.{All-push, All-head, All-tail, All-cons, All-nil}
-use Rattle.std.proofs.lemmas.List.Folds.{list_any-append, list_any_none, sum_by-replicate}
-use Rattle.std.proofs.lemmas.List.Sums.{sum_by-set, fold-append, count_by-le-length}
+use Rattle.std.proofs.lemmas.List.Folds.{list_any-append, sum_by-replicate}
+use Rattle.std.proofs.lemmas.List.Sums.{sum_by-set, fold-append}
 use Rattle.adv_base.specs.declared.workload.parts.Item.{Item}
 use Rattle.adv_base.specs.declared.workload.parts.Item.TheVariants.{Up, Down, Made}
 use Rattle.adv_base.specs.Items.{Order}
-use Rattle.plan_model.specs.declared.edge.TaskEdge.{TaskEdge}
 use Rattle.plan_model.specs.declared.task.Task.{Task}
 use Rattle.plan_model.specs.Limits.Tasks.{is_numbered, AreNumbered}
 use Rattle.plan_model.specs.OfferTables.{is_up_of}
-use Rattle.plan_model.specs.Orders.{is_same_item, is_same_order, edge_orders, own_list, is_own_list, list_orders, without_repeats, interesting_orders}
-use Rattle.interesting_orders.specs.Marks.{add_order, column_orders, wanted_list, is_marked, AreMarks}
+use Rattle.plan_model.specs.Orders.{is_same_order, edge_orders, own_list, is_own_list, list_orders, without_repeats, interesting_orders}
+use Rattle.interesting_orders.specs.Marks.{add_order, wanted_list, is_marked, AreMarks}
 
 pub add_order-known : (orders : List Order) (order : Order) → list_any (is_same_order order) orders ≡ true → add_order orders order ≡ orders
 add_order-known orders order h = rw h

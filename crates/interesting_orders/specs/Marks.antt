@@ -1,7 +1,6 @@
 -- Orders of a slot that are gathered one by one, and marks on the columns that have one.
 use Rattle.std.specs.Prelude.{◌≡◌, ℕ, ◌+◌, ◌<◌, ◌≤◌, Bool, false, if◌then◌else◌, List, [], ◌∷◌, ◌++◌, length, All, Option, Some, None, count_by, slice_index_or}
 use Rattle.std.specs.List.{list_any}
-use Rattle.adv_base.specs.declared.workload.parts.Item.{Item}
 use Rattle.adv_base.specs.declared.workload.parts.Item.TheVariants.{Up, Down, Made}
 use Rattle.adv_base.specs.Items.{Order}
 use Rattle.plan_model.specs.declared.edge.TaskEdge.{TaskEdge}

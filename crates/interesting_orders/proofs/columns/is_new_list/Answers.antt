@@ -1,4 +1,4 @@
-use Rattle.std.proofs.Common.{rules, arith}
+use Rattle.std.proofs.Common.{arith}
 use Rattle.interesting_orders.proofs.MarkLemmas.{fold-own_list}
 use Rattle.interesting_orders.proofs.columns.is_new_list.Goals as goal
 

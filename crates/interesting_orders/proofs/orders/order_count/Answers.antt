@@ -1,8 +1,5 @@
-use Rattle.std.proofs.Common.{◌≡◌, ◌∷◌, [], length, take, fold, rules, arith}
-use Rattle.std.specs.List.{flat_map}
+use Rattle.std.proofs.Common.{arith}
 use Rattle.std.proofs.lemmas.Grind.{common_steps}
-use Rattle.plan_model.specs.Orders.{edge_orders, interesting_orders}
-use Rattle.interesting_orders.specs.Marks.{add_order, AreMarks}
 use Rattle.interesting_orders.proofs.MarkLemmas.{AreMarks-start, interesting_orders-fold}
 use Rattle.interesting_orders.proofs.orders.order_count.Goals as goal
 

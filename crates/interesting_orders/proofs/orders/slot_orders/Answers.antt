@@ -1,9 +1,6 @@
-use Rattle.std.proofs.Common.{◌≡◌, ◌∷◌, [], length, take, fold, rules, arith, ap}
+use Rattle.std.proofs.Common.{◌≡◌, ◌∷◌, [], length, arith, ap}
 use Rattle.std.proofs.lemmas.List.{nil_from_length}
-use Rattle.std.specs.List.{flat_map}
 use Rattle.std.proofs.lemmas.Grind.{common_steps}
-use Rattle.plan_model.specs.Orders.{edge_orders, interesting_orders}
-use Rattle.interesting_orders.specs.Marks.{add_order, AreMarks}
 use Rattle.interesting_orders.proofs.MarkLemmas.{AreMarks-start, interesting_orders-fold}
 use Rattle.interesting_orders.proofs.orders.slot_orders.Goals as goal
 
