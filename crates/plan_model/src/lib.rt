@@ -8,8 +8,11 @@
 #![tactic(auto)]
 
 mod edge;
+mod judge;
 mod offers;
+mod order;
 mod plan;
+mod price;
 mod task;
 mod template;
 
