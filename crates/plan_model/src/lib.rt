@@ -15,9 +15,11 @@ mod plan;
 mod price;
 mod task;
 mod template;
+mod whole_plan;
 
 pub use edge::TaskEdge;
 pub use offers::Offers;
 pub use plan::{GroupStep, Plan, Whole};
 pub use task::Task;
 pub use template::Template;
+pub use whole_plan::plan_cost;
