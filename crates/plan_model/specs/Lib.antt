@@ -4,6 +4,7 @@ pub mod Orders
 pub mod Plans
 pub mod Costs
 pub mod Judging
+pub mod PlanTexts
 pub mod Least
 pub mod BlockTask
 pub mod Totals

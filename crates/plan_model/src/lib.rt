@@ -9,6 +9,8 @@
 
 mod edge;
 mod judge;
+mod labels;
+mod lines;
 mod offers;
 mod order;
 mod plan;
@@ -16,8 +18,11 @@ mod price;
 mod task;
 mod template;
 mod whole_plan;
+mod words;
 
 pub use edge::TaskEdge;
+pub use labels::Labels;
+pub use lines::plan_text;
 pub use offers::Offers;
 pub use plan::{GroupStep, Plan, Whole};
 pub use task::Task;

@@ -14,7 +14,7 @@ use crate::task::Task;
 use adv_base::{Item, List};
 
 /// Whether a sort may be the top of a body that is grouped so.
-fn may_sort(step: GroupStep) -> bool
+pub(crate) fn may_sort(step: GroupStep) -> bool
     ensures { result ≡ body_sorts step }
 {
     match step {
@@ -81,7 +81,7 @@ fn final_rows(task: &Task, rows: u64) -> u64
 }
 
 /// What the group step and the final sort cost above a body with that many rows.
-fn steps_price(task: &Task, whole: &Whole, rows: u64) -> u128
+pub(crate) fn steps_price(task: &Task, whole: &Whole, rows: u64) -> u128
     requires some { 1 ≤ rows }
     requires most { rows ≤ 1000000000000 }
     ensures exact { result ≡ group_cost task.now.rates whole.now.group rows + (if whole.now.final_sort then sort_cost task.now.rates (rows_to_sort task.now task.now.group rows) else 0) }
