@@ -108,7 +108,7 @@ valid-cost sorts task table (Hash' p left q right) limits v =
 
 set-small : (set slots : ℕ) → set < 2 ^ slots → slots ≤ 8 → set < 256
 set-small set slots below few =
-    elim (cases_lt slots 8) [ | inl less ↦ let most : 2 ^ slots < 2 ^ 8 = pow-lt less in omega arith | inr full ↦ let is : slots ≡ 8 = omega arith in rw is at below ]
+    elim (cases_lt slots 8) [ inl less ↦ let most : 2 ^ slots < 2 ^ 8 = pow-lt less in omega arith | inr full ↦ let is : slots ≡ 8 = omega arith in rw is at below ]
 
 pub valid-kept : (sorts : Bool) (task : Task) (table : OfferTable) (plan : Plan) → OfferTableLimits table → IsValid sorts task table plan → IsKept task (plan_judged task table plan)
 valid-kept sorts task table plan limits v =
@@ -119,3 +119,10 @@ valid-kept sorts task table plan limits v =
 -- the union of disjoint sets is their sum
 pub union-within : (a b slots : ℕ) → a < 2 ^ slots → b < 2 ^ slots → bit_and a b ≡ 0 → (bit_or a b ≡ a + b) × (bit_or a b < 2 ^ slots)
 union-within a b slots ha hb apart = (or_disjoint a b apart, or_lt slots a b ha hb)
+
+-- a plan covers some slot
+pub covers_some : (plan : Plan) → 0 < covers plan
+covers_some (Leaf slot offer) = one-le-pow slot 2 (omega arith)
+covers_some (Sort' order p input) = covers_some input
+covers_some (Merge' edge p left q right) = omega (arith, covers_some left, covers_some right)
+covers_some (Hash' p left q right) = omega (arith, covers_some left, covers_some right)

@@ -98,5 +98,5 @@ abbrev pub whole_lines : Task → OfferTable → Labels → Whole → List ℕ
 whole_lines task table labels whole =
     if whole.final_sort
     then line 0 (codes "final sort " ++ items_words labels task.order) (whole_cost task table whole)
-         ++ grouped_lines task table labels 1 whole
+    ++ grouped_lines task table labels 1 whole
     else grouped_lines task table labels 0 whole

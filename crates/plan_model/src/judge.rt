@@ -46,7 +46,14 @@ fn judge_sort(task: &Task, order: &[Item], input: Judged) -> Option<Judged>
 }
 
 /// Whether sides that cover these sets and deliver these orders can be merged on an edge.
-fn merges(task: &Task, number: u32, left: u16, right: u16, left_order: &[Item], right_order: &[Item]) -> bool
+fn merges(
+    task: &Task,
+    number: u32,
+    left: u16,
+    right: u16,
+    left_order: &[Item],
+    right_order: &[Item],
+) -> bool
     requires left_set { left < 256 }
     requires right_set { right < 256 }
     ensures yes { IsTrue result → Merges task.now number left right left_order.now right_order.now }
@@ -55,7 +62,9 @@ fn merges(task: &Task, number: u32, left: u16, right: u16, left_order: &[Item], 
     let edges = task.edges.as_slice();
     match edges.get(number as usize) {
         None => false,
-        Some(edge) => crosses(left, right, edge) && serves(left_order, edge, left) && serves(right_order, edge, right),
+        Some(edge) => crosses(left, right, edge)
+            && serves(left_order, edge, left)
+            && serves(right_order, edge, right),
     }
 }
 
@@ -74,11 +83,23 @@ fn judge_merge(
     if left.covers & right.covers != 0 {
         return None;
     }
-    if !merges(task, number, left.covers, right.covers, left_order, right_order) {
+    if !merges(
+        task,
+        number,
+        left.covers,
+        right.covers,
+        left_order,
+        right_order,
+    ) {
         return None;
     }
     let covers = left.covers | right.covers;
-    let price = merge_price(task, rows_of(task, left.covers), rows_of(task, right.covers), rows_of(task, covers));
+    let price = merge_price(
+        task,
+        rows_of(task, left.covers),
+        rows_of(task, right.covers),
+        rows_of(task, covers),
+    );
     Some(Judged {
         covers,
         cost: left.cost + right.cost + price,
@@ -91,7 +112,10 @@ fn are_tied(task: &Task, left: u16, right: u16) -> bool
     requires right_set { right < 256 }
     ensures { result ≡ list_any (edge_crosses left right) task.now.edges }
 {
-    task.edges.as_slice().iter().any(|edge| crosses(left, right, edge))
+    task.edges
+        .as_slice()
+        .iter()
+        .any(|edge| crosses(left, right, edge))
 }
 
 fn judge_hash(task: &Task, left: Judged, right: Judged) -> Option<Judged>
@@ -106,7 +130,12 @@ fn judge_hash(task: &Task, left: Judged, right: Judged) -> Option<Judged>
         return None;
     }
     let covers = left.covers | right.covers;
-    let price = hash_price(task, rows_of(task, left.covers), rows_of(task, right.covers), rows_of(task, covers));
+    let price = hash_price(
+        task,
+        rows_of(task, left.covers),
+        rows_of(task, right.covers),
+        rows_of(task, covers),
+    );
     Some(Judged {
         covers,
         cost: left.cost + right.cost + price,

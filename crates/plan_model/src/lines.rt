@@ -15,7 +15,7 @@ use crate::price::{group_price, rows_of};
 use crate::task::Task;
 use crate::whole_plan::{may_sort, steps_price};
 use crate::words::{push, push_edge, push_indent, push_items, push_leaf, push_number};
-use adv_base::{Bytes, NoMemory};
+use adv_base::{Bytes, Item, NoMemory};
 use std::alloc::Global;
 
 /// What a valid plan covers and costs.
@@ -40,7 +40,13 @@ fn push_cost(alloc: Global, text: &mut Vec<u8>, cost: u128) -> Result<(), NoMemo
     push(text, b"\n")
 }
 
-fn push_line(alloc: Global, text: &mut Vec<u8>, depth: usize, words: &[u8], cost: u128) -> Result<(), NoMemory>
+fn push_line(
+    alloc: Global,
+    text: &mut Vec<u8>,
+    depth: usize,
+    words: &[u8],
+    cost: u128,
+) -> Result<(), NoMemory>
     requires { depth ≤ 1000 }
     ensures { OnOk result (text.new.items ≡ text.old.items ++ line depth words.now cost) }
 {
@@ -49,8 +55,46 @@ fn push_line(alloc: Global, text: &mut Vec<u8>, depth: usize, words: &[u8], cost
     push_cost(alloc, text, cost)
 }
 
+/// Pushes a word and a list.
+fn push_listed(
+    alloc: Global,
+    text: &mut Vec<u8>,
+    labels: &Labels,
+    word: &[u8],
+    items: &[Item],
+) -> Result<(), NoMemory>
+    ensures { OnOk result (text.new.items ≡ text.old.items ++ (word.now ++ items_words labels.now items.now)) }
+{
+    push(text, word)?;
+    push_items(alloc, text, labels, items)
+}
+
+/// Pushes a line of a word and a list.
+fn push_listed_line(
+    alloc: Global,
+    text: &mut Vec<u8>,
+    labels: &Labels,
+    depth: usize,
+    word: &[u8],
+    items: &[Item],
+    cost: u128,
+) -> Result<(), NoMemory>
+    requires { depth ≤ 1000 }
+    ensures { OnOk result (text.new.items ≡ text.old.items ++ line depth (word.now ++ items_words labels.now items.now) cost) }
+{
+    push_indent(text, depth)?;
+    push_listed(alloc, text, labels, word, items)?;
+    push_cost(alloc, text, cost)
+}
+
 /// Pushes the words of a merge on the edge of a number, whose left side covers the set.
-fn push_merge(text: &mut Vec<u8>, task: &Task, labels: &Labels, number: u32, set: u16) -> Result<(), NoMemory>
+fn push_merge(
+    text: &mut Vec<u8>,
+    task: &Task,
+    labels: &Labels,
+    number: u32,
+    set: u16,
+) -> Result<(), NoMemory>
     requires { set < 256 }
     ensures { OnOk result (text.new.items ≡ text.old.items ++ merge_words labels.now set (slice_get task.now.edges number)) }
 {
@@ -79,10 +123,7 @@ fn push_words<O: Offers>(
 {
     match plan {
         Plan::Leaf { slot, offer } => push_leaf(text, labels, *slot, *offer),
-        Plan::Sort { order, .. } => {
-            push(text, b"sort ")?;
-            push_items(alloc, text, labels, order.as_slice())
-        }
+        Plan::Sort { order, .. } => push_listed(alloc, text, labels, b"sort ", order.as_slice()),
         Plan::Merge { edge, left, .. } => {
             let side = judged(task, offers, left, true);
             push_merge(text, task, labels, *edge, side.covers)
@@ -113,6 +154,7 @@ fn push_top<O: Offers>(
 }
 
 /// Pushes the lines of a valid plan with that many operators above it.
+#[tactic(auto, using(crate::proofs::Bounds::covers_some))]
 fn push_plan<O: Offers>(
     alloc: Global,
     text: &mut Vec<u8>,
@@ -131,7 +173,16 @@ fn push_plan<O: Offers>(
     push_top(alloc, text, task, offers, labels, plan, sorts, depth)?;
     match plan {
         Plan::Leaf { .. } => Ok(()),
-        Plan::Sort { input, .. } => push_plan(alloc, text, task, offers, labels, input, false, depth + 1),
+        Plan::Sort { input, .. } => push_plan(
+            alloc,
+            text,
+            task,
+            offers,
+            labels,
+            input,
+            false,
+            depth + 1,
+        ),
         Plan::Merge { left, right, .. } => {
             push_plan(alloc, text, task, offers, labels, left, true, depth + 1)?;
             push_plan(alloc, text, task, offers, labels, right, true, depth + 1)
@@ -144,7 +195,13 @@ fn push_plan<O: Offers>(
 }
 
 /// Pushes the line of the group step, if there is one.
-fn push_group(alloc: Global, text: &mut Vec<u8>, depth: usize, step: GroupStep, cost: u128) -> Result<(), NoMemory>
+fn push_group(
+    alloc: Global,
+    text: &mut Vec<u8>,
+    depth: usize,
+    step: GroupStep,
+    cost: u128,
+) -> Result<(), NoMemory>
     requires { depth ≤ 1000 }
     ensures { OnOk result (text.new.items ≡ text.old.items ++ group_lines depth step cost) }
 {
@@ -187,7 +244,16 @@ fn push_grouped<O: Offers>(
     let body = judged(task, offers, &whole.body, sorts);
     let cost = body.cost + group_price(task, whole.group, rows_of(task, body.covers));
     push_group(alloc, text, depth, whole.group, cost)?;
-    push_plan(alloc, text, task, offers, labels, &whole.body, sorts, depth_below(depth, whole.group))
+    push_plan(
+        alloc,
+        text,
+        task,
+        offers,
+        labels,
+        &whole.body,
+        sorts,
+        depth_below(depth, whole.group),
+    )
 }
 
 /// Pushes the line of the final sort.
@@ -205,9 +271,15 @@ fn push_final<O: Offers>(
 {
     let body = judged(task, offers, &whole.body, may_sort(whole.group));
     let cost = body.cost + steps_price(task, whole, rows_of(task, body.covers));
-    push(text, b"final sort ")?;
-    push_items(alloc, text, labels, task.order.as_slice())?;
-    push_cost(alloc, text, cost)
+    push_listed_line(
+        alloc,
+        text,
+        labels,
+        0,
+        b"final sort ",
+        task.order.as_slice(),
+        cost,
+    )
 }
 
 /// The lines of a plan that is a valid one of the whole task over these offers: one for each operator, two spaces further

@@ -24,7 +24,8 @@ pub(crate) fn crosses(left: u16, right: u16, edge: &TaskEdge) -> bool
     requires right_set { right < 256 }
     ensures { result ≡ edge_crosses left right edge.now }
 {
-    has_slot(left, edge.left) && has_slot(right, edge.right) || has_slot(left, edge.right) && has_slot(right, edge.left)
+    has_slot(left, edge.left) && has_slot(right, edge.right)
+        || has_slot(left, edge.right) && has_slot(right, edge.left)
 }
 
 /// Whether an item is a column of a slot in the set.

@@ -35,7 +35,8 @@ pub(crate) fn merge_price(task: &Task, left: u64, right: u64, joined: u64) -> u1
     ensures exact { result ≡ merge_cost task.now.rates left right joined }
     ensures most { result ≤ 10000000000000000000 }
 {
-    task.rates.merge_cpu as u128 * (left as u128 + right as u128) + task.rates.row_cpu as u128 * joined as u128
+    task.rates.merge_cpu as u128 * (left as u128 + right as u128)
+        + task.rates.row_cpu as u128 * joined as u128
 }
 
 /// Hashing the right side and looking up the left.
@@ -46,7 +47,8 @@ pub(crate) fn hash_price(task: &Task, left: u64, right: u64, joined: u64) -> u12
     ensures exact { result ≡ hash_cost task.now.rates left right joined }
     ensures most { result ≤ 10000000000000000000 }
 {
-    task.rates.hash_cpu as u128 * (left as u128 + 2 * right as u128) + task.rates.row_cpu as u128 * joined as u128
+    task.rates.hash_cpu as u128 * (left as u128 + 2 * right as u128)
+        + task.rates.row_cpu as u128 * joined as u128
 }
 
 /// Grouping rows.

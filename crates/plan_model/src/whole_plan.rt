@@ -43,7 +43,11 @@ fn fits_group(group: &Option<List<Item>>, step: GroupStep, order: &[Item]) -> bo
 }
 
 /// The order after the group step.
-fn grouped_order<'a>(group: &'a Option<List<Item>>, step: GroupStep, order: &'a [Item]) -> &'a [Item]
+fn grouped_order<'a>(
+    group: &'a Option<List<Item>>,
+    step: GroupStep,
+    order: &'a [Item],
+) -> &'a [Item]
     ensures { result.now ≡ order_of_groups group.now step order.now }
 {
     match step {
@@ -63,7 +67,10 @@ fn is_ordered(task: &Task, whole: &Whole, order: &[Item]) -> bool
     if whole.final_sort {
         return !task.order.is_empty();
     }
-    begins_with(grouped_order(&task.group, whole.group, order), task.order.as_slice())
+    begins_with(
+        grouped_order(&task.group, whole.group, order),
+        task.order.as_slice(),
+    )
 }
 
 /// The rows that a final sort gets, of a body with that many rows.

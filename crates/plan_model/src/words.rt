@@ -65,10 +65,18 @@ fn push_column(text: &mut Vec<u8>, labels: &Labels, slot: u8, column: u16) -> Re
 {
     push(text, name_at(labels.slots.as_slice(), slot as usize))?;
     push(text, b".")?;
-    push(text, name_at(names_of(&labels.columns, slot), column as usize))
+    push(
+        text,
+        name_at(names_of(&labels.columns, slot), column as usize),
+    )
 }
 
-fn push_item(alloc: Global, text: &mut Vec<u8>, labels: &Labels, item: &Item) -> Result<(), NoMemory>
+fn push_item(
+    alloc: Global,
+    text: &mut Vec<u8>,
+    labels: &Labels,
+    item: &Item,
+) -> Result<(), NoMemory>
     ensures { OnOk result (text.new.items ≡ text.old.items ++ item_words labels.now item.now) }
 {
     match item {
@@ -85,7 +93,12 @@ fn push_item(alloc: Global, text: &mut Vec<u8>, labels: &Labels, item: &Item) ->
 }
 
 /// Pushes items with commas between them.
-pub(crate) fn push_items(alloc: Global, text: &mut Vec<u8>, labels: &Labels, items: &[Item]) -> Result<(), NoMemory>
+pub(crate) fn push_items(
+    alloc: Global,
+    text: &mut Vec<u8>,
+    labels: &Labels,
+    items: &[Item],
+) -> Result<(), NoMemory>
     ensures { OnOk result (text.new.items ≡ text.old.items ++ items_words labels.now items.now) }
 {
     let Some((first, rest)) = items.split_first() else {
@@ -100,16 +113,29 @@ pub(crate) fn push_items(alloc: Global, text: &mut Vec<u8>, labels: &Labels, ite
 }
 
 /// Pushes how a slot is read, and which.
-pub(crate) fn push_leaf(text: &mut Vec<u8>, labels: &Labels, slot: u8, offer: u32) -> Result<(), NoMemory>
+pub(crate) fn push_leaf(
+    text: &mut Vec<u8>,
+    labels: &Labels,
+    slot: u8,
+    offer: u32,
+) -> Result<(), NoMemory>
     ensures { OnOk result (text.new.items ≡ text.old.items ++ leaf_words labels.now slot offer) }
 {
-    push(text, name_at(names_of(&labels.offers, slot), offer as usize))?;
+    push(
+        text,
+        name_at(names_of(&labels.offers, slot), offer as usize),
+    )?;
     push(text, b" on ")?;
     push(text, name_at(labels.slots.as_slice(), slot as usize))
 }
 
 /// Pushes the columns of an edge, that of the side which covers the set first.
-pub(crate) fn push_edge(text: &mut Vec<u8>, labels: &Labels, set: u16, edge: &TaskEdge) -> Result<(), NoMemory>
+pub(crate) fn push_edge(
+    text: &mut Vec<u8>,
+    labels: &Labels,
+    set: u16,
+    edge: &TaskEdge,
+) -> Result<(), NoMemory>
     requires { set < 256 }
     ensures { OnOk result (text.new.items ≡ text.old.items ++ edge_words labels.now set edge.now) }
 {

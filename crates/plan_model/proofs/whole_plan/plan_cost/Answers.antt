@@ -7,5 +7,5 @@ pub overflow_add-result : goal.overflow_add-result
 overflow_add-result g c =
     let exact = c.in_ok-body.ensures.exact in
     let kept : IsKept c.args.task.now c.in_ok-body.body =
-      rw exact.1 (valid-kept _ c.args.task.now _ c.args.whole.now.body c.limits.ensures exact.0) in
+    rw exact.1 (valid-kept _ c.args.task.now _ c.args.whole.now.body c.limits.ensures exact.0) in
     omega (arith, kept.most, c.steps_price.ensures.most)
