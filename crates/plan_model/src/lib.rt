@@ -7,6 +7,7 @@
 //! what they cost, and what a least plan, the task of a block, and the cost of a workload are. Nothing here searches.
 #![tactic(auto)]
 
+mod checked;
 mod edge;
 mod judge;
 mod labels;
@@ -20,6 +21,7 @@ mod template;
 mod whole_plan;
 mod words;
 
+pub use checked::checked_task;
 pub use edge::TaskEdge;
 pub use labels::Labels;
 pub use lines::plan_text;

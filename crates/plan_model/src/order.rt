@@ -1,7 +1,7 @@
 //! Orders, the edges between sets of slots, and what plans deliver.
-ghost use Rattle.std.specs.Prelude.{◌≡◌, ◌↔◌, ◌<◌, IsTrue, if◌then◌else◌};
+ghost use Rattle.std.specs.Prelude.{◌≡◌, ◌↔◌, ◌<◌, ◌≤◌, IsTrue, if◌then◌else◌};
 ghost use Rattle.adv_base.specs.Items.{BeginsWith};
-ghost use Rattle.adv_base.specs.Sets.{has_slot as set_has_slot};
+ghost use Rattle.adv_base.specs.Sets.{all_slots as all_of, has_slot as set_has_slot};
 ghost use Rattle.plan_model.specs.Orders.{need_order};
 ghost use Rattle.plan_model.specs.Plans.{crosses as edge_crosses, side_need as need_of, delivers, is_column_of as is_column};
 
@@ -16,6 +16,15 @@ pub(crate) fn has_slot(set: u16, slot: u8) -> bool
     ensures { result ≡ set_has_slot set slot }
 {
     slot < 8 && set & (1 << slot) != 0
+}
+
+/// The set of all slots of a task with that many.
+pub(crate) fn all_slots(slots: u8) -> u16
+    requires { slots ≤ 8 }
+    ensures exact { result ≡ all_of slots }
+    ensures small { result < 256 }
+{
+    (1 << slots) - 1
 }
 
 /// Whether an edge has one end in each of two sets.

@@ -7,7 +7,7 @@ ghost use Rattle.plan_model.specs.Costs.{group_cost, sort_cost, final_rows as ro
 
 use crate::judge::judge;
 use crate::offers::Offers;
-use crate::order::{begins_with, delivered};
+use crate::order::{all_slots, begins_with, delivered};
 use crate::plan::{GroupStep, Whole};
 use crate::price::{group_price, rows_of, sort_price};
 use crate::task::Task;
@@ -109,7 +109,7 @@ pub fn plan_cost<O: Offers>(task: &Task, offers: &O, whole: &Whole) -> Option<u1
 {
     offers.limits();
     let body = judge(task, offers, &whole.body, may_sort(whole.group))?;
-    if body.covers != (1 << task.slots) - 1 {
+    if body.covers != all_slots(task.slots) {
         return None;
     }
     let order = delivered(offers, &whole.body);
