@@ -32,7 +32,8 @@ fn is_edge(edge: &TaskEdge, slots: u8) -> bool
     if edge.left_column >= 200 || edge.right_column >= 200 {
         return false;
     }
-    is_need(edge.left_need, edge.left, edge.left_column) && is_need(edge.right_need, edge.right, edge.right_column)
+    is_need(edge.left_need, edge.left, edge.left_column)
+        && is_need(edge.right_need, edge.right, edge.right_column)
 }
 
 fn are_edges(edges: &[TaskEdge], slots: u8) -> bool
@@ -129,7 +130,7 @@ fn is_apart_from(one: &Item, items: &[Item]) -> bool
 }
 
 /// Whether no column stands twice.
-fn are_apart(items: &[Item]) -> bool
+pub(crate) fn are_apart(items: &[Item]) -> bool
     ensures { IsTrue result ↔ AreApart items.now }
 {
     match items.split_first() {

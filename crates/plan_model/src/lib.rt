@@ -30,3 +30,6 @@ pub use plan::{GroupStep, Plan, Whole};
 pub use task::Task;
 pub use template::Template;
 pub use whole_plan::plan_cost;
+
+#[cfg(test)]
+mod tests;

@@ -27,13 +27,15 @@ returns-then-is_apart_from t c =
     let items = c.in-Some.ensures.cases.0 in
     let first = c.in-Some.first.now in
     let rest = c.in-Some.rest.now in
-    let P : List Item → Type 0 = λ xs. AreApart xs in
-    (λ yes. subst P (sym items) (apart-cons first rest (sym c.if-is_apart_from.ensures) (c.are_apart.ensures.0 yes)),
-     λ apart. c.are_apart.ensures.1 (apart-rest first rest (subst P items apart)))
+    let P : List Item → Type 0 = λ xs. AreApart xs in (
+      λ yes. subst P (sym items) (apart-cons first rest (sym c.if-is_apart_from.ensures) (c.are_apart.ensures.0 yes)),
+      λ apart. c.are_apart.ensures.1 (apart-rest first rest (subst P items apart)),
+    )
 
 pub returns-else-is_apart_from : goal.returns-else-is_apart_from
 returns-else-is_apart_from t c =
     let items = c.in-Some.ensures.cases.0 in
-    let P : List Item → Type 0 = λ xs. AreApart xs in
-    (λ yes. absurd (false≢true (sym c.if-is_apart_from.false ∙ yes)),
-     λ apart. c.is_apart_from.ensures ∙ apart-first c.in-Some.first.now c.in-Some.rest.now (subst P items apart))
+    let P : List Item → Type 0 = λ xs. AreApart xs in (
+      λ yes. absurd (false≢true (sym c.if-is_apart_from.false ∙ yes)),
+      λ apart. c.is_apart_from.ensures ∙ apart-first c.in-Some.first.now c.in-Some.rest.now (subst P items apart),
+    )

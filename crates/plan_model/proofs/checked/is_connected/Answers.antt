@@ -16,16 +16,20 @@ returns-then-not-is_crossed c =
     let part = c.loop-part.part in
     let all = c.all_slots-all.result in
     let is : all ≡ 2 ^ c.args.slots - 1 = c.all_slots-all.ensures.exact in
-    let none = sym c.is_crossed.ensures ∙ c.if-not-is_crossed.true in
-    (λ yes. absurd (false≢true yes), λ connected.
-     absurd (false≢true (sym none ∙ (sym (any-ends part (all - part) c.args.edges.now) ∙ connected part (all - part) (omega arith) (omega arith) (omega arith) c.if-part-all-eq0.true))))
+    let none = sym c.is_crossed.ensures ∙ c.if-not-is_crossed.true in (
+      λ yes. absurd (false≢true yes),
+      λ connected.
+          absurd (false≢true (sym none ∙ (sym (any-ends part (all - part) c.args.edges.now) ∙ connected part (all - part) (omega arith) (omega arith) (omega arith) c.if-part-all-eq0.true))),
+    )
 
 pub returns : goal.returns
 returns c =
     let all = c.all_slots-all.result in
-    let is : all ≡ 2 ^ c.args.slots - 1 = c.all_slots-all.ensures.exact in
-    (λ yes a b some_a some_b sum apart.
-     let rest : all - a ≡ b = omega arith in
-     let apart' : bit_and a (all - a) ≡ 0 = rw rest apart in
-     let crossed = c.loop-part.invariant a some_a (omega arith) apart' in
-     any-ends a b c.args.edges.now ∙ subst (λ t. list_any (crosses a t) c.args.edges.now ≡ true) rest crossed, λ connected. refl)
+    let is : all ≡ 2 ^ c.args.slots - 1 = c.all_slots-all.ensures.exact in (
+      λ yes a b some_a some_b sum apart.
+          let rest : all - a ≡ b = omega arith in
+          let apart' : bit_and a (all - a) ≡ 0 = rw rest apart in
+          let crossed = c.loop-part.invariant a some_a (omega arith) apart' in
+          any-ends a b c.args.edges.now ∙ subst (λ t. list_any (crosses a t) c.args.edges.now ≡ true) rest crossed,
+      λ connected. refl,
+    )
