@@ -3,6 +3,8 @@ pub mod OfferTables
 pub mod Orders
 pub mod Plans
 pub mod Costs
+pub mod Judging
+pub mod PlanTexts
 pub mod Least
 pub mod BlockTask
 pub mod Totals

@@ -7,14 +7,29 @@
 //! what they cost, and what a least plan, the task of a block, and the cost of a workload are. Nothing here searches.
 #![tactic(auto)]
 
+mod checked;
 mod edge;
+mod judge;
+mod labels;
+mod lines;
 mod offers;
+mod order;
 mod plan;
+mod price;
 mod task;
 mod template;
+mod whole_plan;
+mod words;
 
+pub use checked::checked_task;
 pub use edge::TaskEdge;
+pub use labels::Labels;
+pub use lines::plan_text;
 pub use offers::Offers;
 pub use plan::{GroupStep, Plan, Whole};
 pub use task::Task;
 pub use template::Template;
+pub use whole_plan::plan_cost;
+
+#[cfg(test)]
+mod tests;
