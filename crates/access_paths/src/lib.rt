@@ -4,6 +4,7 @@
 //! has a price, in thousandths of a sequential page read, and an order that it delivers, as System R's access paths.
 #![tactic(auto)]
 
+mod block_labels;
 mod block_task;
 mod config_offers;
 mod matching;
@@ -15,5 +16,6 @@ mod slot_access;
 mod slot_offer;
 mod slot_offers;
 
+pub use block_labels::labels;
 pub use block_task::task;
 pub use config_offers::ConfigOffers;
