@@ -1,5 +1,6 @@
 //! The words by which the plans of a block are told.
-ghost use Rattle.std.specs.Prelude.{◌≡◌, ◌++◌, ◌∷◌, ◌&&◌, ◌==◌, ◌+◌, [], false, if◌then◌else◌, codes, map, IfOk, OnOk, Some, slice_index_or};
+ghost use Rattle.std.specs.Prelude.{◌≡◌, ◌++◌, ◌∷◌, ◌&&◌, ◌==◌, ◌+◌, ℕ, [], false, if◌then◌else◌, length, IfOk, OnOk, Some, slice_index_or};
+ghost use Rattle.adv_base.specs.Offers.{offers as offers_of};
 ghost use Rattle.access_paths.specs.Labels.{column_names as names_of_columns, existing_words as words_of_table, candidate_words as words_of_candidate, reading_words as words_of_reading, slot_columns as columns_of_slot, slot_words as words_of_slot, slot_labels, column_labels, offer_labels};
 
 use adv_base::{
@@ -189,6 +190,7 @@ pub fn labels(
     ensures slots { IfOk result (λ l. l.slots ≡ slot_labels block.now) }
     ensures columns { IfOk result (λ l. l.columns ≡ column_labels cat.now block.now) }
     ensures offers { IfOk result (λ l. l.offers ≡ offer_labels cat.now block.now shapes.now config.now) }
+    ensures counts { IfOk result (λ l. (s : ℕ) → length (slice_index_or l.offers s []) ≡ length (offers_of cat.now block.now shapes.now config.now s)) }
 {
     Ok(Labels {
         slots: slot_names(alloc, block)?,

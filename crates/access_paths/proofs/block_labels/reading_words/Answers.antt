@@ -1,4 +1,4 @@
-use Rattle.std.proofs.Common.{◌≡◌, ◌+◌, ◌++◌, ℕ, List, ◌∙◌, ap, sym, map, drop, get_or}
+use Rattle.std.proofs.Common.{◌+◌, ◌++◌, ℕ, List, ◌∙◌, ap, sym, map, drop, get_or}
 use Rattle.std.specs.Prelude.{Bool, false, ◌==◌, ◌&&◌}
 use Rattle.std.proofs.lemmas.List.{append-nil}
 use Rattle.adv_base.specs.declared.catalogue.index.IndexShape.{IndexShape}
