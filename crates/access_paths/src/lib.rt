@@ -4,6 +4,7 @@
 //! has a price, in thousandths of a sequential page read, and an order that it delivers, as System R's access paths.
 #![tactic(auto)]
 
+mod block_labels;
 mod block_task;
 mod config_offers;
 mod matching;
@@ -17,5 +18,6 @@ mod slot_offers;
 #[cfg(test)]
 mod tests;
 
+pub use block_labels::labels;
 pub use block_task::task;
 pub use config_offers::ConfigOffers;

@@ -31,7 +31,7 @@ valid-covers sorts task table (Hash' p left q right) v =
 
 -- ## What each operator costs at most
 
-digits_within-most : (k n : ℕ) → digits_within k n ≤ k
+pub digits_within-most : (k n : ℕ) → digits_within k n ≤ k
 unfolding digits_within
 digits_within-most zero n = omega arith
 digits_within-most (suc k) n = let less = digits_within-most k n in grind (arith, nat_tests)
@@ -47,7 +47,7 @@ sort_cost-most rates rows most =
     let all : rates.sort_cpu * (rows * binary_digits rows) ≤ 1000000 * (1000000000000 * 64) = mul-le-mul rates.limits.sort_cpu_most whole in
     omega arith
 
-merge_cost-most : (rates : Rates) (l r joined : ℕ) → l ≤ 1000000000000 → r ≤ 1000000000000 → joined ≤ 1000000000000 → merge_cost rates l r joined ≤ 10000000000000000000
+pub merge_cost-most : (rates : Rates) (l r joined : ℕ) → l ≤ 1000000000000 → r ≤ 1000000000000 → joined ≤ 1000000000000 → merge_cost rates l r joined ≤ 10000000000000000000
 unfolding merge_cost
 merge_cost-most rates l r joined hl hr hj =
     let both : l + r ≤ 2000000000000 = omega arith in
@@ -55,7 +55,7 @@ merge_cost-most rates l r joined hl hr hj =
     let out : rates.row_cpu * joined ≤ 1000000 * 1000000000000 = mul-le-mul rates.limits.row_cpu_most hj in
     omega arith
 
-hash_cost-most : (rates : Rates) (l r joined : ℕ) → l ≤ 1000000000000 → r ≤ 1000000000000 → joined ≤ 1000000000000 → hash_cost rates l r joined ≤ 10000000000000000000
+pub hash_cost-most : (rates : Rates) (l r joined : ℕ) → l ≤ 1000000000000 → r ≤ 1000000000000 → joined ≤ 1000000000000 → hash_cost rates l r joined ≤ 10000000000000000000
 unfolding hash_cost
 hash_cost-most rates l r joined hl hr hj =
     let both : l + 2 * r ≤ 3000000000000 = omega arith in
@@ -70,7 +70,7 @@ rows_in-most task set =
       | inr past ↦ rw (get_or_past task.rows set 0 past) (omega arith)
     ]
 
-price_at-most : (table : OfferTable) (slot offer : ℕ) → OfferTableLimits table → price_at table slot offer ≤ 10000000000000000000
+pub price_at-most : (table : OfferTable) (slot offer : ℕ) → OfferTableLimits table → price_at table slot offer ≤ 10000000000000000000
 price_at-most table slot offer limits =
     elim (cases_lt offer (length (table slot))) [
       | inl within ↦

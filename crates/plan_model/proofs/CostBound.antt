@@ -1,0 +1,152 @@
+-- A valid whole plan costs less than 10^21.
+use Rattle.std.proofs.Common.{◌≡◌, inl, inr, ℕ, zero, suc, ◌+◌, ◌*◌, ◌^◌, ◌<◌, ◌≤◌, Bool, true, false, if◌then◌else◌, Option, Some, None, bit_and, min, max, refl, sym, ap, ◌∙◌, arith}
+use Rattle.std.proofs.Math.Nat.{mul-le-mul}
+use Rattle.std.proofs.Math.Pow.{pow_mono}
+use Rattle.std.proofs.lemmas.Bool.{cases_lt, false≢true}
+use Rattle.std.proofs.lemmas.Bool.Decides.{nat_tests}
+use Rattle.std.proofs.lemmas.Nat.{or_disjoint}
+use Rattle.std.proofs.lemmas.Nat.Bits.{bit_at_and, bit_at_or, bit_at-lt, bit_at-zero, bit_at-pow_same, bit_at-pow_other}
+use Rattle.std.specs.Int.{bit_at}
+use Rattle.adv_base.specs.declared.catalogue.rates.Rates.{Rates}
+use Rattle.adv_base.specs.Items.{Order}
+use Rattle.adv_base.specs.Offers.{OfferTable}
+use Rattle.adv_base.specs.Sums.{digits_within, binary_digits}
+use Rattle.plan_model.specs.declared.plan.GroupStep.{GroupStep}
+use Rattle.plan_model.specs.declared.plan.GroupStep.TheVariants.{Nothing, Sorted, Hashed}
+use Rattle.plan_model.specs.declared.plan.Plan.{Plan}
+use Rattle.plan_model.specs.declared.plan.Plan.TheVariants.{Leaf, Sort', Merge', Hash'}
+use Rattle.plan_model.specs.declared.plan.Whole.{Whole}
+use Rattle.plan_model.specs.declared.task.Task.{Task}
+use Rattle.plan_model.specs.OfferTables.{OfferTableLimits}
+use Rattle.plan_model.specs.Plans.{covers, IsValid, IsWhole, body_sorts}
+use Rattle.plan_model.specs.Costs.{rows_in, sort_cost, plan_cost, group_cost, final_rows, whole_cost}
+use Rattle.plan_model.proofs.Bounds.{rows_in-most, price_at-most, merge_cost-most, hash_cost-most, digits_within-most}
+
+-- ## How many leaves a valid plan has
+
+leaves : Plan → ℕ
+leaves (Leaf slot offer) = 1
+leaves (Sort' order p input) = leaves input
+leaves (Merge' edge p left q right) = leaves left + leaves right
+leaves (Hash' p left q right) = leaves left + leaves right
+
+-- the slots below n in a set
+members : ℕ → ℕ → ℕ
+members zero set = 0
+members (suc n) set = members n set + bit_at set n
+
+members-most : (n set : ℕ) → members n set ≤ n
+unfolding members
+members-most zero set = omega arith
+members-most (suc n) set = omega (arith, members-most n set, bit_at-lt set n)
+
+bit-sum : (a b i : ℕ) → bit_and a b ≡ 0 → bit_at (a + b) i ≡ bit_at a i + bit_at b i
+bit-sum a b i apart =
+    let both : min (bit_at a i) (bit_at b i) ≡ 0 = sym (bit_at_and a b i) ∙ (ap (λ n. bit_at n i) apart ∙ bit_at-zero i) in
+    let union : bit_at (a + b) i ≡ max (bit_at a i) (bit_at b i) = ap (λ n. bit_at n i) (sym (or_disjoint a b apart)) ∙ bit_at_or a b i in
+    omega (arith, both, union)
+
+members-sum : (n a b : ℕ) → bit_and a b ≡ 0 → members n (a + b) ≡ members n a + members n b
+unfolding members
+members-sum zero a b apart = omega arith
+members-sum (suc n) a b apart = omega (arith, members-sum n a b apart, bit-sum a b n apart)
+
+members-none : (n slot : ℕ) → n ≤ slot → members n (2 ^ slot) ≡ 0
+unfolding members
+members-none zero slot below = refl
+members-none (suc n) slot below =
+    omega (arith, members-none n slot (omega arith), bit_at-pow_other slot n (omega arith))
+
+members-one : (n slot : ℕ) → slot < n → members n (2 ^ slot) ≡ 1
+unfolding members
+members-one zero slot below = absurd (omega arith)
+members-one (suc n) slot below =
+    elim (cases_lt slot n) [
+      | inl less ↦ omega (arith, members-one n slot less, bit_at-pow_other slot n (omega arith))
+      | inr last ↦
+          let same : n ≡ slot = omega arith in
+          let none = members-none n slot (omega arith) in
+          let one : bit_at (2 ^ slot) n ≡ 1 = ap (λ k. bit_at (2 ^ slot) k) same ∙ bit_at-pow_same slot in
+          omega (arith, none, one)
+    ]
+
+leaves-members : (sorts : Bool) (task : Task) (table : OfferTable) (plan : Plan) → IsValid sorts task table plan → leaves plan ≡ members task.slots (covers plan)
+unfolding leaves
+leaves-members sorts task table (Leaf slot offer) v = sym (members-one task.slots slot v.0)
+leaves-members sorts task table (Sort' order p input) v = leaves-members false task table input v.1
+leaves-members sorts task table (Merge' edge p left q right) v =
+    omega (arith, leaves-members true task table left v.0, leaves-members true task table right v.1, members-sum task.slots (covers left) (covers right) v.2)
+leaves-members sorts task table (Hash' p left q right) v =
+    omega (arith, leaves-members false task table left v.0, leaves-members false task table right v.1, members-sum task.slots (covers left) (covers right) v.2)
+
+leaves-most : (sorts : Bool) (task : Task) (table : OfferTable) (plan : Plan) → IsValid sorts task table plan → leaves plan ≤ 8
+leaves-most sorts task table plan v =
+    omega (arith, leaves-members sorts task table plan v, members-most task.slots (covers plan), task.limits.slots_most)
+
+-- ## What sorting costs at most
+
+digits_within-few : (k n : ℕ) → n < 2 ^ 40 → digits_within k n ≤ 40
+unfolding digits_within
+digits_within-few zero n small = omega arith
+digits_within-few (suc k) n small =
+    elim (cases_lt k 40) [
+      | inl less ↦ omega (arith, digits_within-most (suc k) n)
+      | inr more ↦
+          let large : 2 ^ 40 ≤ 2 ^ k = pow_mono more in
+          let rest = digits_within-few k n small in
+          grind (arith, nat_tests)
+    ]
+
+sorting-most : (rates : Rates) (rows : ℕ) → rows ≤ 1000000000000 → sort_cost rates rows ≤ 40000000000000000000
+unfolding sort_cost binary_digits
+sorting-most rates rows most =
+    let digits = digits_within-few 64 rows (omega arith) in
+    let whole : rows * digits_within 64 rows ≤ 1000000000000 * 40 = mul-le-mul most digits in
+    let all : rates.sort_cpu * (rows * digits_within 64 rows) ≤ 1000000 * (1000000000000 * 40) = mul-le-mul rates.limits.sort_cpu_most whole in
+    omega arith
+
+-- ## What a plan costs at most
+
+-- what is left of a bound for a sort, or for a join above two sorts
+spare : Bool → ℕ
+spare true = 50000000000000000000
+spare false = 90000000000000000000
+
+spare-most : (sorts : Bool) → spare sorts ≤ 90000000000000000000
+unfolding spare
+spare-most true = omega arith
+spare-most false = omega arith
+
+plan_cost-most : (sorts : Bool) (task : Task) (table : OfferTable) (plan : Plan) → OfferTableLimits table → IsValid sorts task table plan → plan_cost task table plan + spare sorts ≤ 100000000000000000000 * leaves plan
+unfolding spare leaves
+plan_cost-most sorts task table (Leaf slot offer) limits v = omega (arith, price_at-most table slot offer limits, spare-most sorts)
+plan_cost-most false task table (Sort' order p input) limits v = absurd (false≢true v.0)
+plan_cost-most true task table (Sort' order p input) limits v =
+    omega (arith, plan_cost-most false task table input limits v.1, sorting-most task.rates (rows_in task (covers input)) (rows_in-most task (covers input)))
+plan_cost-most sorts task table (Merge' edge p left q right) limits v =
+    omega (arith, plan_cost-most true task table left limits v.0, plan_cost-most true task table right limits v.1, spare-most sorts, merge_cost-most task.rates (rows_in task (covers left)) (rows_in task (covers right)) (rows_in task (covers left + covers right)) (rows_in-most task (covers left)) (rows_in-most task (covers right)) (rows_in-most task (covers left + covers right)))
+plan_cost-most sorts task table (Hash' p left q right) limits v =
+    omega (arith, plan_cost-most false task table left limits v.0, plan_cost-most false task table right limits v.1, spare-most sorts, hash_cost-most task.rates (rows_in task (covers left)) (rows_in task (covers right)) (rows_in task (covers left + covers right)) (rows_in-most task (covers left)) (rows_in-most task (covers right)) (rows_in-most task (covers left + covers right)))
+
+group_cost-most : (rates : Rates) (step : GroupStep) (rows : ℕ) → rows ≤ 1000000000000 → group_cost rates step rows ≤ 2000000000000000000
+group_cost-most rates Nothing rows most = omega arith
+group_cost-most rates Sorted rows most =
+    let all : rates.group_cpu * rows ≤ 1000000 * 1000000000000 = mul-le-mul rates.limits.group_cpu_most most in
+    omega arith
+group_cost-most rates Hashed rows most =
+    let all : rates.hash_cpu * rows ≤ 1000000 * 1000000000000 = mul-le-mul rates.limits.hash_cpu_most most in
+    omega arith
+
+final_rows-most : (task : Task) (group : Option Order) (rows : ℕ) → rows ≤ 1000000000000 → final_rows task group rows ≤ 1000000000000
+final_rows-most task None rows most = most
+final_rows-most task (Some group) rows most = task.limits.group_rows_limits.most
+
+final-most : (task : Task) (last : Bool) (rows : ℕ) → rows ≤ 1000000000000 → (if last then sort_cost task.rates (final_rows task task.group rows) else 0) ≤ 40000000000000000000
+final-most task true rows most = sorting-most task.rates (final_rows task task.group rows) (final_rows-most task task.group rows most)
+final-most task false rows most = omega arith
+
+-- a valid whole plan costs less than 10^21
+pub whole_cost-most : (task : Task) (table : OfferTable) (whole : Whole) → OfferTableLimits table → IsWhole task table whole → whole_cost task table whole < 1000000000000000000000
+whole_cost-most task table whole limits v =
+    let rows = rows_in-most task (covers whole.body) in
+    omega (arith, plan_cost-most (body_sorts whole.group) task table whole.body limits v.body_valid, leaves-most (body_sorts whole.group) task table whole.body v.body_valid, group_cost-most task.rates whole.group (rows_in task (covers whole.body)) rows, final-most task whole.final_sort (rows_in task (covers whole.body)) rows)
