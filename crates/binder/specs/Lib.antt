@@ -1,0 +1,7 @@
+pub mod Results
+pub mod Names
+pub mod Index
+pub mod Lookups
+pub mod Scopes
+pub mod Sources
+pub mod Values
