@@ -5,3 +5,12 @@ pub mod Lookups
 pub mod Scopes
 pub mod Sources
 pub mod Values
+pub mod Plain
+pub mod Conditions
+pub mod Items
+pub mod Orders
+pub mod Lists
+pub mod Needed
+pub mod Joins
+pub mod Blocks
+pub mod Statements

@@ -4,7 +4,9 @@
 mod column;
 mod fault;
 mod index;
+mod items;
 mod names;
+mod terms;
 mod visible;
 
 pub use fault::BindFault;
