@@ -1,1 +1,14 @@
 pub mod Entries
+pub mod Positions
+pub mod Columns
+pub mod Owners
+pub mod Turns
+pub mod Bind
+pub mod Within
+pub mod Checked
+pub mod Cuts
+pub mod Connected
+pub mod Kept
+pub mod Sorted
+pub mod Limited
+pub mod Marked

@@ -9,7 +9,8 @@ use Rattle.sql_reader.specs.declared.parsed.NameUse.{NameUse}
 use Rattle.sql_reader.specs.declared.parsed.ParsedSelect.{ParsedSelect}
 use Rattle.sql_reader.specs.declared.parsed.Source.{Source}
 use Rattle.binder.specs.declared.column.SlotColumn.{SlotColumn}
-use Rattle.binder.specs.declared.items.BoundItem.{BoundItem}
+use Rattle.binder.specs.declared.bound_item.BoundItem.{BoundItem}
+use Rattle.binder.specs.declared.sort_keys.SortKeys.{SortKeys}
 use Rattle.binder.specs.declared.visible.Visible.{Visible}
 use Rattle.binder.specs.declared.fault.BindFault.{BindFault}
 use Rattle.binder.specs.declared.fault.BindFault.TheVariants.{NoColumn, Unjoined}
@@ -20,21 +21,21 @@ use Rattle.binder.specs.Items.{columns_of, items_of, item_mentions}
 use Rattle.binder.specs.Joins.{is_joined}
 use Rattle.binder.specs.Lists.{aggregates, group_list, order_list}
 use Rattle.binder.specs.Needed.{slots_from}
-use Rattle.binder.specs.Orders.{Ordering, SelectList, mentions_from, orders_from}
+use Rattle.binder.specs.Orders.{SelectList, mentions_from, orders_from}
 use Rattle.binder.specs.Plain.{PlainBlock}
 use Rattle.binder.specs.Results.{◌>>=◌, or_fault, where_holds, each, both}
 use Rattle.binder.specs.Scopes.{Names}
 use Rattle.binder.specs.Sources.{table_meant, sources_of, visible}
 
 -- the clauses of a SELECT with their names turned into numbers
-pub record Clauses : Type 0 where
+pub record PlainClauses : Type 0 where
   pub items : List BoundItem
   pub tests : PlainTests
   pub group : List SlotColumn
-  pub order : Ordering
+  pub order : SortKeys
 
 -- the clauses of a SELECT, in written order: items, ON and WHERE, GROUP BY, HAVING, ORDER BY
-unfoldable pub clauses_of : Names → ParsedSelect → Result Clauses BindFault
+unfoldable pub clauses_of : Names → ParsedSelect → Result PlainClauses BindFault
 clauses_of names select = do
   items ← items_of names select.items
   tests ← tests_of names select.conditions
@@ -44,11 +45,11 @@ clauses_of names select = do
   Ok (record { items = items; tests = tests; group = group; order = order })
 
 -- the columns that the clauses of a SELECT mention by their names
-abbrev pub clause_mentions : Clauses → List SlotColumn
+abbrev pub clause_mentions : PlainClauses → List SlotColumn
 clause_mentions clauses = flat_map item_mentions clauses.items ++ clauses.tests.mentions ++ clauses.group ++ clauses.order.mentions
 
 -- the block of a SELECT
-abbrev pub select_block : Names → ParsedSelect → Clauses → PlainBlock
+abbrev pub select_block : Names → ParsedSelect → PlainClauses → PlainBlock
 select_block names select clauses =
     let aggregate = aggregates clauses.items select.order in
     record {

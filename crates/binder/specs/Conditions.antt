@@ -63,13 +63,17 @@ compare_test compares.Above value = tests.Above value
 abbrev pub named_test : Names → PlainTests → NameUse → (SlotColumn → Test) → Result PlainTests BindFault
 named_test names so_far name test = meaning names name >>= λ c. Ok (with_test so_far c (test c))
 
+-- an equality of what two names mean
+abbrev pub named_equality : Names → PlainTests → NameUse → NameUse → Result PlainTests BindFault
+named_equality names so_far left right = meaning names left >>= λ c. meaning names right >>= λ d. Ok (with_equality so_far c d)
+
 abbrev pub literal_value : Names → SlotColumn → Literal → Value
 literal_value names c literal = value_of names.text (kind_of names c) literal
 
 -- the tests with one condition more
 unfoldable pub with_condition : Names → PlainTests → Condition → Result PlainTests BindFault
 with_condition names so_far (conditions.Compared name compare literal) = named_test names so_far name (λ c. compare_test compare (literal_value names c literal))
-with_condition names so_far (conditions.Tied left right) = meaning names left >>= λ c. meaning names right >>= λ d. Ok (with_equality so_far c d)
+with_condition names so_far (conditions.Tied left right) = named_equality names so_far left right
 with_condition names so_far (conditions.Between name low high) = named_test names so_far name (λ c. tests.Between (literal_value names c low) (literal_value names c high))
 with_condition names so_far (conditions.OneOf name n) = named_test names so_far name (λ c. tests.OneOf n)
 with_condition names so_far (conditions.Like name) = named_test names so_far name (λ c. tests.Like)

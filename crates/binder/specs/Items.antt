@@ -7,8 +7,8 @@ use Rattle.sql_reader.specs.declared.parsed.NameUse.{NameUse}
 use Rattle.sql_reader.specs.declared.parsed.ParsedItem.{ParsedItem}
 use Rattle.sql_reader.specs.declared.parsed.ParsedItem.TheVariants as parsed
 use Rattle.binder.specs.declared.column.SlotColumn.{SlotColumn}
-use Rattle.binder.specs.declared.items.BoundItem.{BoundItem}
-use Rattle.binder.specs.declared.items.BoundItem.TheVariants.{Star, SlotStar, Made}
+use Rattle.binder.specs.declared.bound_item.BoundItem.{BoundItem}
+use Rattle.binder.specs.declared.bound_item.BoundItem.TheVariants.{Star, SlotStar, Made}
 use Rattle.binder.specs.declared.fault.BindFault.{BindFault}
 use Rattle.binder.specs.Names.{name_in}
 use Rattle.binder.specs.Lookups.{goes_by}

@@ -8,9 +8,13 @@ pub mod Values
 pub mod Plain
 pub mod Conditions
 pub mod Items
+pub mod Aliases
 pub mod Orders
 pub mod Lists
+pub mod Marks
 pub mod Needed
 pub mod Joins
 pub mod Blocks
 pub mod Statements
+pub mod Works
+pub mod View

@@ -7,7 +7,7 @@ use Rattle.adv_base.specs.Items.{is_same_column}
 use Rattle.adv_base.specs.Predicates.{is_equality}
 use Rattle.sql_reader.specs.declared.parsed.ParsedOrder.{ParsedOrder}
 use Rattle.binder.specs.declared.column.SlotColumn.{SlotColumn}
-use Rattle.binder.specs.declared.items.BoundItem.{BoundItem}
+use Rattle.binder.specs.declared.bound_item.BoundItem.{BoundItem}
 use Rattle.binder.specs.Items.{item_column, is_plain, has_aggregate}
 use Rattle.binder.specs.Plain.{PlainPred}
 
@@ -23,7 +23,7 @@ is_bound preds (Made n) = false
 
 -- an item behind those kept, unless its column is bound or stands among them
 abbrev pub keep : List PlainPred → List Item → Item → List Item
-keep preds kept item = if is_bound preds item || list_any (is_same_column item) kept then kept else kept ++ item ∷ []
+keep preds kept item = if is_bound preds item || list_any (λ earlier. is_same_column earlier item) kept then kept else kept ++ item ∷ []
 
 -- a list without bound columns, and each other column at its first place alone
 abbrev pub kept_items : List PlainPred → List Item → List Item

@@ -11,7 +11,9 @@ use Rattle.sql_reader.specs.declared.parsed.NameUse.{NameUse}
 use Rattle.sql_reader.specs.declared.parsed.ParsedItem.{ParsedItem}
 use Rattle.sql_reader.specs.declared.parsed.ParsedOrder.{ParsedOrder}
 use Rattle.binder.specs.declared.column.SlotColumn.{SlotColumn}
-use Rattle.binder.specs.declared.items.BoundItem.{BoundItem}
+use Rattle.binder.specs.declared.bound_item.BoundItem.{BoundItem}
+use Rattle.binder.specs.declared.sort_keys.SortKey.{SortKey}
+use Rattle.binder.specs.declared.sort_keys.SortKeys.{SortKeys}
 use Rattle.binder.specs.declared.terms.Term.{Term}
 use Rattle.binder.specs.declared.terms.Term.TheVariants as terms
 use Rattle.binder.specs.declared.fault.BindFault.{BindFault}
@@ -62,28 +64,23 @@ abbrev pub ordinal_column : SelectList → ℕ → Option SlotColumn
 ordinal_column list zero = None
 ordinal_column list (suc n) = column_at list.bound n
 
--- the column for which an ORDER BY item stands, where it does, and the columns mentioned by then
-pub record Sorted : Type 0 where
-  pub column : Option SlotColumn
-  pub mentions : List SlotColumn
-
 -- an item that is exactly a name
-abbrev pub sorted_by_name : Names → SelectList → List SlotColumn → Option NameUse → Result Sorted BindFault
+abbrev pub sorted_by_name : Names → SelectList → List SlotColumn → Option NameUse → Result SortKey BindFault
 sorted_by_name names list mentions None = Ok (record { column = None; mentions = mentions })
 sorted_by_name names list mentions (Some name_use) =
     term_of names list name_use >>= λ term. Ok (record { column = term_column list term; mentions = with_mention mentions term })
 
 -- an item of any other form
-abbrev pub sorted_by_made : Names → SelectList → List SlotColumn → List NameUse → Result Sorted BindFault
+abbrev pub sorted_by_made : Names → SelectList → List SlotColumn → List NameUse → Result SortKey BindFault
 sorted_by_made names list mentions uses = mentions_from names list mentions uses >>= λ more. Ok (record { column = None; mentions = more })
 
 -- a number alone is an item's, a column's name or an alias alone is that column, and any other is made
-abbrev pub sorted_as : Names → SelectList → List SlotColumn → Option ℕ → Bool → List NameUse → Result Sorted BindFault
+abbrev pub sorted_as : Names → SelectList → List SlotColumn → Option ℕ → Bool → List NameUse → Result SortKey BindFault
 sorted_as names list mentions (Some n) plain uses = Ok (record { column = ordinal_column list n; mentions = mentions })
 sorted_as names list mentions None true uses = sorted_by_name names list mentions (slice_get uses 0)
 sorted_as names list mentions None false uses = sorted_by_made names list mentions uses
 
-unfoldable pub sorted_by : Names → SelectList → List SlotColumn → Expr → Result Sorted BindFault
+unfoldable pub sorted_by : Names → SelectList → List SlotColumn → Expr → Result SortKey BindFault
 sorted_by names list mentions expr = sorted_as names list mentions expr.ordinal expr.plain expr.uses
 
 -- an item of an order: the column, or the number of the ORDER BY item, which is made
@@ -95,16 +92,12 @@ abbrev pub order_item : ℕ → Bool → Option SlotColumn → Item
 order_item n down None = Made n
 order_item n down (Some c) = directed down c
 
--- the items of ORDER BY so far, and the columns that HAVING and they mention
-pub record Ordering : Type 0 where
-  pub items : List Item
-  pub mentions : List SlotColumn
-
-unfoldable pub with_order : Names → SelectList → Ordering → ParsedOrder → Result Ordering BindFault
+-- the items of ORDER BY with one more
+unfoldable pub with_order : Names → SelectList → SortKeys → ParsedOrder → Result SortKeys BindFault
 with_order names list so_far order =
     sorted_by names list so_far.mentions order.expr >>= λ sorted. Ok (record { items = so_far.items ++ order_item (length so_far.items + 1) order.down sorted.column ∷ []; mentions = sorted.mentions })
 
-abbrev pub orders_from : Names → SelectList → List SlotColumn → List ParsedOrder → Result Ordering BindFault
+abbrev pub orders_from : Names → SelectList → List SlotColumn → List ParsedOrder → Result SortKeys BindFault
 orders_from names list mentions orders = in_turn (with_order names list) (record { items = []; mentions = mentions }) orders
 
 -- the column of an item that isn't made

@@ -23,7 +23,7 @@ slot_column s c = record { slot = s; column = c }
 
 -- the same column of the same slot
 abbrev pub is_same : SlotColumn → SlotColumn → Bool
-is_same c d = (c.slot == d.slot) && (c.column == d.column)
+is_same c d = (d.slot == c.slot) && (d.column == c.column)
 
 -- the number of the source that goes by a folded name
 abbrev pub source_number : List Visible → List ℕ → Option ℕ

@@ -55,7 +55,7 @@ work_of cat text at (bodies.Update source columns uses conditions) = update_of c
 work_of cat text at (bodies.Delete source conditions) = delete_of cat text source conditions >>= λ block. Ok (Delete block)
 
 -- the statements so far, and how many slots they have
-pub record Bound : Type 0 where
+pub record PlainBound : Type 0 where
   pub slots : ℕ
   pub statements : List PlainStatement
 
@@ -66,13 +66,16 @@ slot_count (Delete block) = length block.slots
 slot_count (Insert table rows) = 0
 
 -- one statement more; all together have at most 2000 slots
-unfoldable pub with_statement : Catalogue → List ℕ → Bound → ParsedStatement → Result Bound BindFault
+unfoldable pub with_statement : Catalogue → List ℕ → PlainBound → ParsedStatement → Result PlainBound BindFault
 with_statement cat text so_far statement = do
   work ← work_of cat text statement.place statement.body
   where_holds (TooManySlotsInAll statement.place) (nat_le (so_far.slots + slot_count work) 2000)
     (record { slots = so_far.slots + slot_count work; statements = so_far.statements ++ (record { weight = statement.weight; work = work }) ∷ [] })
 
+-- the statements that a text means over a catalogue, with the count of their slots, or the first fault
+abbrev pub bound_of : Catalogue → List ℕ → List ParsedStatement → Result PlainBound BindFault
+bound_of cat text statements = in_turn (with_statement cat text) (record { slots = 0; statements = [] }) statements
+
 -- the statements that a text means over a catalogue, or the first fault
 unfoldable pub statements_of : Catalogue → List ℕ → List ParsedStatement → Result (List PlainStatement) BindFault
-statements_of cat text statements =
-    in_turn (with_statement cat text) (record { slots = 0; statements = [] }) statements >>= λ bound. Ok bound.statements
+statements_of cat text statements = bound_of cat text statements >>= λ bound. Ok bound.statements
