@@ -19,7 +19,7 @@ use Rattle.binder.specs.Plain.{PlainPred, PlainEdge}
 use Rattle.binder.specs.Conditions.{PlainTests, no_tests, pred_of, edge_of, with_test, with_equality, compare_test, named_test, named_equality, literal_value, with_condition, tests_of}
 use Rattle.binder.specs.Results.{◌>>=◌, in_turn}
 use Rattle.binder.specs.Scopes.{Names, meaning}
-use Rattle.binder.proofs.Bind.{bind_ok, ok_is, in_turn-keeps, in_turn-counts}
+use Rattle.binder.proofs.Readings.{bind_ok, ok_is, in_turn-keeps, in_turn-counts}
 use Rattle.binder.proofs.Within.{width, IsColumn, IsColumn-meaning}
 
 -- a predicate on a column of one of the sources, with a second one of the same source where it compares two

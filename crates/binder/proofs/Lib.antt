@@ -3,7 +3,7 @@ pub mod Positions
 pub mod Columns
 pub mod Owners
 pub mod Turns
-pub mod Bind
+pub mod Readings
 pub mod Within
 pub mod Checked
 pub mod Cuts
@@ -12,3 +12,5 @@ pub mod Kept
 pub mod Sorted
 pub mod Limited
 pub mod Marked
+pub mod Named
+pub mod Lawful

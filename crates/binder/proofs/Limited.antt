@@ -27,7 +27,7 @@ use Rattle.binder.specs.Orders.{SelectList, mentions_from, orders_from}
 use Rattle.binder.specs.Plain.{PlainPred, PlainEdge, plain_pred, plain_edge, plain_preds, plain_edges}
 use Rattle.binder.specs.Results.{◌>>=◌}
 use Rattle.binder.specs.Scopes.{Names}
-use Rattle.binder.proofs.Bind.{bind_ok, ok_is}
+use Rattle.binder.proofs.Readings.{bind_ok, ok_is}
 use Rattle.binder.proofs.Within.{IsColumn}
 use Rattle.binder.proofs.Checked.{IsPred, IsEdge, AreTests, AreTests-tests, edges-tests}
 use Rattle.binder.proofs.Connected.{connected}

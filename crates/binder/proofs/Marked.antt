@@ -49,7 +49,7 @@ or_regroup false b d = refl
 or_swallowed : (a b d : Bool) → (d ≡ true → (a || b) ≡ true) → ((a || b) || d) ≡ (a || b)
 or_swallowed true b d h = refl
 or_swallowed false true d h = refl
-or_swallowed false false true h = h refl
+or_swallowed false false true h = sym (h refl)
 or_swallowed false false false h = refl
 
 -- an item is bound or stands among those kept exactly where it is marked
@@ -136,3 +136,31 @@ filter-column p n = ap (filter p) (range_more n) ∙ filter-append p (range_with
     by : (t : Bool) → p n ≡ t → filter p (range_with_len 0 n) ++ filter p (n ∷ []) ≡ cond (p n) (filter p (range_with_len 0 n) ++ n ∷ []) (filter p (range_with_len 0 n))
     by true e = rw e refl
     by false e = rw e (nothing_behind (filter p (range_with_len 0 n)))
+
+unmoved : (t : Bool) → t ≡ (t || false)
+unmoved true = refl
+unmoved false = refl
+
+-- a made item is kept, and marks nothing
+pub keeps-made : (item : Item) (marked : List SlotColumn) (kept kept_after : List Item) → column_of_item item ≡ None → kept_after ≡ kept ++ item ∷ [] → KeepsMarks item marked kept marked kept_after
+keeps-made (Up s c) marked kept kept_after none put = absurd cc
+keeps-made (Down s c) marked kept kept_after none put = absurd cc
+keeps-made (Made n) marked kept kept_after none put = record { items = put; marks = λ c. unmoved (is_marked marked c) }
+
+chosen_not : {A : Type 0} (t : Bool) (x y : A) → cond (not t) x y ≡ cond t y x
+chosen_not true x y = refl
+chosen_not false x y = refl
+
+same_as_item : (item : Item) (c q : SlotColumn) → column_of_item item ≡ Some c → is_same q c ≡ is_same_column item (upward q)
+same_as_item (Up s k) c q e = let same : slot_column s k ≡ c = cc in rw (← same) refl
+same_as_item (Down s k) c q e = let same : slot_column s k ≡ c = cc in rw (← same) refl
+same_as_item (Made n) c q e = absurd cc
+
+-- any other item is kept where its column is newly marked
+pub keeps-column : (item : Item) (c : SlotColumn) (marked marked_after : List SlotColumn) (kept kept_after : List Item) (fresh : Bool) → column_of_item item ≡ Some c → fresh ≡ not (is_marked marked c)
+    → ((q : SlotColumn) → is_marked marked_after q ≡ (is_marked marked q || is_same q c)) → kept_after ≡ cond fresh (kept ++ item ∷ []) kept → KeepsMarks item marked kept marked_after kept_after
+keeps-column item c marked marked_after kept kept_after fresh is new marks put = record {
+  items = put ∙ ap (λ (t : Bool). cond t (kept ++ item ∷ []) kept) new ∙ chosen_not (is_marked marked c) (kept ++ item ∷ []) kept
+    ∙ ap (λ (t : Bool). cond t kept (kept ++ item ∷ [])) (sym (ap (λ (o : Option SlotColumn). option_map_or (is_marked marked) o false) is));
+  marks = λ q. marks q ∙ ap (λ (t : Bool). is_marked marked q || t) (same_as_item item c q is)
+}

@@ -21,7 +21,7 @@ use Rattle.binder.specs.Items.{column_at, item_column, item_of, items_of, column
 use Rattle.binder.specs.Orders.{SelectList, alias_meant, alias_or_column, term_of, with_mention, mentions_from, term_column, ordinal_column, sorted_by_name, sorted_by_made, sorted_as, sorted_by, directed, order_item, with_order, orders_from}
 use Rattle.binder.specs.Results.{◌>>=◌, each}
 use Rattle.binder.specs.Scopes.{Names, source_meant, meaning}
-use Rattle.binder.proofs.Bind.{bind_ok, ok_is, in_turn-keeps, each-All}
+use Rattle.binder.proofs.Readings.{bind_ok, ok_is, in_turn-keeps, each-All}
 use Rattle.binder.proofs.Within.{IsColumn, IsColumn-meaning}
 use Rattle.binder.proofs.Kept.{IsItem, IsBound, item_column-is}
 

@@ -16,7 +16,7 @@ use Rattle.binder.specs.Names.{word_in, place}
 use Rattle.binder.specs.Lookups.{column_number, column_of}
 use Rattle.binder.specs.Results.{◌>>=◌, or_fault}
 use Rattle.binder.specs.Scopes.{Names, slot_column, source_number, source_meant, column_in, owner, owners, the_one, qualified, unqualified, by_qualifier, meaning}
-use Rattle.binder.proofs.Bind.{bind_ok, or_fault_ok, ok_is}
+use Rattle.binder.proofs.Readings.{bind_ok, or_fault_ok, ok_is}
 use Rattle.binder.proofs.Columns.{column_number-within}
 
 -- how many columns the source of a number has
