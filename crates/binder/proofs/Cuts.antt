@@ -9,7 +9,7 @@ use Rattle.std.proofs.lemmas.Nat.Bits.{bit_at_lowest, bit_at-suc, and_pow}
 use Rattle.adv_base.specs.Sets.{all_slots, has_slot, is_crossing}
 
 -- twice a power of two
-double : (n : ℕ) → (2 ^ suc n ≡ 2 * 2 ^ n) × (1 ≤ 2 ^ n)
+pub double : (n : ℕ) → (2 ^ suc n ≡ 2 * 2 ^ n) × (1 ≤ 2 ^ n)
 double n = (let p = pow-suc 2 n in omega arith, let q : 0 < 2 ^ n = pow_pos n in omega arith)
 
 -- two numbers whose sum is all ones have opposite bits

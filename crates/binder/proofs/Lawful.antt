@@ -159,12 +159,12 @@ delete-named cat text source conds b e =
 update-named : (cat : Catalogue) (text : List ℕ) (source : Source) (columns uses : List NameUse) (conds : List Condition) (w : PlainWork) → update_of cat text source columns uses conds ≡ Ok w → IsNamedWork cat w
 unfolding update_of
 update-named cat text source columns uses conds w e =
-    let s = bind_ok (one_source cat text source) (λ names. both (written_columns cat text (first_table names.sources) columns) (columns_of names uses) >>= λ set.
+    let s = bind_ok (one_source cat text source) (λ names. both (written_columns names.cat names.text (first_table names.sources) columns) (columns_of names uses) >>= λ set.
       tests_of names conds >>= λ tests. Ok (Update (change_block names tests (set.1 ++ tests.mentions)) set.0)) w e in
     let one = one-is cat text source s.0 s.1 in
     let names : Names = record { cat = cat; text = text; sources = one.over ∷ [] } in
     let rest : (both (written_columns cat text one.over.table columns) (columns_of names uses) >>= λ set. tests_of names conds >>= λ tests. Ok (Update (change_block names tests (set.1 ++ tests.mentions)) set.0)) ≡ Ok w
-      = subst (λ (n : Names). (both (written_columns cat text (first_table n.sources) columns) (columns_of n uses) >>= λ set.
+      = subst (λ (n : Names). (both (written_columns n.cat n.text (first_table n.sources) columns) (columns_of n uses) >>= λ set.
         tests_of n conds >>= λ tests. Ok (Update (change_block n tests (set.1 ++ tests.mentions)) set.0)) ≡ Ok w) one.is s.2 in
     let set = bind_ok (both (written_columns cat text one.over.table columns) (columns_of names uses)) (λ set. tests_of names conds >>= λ tests. Ok (Update (change_block names tests (set.1 ++ tests.mentions)) set.0)) w rest in
     let parts = both_ok (written_columns cat text one.over.table columns) (columns_of names uses) set.0 set.1 in
@@ -262,3 +262,8 @@ statements-lawful cat text parsed statements e =
     (All-weaker (λ (s : Statement). IsNamedWork cat (plain_work s.work)) (λ (s : Statement). NamesWork cat s.work) (λ s is. work-names cat s.work is) statements
       (All-unmap plain_statement (λ (s : PlainStatement). IsNamedWork cat s.work) statements named),
      let sums = ap (sum_by (λ (s : PlainStatement). slot_count s.work)) same in let own = same_sum statements in let count = are.count in let few = are.few in omega arith)
+
+-- the statements that were gathered are those that the text means
+pub statements_of-bound : (cat : Catalogue) (text : List ℕ) (parsed : List ParsedStatement) (bound : PlainBound) → bound_of cat text parsed ≡ Ok bound → statements_of cat text parsed ≡ Ok bound.statements
+unfolding statements_of
+statements_of-bound cat text parsed bound e = rw e refl

@@ -14,3 +14,5 @@ pub mod Limited
 pub mod Marked
 pub mod Named
 pub mod Lawful
+pub mod Ranges
+pub mod Uncrossed

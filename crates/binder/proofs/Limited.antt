@@ -157,3 +157,11 @@ change-limits names conds tests preds edges mentions one few e declared =
       order_list = record { within = λ k d lt. absurd (omega arith); apart = λ i j d lt le. absurd (omega arith) };
       order_free = λ k d lt. absurd (omega arith)
     }
+
+-- the join edges of a SELECT are between its sources
+pub clause-edges : (names : Names) (select : ParsedSelect) (clauses : PlainClauses) (preds : List Pred) (edges : List Edge) → clauses_of names select ≡ Ok clauses → Declared preds edges clauses.tests
+    → All (λ (edge : Edge). edge.left < length names.sources) edges × All (λ (edge : Edge). edge.right < length names.sources) edges
+clause-edges names select clauses preds edges e declared =
+    let given = given_clauses names select clauses e in
+    let are = AreTests-tests names select.conditions clauses.tests given.tests in
+    (edge_lefts names preds edges clauses.tests declared are, edge_rights names preds edges clauses.tests declared are)

@@ -5,6 +5,7 @@ use Rattle.std.specs.Prelude.{filter}
 use Rattle.std.specs.Option.{option_map_or}
 use Rattle.std.proofs.Math.Seq.{drop-cons}
 use Rattle.std.proofs.lemmas.Bool.{eqb-true}
+use Rattle.std.proofs.lemmas.Bool.Decides.{nat_tests}
 use Rattle.std.proofs.lemmas.List.{take_more, map_push, drop_all}
 use Rattle.std.proofs.lemmas.List.Folds.{list_any-append}
 use Rattle.std.proofs.lemmas.List.Elements.{filter-append}
@@ -13,6 +14,7 @@ use Rattle.adv_base.specs.declared.workload.parts.Item.{Item}
 use Rattle.adv_base.specs.declared.workload.parts.Item.TheVariants.{Up, Down, Made}
 use Rattle.adv_base.specs.declared.workload.predicate.Pred.{Pred}
 use Rattle.adv_base.specs.Items.{is_same_column}
+use Rattle.adv_base.specs.Predicates.{is_equality}
 use Rattle.binder.specs.declared.column.SlotColumn.{SlotColumn}
 use Rattle.binder.specs.Lists.{binds, is_bound, keep, kept_items, upward}
 use Rattle.binder.specs.Marks.{is_marked, Marks, BoundMarks, is_marked_item, KeepsMarks}
@@ -115,10 +117,11 @@ Marks-kept preds item kept kept_after marked marked_after marks step c = by (is_
         ∙ ap (λ (xs : List Item). list_any (binds c.slot c.column) preds || list_any (λ x. is_same_column x (upward c)) xs) (sym more)
 
 -- a turn of the loop over items
-pub kept-turn : (preds : List PlainPred) (items : List Item) (i : ℕ) (item : Item) (kept kept_after total : List Item) (marked marked_after : List SlotColumn) → i < length items → item ≡ get_or items i item
-    → Marks preds kept marked → KeepsMarks item marked kept marked_after kept_after → fold (keep preds) kept (drop i items) ≡ total → fold (keep preds) kept_after (drop (i + 1) items) ≡ total
-kept-turn preds items i item kept kept_after total marked marked_after lt is marks step so_far =
-    let next : fold (keep preds) kept (drop i items) ≡ fold (keep preds) (keep preds kept item) (drop (i + 1) items) = rw (drop-cons items i item) (rw (add-one, ← is) refl) in
+pub kept-turn : (preds : List PlainPred) (items : List Item) (i : ℕ) (d : Item) (kept kept_after total : List Item) (marked marked_after : List SlotColumn) → i < length items
+    → Marks preds kept marked → KeepsMarks (get_or items i d) marked kept marked_after kept_after → fold (keep preds) kept (drop i items) ≡ total → fold (keep preds) kept_after (drop (i + 1) items) ≡ total
+kept-turn preds items i d kept kept_after total marked marked_after lt marks step so_far =
+    let item = get_or items i d in
+    let next : fold (keep preds) kept (drop i items) ≡ fold (keep preds) (keep preds kept item) (drop (i + 1) items) = rw (drop-cons items i d) (rw add-one refl) in
     ap (λ (xs : List Item). fold (keep preds) xs (drop (i + 1) items)) (Marks-item preds item kept kept_after marked marked_after marks step) ∙ sym next ∙ so_far
 
 -- the columns of a slot that pass a test, one column further
@@ -164,3 +167,47 @@ keeps-column item c marked marked_after kept kept_after fresh is new marks put =
     ∙ ap (λ (t : Bool). cond t kept (kept ++ item ∷ [])) (sym (ap (λ (o : Option SlotColumn). option_map_or (is_marked marked) o false) is));
   marks = λ q. marks q ∙ ap (λ (t : Bool). is_marked marked q || t) (same_as_item item c q is)
 }
+
+bound_and : (t : Bool) → (t && true) ≡ t
+bound_and true = refl
+bound_and false = refl
+
+free_and : (t : Bool) → (t && false) ≡ false
+free_and true = refl
+free_and false = refl
+
+-- `column = literal` marks its column
+pub BoundMarks-equality : (pred : PlainPred) (old new : List SlotColumn) → is_equality pred.test ≡ true → ((q : SlotColumn) → is_marked new q ≡ (is_marked old q || is_same q (slot_column pred.slot pred.column))) → BoundMarks pred old new
+BoundMarks-equality pred old new equal marks q =
+    marks q ∙ ap (λ (t : Bool). is_marked old q || t) (sym (ap (λ (t : Bool). (eqb pred.slot q.slot && eqb pred.column q.column) && t) equal ∙ bound_and (eqb pred.slot q.slot && eqb pred.column q.column)))
+
+-- any other predicate marks nothing
+pub BoundMarks-other : (pred : PlainPred) (old : List SlotColumn) → is_equality pred.test ≡ false → BoundMarks pred old old
+BoundMarks-other pred old other q =
+    unmoved (is_marked old q) ∙ ap (λ (t : Bool). is_marked old q || t) (sym (ap (λ (t : Bool). (eqb pred.slot q.slot && eqb pred.column q.column) && t) other ∙ free_and (eqb pred.slot q.slot && eqb pred.column q.column)))
+
+eqb_sym : (a b : ℕ) → eqb a b ≡ eqb b a
+eqb_sym a b = grind (arith, nat_tests)
+
+-- a set of columns, by the equality that its keys have
+module _ (eq : SlotColumn → SlotColumn → Bool) (same : (x y : SlotColumn) → eq x y ≡ (eqb x.slot y.slot && eqb x.column y.column)) where
+  turned : (c d : SlotColumn) → eq c d ≡ is_same c d
+  turned c d = same c d ∙ rw (eqb_sym c.slot d.slot, eqb_sym c.column d.column) refl
+
+  pub marked-by : (keys : List SlotColumn) (c : SlotColumn) → list_any (eq c) keys ≡ is_marked keys c
+  marked-by [] c = refl
+  marked-by (d ∷ ds) c = ap (λ (t : Bool). t || list_any (eq c) ds) (turned c d) ∙ ap (λ (t : Bool). is_same c d || t) (marked-by ds c)
+
+  swallowed : (a d : Bool) → (d ≡ true → a ≡ true) → a ≡ (a || d)
+  swallowed true d h = refl
+  swallowed false true h = h refl
+  swallowed false false h = refl
+
+  pub marked-after : (keys after : List SlotColumn) (c : SlotColumn) → after ≡ cond (list_any (eq c) keys) keys (keys ++ c ∷ []) → (q : SlotColumn) → is_marked after q ≡ (is_marked keys q || is_same q c)
+  marked-after keys after c put q = by (list_any (eq c) keys) refl
+    where
+      by : (t : Bool) → list_any (eq c) keys ≡ t → is_marked after q ≡ (is_marked keys q || is_same q c)
+      by true e =
+          ap (λ (ks : List SlotColumn). is_marked ks q) (put ∙ ap (λ (t : Bool). cond t keys (keys ++ c ∷ [])) e)
+          ∙ swallowed (is_marked keys q) (is_same q c) (λ d. ap (is_marked keys) (sym (same_column c.slot c.column q d)) ∙ sym (marked-by keys c) ∙ e)
+      by false e = ap (λ (ks : List SlotColumn). is_marked ks q) (put ∙ ap (λ (t : Bool). cond t keys (keys ++ c ∷ [])) e) ∙ any_push (is_same q) keys c

@@ -28,7 +28,7 @@ first_table (v ∷ vs) = v.table
 unfoldable pub update_of : Catalogue → List ℕ → Source → List NameUse → List NameUse → List Condition → Result PlainWork BindFault
 update_of cat text source columns uses conditions = do
   names ← one_source cat text source
-  set ← both (written_columns cat text (first_table names.sources) columns) (columns_of names uses)
+  set ← both (written_columns names.cat names.text (first_table names.sources) columns) (columns_of names uses)
   tests ← tests_of names conditions
   Ok (Update (change_block names tests (set.1 ++ tests.mentions)) set.0)
 

@@ -92,7 +92,8 @@ fn change_block(
     requires one { length scope.now.sources ≡ 1 }
     requires limits { ConditionsLimits conditions.now }
     requires bound { tests_of (names_of scope.now) conditions.now ≡ Ok (plain_tests tests) }
-    ensures { IfOk result (λ block. plain_block block ≡ block_of_change (names_of scope.now) (plain_tests tests) mentions.now) }
+    ensures exact { IfOk result (λ block. plain_block block ≡ block_of_change (names_of scope.now) (plain_tests tests) mentions.now) }
+    ensures limits { IfOk result ChangeLimits }
 {
     let cat = scope.directory.cat;
     let slots = slots(alloc, cat, &[], mentions, scope.sources.as_slice())?;
@@ -160,7 +161,8 @@ fn set_clause(
     uses: &[NameUse],
 ) -> Result<(List<u16>, List<SlotColumn>), BindFault>
     requires { length scope.now.sources ≡ 1 }
-    ensures { Gives (λ x. x) result (both (columns_written scope.now.directory.now.cat.now scope.now.text.now (table_of_first scope.now.sources) names.now) (columns_of (names_of scope.now) uses.now)) }
+    ensures { let seen = names_of scope.now in
+        Gives (λ x. x) result (both (columns_written seen.cat seen.text (table_of_first seen.sources) names.now) (columns_of seen uses.now)) }
 {
     let table = scope.sources.items[0].table;
     let set = written_columns(alloc, scope.directory, scope.text, table, names);

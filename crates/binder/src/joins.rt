@@ -1,6 +1,8 @@
 //! Whether join edges connect the slots of a block, by quick-find (Sedgewick): slots that hang together have one label.
-ghost use Rattle.std.specs.Prelude.{◌≡◌, ◌<◌, ◌≤◌, length, map, IfOk, All, slice_index};
+ghost use Rattle.std.specs.Prelude.{◌≡◌, ◌==◌, ◌<◌, ◌≤◌, ◌↔◌, length, map, IfOk, IsTrue, All};
 ghost use Rattle.std.specs.List.{list_all, range_with_len};
+ghost use Rattle.adv_base.specs.Limits.Blocks.{ends};
+ghost use Rattle.adv_base.specs.Sets.{IsConnected};
 ghost use Rattle.binder.specs.Joins.{renamed as renamed_label, relabelled, labels_of, is_joined as all_joined};
 ghost use Rattle.binder.specs.Plain.{plain_edge, plain_edges};
 
@@ -31,7 +33,11 @@ fn relabel(labels: &mut [u8], edge: &Edge)
 fn own_labels(alloc: Global, slots: u8) -> Result<Vec<u8>, AllocError>
     ensures { IfOk result (λ v. v.items ≡ range_with_len 0 slots) }
 {
-    (0..slots).collect(alloc)
+    let mut labels = Vec::new(alloc);
+    for slot in 0..slots {
+        labels.push(slot)?;
+    }
+    Ok(labels)
 }
 
 /// The labels of slots behind all edges.
@@ -39,7 +45,8 @@ fn own_labels(alloc: Global, slots: u8) -> Result<Vec<u8>, AllocError>
 fn labels(alloc: Global, slots: u8, edges: &[Edge]) -> Result<Vec<u8>, AllocError>
     requires lefts { All (λ edge. edge.left < slots) edges.now }
     requires rights { All (λ edge. edge.right < slots) edges.now }
-    ensures { IfOk result (λ v. v.items ≡ labels_of slots (plain_edges edges.now)) }
+    ensures exact { IfOk result (λ v. v.items ≡ labels_of slots (plain_edges edges.now)) }
+    ensures len { IfOk result (λ v. length v.items ≡ slots) }
 {
     let mut labels = own_labels(alloc, slots)?;
     for edge in edges {
@@ -48,15 +55,23 @@ fn labels(alloc: Global, slots: u8, edges: &[Edge]) -> Result<Vec<u8>, AllocErro
     Ok(labels)
 }
 
-/// Whether all slots hang together.
-#[tactic(auto, unfolding(crate::specs::Joins::is_joined))]
+/// Whether all labels are this one.
+fn all_same(labels: &[u8], first: u8) -> bool
+    ensures { result ≡ list_all (λ label. label == first) labels.now }
+{
+    labels.iter().all(|label| *label == first)
+}
+
+/// Whether all slots hang together, which is whether the edges connect them.
 pub fn is_joined(alloc: Global, slots: u8, edges: &[Edge]) -> Result<bool, AllocError>
     requires some { 1 ≤ slots }
     requires lefts { All (λ edge. edge.left < slots) edges.now }
     requires rights { All (λ edge. edge.right < slots) edges.now }
-    ensures { IfOk result (λ joined. joined ≡ all_joined slots (plain_edges edges.now)) }
+    ensures exact { IfOk result (λ joined. joined ≡ all_joined slots (plain_edges edges.now)) }
+    // Whichever way the slots are cut in two, some edge crosses the cut, exactly where they hang together.
+    ensures connects { IfOk result (λ joined. IsTrue joined ↔ IsConnected slots (map ends edges.now)) }
 {
     let labels = labels(alloc, slots, edges)?;
     let first = labels[0];
-    Ok(labels.iter().all(|label| *label == first))
+    Ok(all_same(&labels, first))
 }

@@ -1,8 +1,11 @@
 //! The lists by which a block groups and orders.
-ghost use Rattle.std.specs.Prelude.{◌≡◌, [], IfOk};
-ghost use Rattle.std.specs.List.{list_any, filter_map};
-ghost use Rattle.binder.specs.Marks.{Marks, KeepsMarks, BoundMarks};
-ghost use Rattle.binder.specs.Items.{item_column as column_of_bound, has_aggregate as aggregate_item};
+ghost use Rattle.std.specs.Prelude.{◌≡◌, ◌||◌, ◌∷◌, ◌++◌, [], not, if◌then◌else◌, map, IfOk};
+ghost use Rattle.binder.specs.declared.column.SlotColumn.{SlotColumn};
+ghost use Rattle.binder.specs.Scopes.{is_same};
+ghost use Rattle.std.specs.List.{list_any, list_all, filter_map};
+ghost use Rattle.adv_base.specs.Predicates.{is_equality as equality_test};
+ghost use Rattle.binder.specs.Marks.{is_marked, Marks, KeepsMarks, BoundMarks};
+ghost use Rattle.binder.specs.Items.{item_column as column_of_bound, has_aggregate as aggregate_item, is_plain as plain_item};
 ghost use Rattle.binder.specs.Lists.{upward as item_upward, kept_items as items_kept, kept_columns as columns_kept, aggregates as has_aggregates, distinct_group as group_of_distinct, group_list as list_to_group, order_list as list_to_order};
 ghost use Rattle.binder.specs.Orders.{column_of_item as column_in_item};
 ghost use Rattle.binder.specs.Plain.{plain_pred, plain_preds};
@@ -25,20 +28,41 @@ fn column_of(item: Item) -> Option<SlotColumn>
     }
 }
 
+/// Marks a column; says whether it was new.
+fn mark(
+    mut marked: IndexSet<SlotColumn>,
+    c: SlotColumn,
+) -> Result<(IndexSet<SlotColumn>, bool), AllocError>
+    ensures is_new { IfOk result (λ x. x.1 ≡ not (is_marked marked.keys c)) }
+    ensures marks { IfOk result (λ x. (q : SlotColumn) → is_marked x.0.keys q ≡ (is_marked marked.keys q || is_same q c)) }
+{
+    let is_new = marked.insert(c)?;
+    Ok((marked, is_new))
+}
+
+/// Whether a test is `column = literal`.
+fn is_equality(test: Test) -> bool
+    ensures { result ≡ equality_test test }
+{
+    matches!(test, Test::Equal)
+}
+
 /// Marks a column where a predicate gives it a literal.
 fn mark_bound(
-    mut marked: IndexSet<SlotColumn>,
+    marked: IndexSet<SlotColumn>,
     pred: &Pred,
 ) -> Result<IndexSet<SlotColumn>, AllocError>
     ensures { IfOk result (λ new. BoundMarks (plain_pred pred.now) marked.keys new.keys) }
 {
-    if matches!(pred.test, Test::Equal) {
-        marked.insert(SlotColumn {
-            slot: pred.slot,
-            column: pred.column,
-        })?;
+    if !is_equality(pred.test) {
+        return Ok(marked);
     }
-    Ok(marked)
+    let c = SlotColumn {
+        slot: pred.slot,
+        column: pred.column,
+    };
+    let (after, _) = mark(marked, c)?;
+    Ok(after)
 }
 
 /// The columns to which predicates give a literal.
@@ -59,18 +83,32 @@ struct Kept {
     items: List<Item>,
 }
 
+/// An item behind the others, where it is to be kept.
+fn put_kept(mut items: List<Item>, item: Item, is_kept: bool) -> Result<List<Item>, AllocError>
+    ensures { IfOk result (λ x. x ≡ (if is_kept then items ++ item ∷ [] else items)) }
+{
+    if is_kept {
+        items.items.push(item)?;
+    }
+    Ok(items)
+}
+
 /// Keeps an item unless its column is marked, and marks its column.
-fn keep(mut kept: Kept, item: Item) -> Result<Kept, AllocError>
+fn keep(kept: Kept, item: Item) -> Result<Kept, AllocError>
     ensures { IfOk result (λ x. KeepsMarks item kept.marked.keys kept.items x.marked.keys x.items) }
 {
-    let is_new = match column_of(item) {
-        None => true,
-        Some(c) => kept.marked.insert(c)?,
-    };
-    if is_new {
-        kept.items.items.push(item)?;
+    let Kept { marked, items } = kept;
+    match column_of(item) {
+        None => {
+            let items = put_kept(items, item, true)?;
+            Ok(Kept { marked, items })
+        }
+        Some(c) => {
+            let (marked, is_new) = mark(marked, c)?;
+            let items = put_kept(items, item, is_new)?;
+            Ok(Kept { marked, items })
+        }
     }
-    Ok(kept)
 }
 
 /// Items without bound columns, and each other column at its first place alone.
@@ -98,6 +136,13 @@ fn upward(c: SlotColumn) -> Item
     }
 }
 
+/// Columns as items that go upwards.
+fn upward_items(alloc: Global, columns: &[SlotColumn]) -> Result<Vec<Item>, AllocError>
+    ensures { IfOk result (λ v. v.items ≡ map item_upward columns.now) }
+{
+    columns.iter().map(|c| upward(*c)).collect(alloc)
+}
+
 /// The same of columns, which go upwards.
 fn kept_columns(
     alloc: Global,
@@ -106,8 +151,8 @@ fn kept_columns(
 ) -> Result<List<Item>, AllocError>
     ensures { IfOk result (λ x. x ≡ columns_kept (plain_preds preds.now) columns.now) }
 {
-    let items: Vec<Item> = columns.iter().map(|c| upward(*c)).collect(alloc)?;
-    kept_items(alloc, preds, &items)
+    let items = upward_items(alloc, columns)?;
+    Ok(kept_items(alloc, preds, items.as_slice())?)
 }
 
 /// Whether an item calls an aggregate.
@@ -143,6 +188,13 @@ fn plain_columns(alloc: Global, items: &[BoundItem]) -> Result<Vec<SlotColumn>, 
         .collect(alloc)
 }
 
+/// Whether all items are exactly columns.
+fn are_plain(items: &[BoundItem]) -> bool
+    ensures { result ≡ list_all plain_item items.now }
+{
+    items.iter().all(|item| item.is_plain())
+}
+
 /// The list by which DISTINCT over plain columns groups.
 fn distinct_group(
     alloc: Global,
@@ -152,11 +204,14 @@ fn distinct_group(
 ) -> Result<Option<List<Item>>, AllocError>
     ensures { IfOk result (λ x. x ≡ group_of_distinct distinct (plain_preds preds.now) items.now) }
 {
-    if !distinct || !items.iter().all(|item| item.is_plain()) {
+    if !distinct {
+        return Ok(None);
+    }
+    if !are_plain(items) {
         return Ok(None);
     }
     let columns = plain_columns(alloc, items)?;
-    Ok(Some(kept_columns(alloc, preds, &columns)?))
+    Ok(Some(kept_columns(alloc, preds, columns.as_slice())?))
 }
 
 /// The list by which a SELECT groups.

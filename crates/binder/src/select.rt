@@ -73,7 +73,8 @@ fn block_of(
     requires limits { SelectLimits select.now }
     requires bound { clauses_of (names_of scope.now) select.now ≡ Ok (plain_clauses clauses) }
     requires joined { all_joined (length scope.now.sources) (plain_clauses clauses).tests.edges ≡ true }
-    ensures { IfOk result (λ block. plain_block block ≡ block_of_clauses (names_of scope.now) select.now (plain_clauses clauses)) }
+    ensures exact { IfOk result (λ block. plain_block block ≡ block_of_clauses (names_of scope.now) select.now (plain_clauses clauses)) }
+    ensures covers { IfOk result (λ block. block.may_cover ≡ true) }
 {
     let mentions = clause_mentions(alloc, &clauses)?;
     let Clauses {
@@ -108,7 +109,8 @@ pub fn select_block(
     select: &ParsedSelect,
 ) -> Result<Block, BindFault>
     requires { SelectLimits select.now }
-    ensures { Gives plain_block result (select_of directory.now.cat.now text.now place select.now) }
+    ensures exact { Gives plain_block result (select_of directory.now.cat.now text.now place select.now) }
+    ensures covers { IfOk result (λ block. block.may_cover ≡ true) }
 {
     let sources = sources(alloc, directory, text, select.sources.as_slice())?;
     let scope = Scope {

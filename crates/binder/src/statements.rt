@@ -1,6 +1,7 @@
 //! Binding whole statements.
 ghost use Rattle.std.specs.Prelude.{◌≡◌, ◌≤◌, ◌+◌, IfOk, All, sum_by, length};
 ghost use Rattle.adv_base.specs.Limits.Settings.{slot_count as slots_of_work};
+ghost use Rattle.adv_base.specs.Named.{NamesWork};
 ghost use Rattle.sql_reader.specs.Limits.{StatementLimits, BodyLimits};
 ghost use Rattle.binder.specs.Plain.{plain_work, plain_statements};
 ghost use Rattle.binder.specs.Results.{Gives};
@@ -141,6 +142,10 @@ pub fn bind(
     parsed: &Parsed<'_>,
 ) -> Result<List<Statement>, BindFault>
     ensures exact { Gives plain_statements result (statements_of cat.now parsed.now.text.now parsed.now.statements) }
+    // The tables and columns of each statement exist in the catalogue.
+    ensures named { IfOk result (λ statements. All (λ statement. NamesWork cat.now statement.work) statements) }
+    // All statements together have at most 2000 slots.
+    ensures few { IfOk result (λ statements. sum_by (λ statement. slots_of_work statement.work) statements ≤ 2000) }
 {
     let directory = Directory::new(alloc, cat)?;
     let bound = statements(alloc, &directory, parsed.text, parsed.statements.as_slice())?;
