@@ -45,7 +45,7 @@ NoSame test = (d : ℕ) → test ≡ tests.Same d → ⊥
 AreTests-test : (names : Names) (so_far : PlainTests) (c : SlotColumn) (test : Test) → NoSame test → AreTests names so_far → IsColumn names c → AreTests names (with_test so_far c test)
 AreTests-test names so_far c test none are is = record {
   preds = All-push (IsPred names) so_far.preds (pred_of c test) are.preds (record { slot = is.slot; column = is.column; other = λ d e. absurd (none d e) });
-  edges = are.edges
+  edges = are.edges;
 }
 
 AreTests-equality : (names : Names) (so_far : PlainTests) (c d : SlotColumn) → AreTests names so_far → IsColumn names c → IsColumn names d → AreTests names (with_equality so_far c d)
@@ -58,13 +58,13 @@ AreTests-equality names so_far c d are is_c is_d = by (eqb c.slot d.slot) refl
         let same = eqb-true c.slot d.slot e in
         rw e (record {
           preds = All-push (IsPred names) so_far.preds (pred_of c (tests.Same d.column)) are.preds
-            (record { slot = is_c.slot; column = is_c.column; other = λ k h. let kd : d.column ≡ k = cc in subst (λ (x : ℕ). x < width names c.slot) kd (rw same is_d.column) });
-          edges = are.edges
+              (record { slot = is_c.slot; column = is_c.column; other = λ k h. let kd : d.column ≡ k = cc in subst (λ (x : ℕ). x < width names c.slot) kd (rw same is_d.column) });
+          edges = are.edges;
         })
     by false e =
         rw e (record {
           preds = are.preds;
-          edges = All-push (IsEdge names) so_far.edges (edge_of c d) are.edges (record { left = is_c.slot; left_column = is_c.column; right = is_d.slot; right_column = is_d.column })
+          edges = All-push (IsEdge names) so_far.edges (edge_of c d) are.edges (record { left = is_c.slot; left_column = is_c.column; right = is_d.slot; right_column = is_d.column });
         })
 
 AreTests-named : (names : Names) (so_far : PlainTests) (name : NameUse) (test : SlotColumn → Test) → ((c : SlotColumn) → NoSame (test c)) → AreTests names so_far

@@ -69,10 +69,10 @@ Respects-own : (n : ℕ) (side : ℕ → Bool) → Respects n side (range_with_l
 Respects-own n side = record {
   len = length-range_with_len 0 n;
   same = λ s t ls lt e.
-    let at_s = get_or-range_with_len 0 n s 0 ls in
-    let at_t = get_or-range_with_len 0 n t 0 lt in
-    let st : s ≡ t = omega arith in
-    ap side st
+      let at_s = get_or-range_with_len 0 n s 0 ls in
+      let at_t = get_or-range_with_len 0 n t 0 lt in
+      let st : s ≡ t = omega arith in
+      ap side st;
 }
 
 merged : (x y f g : ℕ) → renamed f g x ≡ renamed f g y → (x ≡ y) ⊎ (((x ≡ f) × (g ≡ y)) ⊎ ((x ≡ g) × (y ≡ f)))
@@ -89,17 +89,17 @@ Respects-more : (n : ℕ) (side : ℕ → Bool) (labels : List ℕ) (l r : ℕ) 
 Respects-more n side labels l r left right joined so_far = record {
   len = length-map labels (renamed (get_or labels l 0) (get_or labels r 0)) ∙ so_far.len;
   same = λ s t ls lt e.
-    let f = renamed (get_or labels l 0) (get_or labels r 0) in
-    let in_s : s < length labels = rw so_far.len ls in
-    let in_t : t < length labels = rw so_far.len lt in
-    let met = sym (get_or-map f labels s 0 0 in_s) ∙ e ∙ get_or-map f labels t 0 0 in_t in
-    elim (merged (get_or labels s 0) (get_or labels t 0) (get_or labels l 0) (get_or labels r 0) met) [
-      | inl one ↦ so_far.same s t ls lt one
-      | inr more ↦ elim more [
+      let f = renamed (get_or labels l 0) (get_or labels r 0) in
+      let in_s : s < length labels = rw so_far.len ls in
+      let in_t : t < length labels = rw so_far.len lt in
+      let met = sym (get_or-map f labels s 0 0 in_s) ∙ e ∙ get_or-map f labels t 0 0 in_t in
+      elim (merged (get_or labels s 0) (get_or labels t 0) (get_or labels l 0) (get_or labels r 0) met) [
+        | inl one ↦ so_far.same s t ls lt one
+        | inr more ↦ elim more [
           | inl two ↦ so_far.same s l ls left two.0 ∙ joined ∙ so_far.same r t right lt two.1
           | inr three ↦ so_far.same s r ls right three.0 ∙ sym joined ∙ so_far.same l t left lt (sym three.1)
         ]
-    ]
+      ];
 }
 
 -- edges of which none crosses leave slots of one label on one side

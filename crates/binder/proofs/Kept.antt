@@ -87,7 +87,7 @@ is_within names (Made n) is = refl
 pub kept_items-limits : (names : Names) (preds : List PlainPred) (items : List Item) → All (IsItem names) items → ListLimits (length names.sources) (kept_items preds items)
 kept_items-limits names preds items are = record {
   within = λ k d lt. is_within names (get_or (kept_items preds items) k d) (kept-All preds (IsItem names) items [] are (All-nil (IsItem names)) k d lt);
-  apart = kept-apart preds items [] (λ i j d lt le. absurd (omega arith))
+  apart = kept-apart preds items [] (λ i j d lt le. absurd (omega arith));
 }
 
 pub kept_items-are : (names : Names) (preds : List PlainPred) (items : List Item) → All (IsItem names) items → All (IsItem names) (kept_items preds items)
@@ -99,7 +99,7 @@ columns_are names columns are = All-map (IsItem names) upward columns are
 pub kept_columns-limits : (names : Names) (preds : List PlainPred) (columns : List SlotColumn) → All (IsColumn names) columns → GroupLimits (length names.sources) (kept_columns preds columns)
 kept_columns-limits names preds columns are = record {
   list = kept_items-limits names preds (map upward columns) (columns_are names columns are);
-  upward = kept-All preds (λ item. is_upward item ≡ true) (map upward columns) [] (All-map (λ item. is_upward item ≡ true) upward columns (λ k d lt. refl)) (All-nil (λ item. is_upward item ≡ true))
+  upward = kept-All preds (λ item. is_upward item ≡ true) (map upward columns) [] (All-map (λ item. is_upward item ≡ true) upward columns (λ k d lt. refl)) (All-nil (λ item. is_upward item ≡ true));
 }
 
 pub kept_columns-are : (names : Names) (preds : List PlainPred) (columns : List SlotColumn) → All (IsColumn names) columns → All (IsItem names) (kept_columns preds columns)

@@ -70,7 +70,7 @@ select-named : (cat : Catalogue) (text : List ℕ) (at : ℕ) (select : ParsedSe
 unfolding select_of
 select-named cat text at select b e =
     let s = bind_ok (sources_of cat text select.sources) (λ sources. clauses_of (record { cat = cat; text = text; sources = sources }) select >>= λ clauses.
-      where_holds (Unjoined at) (is_joined (length sources) clauses.tests.edges) (select_block (record { cat = cat; text = text; sources = sources }) select clauses)) b e in
+    where_holds (Unjoined at) (is_joined (length sources) clauses.tests.edges) (select_block (record { cat = cat; text = text; sources = sources }) select clauses)) b e in
     let names : Names = record { cat = cat; text = text; sources = s.0 } in
     let c = bind_ok (clauses_of names select) (λ clauses. where_holds (Unjoined at) (is_joined (length s.0) clauses.tests.edges) (select_block names select clauses)) b s.2 in
     let made = where_ok (Unjoined at) (is_joined (length s.0) c.0.tests.edges) (select_block names select c.0) b c.2 in
@@ -87,9 +87,9 @@ select-named cat text at select b e =
       preds = are.preds;
       edges = are.edges;
       group = λ list g.
-        let from = group_list-from names select.distinct aggregate c.0.tests.preds c.0.group c.0.items given.group given.items list g in
-        subst (All (IsItem names)) from.2 (kept_columns-are names c.0.tests.preds from.0 from.1);
-      order = order_list-are names aggregate c.0.tests.preds c.0.group c.0.order.items given.order
+          let from = group_list-from names select.distinct aggregate c.0.tests.preds c.0.group c.0.items given.group given.items list g in
+          subst (All (IsItem names)) from.2 (kept_columns-are names c.0.tests.preds from.0 from.1);
+      order = order_list-are names aggregate c.0.tests.preds c.0.group c.0.order.items given.order;
     } in
     subst (IsNamed cat) made.1 named
 
@@ -119,7 +119,7 @@ change-named cat text v conds tests mentions lt e =
       preds = are.preds;
       edges = are.edges;
       group = λ list g. absurd cc;
-      order = All-nil (IsItem names)
+      order = All-nil (IsItem names);
     }
 
 -- how many columns the first slot has
@@ -160,12 +160,12 @@ update-named : (cat : Catalogue) (text : List ℕ) (source : Source) (columns us
 unfolding update_of
 update-named cat text source columns uses conds w e =
     let s = bind_ok (one_source cat text source) (λ names. both (written_columns names.cat names.text (first_table names.sources) columns) (columns_of names uses) >>= λ set.
-      tests_of names conds >>= λ tests. Ok (Update (change_block names tests (set.1 ++ tests.mentions)) set.0)) w e in
+    tests_of names conds >>= λ tests. Ok (Update (change_block names tests (set.1 ++ tests.mentions)) set.0)) w e in
     let one = one-is cat text source s.0 s.1 in
     let names : Names = record { cat = cat; text = text; sources = one.over ∷ [] } in
     let rest : (both (written_columns cat text one.over.table columns) (columns_of names uses) >>= λ set. tests_of names conds >>= λ tests. Ok (Update (change_block names tests (set.1 ++ tests.mentions)) set.0)) ≡ Ok w
-      = subst (λ (n : Names). (both (written_columns n.cat n.text (first_table n.sources) columns) (columns_of n uses) >>= λ set.
-        tests_of n conds >>= λ tests. Ok (Update (change_block n tests (set.1 ++ tests.mentions)) set.0)) ≡ Ok w) one.is s.2 in
+    = subst (λ (n : Names). (both (written_columns n.cat n.text (first_table n.sources) columns) (columns_of n uses) >>= λ set.
+    tests_of n conds >>= λ tests. Ok (Update (change_block n tests (set.1 ++ tests.mentions)) set.0)) ≡ Ok w) one.is s.2 in
     let set = bind_ok (both (written_columns cat text one.over.table columns) (columns_of names uses)) (λ set. tests_of names conds >>= λ tests. Ok (Update (change_block names tests (set.1 ++ tests.mentions)) set.0)) w rest in
     let parts = both_ok (written_columns cat text one.over.table columns) (columns_of names uses) set.0 set.1 in
     let t = bind_ok (tests_of names conds) (λ tests. Ok (Update (change_block names tests (set.0.1 ++ tests.mentions)) set.0.0)) w set.2 in
@@ -204,14 +204,14 @@ statement-bound : (cat : Catalogue) (text : List ℕ) (so_far : PlainBound) (sta
 unfolding with_statement
 statement-bound cat text so_far statement after are e =
     let w = bind_ok (work_of cat text statement.place statement.body) (λ work. where_holds (TooManySlotsInAll statement.place) (nat_le (so_far.slots + slot_count work) 2000)
-      (record { slots = so_far.slots + slot_count work; statements = so_far.statements ++ (record { weight = statement.weight; work = work }) ∷ [] })) after e in
+    (record { slots = so_far.slots + slot_count work; statements = so_far.statements ++ (record { weight = statement.weight; work = work }) ∷ [] })) after e in
     let one : PlainStatement = record { weight = statement.weight; work = w.0 } in
     let next : PlainBound = record { slots = so_far.slots + slot_count w.0; statements = so_far.statements ++ one ∷ [] } in
     let made = where_ok (TooManySlotsInAll statement.place) (nat_le (so_far.slots + slot_count w.0) 2000) next after w.2 in
     let grown : AreBound cat next = record {
       named = All-push (λ (s : PlainStatement). IsNamedWork cat s.work) so_far.statements one are.named (work-named cat text statement.place statement.body w.0 w.1);
       count = sum_by-append (λ (s : PlainStatement). slot_count s.work) so_far.statements (one ∷ []) ∙ (let c = are.count in omega arith);
-      few = leb-true (so_far.slots + slot_count w.0) 2000 made.0
+      few = leb-true (so_far.slots + slot_count w.0) 2000 made.0;
     } in
     subst (AreBound cat) made.1 grown
 
@@ -225,7 +225,7 @@ first-width cat block c lt = by block.slots lt
 update-names : (cat : Catalogue) (block : Block) (columns : List ℕ) → IsNamed cat (plain_block block) × All (λ c. c < first_width cat block.slots) columns → NamesUpdate cat block columns
 update-names cat block columns is = record {
   block_named = named_block cat block is.0;
-  set = All-weaker (λ c. c < first_width cat block.slots) (λ c. c < slot_columns cat block 0) (λ c lt. first-width cat block c lt) columns is.1
+  set = All-weaker (λ c. c < first_width cat block.slots) (λ c. c < slot_columns cat block 0) (λ c lt. first-width cat block c lt) columns is.1;
 }
 
 work-names : (cat : Catalogue) (work : Work) → IsNamedWork cat (plain_work work) → NamesWork cat work
@@ -256,12 +256,13 @@ unfolding statements_of
 statements-lawful cat text parsed statements e =
     let b = bind_ok (bound_of cat text parsed) (λ bound. Ok bound.statements) (plain_statements statements) e in
     let are = in_turn-keeps (with_statement cat text) (AreBound cat) (λ so_far statement after so step. statement-bound cat text so_far statement after so step) parsed
-      (record { slots = 0; statements = [] }) b.0 (record { named = All-nil (λ (s : PlainStatement). IsNamedWork cat s.work); count = refl; few = omega arith }) b.1 in
+    (record { slots = 0; statements = [] }) b.0 (record { named = All-nil (λ (s : PlainStatement). IsNamedWork cat s.work); count = refl; few = omega arith }) b.1 in
     let same = ok_is b.0.statements (plain_statements statements) b.2 in
-    let named : All (λ (s : PlainStatement). IsNamedWork cat s.work) (plain_statements statements) = subst (All (λ (s : PlainStatement). IsNamedWork cat s.work)) same are.named in
-    (All-weaker (λ (s : Statement). IsNamedWork cat (plain_work s.work)) (λ (s : Statement). NamesWork cat s.work) (λ s is. work-names cat s.work is) statements
-      (All-unmap plain_statement (λ (s : PlainStatement). IsNamedWork cat s.work) statements named),
-     let sums = ap (sum_by (λ (s : PlainStatement). slot_count s.work)) same in let own = same_sum statements in let count = are.count in let few = are.few in omega arith)
+    let named : All (λ (s : PlainStatement). IsNamedWork cat s.work) (plain_statements statements) = subst (All (λ (s : PlainStatement). IsNamedWork cat s.work)) same are.named in (
+      All-weaker (λ (s : Statement). IsNamedWork cat (plain_work s.work)) (λ (s : Statement). NamesWork cat s.work) (λ s is. work-names cat s.work is) statements
+          (All-unmap plain_statement (λ (s : PlainStatement). IsNamedWork cat s.work) statements named),
+      let sums = ap (sum_by (λ (s : PlainStatement). slot_count s.work)) same in let own = same_sum statements in let count = are.count in let few = are.few in omega arith,
+    )
 
 -- the statements that were gathered are those that the text means
 pub statements_of-bound : (cat : Catalogue) (text : List ℕ) (parsed : List ParsedStatement) (bound : PlainBound) → bound_of cat text parsed ≡ Ok bound → statements_of cat text parsed ≡ Ok bound.statements

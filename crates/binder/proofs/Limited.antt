@@ -45,20 +45,20 @@ pub given_clauses : (names : Names) (select : ParsedSelect) (clauses : PlainClau
 unfolding clauses_of
 given_clauses names select clauses e =
     let a = bind_ok (items_of names select.items) (λ items. tests_of names select.conditions >>= λ tests. columns_of names select.group >>= λ group.
-      mentions_from names (record { written = select.items; bound = items }) [] select.having >>= λ having.
-      orders_from names (record { written = select.items; bound = items }) having select.order >>= λ order.
-      Ok (record { items = items; tests = tests; group = group; order = order })) clauses e in
+    mentions_from names (record { written = select.items; bound = items }) [] select.having >>= λ having.
+    orders_from names (record { written = select.items; bound = items }) having select.order >>= λ order.
+    Ok (record { items = items; tests = tests; group = group; order = order })) clauses e in
     let b = bind_ok (tests_of names select.conditions) (λ tests. columns_of names select.group >>= λ group.
-      mentions_from names (record { written = select.items; bound = a.0 }) [] select.having >>= λ having.
-      orders_from names (record { written = select.items; bound = a.0 }) having select.order >>= λ order.
-      Ok (record { items = a.0; tests = tests; group = group; order = order })) clauses a.2 in
+    mentions_from names (record { written = select.items; bound = a.0 }) [] select.having >>= λ having.
+    orders_from names (record { written = select.items; bound = a.0 }) having select.order >>= λ order.
+    Ok (record { items = a.0; tests = tests; group = group; order = order })) clauses a.2 in
     let g = bind_ok (columns_of names select.group) (λ group.
-      mentions_from names (record { written = select.items; bound = a.0 }) [] select.having >>= λ having.
-      orders_from names (record { written = select.items; bound = a.0 }) having select.order >>= λ order.
-      Ok (record { items = a.0; tests = b.0; group = group; order = order })) clauses b.2 in
+    mentions_from names (record { written = select.items; bound = a.0 }) [] select.having >>= λ having.
+    orders_from names (record { written = select.items; bound = a.0 }) having select.order >>= λ order.
+    Ok (record { items = a.0; tests = b.0; group = group; order = order })) clauses b.2 in
     let h = bind_ok (mentions_from names (record { written = select.items; bound = a.0 }) [] select.having) (λ having.
-      orders_from names (record { written = select.items; bound = a.0 }) having select.order >>= λ order.
-      Ok (record { items = a.0; tests = b.0; group = g.0; order = order })) clauses g.2 in
+    orders_from names (record { written = select.items; bound = a.0 }) having select.order >>= λ order.
+    Ok (record { items = a.0; tests = b.0; group = g.0; order = order })) clauses g.2 in
     let o = bind_ok (orders_from names (record { written = select.items; bound = a.0 }) h.0 select.order) (λ order. Ok (record { items = a.0; tests = b.0; group = g.0; order = order })) clauses h.2 in
     let items = items-are names select.items a.0 a.1 in
     let made : PlainClauses = record { items = a.0; tests = b.0; group = g.0; order = o.0 } in
@@ -66,7 +66,7 @@ given_clauses names select clauses e =
       items = items;
       tests = b.1;
       group = columns-are names select.group g.0 g.1;
-      order = orders-are names (record { written = select.items; bound = a.0 }) h.0 select.order o.0 items o.1
+      order = orders-are names (record { written = select.items; bound = a.0 }) h.0 select.order o.0 items o.1;
     } in
     subst (GivenClauses names select) (ok_is made clauses o.2) given
 
@@ -104,7 +104,7 @@ pub select-limits : (names : Names) (select : ParsedSelect) (clauses : PlainClau
     → 1 ≤ length names.sources → length names.sources ≤ 8 → length select.conditions < 2 ^ 32 → clauses_of names select ≡ Ok clauses → Declared preds edges clauses.tests
     → is_joined (length names.sources) clauses.tests.edges ≡ true
     → BlockLimits (slots_from names.cat clauses.items mentions 0 names.sources) preds edges
-        (group_list distinct aggregate clauses.tests.preds clauses.group clauses.items) (order_list aggregate clauses.tests.preds clauses.group clauses.order.items)
+    (group_list distinct aggregate clauses.tests.preds clauses.group clauses.items) (order_list aggregate clauses.tests.preds clauses.group clauses.order.items)
 select-limits names select clauses preds edges mentions distinct aggregate some few conds e declared joined =
     let given = given_clauses names select clauses e in
     let are = AreTests-tests names select.conditions clauses.tests given.tests in
@@ -123,13 +123,13 @@ select-limits names select clauses preds edges mentions distinct aggregate some 
       edges_most = omega arith;
       connected = rw len (connected (length names.sources) edges lefts rights whole);
       group_list = λ list g.
-        let from = group_list-from names distinct aggregate clauses.tests.preds clauses.group clauses.items given.group given.items list g in
-        rw len (subst (GroupLimits (length names.sources)) from.2 (kept_columns-limits names clauses.tests.preds from.0 from.1));
+          let from = group_list-from names distinct aggregate clauses.tests.preds clauses.group clauses.items given.group given.items list g in
+          rw len (subst (GroupLimits (length names.sources)) from.2 (kept_columns-limits names clauses.tests.preds from.0 from.1));
       group_free = λ list g.
-        let from = group_list-from names distinct aggregate clauses.tests.preds clauses.group clauses.items given.group given.items list g in
-        subst (AreFree preds) (ap (λ (ps : List PlainPred). kept_columns ps from.0) declared.preds_are ∙ from.2) (kept_items-free preds (map upward from.0));
+          let from = group_list-from names distinct aggregate clauses.tests.preds clauses.group clauses.items given.group given.items list g in
+          subst (AreFree preds) (ap (λ (ps : List PlainPred). kept_columns ps from.0) declared.preds_are ∙ from.2) (kept_items-free preds (map upward from.0));
       order_list = rw len (order_list-limits names aggregate clauses.tests.preds clauses.group clauses.order.items given.order);
-      order_free = subst (AreFree preds) (ap (λ (ps : List PlainPred). order_list aggregate ps clauses.group clauses.order.items) declared.preds_are) (order_list-free aggregate preds clauses.group clauses.order.items)
+      order_free = subst (AreFree preds) (ap (λ (ps : List PlainPred). order_list aggregate ps clauses.group clauses.order.items) declared.preds_are) (order_list-free aggregate preds clauses.group clauses.order.items);
     }
 
 one_connected : (edges : List (ℕ × ℕ)) → IsConnected 1 edges
@@ -155,7 +155,7 @@ change-limits names conds tests preds edges mentions one few e declared =
       group_list = λ list g. absurd cc;
       group_free = λ list g. absurd cc;
       order_list = record { within = λ k d lt. absurd (omega arith); apart = λ i j d lt le. absurd (omega arith) };
-      order_free = λ k d lt. absurd (omega arith)
+      order_free = λ k d lt. absurd (omega arith);
     }
 
 -- the join edges of a SELECT are between its sources

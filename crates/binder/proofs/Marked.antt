@@ -39,7 +39,7 @@ pub Marks-pred : (preds : List Pred) (i : ℕ) (pred : Pred) (old new : List Slo
     → Marks (plain_preds (take i preds)) [] old → BoundMarks (plain_pred pred) old new → Marks (plain_preds (take (i + 1) preds)) [] new
 Marks-pred preds i pred old new lt is so_far more c =
     let front : plain_preds (take (i + 1) preds) ≡ plain_preds (take i preds) ++ plain_pred pred ∷ [] =
-      ap plain_preds (take_more preds i pred lt) ∙ map_push plain_pred (take i preds) (get_or preds i pred) ∙ ap (λ (p : Pred). plain_preds (take i preds) ++ plain_pred p ∷ []) (sym is) in
+    ap plain_preds (take_more preds i pred lt) ∙ map_push plain_pred (take i preds) (get_or preds i pred) ∙ ap (λ (p : Pred). plain_preds (take i preds) ++ plain_pred p ∷ []) (sym is) in
     more c ∙ ap (λ (t : Bool). t || binds c.slot c.column (plain_pred pred)) (so_far c)
     ∙ moved (list_any (binds c.slot c.column) (plain_preds (take i preds))) (binds c.slot c.column (plain_pred pred))
     ∙ ap (λ (t : Bool). t || false) (sym (ap (list_any (binds c.slot c.column)) front ∙ any_push (binds c.slot c.column) (plain_preds (take i preds)) (plain_pred pred)))
@@ -63,6 +63,7 @@ marked_as preds kept marked (Down s c) marks = marks (slot_column s c) ∙ ap (�
     one (Up t d) = refl
     one (Down t d) = refl
     one (Made n) = refl
+
     down : (xs : List Item) → list_any (λ earlier. is_same_column earlier (upward (slot_column s c))) xs ≡ list_any (λ earlier. is_same_column earlier (Down s c)) xs
     down [] = refl
     down (x ∷ xs) = rw (one x, down xs) refl
@@ -72,6 +73,7 @@ marked_as preds kept marked (Made n) marks = sym (none kept)
     one (Up t d) = refl
     one (Down t d) = refl
     one (Made m) = refl
+
     none : (xs : List Item) → list_any (λ earlier. is_same_column earlier (Made n)) xs ≡ false
     none [] = refl
     none (x ∷ xs) = rw (one x) (none xs)
@@ -107,7 +109,7 @@ Marks-kept preds item kept kept_after marked marked_after marks step c = by (is_
         let stays : kept_after ≡ kept = step.items ∙ ap (λ (t : Bool). cond t kept (kept ++ item ∷ [])) e in
         step.marks c ∙ ap (λ (t : Bool). t || is_same_column item (upward c)) (marks c)
         ∙ or_swallowed (list_any (binds c.slot c.column) preds) (list_any (λ x. is_same_column x (upward c)) kept) (is_same_column item (upward c))
-          (λ d. sym (marks c) ∙ sym (same_marked marked item c d) ∙ e)
+        (λ d. sym (marks c) ∙ sym (same_marked marked item c d) ∙ e)
         ∙ ap (λ (xs : List Item). list_any (binds c.slot c.column) preds || list_any (λ x. is_same_column x (upward c)) xs) (sym stays)
     by false e =
         let more : kept_after ≡ kept ++ item ∷ [] = step.items ∙ ap (λ (t : Bool). cond t kept (kept ++ item ∷ [])) e in
@@ -131,11 +133,14 @@ filter-column p n = ap (filter p) (range_more n) ∙ filter-append p (range_with
     same : (xs : List ℕ) → map (λ x. x) xs ≡ xs
     same [] = refl
     same (x ∷ xs) = ap (λ (ys : List ℕ). x ∷ ys) (same xs)
+
     range_more : (k : ℕ) → range_with_len 0 (k + 1) ≡ range_with_len 0 k ++ k ∷ []
     range_more k = sym (same (range_with_len 0 (k + 1))) ∙ map-range_with_len_more (λ x. x) 0 k k (omega arith) ∙ ap (λ (xs : List ℕ). xs ++ k ∷ []) (same (range_with_len 0 k))
+
     nothing_behind : (xs : List ℕ) → xs ++ [] ≡ xs
     nothing_behind [] = refl
     nothing_behind (x ∷ xs) = ap (λ (ys : List ℕ). x ∷ ys) (nothing_behind xs)
+
     by : (t : Bool) → p n ≡ t → filter p (range_with_len 0 n) ++ filter p (n ∷ []) ≡ cond (p n) (filter p (range_with_len 0 n) ++ n ∷ []) (filter p (range_with_len 0 n))
     by true e = rw e refl
     by false e = rw e (nothing_behind (filter p (range_with_len 0 n)))
@@ -164,8 +169,8 @@ pub keeps-column : (item : Item) (c : SlotColumn) (marked marked_after : List Sl
     → ((q : SlotColumn) → is_marked marked_after q ≡ (is_marked marked q || is_same q c)) → kept_after ≡ cond fresh (kept ++ item ∷ []) kept → KeepsMarks item marked kept marked_after kept_after
 keeps-column item c marked marked_after kept kept_after fresh is new marks put = record {
   items = put ∙ ap (λ (t : Bool). cond t (kept ++ item ∷ []) kept) new ∙ chosen_not (is_marked marked c) (kept ++ item ∷ []) kept
-    ∙ ap (λ (t : Bool). cond t kept (kept ++ item ∷ [])) (sym (ap (λ (o : Option SlotColumn). option_map_or (is_marked marked) o false) is));
-  marks = λ q. marks q ∙ ap (λ (t : Bool). is_marked marked q || t) (same_as_item item c q is)
+      ∙ ap (λ (t : Bool). cond t kept (kept ++ item ∷ [])) (sym (ap (λ (o : Option SlotColumn). option_map_or (is_marked marked) o false) is));
+  marks = λ q. marks q ∙ ap (λ (t : Bool). is_marked marked q || t) (same_as_item item c q is);
 }
 
 bound_and : (t : Bool) → (t && true) ≡ t

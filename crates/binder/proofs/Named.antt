@@ -49,7 +49,7 @@ source-is : (cat : Catalogue) (text : List ℕ) (sources : List Visible) (source
 unfolding with_source
 source-is cat text sources source after are e =
     let room = bind_ok (where_holds (TooManySlots (place source.table)) (nat_lt (length sources) 8) sources)
-      (λ room. table_meant cat text source.table >>= λ t. put_source room (place (unwrap_or source.alias source.table)) (visible cat text source.alias t)) after e in
+    (λ room. table_meant cat text source.table >>= λ t. put_source room (place (unwrap_or source.alias source.table)) (visible cat text source.alias t)) after e in
     let same = (where_ok (TooManySlots (place source.table)) (nat_lt (length sources) 8) sources room.0 room.1).1 in
     let table = bind_ok (table_meant cat text source.table) (λ t. put_source room.0 (place (unwrap_or source.alias source.table)) (visible cat text source.alias t)) after room.2 in
     let v = visible cat text source.alias table.0 in
@@ -64,7 +64,7 @@ needed-within : (count s : ℕ) (whole : Bool) (mentions : List SlotColumn) → 
 needed-within count s whole mentions =
     All-filter (λ c. whole || list_any (is_at s c) mentions) (λ c. c < count) (range_with_len 0 count)
     (All-from_get_or (λ c. c < count) (range_with_len 0 count) 0
-      (λ i lt. let len = length-range_with_len 0 count in let inside : i < count = omega arith in let at = get_or-range_with_len 0 count i 0 inside in omega arith))
+    (λ i lt. let len = length-range_with_len 0 count in let inside : i < count = omega arith in let at = get_or-range_with_len 0 count i 0 inside in omega arith))
 
 pub slots-named : (cat : Catalogue) (items : List BoundItem) (mentions : List SlotColumn) (s : ℕ) (sources : List Visible) → All (IsSource cat) sources → All (NamesSlot cat) (slots_from cat items mentions s sources)
 slots-named cat items mentions s [] are = All-nil (NamesSlot cat)
@@ -94,13 +94,13 @@ module _ (names : Names) (items : List BoundItem) (mentions : List SlotColumn) (
   pred-named : (pred : Pred) → IsPred names (plain_pred pred) → NamesPred names.cat block pred
   pred-named pred is = record {
     column = rw (same_width names items mentions block pred.slot slots) is.column;
-    same = λ other e. rw (same_width names items mentions block pred.slot slots) (is.other other e)
+    same = λ other e. rw (same_width names items mentions block pred.slot slots) (is.other other e);
   }
 
   edge-named : (edge : Edge) → IsEdge names (plain_edge edge) → NamesEdge names.cat block edge
   edge-named edge is = record {
     left = rw (same_width names items mentions block edge.left slots) is.left_column;
-    right = rw (same_width names items mentions block edge.right slots) is.right_column
+    right = rw (same_width names items mentions block edge.right slots) is.right_column;
   }
 
   item-named : (item : Item) → IsItem names item → names_item names.cat block item ≡ true
@@ -116,5 +116,5 @@ module _ (names : Names) (items : List BoundItem) (mentions : List SlotColumn) (
     preds = All-weaker (λ (p : Pred). IsPred names (plain_pred p)) (NamesPred names.cat block) (λ p is. pred-named p is) block.preds (All-unmap plain_pred (IsPred names) block.preds preds);
     edges = All-weaker (λ (e : Edge). IsEdge names (plain_edge e)) (NamesEdge names.cat block) (λ e is. edge-named e is) block.edges (All-unmap plain_edge (IsEdge names) block.edges edges);
     group = λ list e. All-weaker (IsItem names) (λ item. names_item names.cat block item ≡ true) (λ item is. item-named item is) list (group list e);
-    order = All-weaker (IsItem names) (λ item. names_item names.cat block item ≡ true) (λ item is. item-named item is) block.order order
+    order = All-weaker (IsItem names) (λ item. names_item names.cat block item ≡ true) (λ item is. item-named item is) block.order order;
   }

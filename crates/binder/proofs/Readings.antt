@@ -37,8 +37,8 @@ pub each-All : {A B : Type 0} (f : A → Result B BindFault) (P : B → Type 0) 
 each-All {A} {B} f P has xs ys e =
     in_turn-keeps (put_behind f) (All P)
     (λ done x after so_far step.
-      let first = bind_ok (f x) (λ y. Ok (done ++ y ∷ [])) after step in
-      subst (All P) (ok_is (done ++ first.0 ∷ []) after first.2) (All-push P done first.0 so_far (has x first.0 first.1)))
+    let first = bind_ok (f x) (λ y. Ok (done ++ y ∷ [])) after step in
+    subst (All P) (ok_is (done ++ first.0 ∷ []) after first.2) (All-push P done first.0 so_far (has x first.0 first.1)))
     xs [] ys (All-nil P) e
 
 -- what each step counts up by at most one is at most the number of steps above what it was

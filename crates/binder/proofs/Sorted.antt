@@ -92,11 +92,11 @@ order-is : (names : Names) (list : SelectList) (so_far : SortKeys) (order : Pars
 unfolding with_order sorted_by
 order-is names list so_far order after are so e =
     let first = bind_ok (sorted_by names list so_far.mentions order.expr)
-      (λ sorted. Ok (record { items = so_far.items ++ order_item (length so_far.items + 1) order.down sorted.column ∷ []; mentions = sorted.mentions })) after e in
+    (λ sorted. Ok (record { items = so_far.items ++ order_item (length so_far.items + 1) order.down sorted.column ∷ []; mentions = sorted.mentions })) after e in
     let item = order_item (length so_far.items + 1) order.down first.0.column in
     subst (λ (k : SortKeys). All (IsItem names) k.items) (ok_is (record { items = so_far.items ++ item ∷ []; mentions = first.0.mentions }) after first.2)
     (All-push (IsItem names) so_far.items item so
-      (order_item-is names (length so_far.items + 1) order.down first.0.column (sorted-is names list so_far.mentions order.expr.ordinal order.expr.plain order.expr.uses first.0 are first.1)))
+    (order_item-is names (length so_far.items + 1) order.down first.0.column (sorted-is names list so_far.mentions order.expr.ordinal order.expr.plain order.expr.uses first.0 are first.1)))
 
 -- the items of ORDER BY are columns of the sources, or made
 pub orders-are : (names : Names) (list : SelectList) (mentions : List SlotColumn) (orders : List ParsedOrder) (keys : SortKeys) → All (IsBound names) list.bound

@@ -67,9 +67,9 @@ apart-set_of n p = same_from_bits (bit_and (set_of n p) (set_of n (λ s. not (p 
   where
     none : (i : ℕ) → min (bit_at (set_of n p) i) (bit_at (set_of n (λ s. not (p s))) i) ≡ 0
     none i = elim (cases_lt i n) [
-        | inl lt ↦ rw (bit_at-set_of n p i lt, bit_at-set_of n (λ s. not (p s)) i lt) (no_bit (p i))
-        | inr le ↦ rw (past-set_of n p i le, past-set_of n (λ s. not (p s)) i le) refl
-      ]
+      | inl lt ↦ rw (bit_at-set_of n p i lt, bit_at-set_of n (λ s. not (p s)) i lt) (no_bit (p i))
+      | inr le ↦ rw (past-set_of n p i le, past-set_of n (λ s. not (p s)) i le) refl
+    ]
 
 -- a set with a bit isn't empty
 has_some : (a i : ℕ) → bit_at a i ≡ 1 → 0 < a
@@ -104,6 +104,7 @@ renamed-ends f g = rw eqb_same (by (eqb g f))
   where
     eqb_same : eqb f f ≡ true
     eqb_same = grind (arith, nat_tests)
+
     by : (t : Bool) → g ≡ cond t g g
     by true = refl
     by false = refl
@@ -133,7 +134,7 @@ none_crosses n p (x ∷ xs) lefts rights same =
     let right = All-head (λ (edge : Edge). edge.right < n) x xs rights in
     let one = All-head (λ (edge : Edge). p edge.left ≡ p edge.right) x xs same in
     let here : is_crossing (set_of n p) (set_of n (λ s. not (p s))) (ends x) ≡ false =
-      rw (has_slot-set_of n p x.left left, has_slot-set_of n (λ s. not (p s)) x.right right, has_slot-set_of n p x.right right, has_slot-set_of n (λ s. not (p s)) x.left left, one) (not_crossed (p x.right)) in
+    rw (has_slot-set_of n p x.left left, has_slot-set_of n (λ s. not (p s)) x.right right, has_slot-set_of n p x.right right, has_slot-set_of n (λ s. not (p s)) x.left left, one) (not_crossed (p x.right)) in
     rw here (none_crosses n p xs (All-tail (λ (edge : Edge). edge.left < n) x xs lefts) (All-tail (λ (edge : Edge). edge.right < n) x xs rights) (All-tail (λ (edge : Edge). p edge.left ≡ p edge.right) x xs same))
 
 -- a test that fails on a list fails at a place
@@ -142,7 +143,7 @@ fails_at first [] e = absurd (true≢false e)
 fails_at first (x ∷ xs) e = by (fails_at first xs) (eqb x first) refl e
   where
     by : (list_all (λ y. eqb y first) xs ≡ false → (k : ℕ) × (k < length xs) × (eqb (get_or xs k 0) first ≡ false)) → (t : Bool) → eqb x first ≡ t → (t && list_all (λ y. eqb y first) xs) ≡ false
-       → (k : ℕ) × (k < length (x ∷ xs)) × (eqb (get_or (x ∷ xs) k 0) first ≡ false)
+        → (k : ℕ) × (k < length (x ∷ xs)) × (eqb (get_or (x ∷ xs) k 0) first ≡ false)
     by rest true h f = let deep = rest f in (suc deep.0, omega arith, deep.2)
     by rest false h f = (0, omega arith, h)
 
@@ -158,7 +159,7 @@ not_connected n edges some lefts rights apart all =
     let far = fails_at (get_or labels 0 0) labels apart in
     let far_in : far.0 < n = rw len at far.1 in
     let same = All-weaker (λ (edge : Edge). get_or labels edge.left 0 ≡ get_or labels edge.right 0) (λ (edge : Edge). p edge.left ≡ p edge.right)
-      (λ edge e. ap (λ (x : ℕ). eqb x (get_or labels 0 0)) e) edges (ends_equal edges n (range_with_len 0 n) own lefts rights) in
+    (λ edge e. ap (λ (x : ℕ). eqb x (get_or labels 0 0)) e) edges (ends_equal edges n (range_with_len 0 n) own lefts rights) in
     let a = set_of n p in
     let b = set_of n (λ s. not (p s)) in
     let first : p 0 ≡ true = eqb-same (get_or labels 0 0) in
@@ -168,6 +169,7 @@ not_connected n edges some lefts rights apart all =
   where
     eqb-same : (x : ℕ) → eqb x x ≡ true
     eqb-same x = grind (arith, nat_tests)
+
     labels-length : (es : List Edge) (ls : List ℕ) → length (fold relabelled ls (map plain_edge es)) ≡ length ls
     labels-length [] ls = refl
     labels-length (x ∷ xs) ls = labels-length xs (relabelled ls (plain_edge x)) ∙ length-map ls (renamed (get_or ls x.left 0) (get_or ls x.right 0))

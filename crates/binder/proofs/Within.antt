@@ -38,7 +38,7 @@ column_of-within cat t word c e =
 IsColumn-at : (names : Names) (s : ℕ) (v : Visible) (word : List ℕ) (c : ℕ) → slice_get names.sources s ≡ Some v → column_of names.cat.tables v.table word ≡ Some c → IsColumn names (slot_column s c)
 IsColumn-at names s v word c at found = record {
   slot = slice_get_within names.sources s v at;
-  column = rw at (column_of-within names.cat v.table word c found)
+  column = rw at (column_of-within names.cat v.table word c found);
 }
 
 IsColumn-in : (names : Names) (s : ℕ) (word : List ℕ) (c : ℕ) → column_in names s word ≡ Some c → IsColumn names (slot_column s c)
@@ -65,7 +65,7 @@ owners-are names s [] word rest c more e = absurd cc
 owners-are names s (v ∷ vs) word rest c more e = by (owners-are names (s + 1) vs word (λ i. rest (suc i) ∙ ap (slice_get names.sources) (omega arith))) (column_of names.cat.tables v.table word) refl e
   where
     by : ((d : SlotColumn) (others : List SlotColumn) → owners names.cat (s + 1) vs word ≡ d ∷ others → IsColumn names d)
-       → (o : Option ℕ) → column_of names.cat.tables v.table word ≡ o → owner s o (owners names.cat (s + 1) vs word) ≡ c ∷ more → IsColumn names c
+        → (o : Option ℕ) → column_of names.cat.tables v.table word ≡ o → owner s o (owners names.cat (s + 1) vs word) ≡ c ∷ more → IsColumn names c
     by deeper None none head = deeper c more head
     by deeper (Some k) found head =
         let at : slice_get names.sources s ≡ Some v = ap (slice_get names.sources) (omega arith) ∙ sym (rest 0) in

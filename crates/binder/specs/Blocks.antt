@@ -58,7 +58,7 @@ select_block names select clauses =
       edges = clauses.tests.edges;
       group = group_list select.distinct aggregate clauses.tests.preds clauses.group clauses.items;
       order = order_list aggregate clauses.tests.preds clauses.group clauses.order.items;
-      may_cover = true
+      may_cover = true;
     }
 
 -- the block of a SELECT whose statement begins at a place: its sources first, then its other names in written order,

@@ -70,7 +70,7 @@ unfoldable pub with_statement : Catalogue → List ℕ → PlainBound → Parsed
 with_statement cat text so_far statement = do
   work ← work_of cat text statement.place statement.body
   where_holds (TooManySlotsInAll statement.place) (nat_le (so_far.slots + slot_count work) 2000)
-    (record { slots = so_far.slots + slot_count work; statements = so_far.statements ++ (record { weight = statement.weight; work = work }) ∷ [] })
+      (record { slots = so_far.slots + slot_count work; statements = so_far.statements ++ (record { weight = statement.weight; work = work }) ∷ [] })
 
 -- the statements that a text means over a catalogue, with the count of their slots, or the first fault
 abbrev pub bound_of : Catalogue → List ℕ → List ParsedStatement → Result PlainBound BindFault

@@ -170,11 +170,7 @@ fn with_condition(
 }
 
 /// The tests of conditions, in written order.
-pub fn tests(
-    alloc: Global,
-    scope: &Scope<'_>,
-    conditions: &[Condition],
-) -> Result<Tests, BindFault>
+pub fn tests(alloc: Global, scope: &Scope<'_>, conditions: &[Condition]) -> Result<Tests, BindFault>
     requires { All ConditionLimits conditions.now }
     ensures { Gives plain_tests result (tests_of (names_of scope.now) conditions.now) }
 {

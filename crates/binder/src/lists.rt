@@ -48,10 +48,7 @@ fn is_equality(test: Test) -> bool
 }
 
 /// Marks a column where a predicate gives it a literal.
-fn mark_bound(
-    marked: IndexSet<SlotColumn>,
-    pred: &Pred,
-) -> Result<IndexSet<SlotColumn>, AllocError>
+fn mark_bound(marked: IndexSet<SlotColumn>, pred: &Pred) -> Result<IndexSet<SlotColumn>, AllocError>
     ensures { IfOk result (λ new. BoundMarks (plain_pred pred.now) marked.keys new.keys) }
 {
     if !is_equality(pred.test) {
@@ -182,10 +179,7 @@ pub fn aggregates(items: &[BoundItem], orders: &[ParsedOrder]) -> bool
 fn plain_columns(alloc: Global, items: &[BoundItem]) -> Result<Vec<SlotColumn>, AllocError>
     ensures { IfOk result (λ v. v.items ≡ filter_map column_of_bound items.now) }
 {
-    items
-        .iter()
-        .filter_map(|item| item.column())
-        .collect(alloc)
+    items.iter().filter_map(|item| item.column()).collect(alloc)
 }
 
 /// Whether all items are exactly columns.

@@ -83,7 +83,12 @@ fn unqualified(alloc: Global, scope: &Scope<'_>, name: Span) -> Result<SlotColum
 
 /// The column of a name behind the name of its source.
 #[tactic(auto, unfolding(crate::specs::Scopes::qualified))]
-fn qualified(alloc: Global, scope: &Scope<'_>, qualifier: Span, name: Span) -> Result<SlotColumn, BindFault>
+fn qualified(
+    alloc: Global,
+    scope: &Scope<'_>,
+    qualifier: Span,
+    name: Span,
+) -> Result<SlotColumn, BindFault>
     ensures { Gives (λ c. c) result (behind (names_of scope.now) qualifier name) }
 {
     let slot = source(scope, qualifier)?;

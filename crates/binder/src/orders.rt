@@ -31,7 +31,8 @@ fn put_alias(
     ensures { IfOk result (PutsAlias text.now item.now number index) }
 {
     if let ParsedItem::Made {
-        alias: Some(span), ..
+        alias: Some(span),
+        ..
     } = item
     {
         index.put(alloc, name_bytes(text, *span), number)?;
@@ -226,7 +227,9 @@ fn with_order(
     } = so_far;
     let key = sorted_by(alloc, list, mentions, &order.expr)?;
     let number = items.len() as u32 + 1;
-    items.items.push(order_item(number, order.down, key.column))?;
+    items
+        .items
+        .push(order_item(number, order.down, key.column))?;
     let SortKey { mentions, .. } = key;
     Ok(SortKeys { items, mentions })
 }

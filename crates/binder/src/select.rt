@@ -28,11 +28,7 @@ use std::alloc::{AllocError, Global};
 
 /// The clauses of a SELECT, their names looked up in written order.
 #[tactic(auto, unfolding(crate::specs::Blocks::clauses_of))]
-fn clauses(
-    alloc: Global,
-    scope: &Scope<'_>,
-    select: &ParsedSelect,
-) -> Result<Clauses, BindFault>
+fn clauses(alloc: Global, scope: &Scope<'_>, select: &ParsedSelect) -> Result<Clauses, BindFault>
     requires { SelectLimits select.now }
     ensures { Gives plain_clauses result (clauses_of (names_of scope.now) select.now) }
 {
@@ -84,11 +80,30 @@ fn block_of(
         order,
     } = clauses;
     let cat = scope.directory.cat;
-    let slots = slots(alloc, cat, items.as_slice(), &mentions, scope.sources.as_slice())?;
+    let slots = slots(
+        alloc,
+        cat,
+        items.as_slice(),
+        &mentions,
+        scope.sources.as_slice(),
+    )?;
     let aggregate = aggregates(items.as_slice(), select.order.as_slice());
     let preds = tests.preds.as_slice();
-    let grouped = group_list(alloc, select.distinct, aggregate, preds, group.as_slice(), items.as_slice())?;
-    let ordered = order_list(alloc, aggregate, preds, group.as_slice(), order.items.as_slice())?;
+    let grouped = group_list(
+        alloc,
+        select.distinct,
+        aggregate,
+        preds,
+        group.as_slice(),
+        items.as_slice(),
+    )?;
+    let ordered = order_list(
+        alloc,
+        aggregate,
+        preds,
+        group.as_slice(),
+        order.items.as_slice(),
+    )?;
     Ok(Block {
         slots,
         preds: tests.preds,

@@ -94,9 +94,7 @@ fn with_source(
     let table = table_meant(alloc, directory, text, source.table)?;
     let new = visible(alloc, directory, text, source.alias, table)?;
     if is_taken(sources.as_slice(), new.name.as_slice()) {
-        return Err(BindFault::TwoAliases(place(
-            source.alias.unwrap_or(source.table),
-        )));
+        return Err(BindFault::TwoAliases(place(source.alias.unwrap_or(source.table))));
     }
     sources.items.push(new)?;
     Ok(sources)

@@ -42,7 +42,15 @@ fn work(
             rows,
         } => {
             let names = columns.as_slice();
-            let number = insert_table(alloc, directory, text, *table, names, uses.as_slice(), *rows)?;
+            let number = insert_table(
+                alloc,
+                directory,
+                text,
+                *table,
+                names,
+                uses.as_slice(),
+                *rows,
+            )?;
             Ok(Work::Insert {
                 table: number,
                 rows: *rows,
@@ -56,7 +64,15 @@ fn work(
         } => {
             let names = columns.as_slice();
             let conditions = conditions.as_slice();
-            let (block, set) = update_work(alloc, directory, text, *source, names, uses.as_slice(), conditions)?;
+            let (block, set) = update_work(
+                alloc,
+                directory,
+                text,
+                *source,
+                names,
+                uses.as_slice(),
+                conditions,
+            )?;
             Ok(Work::Update(block, set))
         }
         Body::Delete { source, conditions } => {

@@ -12,8 +12,8 @@ invariant_of-result c =
     let slots : c.in_ok-slots.slots ≡ slots_from names.cat [] c.args.mentions.now 0 names.sources = cc in
     record {
       limits = rw (slots, nil_from_length c.new.result c.new.ensures)
-        (change-limits names c.args.conditions.now (plain_tests c.args.tests) c.args.tests.preds c.args.tests.edges c.args.mentions.now
-          c.requires.one c.requires.limits.most c.requires.bound (record { preds_are = refl; edges_are = refl }))
+          (change-limits names c.args.conditions.now (plain_tests c.args.tests) c.args.tests.preds c.args.tests.edges c.args.mentions.now
+          c.requires.one c.requires.limits.most c.requires.bound (record { preds_are = refl; edges_are = refl }));
     }
 
 pub returns-clause-limits : goal.returns-clause-limits
@@ -23,5 +23,5 @@ returns-clause-limits c =
     let slots : c.in_ok-slots.slots ≡ slots_from names.cat [] c.args.mentions.now 0 names.sources = cc in
     record {
       one_slot = ap length slots ∙ slots_from-length names.cat [] c.args.mentions.now 0 names.sources ∙ c.requires.one;
-      reads_table = refl
+      reads_table = refl;
     }

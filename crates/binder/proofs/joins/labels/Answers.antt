@@ -8,5 +8,5 @@ pub loop-edge-init : goal.loop-edge-init
 unfolding labels_of
 loop-edge-init c = record {
   so_far = ap (λ (ls : List ℕ). fold relabelled ls (plain_edges c.args.edges.now)) c.in_ok-labels.ensures;
-  len = ap length c.in_ok-labels.ensures ∙ length-range_with_len 0 c.args.slots
+  len = ap length c.in_ok-labels.ensures ∙ length-range_with_len 0 c.args.slots;
 }

@@ -7,5 +7,5 @@ use Rattle.binder.proofs.joins.labels.Given as goal
 abbrev pub invariant-loop-edge : goal.invariant-loop-edge
 invariant-loop-edge l = record {
   so_far : fold relabelled l.labels.items (plain_edges (drop l.edge-index l.edges)) ≡ labels_of l.slots (plain_edges l.edges);
-  len : length l.labels.items ≡ l.slots
+  len : length l.labels.items ≡ l.slots;
 }

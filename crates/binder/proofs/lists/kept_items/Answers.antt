@@ -13,5 +13,5 @@ loop-item-preserved c =
     record {
       marks = Marks-kept preds (get_or c.args.items.now c.loop-item.item-index (Up 0 0)) kept.items after.items kept.marked.keys after.marked.keys c.loop-item.invariant.marks c.in_ok-kept.ensures;
       so_far = kept-turn preds c.args.items.now c.loop-item.item-index (Up 0 0) kept.items after.items (kept_items preds c.args.items.now) kept.marked.keys after.marked.keys
-        c.loop-item-test.true c.loop-item.invariant.marks c.in_ok-kept.ensures c.loop-item.invariant.so_far
+          c.loop-item-test.true c.loop-item.invariant.marks c.in_ok-kept.ensures c.loop-item.invariant.so_far;
     }

@@ -8,5 +8,5 @@ use Rattle.binder.proofs.lists.kept_items.Given as goal
 abbrev pub invariant-loop-item : goal.invariant-loop-item
 invariant-loop-item l = record {
   marks : Marks (plain_preds l.preds) l.kept.items l.kept.marked.keys;
-  so_far : fold (keep (plain_preds l.preds)) l.kept.items (drop l.item-index l.items) ≡ kept_items (plain_preds l.preds) l.items
+  so_far : fold (keep (plain_preds l.preds)) l.kept.items (drop l.item-index l.items) ≡ kept_items (plain_preds l.preds) l.items;
 }

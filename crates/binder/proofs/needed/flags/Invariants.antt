@@ -7,5 +7,5 @@ use Rattle.binder.proofs.needed.flags.Given as goal
 abbrev pub invariant-loop-mention : goal.invariant-loop-mention
 invariant-loop-mention l = record {
   len : length l.flags.items ≡ l.count;
-  each : (c : ℕ) → c < l.count → slice_index_or l.flags.items c false ≡ (l.whole || list_any (is_at l.slot c) (take l.mention-index l.mentions))
+  each : (c : ℕ) → c < l.count → slice_index_or l.flags.items c false ≡ (l.whole || list_any (is_at l.slot c) (take l.mention-index l.mentions));
 }

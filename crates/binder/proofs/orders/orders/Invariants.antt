@@ -8,5 +8,5 @@ use Rattle.binder.proofs.orders.orders.Given as goal
 abbrev pub invariant-loop-order : goal.invariant-loop-order
 invariant-loop-order l = record {
   so_far : in_turn (with_order (names_of l.list.scope.now) (list_of l.list)) l.so_far (drop l.order-index l.orders) ≡ orders_from (names_of l.list.scope.now) (list_of l.list) l.fn.mentions l.orders;
-  count : length l.so_far.items ≡ l.order-index
+  count : length l.so_far.items ≡ l.order-index;
 }

@@ -17,6 +17,6 @@ invariant_of-result c =
     let ordered : c.in_ok-ordered.ordered ≡ order_list c.aggregates-aggregate.result clauses.tests.preds clauses.group clauses.order.items = cc in
     record {
       limits = rw (slots, grouped, ordered)
-        (select-limits names c.args.select.now clauses c.args.clauses.tests.preds c.args.clauses.tests.edges c.in_ok-mentions.mentions.items
-          c.args.select.now.distinct c.aggregates-aggregate.result c.requires.some c.args.scope.now.few c.requires.limits.conditions.most c.requires.bound (record { preds_are = refl; edges_are = refl }) c.requires.joined)
+          (select-limits names c.args.select.now clauses c.args.clauses.tests.preds c.args.clauses.tests.edges c.in_ok-mentions.mentions.items
+          c.args.select.now.distinct c.aggregates-aggregate.result c.requires.some c.args.scope.now.few c.requires.limits.conditions.most c.requires.bound (record { preds_are = refl; edges_are = refl }) c.requires.joined);
     }

@@ -8,5 +8,5 @@ abbrev pub invariant-loop-source : goal.invariant-loop-source
 invariant-loop-source l = record {
   so_far : in_turn (with_source l.directory.cat.now l.text) l.sources (drop l.source-index l.written) ≡ sources_of l.directory.cat.now l.text l.written;
   few : length l.sources ≤ 8;
-  count : length l.sources ≡ l.source-index
+  count : length l.sources ≡ l.source-index;
 }

@@ -1,5 +1,6 @@
 use Rattle.std.proofs.Common.{◌≡◌, ℕ, List, Ok, Result, sym, subst}
 use Rattle.adv_base.specs.declared.catalogue.Catalogue.{Catalogue}
+use Rattle.sql_reader.specs.declared.parsed.ParsedStatement.{ParsedStatement}
 use Rattle.binder.specs.Plain.{plain_statements}
 use Rattle.binder.specs.Statements.{bound_of}
 use Rattle.binder.specs.View.{plain_bound}
@@ -9,11 +10,13 @@ use Rattle.binder.proofs.statements.bind.Goals as goal
 pub returns-clause-named : goal.returns-clause-named
 returns-clause-named c =
     let parsed = c.args.parsed.now in
-    let gathered = subst (λ (x : Catalogue). bound_of x parsed.text.now parsed.statements ≡ Ok (plain_bound c.in_ok-bound.bound)) c.in_ok-directory.ensures c.in_ok-bound.ensures in
+    let over = subst (λ (x : Catalogue). bound_of x parsed.text.now c.as_slice.result.now ≡ Ok (plain_bound c.in_ok-bound.bound)) c.in_ok-directory.ensures c.in_ok-bound.ensures in
+    let gathered = subst (λ (ps : List ParsedStatement). bound_of c.args.cat.now parsed.text.now ps ≡ Ok (plain_bound c.in_ok-bound.bound)) c.as_slice.ensures over in
     (statements-lawful c.args.cat.now parsed.text.now parsed.statements c.in_ok-bound.bound.statements (statements_of-bound c.args.cat.now parsed.text.now parsed.statements (plain_bound c.in_ok-bound.bound) gathered)).0
 
 pub returns-clause-few : goal.returns-clause-few
 returns-clause-few c =
     let parsed = c.args.parsed.now in
-    let gathered = subst (λ (x : Catalogue). bound_of x parsed.text.now parsed.statements ≡ Ok (plain_bound c.in_ok-bound.bound)) c.in_ok-directory.ensures c.in_ok-bound.ensures in
+    let over = subst (λ (x : Catalogue). bound_of x parsed.text.now c.as_slice.result.now ≡ Ok (plain_bound c.in_ok-bound.bound)) c.in_ok-directory.ensures c.in_ok-bound.ensures in
+    let gathered = subst (λ (ps : List ParsedStatement). bound_of c.args.cat.now parsed.text.now ps ≡ Ok (plain_bound c.in_ok-bound.bound)) c.as_slice.ensures over in
     (statements-lawful c.args.cat.now parsed.text.now parsed.statements c.in_ok-bound.bound.statements (statements_of-bound c.args.cat.now parsed.text.now parsed.statements (plain_bound c.in_ok-bound.bound) gathered)).1

@@ -8,5 +8,5 @@ use Rattle.binder.proofs.statements.statements.Given as goal
 abbrev pub invariant-loop-statement : goal.invariant-loop-statement
 invariant-loop-statement l = record {
   so_far : in_turn (with_statement l.directory.cat.now l.text) (plain_bound l.so_far) (drop l.statement-index l.parsed) ≡ bound_of l.directory.cat.now l.text l.parsed;
-  few : l.so_far.slots ≤ 2000
+  few : l.so_far.slots ≤ 2000;
 }
