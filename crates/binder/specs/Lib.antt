@@ -6,6 +6,7 @@ pub mod Scopes
 pub mod Sources
 pub mod Values
 pub mod Plain
+pub mod Limits
 pub mod Conditions
 pub mod Items
 pub mod Aliases

@@ -1,6 +1,6 @@
 //! Statements that change rows.
 ghost use Rattle.std.specs.Prelude.{◌≡◌, ◌<◌, ◌≤◌, length, IfOk, Ok, All};
-ghost use Rattle.sql_reader.specs.Limits.{ConditionsLimits};
+ghost use Rattle.binder.specs.Limits.{ConditionsLimits};
 ghost use Rattle.binder.specs.Blocks.{change_block as block_of_change, one_source as one_source_of, written_column as column_written, written_columns as columns_written, delete_of};
 ghost use Rattle.binder.specs.Conditions.{tests_of};
 ghost use Rattle.adv_base.specs.Limits.Works.{ChangeLimits};

@@ -2,7 +2,7 @@
 ghost use Rattle.std.specs.Prelude.{◌≡◌, [], length, IfOk, All};
 ghost use Rattle.adv_base.specs.declared.workload.predicate.Test.TheVariants as kinds_of_test;
 ghost use Rattle.adv_base.specs.Limits.Tests.{TestLimits};
-ghost use Rattle.sql_reader.specs.Limits.{ConditionLimits};
+ghost use Rattle.binder.specs.Limits.{ConditionLimits};
 ghost use Rattle.binder.specs.Conditions.{compare_test as test_of_comparison, with_test as one_test_more, with_equality as one_equality_more, with_condition as one_condition_more, named_test as test_of_name, named_equality as equality_of_names, literal_value as value_of_literal, no_tests as none_so_far, tests_of};
 ghost use Rattle.binder.specs.Results.{Gives};
 ghost use Rattle.binder.specs.View.{names_of, plain_tests};

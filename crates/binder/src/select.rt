@@ -1,7 +1,7 @@
 //! The block of a SELECT.
 ghost use Rattle.std.specs.Prelude.{◌≡◌, ◌<◌, ◌≤◌, ◌++◌, true, length, IfOk, Ok};
 ghost use Rattle.adv_base.specs.Limits.Blocks.{BlockLimits};
-ghost use Rattle.sql_reader.specs.Limits.{SelectLimits};
+ghost use Rattle.binder.specs.Limits.{SelectLimits};
 ghost use Rattle.binder.specs.Blocks.{clauses_of, clause_mentions as mentions_of_clauses, select_block as block_of_clauses, select_of};
 ghost use Rattle.binder.specs.declared.fault.BindFault.TheVariants as faults;
 ghost use Rattle.binder.specs.Joins.{is_joined as all_joined};

@@ -2,7 +2,7 @@
 ghost use Rattle.std.specs.Prelude.{◌≡◌, ◌≤◌, ◌+◌, IfOk, All, sum_by, length};
 ghost use Rattle.adv_base.specs.Limits.Settings.{slot_count as slots_of_work};
 ghost use Rattle.adv_base.specs.Named.{NamesWork};
-ghost use Rattle.sql_reader.specs.Limits.{StatementLimits, BodyLimits};
+ghost use Rattle.binder.specs.Limits.{StatementLimits, BodyLimits};
 ghost use Rattle.binder.specs.Plain.{plain_work, plain_statements};
 ghost use Rattle.binder.specs.Results.{Gives};
 ghost use Rattle.binder.specs.Statements.{work_of, with_statement as one_statement_more, bound_of, statements_of};

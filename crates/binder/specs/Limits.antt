@@ -1,4 +1,4 @@
--- Limits of what was read.
+-- What binding asks of the statements that were read.
 use Rattle.std.specs.Prelude.{◌≡◌, ℕ, ◌<◌, ◌≤◌, ◌^◌, List, length, All, Option}
 use Rattle.sql_tokens.specs.declared.token.Span.{Span}
 use Rattle.sql_reader.specs.declared.parsed.NameUse.{NameUse}
@@ -33,8 +33,3 @@ pub record StatementLimits (statement : ParsedStatement) : Type 0 where
   pub weight_least : 1 ≤ statement.weight
   pub weight_most : statement.weight ≤ 1000000
   pub body : BodyLimits statement.body
-
-pub record ParsedLimits (text : List ℕ) (statements : List ParsedStatement) : Type 0 where
-  pub text_most : length text < 2 ^ 32
-  pub statements_most : length statements ≤ 1000
-  pub each : All StatementLimits statements
