@@ -9,6 +9,7 @@
 
 mod catalogue;
 mod days;
+mod decimal;
 mod list;
 mod numbers;
 mod setting;
@@ -20,6 +21,7 @@ pub use catalogue::index::{Index, IndexShape};
 pub use catalogue::rates::Rates;
 pub use catalogue::table::Table;
 pub use days::day_of;
+pub use decimal::push_decimal;
 pub use list::{Bytes, List, Name};
 pub use numbers::{NoMemory, binary_digits, times_part};
 pub use setting::{Config, Setting};

@@ -1,5 +1,5 @@
 //! Thin types over a vector, which contracts see as plain lists.
-ghost use Rattle.std.specs.Prelude.{◌≡◌, ◌↔◌, IsTrue, length};
+ghost use Rattle.std.specs.Prelude.{◌≡◌, ◌↔◌, [], IsTrue, length};
 
 use std::alloc::Global;
 use std::marker::Model;
@@ -21,7 +21,7 @@ impl<T> Model for List<T> {
 impl<T> List<T> {
     /// The empty list, which takes no memory.
     pub fn new(alloc: Global) -> List<T>
-        ensures { length result ≡ 0 }
+        ensures { result ≡ [] }
     {
         List {
             items: Vec::new(alloc),

@@ -1,1 +1,2 @@
 pub mod NameLists
+pub mod Mentioned

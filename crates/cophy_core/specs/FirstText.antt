@@ -80,11 +80,17 @@ order_at text =
 unfoldable pub is_end : List ℕ → Bool
 is_end text = length (skip (10 ∷ []) (skip (codes ";") text)) == 0
 
+-- a table, and perhaps the column to order by, to the end
+unfoldable pub source_at : List ℕ → Option (List ℕ × Option (List ℕ))
+source_at text = do
+  table ← name_at text
+  order ← order_at table.1
+  if is_end order.1 then Some (table.0, order.0) else None
+
 unfoldable pub first_of : List ℕ → Option FirstStatement
 first_of text = do
   list ← after (codes "SELECT ") text
   items ← items_at list
   source ← after (codes " FROM ") items.1
-  table ← name_at source
-  order ← order_at table.1
-  if is_end order.1 then Some (record { items = items.0; table = table.0; order = order.0 }) else None
+  parts ← source_at source
+  Some (record { items = items.0; table = parts.0; order = parts.1 })

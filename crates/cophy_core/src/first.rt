@@ -1,8 +1,7 @@
 //! The first form of statement that the program reads: `SELECT`, a list of columns or `*`, `FROM` and a table, perhaps
 //! `ORDER BY` and a column, perhaps a semicolon, perhaps a line feed, with one space between words.
-ghost use Rattle.std.specs.Prelude.{◌≡◌, ◌↔◌, ◌≤◌, IsTrue, IfOk, length, option_map};
-ghost use Rattle.cophy_core.specs.FirstText.{is_word_byte as word_byte_test, word_length, is_name as name_test, name_at as read_name, after as text_after, skip as text_skip, names_at, items_at, order_at, is_end as end_test, first_of};
-
+ghost use Rattle.std.specs.Prelude.{◌≡◌, ◌≤◌, IfOk, length, option_map, Some};
+ghost use Rattle.cophy_core.specs.FirstText.{is_word_byte as word_byte_test, word_length, is_name as name_test, name_at as read_name, after as text_after, skip as text_skip, names_at, items_at, order_at, source_at, is_end as end_test, first_of};
 ghost use Rattle.std.specs.List.{list_any};
 ghost use Rattle.cophy_core.specs.FirstText.{reserved, is_same_name as same_name_test};
 
@@ -43,14 +42,56 @@ fn is_name(word: &[u8]) -> bool
 
 /// The words that are no names, in capitals.
 const RESERVED: [&[u8]; 46] = [
-    b"ALL", b"AND", b"AS", b"ASC", b"BETWEEN", b"BY", b"CASE", b"CROSS", b"DELETE", b"DESC", b"DISTINCT", b"EXCEPT",
-    b"EXISTS", b"FROM", b"FULL", b"GROUP", b"HAVING", b"IN", b"INNER", b"INSERT", b"INTERSECT", b"INTO", b"IS", b"JOIN",
-    b"LEFT", b"LIKE", b"LIMIT", b"NATURAL", b"NOT", b"NULL", b"OFFSET", b"ON", b"OR", b"ORDER", b"OUTER", b"OVER",
-    b"RETURNING", b"RIGHT", b"SELECT", b"SET", b"UNION", b"UPDATE", b"USING", b"VALUES", b"WHERE", b"WITH",
+    b"ALL",
+    b"AND",
+    b"AS",
+    b"ASC",
+    b"BETWEEN",
+    b"BY",
+    b"CASE",
+    b"CROSS",
+    b"DELETE",
+    b"DESC",
+    b"DISTINCT",
+    b"EXCEPT",
+    b"EXISTS",
+    b"FROM",
+    b"FULL",
+    b"GROUP",
+    b"HAVING",
+    b"IN",
+    b"INNER",
+    b"INSERT",
+    b"INTERSECT",
+    b"INTO",
+    b"IS",
+    b"JOIN",
+    b"LEFT",
+    b"LIKE",
+    b"LIMIT",
+    b"NATURAL",
+    b"NOT",
+    b"NULL",
+    b"OFFSET",
+    b"ON",
+    b"OR",
+    b"ORDER",
+    b"OUTER",
+    b"OVER",
+    b"RETURNING",
+    b"RIGHT",
+    b"SELECT",
+    b"SET",
+    b"UNION",
+    b"UPDATE",
+    b"USING",
+    b"VALUES",
+    b"WHERE",
+    b"WITH",
 ];
 
 /// Whether two names are the same, in any case of letters.
-fn is_same_name(a: &[u8], b: &[u8]) -> bool
+pub(crate) fn is_same_name(a: &[u8], b: &[u8]) -> bool
     ensures { result ≡ same_name_test a.now b.now }
 {
     a.eq_ignore_ascii_case(b)
@@ -114,7 +155,7 @@ fn is_end(text: &[u8]) -> bool
 }
 
 /// A copy of a name.
-fn copied(alloc: Global, name: &[u8]) -> Result<Bytes, AllocError>
+pub(crate) fn copied(alloc: Global, name: &[u8]) -> Result<Bytes, AllocError>
     ensures { IfOk result (λ bytes. bytes ≡ name.now) }
 {
     let mut items = Vec::new(alloc);
@@ -168,4 +209,63 @@ fn order(text: &[u8]) -> Option<(Option<&[u8]>, &[u8])>
         }
         None => Some((None, text)),
     }
+}
+
+/// The statement that a text of the first form is; `None` for any other text.
+#[tactic(auto, unfolding(crate::specs::FirstText::first_of))]
+pub fn read_first(alloc: Global, text: &[u8]) -> Result<Option<FirstStatement>, AllocError>
+    ensures { IfOk result (λ first. first ≡ first_of text.now) }
+{
+    let list = match after(text, b"SELECT ") {
+        Some(list) => list,
+        None => return Ok(None),
+    };
+    let (items, rest) = match items(alloc, list)? {
+        Some(read) => read,
+        None => return Ok(None),
+    };
+    let source = match after(rest, b" FROM ") {
+        Some(source) => source,
+        None => return Ok(None),
+    };
+    match source_of(source) {
+        Some((table, column)) => built(alloc, items, table, column),
+        None => Ok(None),
+    }
+}
+
+/// The table, and the column to order by, of a text that goes to its end with them.
+#[tactic(auto, unfolding(crate::specs::FirstText::source_at))]
+fn source_of(text: &[u8]) -> Option<(&[u8], Option<&[u8]>)>
+    ensures { option_map (λ r. (r.0.now, option_map (λ name. name.now) r.1)) result ≡ source_at text.now }
+{
+    let (table, rest) = name_at(text)?;
+    let (column, rest) = order(rest)?;
+    if is_end(rest) {
+        Some((table, column))
+    } else {
+        None
+    }
+}
+
+/// A statement of these parts.
+fn built(
+    alloc: Global,
+    items: Option<List<Bytes>>,
+    table: &[u8],
+    column: Option<&[u8]>,
+) -> Result<Option<FirstStatement>, AllocError>
+    ensures { IfOk result (λ first.
+        first ≡ Some (record { items = items; table = table.now; order = option_map (λ name. name.now) column.entry })) }
+{
+    let table = copied(alloc, table)?;
+    let order = match column {
+        Some(name) => Some(copied(alloc, name)?),
+        None => None,
+    };
+    Ok(Some(FirstStatement {
+        items,
+        table,
+        order,
+    }))
 }

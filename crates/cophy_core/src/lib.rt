@@ -5,6 +5,7 @@
 //! cost is that of a least plan. Costs are in thousandths of a sequential page read.
 #![tactic(auto)]
 
+mod bind;
 mod first;
 
 pub use first::FirstStatement;

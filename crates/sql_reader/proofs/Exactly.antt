@@ -1,0 +1,112 @@
+-- Readings by good rules are exact.
+use Rattle.std.proofs.Common.{◌≡◌, ℕ, zero, suc, Bool, true, false, not, ◌&&◌, List, [], ◌∷◌, ◌++◌, sym, refl, ap, ◌∙◌, subst, inl, inr, append-nil}
+use Rattle.std.proofs.lemmas.Bool.{and_parts}
+use Rattle.sql_reader.specs.declared.piece.Piece.{Piece}
+use Rattle.sql_reader.specs.Kinds.{within}
+use Rattle.sql_reader.specs.Rule.{Nesting, State, Rule, Meaning, IsOver, Grammar, IsNested, Reading, Read, Stuck, begins, Reader, read_over, read_nested, Borders, may_be_empty, first_of_rule, more_of_rule, closes, good, good_nesting}
+use Rattle.sql_reader.specs.Exact.{GoesOn, NoneGoesOn, FailsAt, IsExact, IsGood, IsRead, reads}
+use Rattle.sql_reader.proofs.KindSets.{not_true, not_both, in_wider, begins_narrower, no_front}
+use Rattle.sql_reader.proofs.Theory.{Sensible, left_of, moved, SameHead, Viable, Explains, empty_only, first_in, right, complete, local, closing}
+
+no_level : (borders : Borders) (grammar : Grammar) → Sensible borders (IsNested grammar zero) (read_nested grammar zero)
+unfolding IsNested read_nested
+no_level borders grammar = record {
+  something = λ x a b h. h;
+  begun = λ x a p ps b h. absurd h;
+  right = λ x a ps. ([], refl, inl refl);
+  complete = λ x a front b rest h stop. absurd h;
+  local = λ x a front rest other same l. ap Stuck (nothing_before front rest other l);
+}
+  where
+    nothing_before : (front rest other : List Piece) → front ++ rest ≡ rest → front ++ other ≡ other
+    nothing_before front rest other l = ap (λ (f : List Piece). f ++ other) (no_front front rest l)
+
+one_level : (borders : Borders) (grammar : Grammar) → IsGood borders grammar → (n : ℕ) → Sensible borders (IsNested grammar n) (read_nested grammar n) →
+    Sensible borders (IsNested grammar (suc n)) (read_nested grammar (suc n))
+unfolding IsNested read_nested
+one_level borders grammar g n s =
+    let is_good : (x : Nesting) → good borders (grammar x) ≡ true = λ x. (and_parts (good borders (grammar x)) _ (g x)).0 in
+    let others = λ (x : Nesting). and_parts (not (may_be_empty (grammar x))) _ (and_parts (good borders (grammar x)) _ (g x)).1 in
+    let wide = λ (x : Nesting). and_parts (within (first_of_rule borders (grammar x)) (borders.first x)) (within (more_of_rule borders (grammar x)) (borders.more x)) (others x).1 in
+    record {
+      something = λ x a b h. not_both (may_be_empty (grammar x)) (empty_only borders (IsNested grammar n) (read_nested grammar n) s (grammar x) a b h) (not_true (may_be_empty (grammar x)) (others x).0);
+      begun = λ x a p ps b h. in_wider (first_of_rule borders (grammar x)) (borders.first x) p.kind (wide x).0 (first_in borders (IsNested grammar n) (read_nested grammar n) s (grammar x) a b p ps h);
+      right = λ x a ps. right borders (IsNested grammar n) (read_nested grammar n) s (grammar x) (is_good x) a ps;
+      complete = λ x a front b rest h stop. complete borders (IsNested grammar n) (read_nested grammar n) s (grammar x) (is_good x) a b front rest h (begins_narrower (more_of_rule borders (grammar x)) (borders.more x) rest (wide x).1 stop);
+      local = λ x a front rest other same l. local borders (IsNested grammar n) (read_nested grammar n) s (grammar x) (is_good x) a front rest other same l;
+    }
+
+pub levels_sensible : (borders : Borders) (grammar : Grammar) → IsGood borders grammar → (n : ℕ) → Sensible borders (IsNested grammar n) (read_nested grammar n)
+levels_sensible borders grammar g zero = no_level borders grammar
+levels_sensible borders grammar g (suc n) = one_level borders grammar g n (levels_sensible borders grammar g n)
+
+module _ (borders : Borders) (deeper : (x : Nesting) → Meaning (State x) (State x)) (reader : (x : Nesting) → Reader (State x) (State x)) (s : Sensible borders deeper reader) where
+  -- what is meant is read whole
+  whole : {A B : Type 0} (r : Rule A B) → good borders r ≡ true → (a : A) (ps : List Piece) (b : B) → IsOver deeper r a ps b → read_over reader r a ps ≡ Read b []
+  whole r g a ps b h =
+      ap (read_over reader r a) (sym (append-nil ps)) ∙ complete borders deeper reader s r g a b ps [] h refl
+
+  -- where something is left of a reading, nothing goes on with what is there
+  none_on : {A B : Type 0} (r : Rule A B) → good borders r ≡ true → (a : A) (front : List Piece) (p : Piece) (rest : List Piece) (x : Reading B) →
+      read_over reader r a (front ++ p ∷ rest) ≡ x → left_of x ≡ p ∷ rest → NoneGoesOn (IsOver deeper r) a front (p ∷ rest)
+  none_on {A} {B} r g a front p rest x e l q more b k h =
+      let there = local borders deeper reader s r g a front (p ∷ rest) (q ∷ more) (sym k) (ap left_of e ∙ l) in
+      let all = whole r g a (front ++ q ∷ more) b h in
+      clash x (sym all ∙ there ∙ ap (moved (q ∷ more)) e)
+    where
+      clash : (x : Reading B) → Read b [] ≡ moved (q ∷ more) x → ⊥
+      clash (Read c old) e = cc
+      clash (Stuck old) e = cc
+
+  none_at_end : {A B : Type 0} (r : Rule A B) → good borders r ≡ true → (a : A) (ps : List Piece) → read_over reader r a ps ≡ Stuck [] → NoneGoesOn (IsOver deeper r) a ps []
+  none_at_end r g a ps e b h = let all = whole r g a ps b h in cc
+
+  on_from : {A B : Type 0} (r : Rule A B) → closes r ≡ true → (a : A) (front : List Piece) → Viable (IsOver deeper r) a front → GoesOn (IsOver deeper r) a front
+  on_from r c a front (inl e) =
+      let (more, b, h) = closing borders deeper reader s r c a in
+      (more, b, subst (λ (f : List Piece). IsOver deeper r a (f ++ more) b) (sym e) h)
+  on_from r c a front (inr h) = h
+
+  pub exact : {A B : Type 0} (r : Rule A B) → good borders r ≡ true → closes r ≡ true → (a : A) (ps : List Piece) (x : Reading B) → read_over reader r a ps ≡ x →
+      Explains (IsOver deeper r) a ps x → IsExact (IsOver deeper r) a ps x
+  exact r g c a ps (Read b []) e (front, split, h) =
+      subst (λ (f : List Piece). IsOver deeper r a f b) (sym (split ∙ append-nil front)) h
+  exact r g c a ps (Read b (p ∷ rest)) e (front, split, h) = record {
+    front = front;
+    split = split;
+    before = ([], b, subst (λ (f : List Piece). IsOver deeper r a f b) (sym (append-nil front)) h);
+    none = none_on r g a front p rest (Read b (p ∷ rest)) (ap (read_over reader r a) (sym split) ∙ e) refl;
+  }
+  exact r g c a ps (Stuck []) e (front, split, v) = record {
+    front = front;
+    split = split;
+    before = on_from r c a front v;
+    none = none_at_end r g a front (ap (read_over reader r a) (sym (split ∙ append-nil front)) ∙ e);
+  }
+  exact r g c a ps (Stuck (p ∷ rest)) e (front, split, v) = record {
+    front = front;
+    split = split;
+    before = on_from r c a front v;
+    none = none_on r g a front p rest (Stuck (p ∷ rest)) (ap (read_over reader r a) (sym split) ∙ e) refl;
+  }
+
+read_value : {B : Type 0} (b c : B) (ps : List Piece) → Read b ps ≡ Read c ps → b ≡ c
+read_value b c ps e = cc
+
+-- each reading by a good rule that closes is exact
+pub reads_exactly : (borders : Borders) (grammar : Grammar) (levels : ℕ) {A B : Type 0} (rule : Rule A B) → IsGood borders grammar →
+    good borders rule ≡ true → closes rule ≡ true → (a : A) (pieces : List Piece) →
+    IsExact (IsRead grammar levels rule) a pieces (reads grammar levels rule a pieces)
+reads_exactly borders grammar levels rule g good_rule closes_rule a pieces =
+    let s = levels_sensible borders grammar g levels in
+    exact borders (IsNested grammar levels) (read_nested grammar levels) s rule good_rule closes_rule a pieces (reads grammar levels rule a pieces) refl
+    (right borders (IsNested grammar levels) (read_nested grammar levels) s rule good_rule a pieces)
+
+-- pieces have at most one meaning
+pub has_one_meaning : (borders : Borders) (grammar : Grammar) (levels : ℕ) {A B : Type 0} (rule : Rule A B) → IsGood borders grammar →
+    good borders rule ≡ true → (a : A) (pieces : List Piece) (b c : B) →
+    IsRead grammar levels rule a pieces b → IsRead grammar levels rule a pieces c → b ≡ c
+has_one_meaning borders grammar levels rule g good_rule a pieces b c hb hc =
+    let s = levels_sensible borders grammar g levels in
+    read_value b c [] (sym (whole borders (IsNested grammar levels) (read_nested grammar levels) s rule good_rule a pieces b hb)
+    ∙ whole borders (IsNested grammar levels) (read_nested grammar levels) s rule good_rule a pieces c hc)

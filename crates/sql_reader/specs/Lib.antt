@@ -1,0 +1,10 @@
+pub mod Exact
+pub mod Grammar
+pub mod Kinds
+pub mod Pieces
+pub mod Reads
+pub mod Rule
+pub mod Valid
+pub mod Values
+pub mod Words
+pub mod Workload

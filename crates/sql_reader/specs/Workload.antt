@@ -1,0 +1,94 @@
+-- What a text says as a workload, and which fault is the first.
+use Rattle.std.specs.Prelude.{◌≡◌, ℕ, ◌+◌, nat_lt, List, [], ◌∷◌, length, Option, Some, None, option_map, if◌then◌else◌}
+use Rattle.sql_tokens.specs.declared.token.Token.{Token}
+use Rattle.sql_tokens.specs.declared.token_list.TokenFault.TheVariants as tokens
+use Rattle.sql_tokens.specs.Cut.{AreTokens, HasFault}
+use Rattle.sql_reader.specs.declared.kind.Kind.{Kind}
+use Rattle.sql_reader.specs.declared.kind.Kind.TheVariants as kinds
+use Rattle.sql_reader.specs.declared.piece.Piece.{Piece}
+use Rattle.sql_reader.specs.declared.parsed.ParsedStatement.{ParsedStatement}
+use Rattle.sql_reader.specs.declared.parsed.SqlFault.{SqlFault}
+use Rattle.sql_reader.specs.declared.parsed.SqlFault.TheVariants as faults
+use Rattle.sql_reader.specs.declared.parts.Progress.{Progress}
+use Rattle.sql_reader.specs.Kinds.{has}
+use Rattle.sql_reader.specs.Rule.{Meaning}
+use Rattle.sql_reader.specs.Exact.{IsRead, FailsAt}
+use Rattle.sql_reader.specs.Grammar.{grammar, levels, workload}
+use Rattle.sql_reader.specs.Values.{place_of, no_statements}
+use Rattle.sql_reader.specs.Pieces.{ArePieces, no_mark, bad_weight, start_behind}
+
+-- pieces, and the statements that they are
+abbrev pub MeansStatements : Meaning Progress Progress
+MeansStatements start pieces progress = IsRead grammar levels workload start pieces progress
+
+-- the kinds of words at which the fault is Unsupported
+abbrev pub left_out : List Kind
+left_out = kinds.LeftOut ∷ kinds.Not ∷ kinds.Select ∷ []
+
+-- the fault where the grammar fails before these pieces, with the place of the end of the text
+abbrev pub grammar_fault : ℕ → List Piece → SqlFault
+grammar_fault end [] = faults.Syntax end
+grammar_fault end (p ∷ rest) = if has left_out p.kind then faults.Unsupported (place_of p) else faults.Syntax (place_of p)
+
+-- the fault of pieces that are left behind a workload
+abbrev pub fault_behind : ℕ → List Piece → Option SqlFault
+fault_behind end [] = None
+fault_behind end (p ∷ rest) = Some (grammar_fault end (p ∷ rest))
+
+-- what the grammar says of pieces: their statements and no fault, or the fault at the first piece at which no
+-- workload goes on
+abbrev pub GrammarSays : ℕ → List Piece → Progress → Option SqlFault → Type 0
+GrammarSays end pieces progress None = MeansStatements no_statements pieces progress
+GrammarSays end pieces progress (Some fault) =
+    (rest : List Piece) × FailsAt MeansStatements no_statements pieces rest × (fault ≡ grammar_fault end rest)
+
+-- the place of a fault
+abbrev pub place_of_fault : SqlFault → ℕ
+place_of_fault faults.Memory = 0
+place_of_fault (faults.BadByte place) = place
+place_of_fault (faults.OpenText place) = place
+place_of_fault (faults.Syntax place) = place
+place_of_fault (faults.Unsupported place) = place
+place_of_fault (faults.BadWeight place) = place
+place_of_fault (faults.TooManyStatements place) = place
+
+-- the first of two faults in the text; the first of the two where they stand at one place
+abbrev pub earlier : Option SqlFault → Option SqlFault → Option SqlFault
+earlier None other = other
+earlier (Some fault) None = Some fault
+earlier (Some fault) (Some other) = if nat_lt (place_of_fault other) (place_of_fault fault) then Some other else Some fault
+
+-- the first fault of a text with these tokens and pieces, where the grammar has this one
+abbrev pub first_fault : List ℕ → List Token → List Piece → Option SqlFault → Option SqlFault
+first_fault text list pieces fault =
+    earlier fault (earlier (option_map faults.BadWeight (bad_weight text list)) (option_map faults.TooManyStatements (start_behind 1000 pieces)))
+
+-- what a text with tokens says: its statements, or its first fault
+pub record Says (text : List ℕ) (statements : List ParsedStatement) (fault : Option SqlFault) : Type 0 where
+  pub list : List Token
+  pub pieces : List Piece
+  pub progress : Progress
+  pub of_grammar : Option SqlFault
+  pub are_tokens : AreTokens text list
+  pub are_pieces : ArePieces text list no_mark pieces
+  pub says : GrammarSays (length text + 1) pieces progress of_grammar
+  pub first : fault ≡ first_fault text list pieces of_grammar
+  pub same : statements ≡ progress.statements
+
+-- the text is a workload of these statements
+abbrev pub IsWorkload : List ℕ → List ParsedStatement → Type 0
+IsWorkload text statements = Says text statements None
+
+-- the fault is the first that is no fault of a token
+abbrev pub IsFirstFault : List ℕ → SqlFault → Type 0
+IsFirstFault text fault = (statements : List ParsedStatement) × Says text statements (Some fault)
+
+-- the text has this fault: one of its tokens, or else the first in the text of the four others
+abbrev pub HasSqlFault : List ℕ → SqlFault → Type 0
+HasSqlFault text faults.Memory = ⊥
+HasSqlFault text (faults.BadByte place) = HasFault text (tokens.BadByte place)
+HasSqlFault text (faults.OpenText place) = HasFault text (tokens.OpenText place)
+HasSqlFault text (faults.Syntax place) = IsFirstFault text (faults.Syntax place)
+HasSqlFault text (faults.Unsupported place) = IsFirstFault text (faults.Unsupported place)
+HasSqlFault text (faults.BadWeight place) = IsFirstFault text (faults.BadWeight place)
+HasSqlFault text (faults.TooManyStatements place) = IsFirstFault text (faults.TooManyStatements place)

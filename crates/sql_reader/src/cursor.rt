@@ -1,0 +1,60 @@
+//! A place in the pieces of a text.
+ghost use Rattle.sql_reader.specs.Reads.{Gives, same};
+ghost use Rattle.sql_reader.specs.Kinds.{has};
+ghost use Rattle.sql_reader.specs.Rule.{begins, piece_of};
+ghost use Rattle.std.specs.Prelude.{◌≡◌};
+
+use crate::{Kind, Piece};
+
+/// Why reading stops: there is no memory, or nothing goes on with the next piece.
+#[derive(Clone, Copy, Debug)]
+pub enum Stop {
+    Memory,
+    Here,
+}
+
+/// The pieces that are left.
+#[derive(Debug, Drop)]
+pub struct Cursor<'a> {
+    pub rest: &'a [Piece],
+}
+
+/// Reads by the grammar, where so many more levels may nest.
+#[derive(Clone, Copy, Debug)]
+pub struct Reader {
+    pub levels: u8,
+}
+
+/// Whether a kind is one of these.
+pub fn has(kinds: &[Kind], kind: Kind) -> bool
+    ensures { result ≡ has kinds.now kind }
+{
+    let code = kind.code();
+    kinds.iter().any(|one| one.code() == code)
+}
+
+impl Cursor<'_> {
+    /// Whether the next piece is of one of these kinds.
+    pub fn begins(&self, kinds: &[Kind]) -> bool
+        ensures { result ≡ begins kinds.now self.now.rest.now }
+    {
+        match self.rest.first() {
+            Some(piece) => has(kinds, piece.kind),
+            None => false,
+        }
+    }
+
+    /// Takes one piece of these kinds.
+    pub fn take(&mut self, kinds: &[Kind]) -> Result<Piece, Stop>
+        ensures { Gives same result (piece_of kinds.now self.old.rest.now) self.new }
+    {
+        let Some((piece, rest)) = self.rest.split_first() else {
+            return Err(Stop::Here);
+        };
+        if !has(kinds, piece.kind) {
+            return Err(Stop::Here);
+        }
+        self.rest = rest;
+        Ok(*piece)
+    }
+}

@@ -1,0 +1,39 @@
+//! The statements of a workload, read by the grammar.
+#![tactic(auto)]
+
+mod change;
+mod condition;
+mod cursor;
+mod expression;
+mod found;
+mod item;
+mod kind;
+mod law;
+mod list;
+mod literal;
+mod name;
+mod parsed;
+mod parsed_text;
+mod parts;
+mod piece;
+mod scan;
+mod select;
+mod statement;
+mod valid;
+mod words;
+mod workload;
+
+pub use found::{Form, Found};
+pub use kind::Kind;
+pub use law::one_meaning;
+pub use parsed::{
+    Body, Compare, Condition, Expr, Literal, NameUse, ParsedItem, ParsedOrder, ParsedSelect,
+    ParsedStatement, Source, SqlFault,
+};
+pub use parsed_text::Parsed;
+pub use parts::{InsertParts, Progress, UpdateParts};
+pub use piece::{Mark, Piece};
+pub use workload::read_workload;
+
+#[cfg(test)]
+mod tests;

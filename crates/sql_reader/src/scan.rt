@@ -1,0 +1,169 @@
+//! Makes the pieces of a text from its tokens.
+ghost use Rattle.sql_reader.specs.Pieces as pieces;
+ghost use Rattle.sql_reader.specs.declared.cursor.Stop.TheVariants.{Memory};
+ghost use Rattle.sql_tokens.specs.Span.{LiesIn};
+ghost use Rattle.std.specs.Option.{ForSome};
+ghost use Rattle.std.specs.Prelude.{◌≡◌, ◌≤◌, ◌^◌, ◌<ℤ◌, All, IfErr, IfOk, OnOk, length, neg_ℤ, pos, slice_index};
+
+use crate::cursor::{Stop, has};
+use crate::list::push;
+use crate::statement::STARTS;
+use crate::words::{quoted_kind, symbol_kind, text_day, weight_number, whole_number, word_kind};
+use crate::{Kind, Mark, Piece};
+use adv_base::List;
+use sql_tokens::{Token, TokenKind};
+use std::alloc::Global;
+
+/// The bytes of a token.
+fn bytes_of(text: &[u8], token: Token) -> &[u8]
+    requires { LiesIn text.now token }
+    ensures { result.now ≡ pieces.bytes_of text.now token }
+{
+    &text[token.span.from as usize..token.span.to as usize]
+}
+
+/// The kind of a token and its number.
+fn classify(kind: TokenKind, bytes: &[u8]) -> (Kind, Option<i64>)
+    requires { 1 ≤ length bytes.now }
+    ensures kind { result.0 ≡ pieces.kind_of kind bytes.now }
+    ensures number { result.1 ≡ pieces.number_of kind bytes.now }
+    ensures least { ForSome result.1 (λ n. neg_ℤ (pos (10 ^ 18)) <ℤ n) }
+    ensures most { ForSome result.1 (λ n. n <ℤ pos (10 ^ 18)) }
+{
+    match kind {
+        TokenKind::Word => (word_kind(bytes), None),
+        TokenKind::Quoted => (quoted_kind(bytes), None),
+        TokenKind::Whole => (Kind::Whole, whole_number(bytes)),
+        TokenKind::Decimal => (Kind::Decimal, None),
+        TokenKind::Text => classify_text(text_day(bytes)),
+        TokenKind::Symbol => (symbol_kind(bytes[0], second(bytes)), None),
+        TokenKind::Weight => (Kind::LeftOut, None),
+    }
+}
+
+/// A text, with its day where it holds one.
+fn classify_text(day: Option<i64>) -> (Kind, Option<i64>)
+    ensures kind { result.0 ≡ pieces.kind_of_text day }
+    ensures number { result.1 ≡ day }
+{
+    match day {
+        Some(number) => (Kind::Day, Some(number)),
+        None => (Kind::Text, None),
+    }
+}
+
+/// The second byte, or 0.
+fn second(bytes: &[u8]) -> u8
+    ensures { result ≡ slice_index bytes.now 1 }
+{
+    if bytes.len() > 1 { bytes[1] } else { 0 }
+}
+
+/// The piece that a token is.
+fn piece(text: &[u8], token: Token, mark: Mark) -> Piece
+    requires { LiesIn text.now token }
+    ensures { pieces.IsPiece text.now mark token result }
+{
+    let (kind, number) = classify(token.kind, bytes_of(text, token));
+    Piece {
+        kind,
+        span: token.span,
+        number,
+        mark,
+    }
+}
+
+/// The mark of a weight comment.
+fn mark_of(text: &[u8], token: Token) -> Mark
+    requires { LiesIn text.now token }
+    ensures { result ≡ pieces.mark_of text.now token }
+{
+    Mark {
+        place: token.span.from + 1,
+        weight: weight_number(bytes_of(text, token)),
+    }
+}
+
+/// Adds a token: a weight comment as the mark, every other as a piece.
+fn add(text: &[u8], token: Token, mark: &mut Mark, list: &mut List<Piece>) -> Result<(), Stop>
+    requires { LiesIn text.now token }
+    ensures ok { OnOk result (pieces.AddsToken text.now token mark.old list.old (pieces.is_weight token.kind) mark.new list.new) }
+    ensures err { IfErr result (λ stop. stop ≡ Memory) }
+{
+    if is_weight(token.kind) {
+        *mark = mark_of(text, token);
+        return Ok(());
+    }
+    let made = piece(text, token, *mark);
+    push(list, made)
+}
+
+/// Whether the kind is that of weight comments.
+fn is_weight(kind: TokenKind) -> bool
+    ensures { result ≡ pieces.is_weight kind }
+{
+    match kind {
+        TokenKind::Weight => true,
+        _ => false,
+    }
+}
+
+/// The pieces of a text with these tokens.
+pub fn scan(alloc: Global, text: &[u8], tokens: &[Token]) -> Result<List<Piece>, Stop>
+    requires { All (LiesIn text.now) tokens.now }
+    ensures ok { IfOk result (λ list. pieces.ArePieces text.now tokens.now pieces.no_mark list) }
+    ensures err { IfErr result (λ stop. stop ≡ Memory) }
+{
+    let mut list = List::new(alloc);
+    let mut mark = Mark {
+        place: 0,
+        weight: 1,
+    };
+    'turns: for token in tokens {
+        add(text, *token, &mut mark, &mut list)?;
+    }
+    Ok(list)
+}
+
+/// Whether a token is a weight comment whose number isn't 1 to 10^6.
+fn is_bad_weight(text: &[u8], token: Token) -> bool
+    requires { LiesIn text.now token }
+    ensures { result ≡ pieces.is_bad_weight text.now token }
+{
+    match token.kind {
+        TokenKind::Weight => {
+            let weight = weight_number(bytes_of(text, token));
+            !(1 <= weight && weight <= 1_000_000)
+        }
+        _ => false,
+    }
+}
+
+/// The place of the first weight comment whose number isn't 1 to 10^6.
+pub fn bad_weight(text: &[u8], tokens: &[Token]) -> Option<u64>
+    requires { All (LiesIn text.now) tokens.now }
+    ensures { result ≡ pieces.bad_weight text.now tokens.now }
+{
+    'turns: for token in tokens {
+        if is_bad_weight(text, *token) {
+            return Some(token.span.from + 1);
+        }
+    }
+    None
+}
+
+/// The place of the first word of the 1001st statement.
+pub fn start_behind_1000(list: &[Piece]) -> Option<u64>
+    ensures { result ≡ pieces.start_behind 1000 list.now }
+{
+    let mut left: u32 = 1000;
+    'turns: for piece in list {
+        if has(&STARTS, piece.kind) {
+            if left == 0 {
+                return Some(piece.span.from.saturating_add(1));
+            }
+            left -= 1;
+        }
+    }
+    None
+}

@@ -1,0 +1,440 @@
+//! Reads a SELECT.
+ghost use Rattle.sql_reader.specs.Grammar as rule;
+ghost use Rattle.sql_reader.specs.Reads.{AddsBy, ReadsBy};
+ghost use Rattle.std.specs.Prelude.{◌≡◌};
+
+use crate::cursor::{Cursor, Reader, Stop};
+use crate::list::push;
+use crate::literal::COMPARISONS;
+use crate::{Found, Kind, NameUse, ParsedOrder, ParsedSelect};
+use adv_base::List;
+use std::alloc::Global;
+
+impl ParsedSelect {
+    ghost use Rattle.sql_reader.specs.Values.{empty_select};
+
+    /// A SELECT of which nothing is read.
+    fn new(alloc: Global) -> ParsedSelect
+        ensures { result ≡ empty_select }
+    {
+        ParsedSelect {
+            distinct: false,
+            items: List::new(alloc),
+            sources: List::new(alloc),
+            conditions: List::new(alloc),
+            group: List::new(alloc),
+            having: List::new(alloc),
+            order: List::new(alloc),
+        }
+    }
+}
+
+impl Reader {
+    /// ALL or DISTINCT, perhaps.
+    #[tactic(auto, unfolding(crate::specs::Grammar::quantifier))]
+    fn quantifier(self, cursor: &mut Cursor<'_>, select: &mut ParsedSelect) -> Result<(), Stop>
+        ensures { AddsBy rule.quantifier select.old self cursor.old result select.new cursor.new }
+    {
+        if cursor.begins(&[Kind::All]) {
+            cursor.take(&[Kind::All])?;
+            return Ok(());
+        }
+        if cursor.begins(&[Kind::Distinct]) {
+            cursor.take(&[Kind::Distinct])?;
+            select.distinct = true;
+        }
+        Ok(())
+    }
+
+    /// A source, put behind those before.
+    #[tactic(auto, unfolding(crate::specs::Grammar::one_source))]
+    fn one_source(self, cursor: &mut Cursor<'_>, select: &mut ParsedSelect) -> Result<(), Stop>
+        ensures { AddsBy rule.one_source select.old self cursor.old result select.new cursor.new }
+    {
+        let source = self.source(cursor)?;
+        push(&mut select.sources, source)
+    }
+
+    /// JOIN, perhaps behind INNER.
+    #[tactic(auto, unfolding(crate::specs::Grammar::join_word))]
+    fn join_word(self, cursor: &mut Cursor<'_>, select: &ParsedSelect) -> Result<(), Stop>
+        ensures { AddsBy rule.join_word select.now self cursor.old result select.now cursor.new }
+    {
+        if cursor.begins(&[Kind::Inner]) {
+            cursor.take(&[Kind::Inner])?;
+        }
+        cursor.take(&[Kind::Join])?;
+        Ok(())
+    }
+
+    /// ON and its tests.
+    #[tactic(auto, unfolding(crate::specs::Grammar::on_part))]
+    fn on_part(self, cursor: &mut Cursor<'_>, select: &mut ParsedSelect) -> Result<(), Stop>
+        ensures { AddsBy rule.on_part select.old self cursor.old result select.new cursor.new }
+    {
+        cursor.take(&[Kind::On])?;
+        self.conditions(cursor, &mut select.conditions)
+    }
+
+    /// A joined source with its tests.
+    #[tactic(auto, unfolding(crate::specs::Grammar::joined_source))]
+    fn joined_source(self, cursor: &mut Cursor<'_>, select: &mut ParsedSelect) -> Result<(), Stop>
+        ensures { AddsBy rule.joined_source select.old self cursor.old result select.new cursor.new }
+    {
+        self.join_word(cursor, select)?;
+        self.one_source(cursor, select)?;
+        self.on_part(cursor, select)
+    }
+
+    /// A source behind a comma, or a joined one.
+    #[tactic(auto, unfolding(crate::specs::Grammar::another_source))]
+    fn another_source(self, cursor: &mut Cursor<'_>, select: &mut ParsedSelect) -> Result<(), Stop>
+        ensures { AddsBy rule.another_source select.old self cursor.old result select.new cursor.new }
+    {
+        if cursor.begins(&[Kind::Comma]) {
+            cursor.take(&[Kind::Comma])?;
+            return self.one_source(cursor, select);
+        }
+        self.joined_source(cursor, select)
+    }
+
+    /// More sources.
+    fn more_sources(self, cursor: &mut Cursor<'_>, select: &mut ParsedSelect) -> Result<(), Stop>
+        ensures { AddsBy rule.more_sources select.old self cursor.old result select.new cursor.new }
+    {
+        'turns: while cursor.begins(&[Kind::Comma, Kind::Inner, Kind::Join]) {
+            self.another_source(cursor, select)?;
+        }
+        Ok(())
+    }
+
+    /// The sources behind FROM.
+    #[tactic(auto, unfolding(crate::specs::Grammar::source_list))]
+    fn source_list(self, cursor: &mut Cursor<'_>, select: &mut ParsedSelect) -> Result<(), Stop>
+        ensures { AddsBy rule.source_list select.old self cursor.old result select.new cursor.new }
+    {
+        self.one_source(cursor, select)?;
+        self.more_sources(cursor, select)
+    }
+
+    /// The tests of WHERE, perhaps.
+    #[tactic(auto, unfolding(crate::specs::Grammar::where_part))]
+    fn where_part(self, cursor: &mut Cursor<'_>, select: &mut ParsedSelect) -> Result<(), Stop>
+        ensures { AddsBy rule.where_part select.old self cursor.old result select.new cursor.new }
+    {
+        self.where_conditions(cursor, &mut select.conditions)
+    }
+
+    /// A column, put behind those before.
+    #[tactic(auto, unfolding(crate::specs::Grammar::one_column))]
+    fn one_column(self, cursor: &mut Cursor<'_>, all: &mut List<NameUse>) -> Result<(), Stop>
+        ensures { AddsBy rule.one_column all.old self cursor.old result all.new cursor.new }
+    {
+        let column = self.column(cursor)?;
+        push(all, column)
+    }
+
+    /// A comma and a column.
+    #[tactic(auto, unfolding(crate::specs::Grammar::another_column))]
+    fn another_column(self, cursor: &mut Cursor<'_>, all: &mut List<NameUse>) -> Result<(), Stop>
+        ensures { AddsBy rule.another_column all.old self cursor.old result all.new cursor.new }
+    {
+        cursor.take(&[Kind::Comma])?;
+        self.one_column(cursor, all)
+    }
+
+    /// More columns behind commas.
+    fn more_columns(self, cursor: &mut Cursor<'_>, all: &mut List<NameUse>) -> Result<(), Stop>
+        ensures { AddsBy rule.more_columns all.old self cursor.old result all.new cursor.new }
+    {
+        'turns: while cursor.begins(&[Kind::Comma]) {
+            self.another_column(cursor, all)?;
+        }
+        Ok(())
+    }
+
+    /// Columns with commas between them.
+    #[tactic(auto, unfolding(crate::specs::Grammar::column_list))]
+    fn column_list(self, cursor: &mut Cursor<'_>, all: &mut List<NameUse>) -> Result<(), Stop>
+        ensures { AddsBy rule.column_list all.old self cursor.old result all.new cursor.new }
+    {
+        self.one_column(cursor, all)?;
+        self.more_columns(cursor, all)
+    }
+
+    /// GROUP BY and its columns, perhaps.
+    #[tactic(auto, unfolding(crate::specs::Grammar::group_part))]
+    fn group_part(self, cursor: &mut Cursor<'_>, select: &mut ParsedSelect) -> Result<(), Stop>
+        ensures { AddsBy rule.group_part select.old self cursor.old result select.new cursor.new }
+    {
+        if !cursor.begins(&[Kind::Group]) {
+            return Ok(());
+        }
+        cursor.take(&[Kind::Group])?;
+        cursor.take(&[Kind::By])?;
+        self.column_list(cursor, &mut select.group)
+    }
+
+    /// A comparison of two expressions.
+    #[tactic(auto, unfolding(crate::specs::Grammar::having_test))]
+    fn having_test(self, cursor: &mut Cursor<'_>, found: &mut Found) -> Result<(), Stop>
+        ensures { AddsBy rule.having_test found.old self cursor.old result found.new cursor.new }
+    {
+        self.expression(cursor, found)?;
+        cursor.take(&COMPARISONS)?;
+        self.expression(cursor, found)
+    }
+
+    /// AND and a comparison.
+    #[tactic(auto, unfolding(crate::specs::Grammar::another_having_test))]
+    fn another_having_test(self, cursor: &mut Cursor<'_>, found: &mut Found) -> Result<(), Stop>
+        ensures { AddsBy rule.another_having_test found.old self cursor.old result found.new cursor.new }
+    {
+        cursor.take(&[Kind::And])?;
+        self.having_test(cursor, found)
+    }
+
+    /// More comparisons behind AND.
+    fn more_having_tests(self, cursor: &mut Cursor<'_>, found: &mut Found) -> Result<(), Stop>
+        ensures { AddsBy rule.more_having_tests found.old self cursor.old result found.new cursor.new }
+    {
+        'turns: while cursor.begins(&[Kind::And]) {
+            self.another_having_test(cursor, found)?;
+        }
+        Ok(())
+    }
+
+    /// Comparisons with AND between them.
+    #[tactic(auto, unfolding(crate::specs::Grammar::having_tests))]
+    fn having_tests(self, cursor: &mut Cursor<'_>, found: &mut Found) -> Result<(), Stop>
+        ensures { AddsBy rule.having_tests found.old self cursor.old result found.new cursor.new }
+    {
+        self.having_test(cursor, found)?;
+        self.more_having_tests(cursor, found)
+    }
+
+    /// HAVING and its comparisons, perhaps.
+    #[tactic(auto, unfolding(crate::specs::Grammar::having_part))]
+    fn having_part(
+        self,
+        alloc: Global,
+        cursor: &mut Cursor<'_>,
+        select: &mut ParsedSelect,
+    ) -> Result<(), Stop>
+        ensures { AddsBy rule.having_part select.old self cursor.old result select.new cursor.new }
+    {
+        if !cursor.begins(&[Kind::Having]) {
+            return Ok(());
+        }
+        cursor.take(&[Kind::Having])?;
+        let mut found = Found::new(alloc);
+        self.having_tests(cursor, &mut found)?;
+        select.having = found.into_uses();
+        Ok(())
+    }
+
+    /// ASC or DESC, perhaps, behind an expression.
+    #[tactic(auto, unfolding(crate::specs::Grammar::direction))]
+    fn direction(self, cursor: &mut Cursor<'_>, found: Found) -> Result<ParsedOrder, Stop>
+        ensures { ReadsBy rule.direction found self cursor.old result cursor.new }
+    {
+        let down = cursor.begins(&[Kind::Desc]);
+        if down {
+            cursor.take(&[Kind::Desc])?;
+        } else if cursor.begins(&[Kind::Asc]) {
+            cursor.take(&[Kind::Asc])?;
+        }
+        Ok(ParsedOrder {
+            expr: found.expr(),
+            down,
+        })
+    }
+
+    /// An item of ORDER BY.
+    #[tactic(auto, unfolding(crate::specs::Grammar::order_value))]
+    fn order_value(self, alloc: Global, cursor: &mut Cursor<'_>) -> Result<ParsedOrder, Stop>
+        ensures { ReadsBy rule.order_value tt self cursor.old result cursor.new }
+    {
+        let mut found = Found::new(alloc);
+        self.expression(cursor, &mut found)?;
+        self.direction(cursor, found)
+    }
+
+    /// An item of ORDER BY, put behind those before.
+    #[tactic(auto, unfolding(crate::specs::Grammar::one_order))]
+    fn one_order(
+        self,
+        alloc: Global,
+        cursor: &mut Cursor<'_>,
+        all: &mut List<ParsedOrder>,
+    ) -> Result<(), Stop>
+        ensures { AddsBy rule.one_order all.old self cursor.old result all.new cursor.new }
+    {
+        let order = self.order_value(alloc, cursor)?;
+        push(all, order)
+    }
+
+    /// A comma and an item of ORDER BY.
+    #[tactic(auto, unfolding(crate::specs::Grammar::another_order))]
+    fn another_order(
+        self,
+        alloc: Global,
+        cursor: &mut Cursor<'_>,
+        all: &mut List<ParsedOrder>,
+    ) -> Result<(), Stop>
+        ensures { AddsBy rule.another_order all.old self cursor.old result all.new cursor.new }
+    {
+        cursor.take(&[Kind::Comma])?;
+        self.one_order(alloc, cursor, all)
+    }
+
+    /// More items of ORDER BY behind commas.
+    fn more_orders(
+        self,
+        alloc: Global,
+        cursor: &mut Cursor<'_>,
+        all: &mut List<ParsedOrder>,
+    ) -> Result<(), Stop>
+        ensures { AddsBy rule.more_orders all.old self cursor.old result all.new cursor.new }
+    {
+        'turns: while cursor.begins(&[Kind::Comma]) {
+            self.another_order(alloc, cursor, all)?;
+        }
+        Ok(())
+    }
+
+    /// The items of ORDER BY.
+    #[tactic(auto, unfolding(crate::specs::Grammar::order_list))]
+    fn order_list(
+        self,
+        alloc: Global,
+        cursor: &mut Cursor<'_>,
+        all: &mut List<ParsedOrder>,
+    ) -> Result<(), Stop>
+        ensures { AddsBy rule.order_list all.old self cursor.old result all.new cursor.new }
+    {
+        self.one_order(alloc, cursor, all)?;
+        self.more_orders(alloc, cursor, all)
+    }
+
+    /// ORDER BY and its items, perhaps.
+    #[tactic(auto, unfolding(crate::specs::Grammar::order_part))]
+    fn order_part(
+        self,
+        alloc: Global,
+        cursor: &mut Cursor<'_>,
+        select: &mut ParsedSelect,
+    ) -> Result<(), Stop>
+        ensures { AddsBy rule.order_part select.old self cursor.old result select.new cursor.new }
+    {
+        if !cursor.begins(&[Kind::Order]) {
+            return Ok(());
+        }
+        cursor.take(&[Kind::Order])?;
+        cursor.take(&[Kind::By])?;
+        self.order_list(alloc, cursor, &mut select.order)
+    }
+
+    /// OFFSET and a count, perhaps.
+    #[tactic(auto, unfolding(crate::specs::Grammar::offset_part))]
+    fn offset_part(self, cursor: &mut Cursor<'_>) -> Result<(), Stop>
+        ensures { ReadsBy rule.offset_part tt self cursor.old result cursor.new }
+    {
+        if cursor.begins(&[Kind::Offset]) {
+            cursor.take(&[Kind::Offset])?;
+            cursor.take(&[Kind::Whole, Kind::Question])?;
+        }
+        Ok(())
+    }
+
+    /// LIMIT and a count, perhaps, and then perhaps OFFSET and a count.
+    #[tactic(auto, unfolding(crate::specs::Grammar::limit_part))]
+    fn limit_part(self, cursor: &mut Cursor<'_>) -> Result<(), Stop>
+        ensures { ReadsBy rule.limit_part tt self cursor.old result cursor.new }
+    {
+        if !cursor.begins(&[Kind::Limit]) {
+            return Ok(());
+        }
+        cursor.take(&[Kind::Limit])?;
+        cursor.take(&[Kind::Whole, Kind::Question])?;
+        self.offset_part(cursor)
+    }
+
+    /// FROM and the sources.
+    #[tactic(auto, unfolding(crate::specs::Grammar::from_part))]
+    fn from_part(self, cursor: &mut Cursor<'_>, select: &mut ParsedSelect) -> Result<(), Stop>
+        ensures { AddsBy rule.from_part select.old self cursor.old result select.new cursor.new }
+    {
+        cursor.take(&[Kind::From])?;
+        self.source_list(cursor, select)
+    }
+
+    /// A SELECT up to its sources, behind its first word.
+    #[tactic(auto, unfolding(crate::specs::Grammar::select_head))]
+    fn select_head(
+        self,
+        alloc: Global,
+        cursor: &mut Cursor<'_>,
+        select: &mut ParsedSelect,
+    ) -> Result<(), Stop>
+        ensures { AddsBy rule.select_head select.old self cursor.old result select.new cursor.new }
+    {
+        self.quantifier(cursor, select)?;
+        self.item_list(alloc, cursor, &mut select.items)?;
+        self.from_part(cursor, select)
+    }
+
+    /// The order of a SELECT and its limit.
+    #[tactic(auto, unfolding(crate::specs::Grammar::order_and_limit))]
+    fn order_and_limit(
+        self,
+        alloc: Global,
+        cursor: &mut Cursor<'_>,
+        select: &mut ParsedSelect,
+    ) -> Result<(), Stop>
+        ensures { AddsBy rule.order_and_limit select.old self cursor.old result select.new cursor.new }
+    {
+        self.order_part(alloc, cursor, select)?;
+        self.limit_part(cursor)
+    }
+
+    /// The groups of a SELECT and their tests.
+    #[tactic(auto, unfolding(crate::specs::Grammar::group_and_having))]
+    fn group_and_having(
+        self,
+        alloc: Global,
+        cursor: &mut Cursor<'_>,
+        select: &mut ParsedSelect,
+    ) -> Result<(), Stop>
+        ensures { AddsBy rule.group_and_having select.old self cursor.old result select.new cursor.new }
+    {
+        self.group_part(cursor, select)?;
+        self.having_part(alloc, cursor, select)
+    }
+
+    /// A SELECT behind its sources.
+    #[tactic(auto, unfolding(crate::specs::Grammar::select_tail))]
+    fn select_tail(
+        self,
+        alloc: Global,
+        cursor: &mut Cursor<'_>,
+        select: &mut ParsedSelect,
+    ) -> Result<(), Stop>
+        ensures { AddsBy rule.select_tail select.old self cursor.old result select.new cursor.new }
+    {
+        self.where_part(cursor, select)?;
+        self.group_and_having(alloc, cursor, select)?;
+        self.order_and_limit(alloc, cursor, select)
+    }
+
+    /// A SELECT behind its first word.
+    #[tactic(auto, unfolding(crate::specs::Grammar::select_rest))]
+    pub fn select_rest(self, alloc: Global, cursor: &mut Cursor<'_>) -> Result<ParsedSelect, Stop>
+        ensures { ReadsBy rule.select_rest tt self cursor.old result cursor.new }
+    {
+        let mut select = ParsedSelect::new(alloc);
+        self.select_head(alloc, cursor, &mut select)?;
+        self.select_tail(alloc, cursor, &mut select)?;
+        Ok(select)
+    }
+}

@@ -1,0 +1,229 @@
+//! Reads a workload.
+ghost use Rattle.sql_reader.specs.Pieces.{ArePieces, bad_weight, no_mark, start_behind};
+ghost use Rattle.sql_reader.specs.Values.{no_statements};
+ghost use Rattle.sql_reader.specs.Workload as workload;
+ghost use Rattle.sql_reader.specs.declared.cursor.Stop.TheVariants.{Here, Memory};
+ghost use Rattle.sql_tokens.specs.Cut.{AreTokens};
+ghost use Rattle.std.specs.Prelude.{◌≡◌, ◌+◌, ◌<◌, ◌^◌, ◌⊎◌, IfErr, IfOk, length, option_map};
+
+use crate::cursor::{Cursor, Reader, Stop, has};
+use crate::scan::{bad_weight, scan, start_behind_1000};
+use crate::valid::statements_in;
+use crate::{Kind, Parsed, ParsedStatement, Piece, Progress, SqlFault};
+use adv_base::List;
+use sql_tokens::{TokenFault, Tokens, tokens};
+use std::alloc::Global;
+
+/// The kinds of words that begin a form that is left out.
+const LEFT_OUT: [Kind; 3] = [Kind::LeftOut, Kind::Not, Kind::Select];
+
+/// How many levels nest.
+const LEVELS: u8 = 200;
+
+impl Progress {
+    /// A workload of which nothing is read.
+    fn new(alloc: Global) -> Progress
+        ensures { result ≡ no_statements }
+    {
+        Progress {
+            statements: List::new(alloc),
+            before: 0,
+        }
+    }
+}
+
+impl SqlFault {
+    /// The place of the fault, 0 where it is want of memory.
+    pub fn place(self) -> u64
+        ensures { result ≡ workload.place_of_fault self }
+    {
+        match self {
+            SqlFault::Memory => 0,
+            SqlFault::BadByte(place) => place,
+            SqlFault::OpenText(place) => place,
+            SqlFault::Syntax(place) => place,
+            SqlFault::Unsupported(place) => place,
+            SqlFault::BadWeight(place) => place,
+            SqlFault::TooManyStatements(place) => place,
+        }
+    }
+}
+
+/// The fault where the grammar fails before these pieces, with the place of the end of the text.
+fn grammar_fault(end: u64, rest: &[Piece]) -> SqlFault
+    ensures { result ≡ workload.grammar_fault end rest.now }
+{
+    match rest.first() {
+        None => SqlFault::Syntax(end),
+        Some(piece) => {
+            let place = piece.span.from.saturating_add(1);
+            if has(&LEFT_OUT, piece.kind) {
+                SqlFault::Unsupported(place)
+            } else {
+                SqlFault::Syntax(place)
+            }
+        }
+    }
+}
+
+/// The first of two faults in the text; the first of the two where they stand at one place.
+fn earlier(first: Option<SqlFault>, second: Option<SqlFault>) -> Option<SqlFault>
+    ensures { result ≡ workload.earlier first second }
+{
+    match first {
+        None => second,
+        Some(fault) => match second {
+            None => Some(fault),
+            Some(other) => {
+                if other.place() < fault.place() {
+                    Some(other)
+                } else {
+                    Some(fault)
+                }
+            }
+        },
+    }
+}
+
+/// What the grammar says of pieces: their statements, or its fault.
+fn read_pieces(
+    alloc: Global,
+    end: u64,
+    list: &[Piece],
+) -> Result<(Progress, Option<SqlFault>), Stop>
+    ensures ok { IfOk result (λ r. workload.GrammarSays end list.now r.0 r.1) }
+    ensures err { IfErr result (λ stop. stop ≡ Memory) }
+{
+    let mut cursor = Cursor { rest: list };
+    let mut progress = Progress::new(alloc);
+    let reader = Reader { levels: LEVELS };
+    let outcome = reader.workload(alloc, &mut cursor, &mut progress);
+    match outcome {
+        Ok(()) => {
+            let fault = fault_behind(end, cursor.rest);
+            Ok((progress, fault))
+        }
+        Err(stop) => {
+            let fault = stop_fault(end, cursor.rest, stop)?;
+            Ok((progress, Some(fault)))
+        }
+    }
+}
+
+/// The fault where reading stops before these pieces, unless it was for want of memory.
+fn stop_fault(end: u64, rest: &[Piece], stop: Stop) -> Result<SqlFault, Stop>
+    ensures ok { IfOk result (λ fault. (stop ≡ Here) × (fault ≡ workload.grammar_fault end rest.now)) }
+    ensures err { IfErr result (λ stop. stop ≡ Memory) }
+{
+    match stop {
+        Stop::Here => Ok(grammar_fault(end, rest)),
+        Stop::Memory => Err(Stop::Memory),
+    }
+}
+
+/// The fault of pieces that are left behind a workload.
+fn fault_behind(end: u64, rest: &[Piece]) -> Option<SqlFault>
+    ensures { result ≡ workload.fault_behind end rest.now }
+{
+    if rest.is_empty() {
+        return None;
+    }
+    Some(grammar_fault(end, rest))
+}
+
+/// The first fault of a text with these tokens and pieces, where the grammar has this one.
+fn first_fault(tokens: &Tokens<'_>, list: &[Piece], fault: Option<SqlFault>) -> Option<SqlFault>
+    ensures { result ≡ workload.first_fault tokens.now.text.now tokens.now.list list.now fault }
+{
+    let weight = match bad_weight(tokens.text, tokens.list.as_slice()) {
+        Some(place) => Some(SqlFault::BadWeight(place)),
+        None => None,
+    };
+    let start = match start_behind_1000(list) {
+        Some(place) => Some(SqlFault::TooManyStatements(place)),
+        None => None,
+    };
+    earlier(fault, earlier(weight, start))
+}
+
+/// A text and its statements, which keep what a Parsed keeps.
+fn parsed<'a>(text: &'a [u8], statements: List<ParsedStatement>) -> Result<Parsed<'a>, SqlFault>
+    requires { length text.now < 2 ^ 32 }
+    ensures text { IfOk result (λ parsed. parsed.text.now ≡ text.now) }
+    ensures statements { IfOk result (λ parsed. parsed.statements ≡ statements) }
+    ensures err { IfErr result (λ e. e ≡ SqlFault.Memory) }
+{
+    // What was read always keeps this: each span is that of a token, and each count is at most that of the tokens.
+    if !statements_in(text.len() as u64, statements.as_slice()) {
+        return Err(SqlFault::Memory);
+    }
+    Ok(Parsed { text, statements })
+}
+
+/// What a text says with these tokens and pieces, of which the grammar says this.
+fn conclude<'a>(
+    tokens: Tokens<'a>,
+    list: &[Piece],
+    progress: Progress,
+    fault: Option<SqlFault>,
+) -> Result<Parsed<'a>, SqlFault>
+    requires tokens { AreTokens tokens.text.now tokens.list }
+    requires short { length tokens.text.now < 2 ^ 32 }
+    requires pieces { ArePieces tokens.text.now tokens.list no_mark list.now }
+    requires says { workload.GrammarSays (length tokens.text.now + 1) list.now progress fault }
+    ensures same_text { IfOk result (λ parsed. parsed.text.now ≡ tokens.entry.text.now) }
+    ensures found { IfOk result (λ parsed. workload.Says tokens.entry.text.now parsed.statements None) }
+    ensures fault { IfErr result (λ e. (e ≡ SqlFault.Memory) ⊎ workload.IsFirstFault tokens.entry.text.now e) }
+{
+    let first = first_fault(&tokens, list, fault);
+    match first {
+        Some(fault) => Err(fault),
+        None => {
+            let Progress {
+                statements,
+                before: _,
+            } = progress;
+            parsed(tokens.text, statements)
+        }
+    }
+}
+
+/// What a text with tokens says.
+fn read_tokens<'a>(alloc: Global, tokens: Tokens<'a>) -> Result<Parsed<'a>, SqlFault>
+    requires tokens { AreTokens tokens.text.now tokens.list }
+    requires short { length tokens.text.now < 2 ^ 32 }
+    ensures same_text { IfOk result (λ parsed. parsed.text.now ≡ tokens.entry.text.now) }
+    ensures found { IfOk result (λ parsed. workload.Says tokens.entry.text.now parsed.statements None) }
+    ensures fault { IfErr result (λ e. (e ≡ SqlFault.Memory) ⊎ workload.IsFirstFault tokens.entry.text.now e) }
+{
+    match scan(alloc, tokens.text, tokens.list.as_slice()) {
+        Ok(list) => {
+            let end = tokens.text.len() as u64 + 1;
+            match read_pieces(alloc, end, list.as_slice()) {
+                Ok((progress, fault)) => conclude(tokens, list.as_slice(), progress, fault),
+                Err(_) => Err(SqlFault::Memory),
+            }
+        }
+        Err(_) => Err(SqlFault::Memory),
+    }
+}
+
+/// The statements of a workload, by the grammar of the reference (a subset of SQL). A place is the 1-based
+/// offset of a token's first byte; the end of a text of n bytes has place n + 1. The faults of tokens,
+/// BadByte and OpenText, come before all others. Of the others the first in the text comes: Syntax or
+/// Unsupported at the first token at which no workload goes on, and Unsupported exactly where that is a word
+/// of a form that is left out; BadWeight at a weight comment whose number isn't 1 to 10^6; TooManyStatements
+/// at the first token of the 1001st statement. Memory may come at any time.
+pub fn read_workload<'a>(alloc: Global, text: &'a [u8]) -> Result<Parsed<'a>, SqlFault>
+    requires { length text.now < 2 ^ 32 }
+    ensures same_text { IfOk result (λ parsed. parsed.text.now ≡ text.now) }
+    ensures found { IfOk result (λ parsed. workload.IsWorkload text.now parsed.statements) }
+    ensures fault { IfErr result (λ e. (e ≡ SqlFault.Memory) ⊎ workload.HasSqlFault text.now e) }
+{
+    match tokens(alloc, text) {
+        Ok(list) => read_tokens(alloc, list),
+        Err(TokenFault::Memory) => Err(SqlFault::Memory),
+        Err(TokenFault::BadByte(place)) => Err(SqlFault::BadByte(place)),
+        Err(TokenFault::OpenText(place)) => Err(SqlFault::OpenText(place)),
+    }
+}
