@@ -16,3 +16,4 @@ pub mod Named
 pub mod Lawful
 pub mod Ranges
 pub mod Uncrossed
+pub mod ReadLimits

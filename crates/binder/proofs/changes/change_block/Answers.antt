@@ -1,5 +1,4 @@
 use Rattle.std.proofs.Common.{◌≡◌, [], length, refl, ap, ◌∙◌}
-use Rattle.std.proofs.lemmas.List.{nil_from_length}
 use Rattle.binder.specs.Needed.{slots_from}
 use Rattle.binder.specs.View.{names_of, plain_tests}
 use Rattle.binder.proofs.Limited.{change-limits, slots_from-length}
@@ -11,7 +10,7 @@ invariant_of-result c =
     let made = c.in_ok-slots.ensures in
     let slots : c.in_ok-slots.slots ≡ slots_from names.cat [] c.args.mentions.now 0 names.sources = cc in
     record {
-      limits = rw (slots, nil_from_length c.new.result c.new.ensures)
+      limits = rw (slots, c.new.ensures)
           (change-limits names c.args.conditions.now (plain_tests c.args.tests) c.args.tests.preds c.args.tests.edges c.args.mentions.now
           c.requires.one c.requires.limits.most c.requires.bound (record { preds_are = refl; edges_are = refl }));
     }
