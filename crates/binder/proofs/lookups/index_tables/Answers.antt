@@ -1,0 +1,15 @@
+use Rattle.std.proofs.Common.{◌≡◌, ℕ, List, ap, sym, ◌∙◌, arith, length}
+use Rattle.adv_base.specs.declared.catalogue.table.Table.{Table}
+use Rattle.binder.specs.Index.{find_in}
+use Rattle.binder.specs.Lookups.{goes_by}
+use Rattle.binder.proofs.Positions.{position_from-past, position_from-earlier}
+use Rattle.binder.proofs.lookups.index_tables.Goals as goal
+
+pub loop-number-init : goal.loop-number-init
+loop-number-init c = λ word. c.new-index.ensures word ∙ sym (position_from-past (λ (x : Table). goes_by word x.name) (length c.args.tables.now) c.args.tables.now (omega arith))
+
+pub loop-number-preserved : goal.loop-number-preserved
+loop-number-preserved c = λ word.
+    position_from-earlier (λ (x : Table). goes_by word x.name) c.args.tables.now c.loop-number.number c.index-tables-number.result
+    (goes_by word c.as_slice.result.now) (find_in c.loop-number.index word) (find_in c.put.new.self word) (omega arith) (omega arith)
+    c.index-tables-number.is (ap (goes_by word) c.as_slice.ensures ∙ ap (λ (x : Table). goes_by word x.name) (sym c.index-tables-number.is)) (c.loop-number.invariant word) (c.in_ok-put.ensures word)

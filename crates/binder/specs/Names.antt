@@ -1,0 +1,33 @@
+-- Names in a text, and how they are compared.
+use Rattle.std.specs.Prelude.{ℕ, ◌+◌, ◌-◌, ◌==◌, min, nat_le, Bool, ◌&&◌, if◌then◌else◌, List, [], length, map, slice_index, slice_range}
+use Rattle.std.specs.Char.{to_ascii_lowercase}
+use Rattle.std.specs.Str.{bytes_eq}
+use Rattle.sql_tokens.specs.declared.token.Span.{Span}
+
+-- the bytes of a span; none where it doesn't lie in the text
+abbrev pub span_bytes : List ℕ → Span → List ℕ
+span_bytes text span = if nat_le span.from span.to && nat_le span.to (length text) then slice_range text span.from span.to else []
+
+-- what stands between quotes, where bytes begin with this quote
+unfoldable pub unquoted : ℕ → List ℕ → List ℕ
+unquoted quote bytes = if nat_le 2 (length bytes) && (slice_index bytes 0 == quote) then slice_range bytes 1 (length bytes - 1) else bytes
+
+-- the bytes of a name: those of its token, or those between the quotes of a quoted one
+abbrev pub name_in : List ℕ → Span → List ℕ
+name_in text span = unquoted 34 (span_bytes text span)
+
+-- the bytes between the quotes of a text
+abbrev pub text_in : List ℕ → Span → List ℕ
+text_in text span = unquoted 39 (span_bytes text span)
+
+-- a name with its letters folded, by which names are compared
+abbrev pub folded : List ℕ → List ℕ
+folded name = map to_ascii_lowercase name
+
+-- the folded name of a token
+abbrev pub word_in : List ℕ → Span → List ℕ
+word_in text span = folded (name_in text span)
+
+-- The place of a span, counted from 1. A text is far shorter than 2^64 bytes, so that is its first byte's offset and one.
+abbrev pub place : Span → ℕ
+place span = min (span.from + 1) 18446744073709551615

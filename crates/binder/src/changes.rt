@@ -1,0 +1,228 @@
+//! Statements that change rows.
+ghost use Rattle.std.specs.Prelude.{◌≡◌, ◌<◌, ◌≤◌, length, IfOk, Ok, All};
+ghost use Rattle.binder.specs.Limits.{ConditionsLimits};
+ghost use Rattle.binder.specs.Blocks.{change_block as block_of_change, one_source as one_source_of, written_column as column_written, written_columns as columns_written, delete_of};
+ghost use Rattle.binder.specs.Conditions.{tests_of};
+ghost use Rattle.adv_base.specs.Limits.Works.{ChangeLimits};
+ghost use Rattle.binder.specs.Items.{columns_of};
+ghost use Rattle.binder.specs.Plain.{plain_block, Update as PlainUpdate, Insert as PlainInsert};
+ghost use Rattle.binder.specs.Results.{Gives, both, earlier as first_of_faults, fault_place as place_of_fault};
+ghost use Rattle.binder.specs.Statements.{update_of, insert_of, first_table as table_of_first, first_span as first_of_name};
+ghost use Rattle.binder.specs.View.{names_of, plain_tests};
+
+use crate::column::SlotColumn;
+use crate::conditions::tests;
+use crate::directory::Directory;
+use crate::fault::BindFault;
+use crate::items::columns;
+use crate::names::{place, word};
+use crate::needed::slots;
+use crate::scope::Scope;
+use crate::sources::{table_meant, visible};
+use crate::tests_so_far::Tests;
+use adv_base::{Block, List};
+use sql_reader::{Condition, NameUse, Source};
+use sql_tokens::Span;
+use std::alloc::{AllocError, Global};
+
+/// The one source of a statement that changes rows, as names see it.
+fn one_source<'a>(
+    alloc: Global,
+    directory: &'a Directory<'a>,
+    text: &'a [u8],
+    source: Source,
+) -> Result<Scope<'a>, BindFault>
+    ensures exact { Gives names_of result (one_source_of directory.now.cat.now text.now source) }
+    ensures one { IfOk result (λ scope. length scope.sources ≡ 1) }
+{
+    let table = table_meant(alloc, directory, text, source.table)?;
+    let new = visible(alloc, directory, text, source.alias, table)?;
+    let mut items = Vec::new(alloc);
+    items.push(new)?;
+    Ok(Scope {
+        directory,
+        text,
+        sources: List { items },
+    })
+}
+
+/// The column of a name in a table that a statement writes to.
+fn written_column(
+    alloc: Global,
+    directory: &Directory<'_>,
+    text: &[u8],
+    table: u16,
+    name: NameUse,
+) -> Result<u16, BindFault>
+    ensures { Gives (λ c. c) result (column_written directory.now.cat.now text.now table name) }
+{
+    let word = word(alloc, text, name.name)?;
+    match directory.column(table, word.as_slice()) {
+        Some(column) => Ok(column),
+        None => Err(BindFault::NoColumn(place(name.name))),
+    }
+}
+
+/// The columns of names in a table that a statement writes to.
+fn written_columns(
+    alloc: Global,
+    directory: &Directory<'_>,
+    text: &[u8],
+    table: u16,
+    names: &[NameUse],
+) -> Result<List<u16>, BindFault>
+    ensures { Gives (λ x. x) result (columns_written directory.now.cat.now text.now table names.now) }
+{
+    let mut items = Vec::new(alloc);
+    for name in names {
+        let column = written_column(alloc, directory, text, table, *name)?;
+        items.push(column)?;
+    }
+    Ok(List { items })
+}
+
+/// The block of a statement that changes the rows of its one source, with the columns that it mentions.
+fn change_block(
+    alloc: Global,
+    scope: &Scope<'_>,
+    conditions: &[Condition],
+    tests: Tests,
+    mentions: &[SlotColumn],
+) -> Result<Block, AllocError>
+    requires one { length scope.now.sources ≡ 1 }
+    requires limits { ConditionsLimits conditions.now }
+    requires bound { tests_of (names_of scope.now) conditions.now ≡ Ok (plain_tests tests) }
+    ensures exact { IfOk result (λ block. plain_block block ≡ block_of_change (names_of scope.now) (plain_tests tests) mentions.now) }
+    ensures limits { IfOk result ChangeLimits }
+{
+    let cat = scope.directory.cat;
+    let slots = slots(alloc, cat, &[], mentions, scope.sources.as_slice())?;
+    Ok(Block {
+        slots,
+        preds: tests.preds,
+        edges: tests.edges,
+        group: None,
+        order: List::new(alloc),
+        may_cover: false,
+    })
+}
+
+/// The block of a DELETE.
+#[tactic(auto, unfolding(crate::specs::Blocks::delete_of))]
+pub fn delete_block(
+    alloc: Global,
+    directory: &Directory<'_>,
+    text: &[u8],
+    source: Source,
+    conditions: &[Condition],
+) -> Result<Block, BindFault>
+    requires { ConditionsLimits conditions.now }
+    ensures exact { Gives plain_block result (delete_of directory.now.cat.now text.now source conditions.now) }
+    ensures limits { IfOk result ChangeLimits }
+{
+    let scope = one_source(alloc, directory, text, source)?;
+    let tests = tests(alloc, &scope, conditions)?;
+    let mentions = Vec::from_slice(alloc, tests.mentions.as_slice())?;
+    Ok(change_block(alloc, &scope, conditions, tests, &mentions)?)
+}
+
+/// Where a fault stands in the text.
+fn fault_place(fault: BindFault) -> u64
+    ensures { result ≡ place_of_fault fault }
+{
+    match fault {
+        BindFault::Memory => 0,
+        BindFault::NoTable(place)
+        | BindFault::NoColumn(place)
+        | BindFault::Ambiguous(place)
+        | BindFault::TwoAliases(place)
+        | BindFault::TooManySlots(place)
+        | BindFault::Unjoined(place)
+        | BindFault::TooManySlotsInAll(place) => place,
+    }
+}
+
+/// The fault that stands first in the text; want of memory before all.
+fn earlier(d: BindFault, e: BindFault) -> BindFault
+    ensures { result ≡ first_of_faults d e }
+{
+    if fault_place(d) <= fault_place(e) {
+        d
+    } else {
+        e
+    }
+}
+
+/// The columns that SET sets and those on its right sides, which stand among each other.
+fn set_clause(
+    alloc: Global,
+    scope: &Scope<'_>,
+    names: &[NameUse],
+    uses: &[NameUse],
+) -> Result<(List<u16>, List<SlotColumn>), BindFault>
+    requires { length scope.now.sources ≡ 1 }
+    ensures { let seen = names_of scope.now in
+        Gives (λ x. x) result (both (columns_written seen.cat seen.text (table_of_first seen.sources) names.now) (columns_of seen uses.now)) }
+{
+    let table = scope.sources.items[0].table;
+    let set = written_columns(alloc, scope.directory, scope.text, table, names);
+    let used = columns(alloc, scope, uses);
+    match (set, used) {
+        (Ok(set), Ok(used)) => Ok((set, used)),
+        (Ok(_), Err(e)) => Err(e),
+        (Err(d), Ok(_)) => Err(d),
+        (Err(d), Err(e)) => Err(earlier(d, e)),
+    }
+}
+
+/// What an UPDATE does.
+#[tactic(auto, unfolding(crate::specs::Statements::update_of))]
+pub fn update_work(
+    alloc: Global,
+    directory: &Directory<'_>,
+    text: &[u8],
+    source: Source,
+    names: &[NameUse],
+    uses: &[NameUse],
+    conditions: &[Condition],
+) -> Result<(Block, List<u16>), BindFault>
+    requires { ConditionsLimits conditions.now }
+    ensures exact { Gives (λ x. PlainUpdate (plain_block x.0) x.1) result (update_of directory.now.cat.now text.now source names.now uses.now conditions.now) }
+    ensures limits { IfOk result (λ x. ChangeLimits x.0) }
+{
+    let scope = one_source(alloc, directory, text, source)?;
+    let (set, used) = set_clause(alloc, &scope, names, uses)?;
+    let tests = tests(alloc, &scope, conditions)?;
+    let mut mentions = used;
+    mentions.items.extend_from_slice(tests.mentions.as_slice())?;
+    let block = change_block(alloc, &scope, conditions, tests, mentions.as_slice())?;
+    Ok((block, set))
+}
+
+/// The first of the tokens of a name.
+fn first_span(name: NameUse) -> Span
+    ensures { result ≡ first_of_name name }
+{
+    name.qualifier.unwrap_or(name.name)
+}
+
+/// The table and the rows of an INSERT. No name has a meaning in VALUES.
+#[tactic(auto, unfolding(crate::specs::Statements::insert_of))]
+pub fn insert_table(
+    alloc: Global,
+    directory: &Directory<'_>,
+    text: &[u8],
+    table: Span,
+    names: &[NameUse],
+    uses: &[NameUse],
+    rows: u64,
+) -> Result<u16, BindFault>
+    ensures { Gives (λ t. PlainInsert t rows) result (insert_of directory.now.cat.now text.now table names.now uses.now rows) }
+{
+    let number = table_meant(alloc, directory, text, table)?;
+    let _listed = written_columns(alloc, directory, text, number, names)?;
+    match uses.first() {
+        Some(name) => Err(BindFault::NoColumn(place(first_span(*name)))),
+        None => Ok(number),
+    }
+}

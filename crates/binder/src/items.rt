@@ -1,0 +1,144 @@
+//! The items of a select list.
+ghost use Rattle.std.specs.Prelude.{◌≡◌, IfOk};
+ghost use Rattle.std.specs.List.{flat_map};
+ghost use Rattle.binder.specs.Items.{columns_of, item_of, items_of, item_mentions, item_column as column_of_item, column_at as column_of_number, is_plain as plain_item, has_aggregate as aggregate_item, takes_whole as whole_slot_taken};
+ghost use Rattle.binder.specs.Results.{Gives};
+ghost use Rattle.binder.specs.View.{names_of};
+
+use crate::bound_item::BoundItem;
+use crate::column::SlotColumn;
+use crate::fault::BindFault;
+use crate::meaning::{meaning, source};
+use crate::scope::Scope;
+use adv_base::List;
+use sql_reader::{NameUse, ParsedItem};
+use std::alloc::{AllocError, Global};
+
+/// The columns that names mean, in written order.
+pub fn columns(
+    alloc: Global,
+    scope: &Scope<'_>,
+    uses: &[NameUse],
+) -> Result<List<SlotColumn>, BindFault>
+    ensures { Gives (λ x. x) result (columns_of (names_of scope.now) uses.now) }
+{
+    let mut items = Vec::new(alloc);
+    for name in uses {
+        let column = meaning(alloc, scope, *name)?;
+        items.push(column)?;
+    }
+    Ok(List { items })
+}
+
+/// What an item stands for.
+#[tactic(auto, unfolding(crate::specs::Items::item_of))]
+fn item(alloc: Global, scope: &Scope<'_>, written: &ParsedItem) -> Result<BoundItem, BindFault>
+    ensures { Gives (λ x. x) result (item_of (names_of scope.now) written.now) }
+{
+    match written {
+        ParsedItem::Star => Ok(BoundItem::Star),
+        ParsedItem::SlotStar(span) => Ok(BoundItem::SlotStar(source(scope, *span)?)),
+        ParsedItem::Made { expr, .. } => {
+            let columns = columns(alloc, scope, expr.uses.as_slice())?;
+            Ok(BoundItem::Made {
+                columns,
+                plain: expr.plain,
+                aggregate: expr.aggregate,
+            })
+        }
+    }
+}
+
+/// What the items of a select list stand for.
+pub fn items(
+    alloc: Global,
+    scope: &Scope<'_>,
+    written: &[ParsedItem],
+) -> Result<List<BoundItem>, BindFault>
+    ensures { Gives (λ x. x) result (items_of (names_of scope.now) written.now) }
+{
+    let mut items = Vec::new(alloc);
+    for one in written {
+        let bound = item(alloc, scope, one)?;
+        items.push(bound)?;
+    }
+    Ok(List { items })
+}
+
+impl BoundItem {
+    /// The column that the item is, where it is exactly a column.
+    pub fn column(&self) -> Option<SlotColumn>
+        ensures { result ≡ column_of_item self.now }
+    {
+        match self {
+            BoundItem::Made {
+                columns,
+                plain: true,
+                ..
+            } => columns.as_slice().first().copied(),
+            _ => None,
+        }
+    }
+
+    /// Whether the item is exactly a column.
+    pub fn is_plain(&self) -> bool
+        ensures { result ≡ plain_item self.now }
+    {
+        match self {
+            BoundItem::Made { plain, .. } => *plain,
+            _ => false,
+        }
+    }
+
+    /// Whether the item calls an aggregate.
+    pub fn has_aggregate(&self) -> bool
+        ensures { result ≡ aggregate_item self.now }
+    {
+        match self {
+            BoundItem::Made { aggregate, .. } => *aggregate,
+            _ => false,
+        }
+    }
+
+    /// Whether the item mentions all columns of a slot.
+    pub fn takes_whole(&self, slot: u8) -> bool
+        ensures { result ≡ whole_slot_taken slot self.now }
+    {
+        match self {
+            BoundItem::Star => true,
+            BoundItem::SlotStar(s) => *s == slot,
+            BoundItem::Made { .. } => false,
+        }
+    }
+
+    /// The columns that the item mentions by their names.
+    fn mentions(&self) -> &[SlotColumn]
+        ensures { result.now ≡ item_mentions self.now }
+    {
+        match self {
+            BoundItem::Made { columns, .. } => columns.as_slice(),
+            _ => &[],
+        }
+    }
+}
+
+/// The column that the item of a number is, counted from 0.
+pub fn column_at(items: &[BoundItem], number: usize) -> Option<SlotColumn>
+    ensures { result ≡ column_of_number items.now number }
+{
+    if number >= items.len() {
+        return None;
+    }
+    items[number].column()
+}
+
+/// The columns that items mention by their names.
+pub fn mentions_of(alloc: Global, items: &[BoundItem]) -> Result<Vec<SlotColumn>, AllocError>
+    ensures { IfOk result (λ v. v.items ≡ flat_map item_mentions items.now) }
+{
+    let mut mentions = Vec::new(alloc);
+    for item in items {
+        mentions.extend_from_slice(item.mentions())?;
+    }
+    Ok(mentions)
+}

@@ -1,0 +1,245 @@
+//! The lists by which a block groups and orders.
+ghost use Rattle.std.specs.Prelude.{◌≡◌, ◌||◌, ◌∷◌, ◌++◌, [], not, if◌then◌else◌, map, IfOk};
+ghost use Rattle.binder.specs.declared.column.SlotColumn.{SlotColumn};
+ghost use Rattle.binder.specs.Scopes.{is_same};
+ghost use Rattle.std.specs.List.{list_any, list_all, filter_map};
+ghost use Rattle.adv_base.specs.Predicates.{is_equality as equality_test};
+ghost use Rattle.binder.specs.Marks.{is_marked, Marks, KeepsMarks, BoundMarks};
+ghost use Rattle.binder.specs.Items.{item_column as column_of_bound, has_aggregate as aggregate_item, is_plain as plain_item};
+ghost use Rattle.binder.specs.Lists.{upward as item_upward, kept_items as items_kept, kept_columns as columns_kept, aggregates as has_aggregates, distinct_group as group_of_distinct, group_list as list_to_group, order_list as list_to_order};
+ghost use Rattle.binder.specs.Orders.{column_of_item as column_in_item};
+ghost use Rattle.binder.specs.Plain.{plain_pred, plain_preds};
+
+use crate::bound_item::BoundItem;
+use crate::column::SlotColumn;
+use adv_base::{Item, List, Pred, Test};
+use indexmap::IndexSet;
+use sql_reader::ParsedOrder;
+use std::alloc::{AllocError, Global};
+
+/// The column of an item that isn't made.
+fn column_of(item: Item) -> Option<SlotColumn>
+    ensures { result ≡ column_in_item item }
+{
+    match item {
+        Item::Up { slot, column } => Some(SlotColumn { slot, column }),
+        Item::Down { slot, column } => Some(SlotColumn { slot, column }),
+        Item::Made(_) => None,
+    }
+}
+
+/// Marks a column; says whether it was new.
+fn mark(
+    mut marked: IndexSet<SlotColumn>,
+    c: SlotColumn,
+) -> Result<(IndexSet<SlotColumn>, bool), AllocError>
+    ensures is_new { IfOk result (λ x. x.1 ≡ not (is_marked marked.keys c)) }
+    ensures marks { IfOk result (λ x. (q : SlotColumn) → is_marked x.0.keys q ≡ (is_marked marked.keys q || is_same q c)) }
+{
+    let is_new = marked.insert(c)?;
+    Ok((marked, is_new))
+}
+
+/// Whether a test is `column = literal`.
+fn is_equality(test: Test) -> bool
+    ensures { result ≡ equality_test test }
+{
+    matches!(test, Test::Equal)
+}
+
+/// Marks a column where a predicate gives it a literal.
+fn mark_bound(marked: IndexSet<SlotColumn>, pred: &Pred) -> Result<IndexSet<SlotColumn>, AllocError>
+    ensures { IfOk result (λ new. BoundMarks (plain_pred pred.now) marked.keys new.keys) }
+{
+    if !is_equality(pred.test) {
+        return Ok(marked);
+    }
+    let c = SlotColumn {
+        slot: pred.slot,
+        column: pred.column,
+    };
+    let (after, _) = mark(marked, c)?;
+    Ok(after)
+}
+
+/// The columns to which predicates give a literal.
+fn bound_columns(alloc: Global, preds: &[Pred]) -> Result<IndexSet<SlotColumn>, AllocError>
+    ensures { IfOk result (λ marked. Marks (plain_preds preds.now) [] marked.keys) }
+{
+    let mut marked = IndexSet::new(alloc);
+    for pred in preds {
+        marked = mark_bound(marked, pred)?;
+    }
+    Ok(marked)
+}
+
+/// Items that are kept, and the columns that are marked: those that are bound or stand among the items.
+#[derive(Drop)]
+struct Kept {
+    marked: IndexSet<SlotColumn>,
+    items: List<Item>,
+}
+
+/// An item behind the others, where it is to be kept.
+fn put_kept(mut items: List<Item>, item: Item, is_kept: bool) -> Result<List<Item>, AllocError>
+    ensures { IfOk result (λ x. x ≡ (if is_kept then items ++ item ∷ [] else items)) }
+{
+    if is_kept {
+        items.items.push(item)?;
+    }
+    Ok(items)
+}
+
+/// Keeps an item unless its column is marked, and marks its column.
+fn keep(kept: Kept, item: Item) -> Result<Kept, AllocError>
+    ensures { IfOk result (λ x. KeepsMarks item kept.marked.keys kept.items x.marked.keys x.items) }
+{
+    let Kept { marked, items } = kept;
+    match column_of(item) {
+        None => {
+            let items = put_kept(items, item, true)?;
+            Ok(Kept { marked, items })
+        }
+        Some(c) => {
+            let (marked, is_new) = mark(marked, c)?;
+            let items = put_kept(items, item, is_new)?;
+            Ok(Kept { marked, items })
+        }
+    }
+}
+
+/// Items without bound columns, and each other column at its first place alone.
+fn kept_items(alloc: Global, preds: &[Pred], items: &[Item]) -> Result<List<Item>, AllocError>
+    ensures { IfOk result (λ x. x ≡ items_kept (plain_preds preds.now) items.now) }
+{
+    let mut kept = Kept {
+        marked: bound_columns(alloc, preds)?,
+        items: List::new(alloc),
+    };
+    for item in items {
+        kept = keep(kept, *item)?;
+    }
+    let Kept { items, .. } = kept;
+    Ok(items)
+}
+
+/// A column upwards.
+fn upward(c: SlotColumn) -> Item
+    ensures { result ≡ item_upward c }
+{
+    Item::Up {
+        slot: c.slot,
+        column: c.column,
+    }
+}
+
+/// Columns as items that go upwards.
+fn upward_items(alloc: Global, columns: &[SlotColumn]) -> Result<Vec<Item>, AllocError>
+    ensures { IfOk result (λ v. v.items ≡ map item_upward columns.now) }
+{
+    columns.iter().map(|c| upward(*c)).collect(alloc)
+}
+
+/// The same of columns, which go upwards.
+fn kept_columns(
+    alloc: Global,
+    preds: &[Pred],
+    columns: &[SlotColumn],
+) -> Result<List<Item>, AllocError>
+    ensures { IfOk result (λ x. x ≡ columns_kept (plain_preds preds.now) columns.now) }
+{
+    let items = upward_items(alloc, columns)?;
+    Ok(kept_items(alloc, preds, items.as_slice())?)
+}
+
+/// Whether an item calls an aggregate.
+fn items_aggregate(items: &[BoundItem]) -> bool
+    ensures { result ≡ list_any aggregate_item items.now }
+{
+    items.iter().any(|item| item.has_aggregate())
+}
+
+/// Whether an ORDER BY item calls an aggregate.
+fn orders_aggregate(orders: &[ParsedOrder]) -> bool
+    ensures { result ≡ list_any (λ order. order.expr.aggregate) orders.now }
+{
+    orders.iter().any(|order| order.expr.aggregate)
+}
+
+/// Whether an aggregate stands in a select item or an ORDER BY item.
+pub fn aggregates(items: &[BoundItem], orders: &[ParsedOrder]) -> bool
+    ensures { result ≡ has_aggregates items.now orders.now }
+{
+    let in_items = items_aggregate(items);
+    let in_orders = orders_aggregate(orders);
+    in_items || in_orders
+}
+
+/// The columns that items exactly are.
+fn plain_columns(alloc: Global, items: &[BoundItem]) -> Result<Vec<SlotColumn>, AllocError>
+    ensures { IfOk result (λ v. v.items ≡ filter_map column_of_bound items.now) }
+{
+    items.iter().filter_map(|item| item.column()).collect(alloc)
+}
+
+/// Whether all items are exactly columns.
+fn are_plain(items: &[BoundItem]) -> bool
+    ensures { result ≡ list_all plain_item items.now }
+{
+    items.iter().all(|item| item.is_plain())
+}
+
+/// The list by which DISTINCT over plain columns groups.
+fn distinct_group(
+    alloc: Global,
+    distinct: bool,
+    preds: &[Pred],
+    items: &[BoundItem],
+) -> Result<Option<List<Item>>, AllocError>
+    ensures { IfOk result (λ x. x ≡ group_of_distinct distinct (plain_preds preds.now) items.now) }
+{
+    if !distinct {
+        return Ok(None);
+    }
+    if !are_plain(items) {
+        return Ok(None);
+    }
+    let columns = plain_columns(alloc, items)?;
+    Ok(Some(kept_columns(alloc, preds, columns.as_slice())?))
+}
+
+/// The list by which a SELECT groups.
+pub fn group_list(
+    alloc: Global,
+    distinct: bool,
+    aggregate: bool,
+    preds: &[Pred],
+    group: &[SlotColumn],
+    items: &[BoundItem],
+) -> Result<Option<List<Item>>, AllocError>
+    ensures { IfOk result (λ x. x ≡ list_to_group distinct aggregate (plain_preds preds.now) group.now items.now) }
+{
+    if !group.is_empty() {
+        return Ok(Some(kept_columns(alloc, preds, group)?));
+    }
+    if aggregate {
+        return Ok(None);
+    }
+    distinct_group(alloc, distinct, preds, items)
+}
+
+/// The list by which a SELECT orders.
+pub fn order_list(
+    alloc: Global,
+    aggregate: bool,
+    preds: &[Pred],
+    group: &[SlotColumn],
+    orders: &[Item],
+) -> Result<List<Item>, AllocError>
+    ensures { IfOk result (λ x. x ≡ list_to_order aggregate (plain_preds preds.now) group.now orders.now) }
+{
+    if aggregate && group.is_empty() {
+        return Ok(List::new(alloc));
+    }
+    kept_items(alloc, preds, orders)
+}

@@ -1,0 +1,119 @@
+//! The sources of a statement.
+ghost use Rattle.std.specs.Prelude.{◌≡◌, ◌<◌, ◌≤◌, ◌+◌, length, IfOk};
+ghost use Rattle.binder.specs.Results.{Gives};
+ghost use Rattle.binder.specs.Sources.{table_meant as table_of_name, visible_name as name_of_source, visible as source_as_seen, is_taken as taken_by_source, with_source as one_source_more, sources_of};
+
+use crate::directory::Directory;
+use crate::fault::BindFault;
+use crate::names::{is_same_name, name_bytes, place, word};
+use crate::visible::Visible;
+use adv_base::{List, Name};
+use sql_reader::Source;
+use sql_tokens::Span;
+use std::alloc::{AllocError, Global};
+
+/// The table of a name in a statement.
+pub fn table_meant(
+    alloc: Global,
+    directory: &Directory<'_>,
+    text: &[u8],
+    span: Span,
+) -> Result<u16, BindFault>
+    ensures exact { Gives (λ t. t) result (table_of_name directory.now.cat.now text.now span) }
+    ensures within { IfOk result (λ t. t < length directory.now.cat.now.tables) }
+{
+    let word = word(alloc, text, span)?;
+    match directory.table(word.as_slice()) {
+        Some(table) => Ok(table),
+        None => Err(BindFault::NoTable(place(span))),
+    }
+}
+
+/// The name by which a source goes: its alias, else its table's name.
+fn visible_name<'a>(
+    directory: &'a Directory<'_>,
+    text: &'a [u8],
+    alias: Option<Span>,
+    table: u16,
+) -> &'a [u8]
+    requires { table < length directory.now.cat.now.tables }
+    ensures { result.now ≡ name_of_source directory.now.cat.now text.now alias table }
+{
+    match alias {
+        Some(span) => name_bytes(text, span),
+        None => {
+            let tables = directory.cat.tables.as_slice();
+            tables[table as usize].name.as_slice()
+        }
+    }
+}
+
+/// A source as names see it.
+pub fn visible(
+    alloc: Global,
+    directory: &Directory<'_>,
+    text: &[u8],
+    alias: Option<Span>,
+    table: u16,
+) -> Result<Visible, AllocError>
+    requires { table < length directory.now.cat.now.tables }
+    ensures { IfOk result (λ v. v ≡ source_as_seen directory.now.cat.now text.now alias table) }
+{
+    let items = Vec::from_slice(alloc, visible_name(directory, text, alias, table))?;
+    Ok(Visible {
+        name: Name { items },
+        table,
+    })
+}
+
+/// Whether one of these sources goes by a name.
+fn is_taken(sources: &[Visible], name: &[u8]) -> bool
+    ensures { result ≡ taken_by_source sources.now name.now }
+{
+    sources
+        .iter()
+        .any(|v| is_same_name(v.name.as_slice(), name))
+}
+
+/// A source behind the earlier ones.
+#[tactic(auto, unfolding(crate::specs::Sources::with_source))]
+fn with_source(
+    alloc: Global,
+    directory: &Directory<'_>,
+    text: &[u8],
+    mut sources: List<Visible>,
+    source: Source,
+) -> Result<List<Visible>, BindFault>
+    ensures exact { Gives (λ x. x) result (one_source_more directory.now.cat.now text.now sources source) }
+    ensures few { IfOk result (λ x. length x ≤ 8) }
+    ensures count { IfOk result (λ x. length x ≡ length sources + 1) }
+{
+    if sources.len() >= 8 {
+        return Err(BindFault::TooManySlots(place(source.table)));
+    }
+    let table = table_meant(alloc, directory, text, source.table)?;
+    let new = visible(alloc, directory, text, source.alias, table)?;
+    if is_taken(sources.as_slice(), new.name.as_slice()) {
+        return Err(BindFault::TwoAliases(place(source.alias.unwrap_or(source.table))));
+    }
+    sources.items.push(new)?;
+    Ok(sources)
+}
+
+/// The sources of a SELECT, in order.
+pub fn sources(
+    alloc: Global,
+    directory: &Directory<'_>,
+    text: &[u8],
+    written: &[Source],
+) -> Result<List<Visible>, BindFault>
+    ensures exact { Gives (λ x. x) result (sources_of directory.now.cat.now text.now written.now) }
+    ensures few { IfOk result (λ x. length x ≤ 8) }
+    ensures count { IfOk result (λ x. length x ≡ length written.now) }
+{
+    let mut sources = List::new(alloc);
+    for source in written {
+        sources = with_source(alloc, directory, text, sources, *source)?;
+    }
+    Ok(sources)
+}

@@ -1,0 +1,169 @@
+//! Binding whole statements.
+ghost use Rattle.std.specs.Prelude.{◌≡◌, ◌≤◌, ◌+◌, IfOk, All, sum_by, length};
+ghost use Rattle.adv_base.specs.Limits.Settings.{slot_count as slots_of_work};
+ghost use Rattle.adv_base.specs.Named.{NamesWork};
+ghost use Rattle.binder.specs.Limits.{StatementLimits, BodyLimits};
+ghost use Rattle.binder.specs.Plain.{plain_work, plain_statements};
+ghost use Rattle.binder.specs.Results.{Gives};
+ghost use Rattle.binder.specs.Statements.{work_of, with_statement as one_statement_more, bound_of, statements_of};
+ghost use Rattle.binder.specs.View.{plain_bound};
+ghost use Rattle.binder.specs.Works.{WorkLimits};
+
+use crate::bound::Bound;
+use crate::changes::{delete_block, insert_table, update_work};
+use crate::directory::Directory;
+use crate::fault::BindFault;
+use crate::select::select_block;
+use adv_base::{Catalogue, List, Statement, Work};
+use sql_reader::{Body, Parsed, ParsedStatement};
+use std::alloc::Global;
+
+/// What a statement does, whose first token stands at a place.
+#[tactic(auto, unfolding(crate::specs::Statements::work_of))]
+fn work(
+    alloc: Global,
+    directory: &Directory<'_>,
+    text: &[u8],
+    place: u64,
+    body: &Body,
+) -> Result<Work, BindFault>
+    requires { BodyLimits body.now }
+    ensures exact { Gives plain_work result (work_of directory.now.cat.now text.now place body.now) }
+    ensures limits { IfOk result WorkLimits }
+{
+    match body {
+        Body::Select(select) => Ok(Work::Select(select_block(
+            alloc, directory, text, place, select,
+        )?)),
+        Body::Insert {
+            table,
+            columns,
+            uses,
+            rows,
+        } => {
+            let names = columns.as_slice();
+            let number = insert_table(
+                alloc,
+                directory,
+                text,
+                *table,
+                names,
+                uses.as_slice(),
+                *rows,
+            )?;
+            Ok(Work::Insert {
+                table: number,
+                rows: *rows,
+            })
+        }
+        Body::Update {
+            source,
+            columns,
+            uses,
+            conditions,
+        } => {
+            let names = columns.as_slice();
+            let conditions = conditions.as_slice();
+            let (block, set) = update_work(
+                alloc,
+                directory,
+                text,
+                *source,
+                names,
+                uses.as_slice(),
+                conditions,
+            )?;
+            Ok(Work::Update(block, set))
+        }
+        Body::Delete { source, conditions } => {
+            let block = delete_block(alloc, directory, text, *source, conditions.as_slice())?;
+            Ok(Work::Delete(block))
+        }
+    }
+}
+
+/// How many slots a statement has.
+fn slot_count(work: &Work) -> u64
+    ensures exact { result ≡ slots_of_work work.now }
+    ensures few { result ≤ 8 }
+{
+    match work {
+        Work::Select(block) | Work::Update(block, _) | Work::Delete(block) => {
+            block.slots.len() as u64
+        }
+        Work::Insert { .. } => 0,
+    }
+}
+
+/// The statements with one more.
+#[tactic(auto, unfolding(crate::specs::Statements::with_statement))]
+fn with_statement(
+    alloc: Global,
+    directory: &Directory<'_>,
+    text: &[u8],
+    mut so_far: Bound,
+    statement: &ParsedStatement,
+) -> Result<Bound, BindFault>
+    requires limits { StatementLimits statement.now }
+    requires few { so_far.slots ≤ 2000 }
+    ensures exact { Gives plain_bound result (one_statement_more directory.now.cat.now text.now (plain_bound so_far) statement.now) }
+    ensures few { IfOk result (λ x. x.slots ≤ 2000) }
+{
+    let work = work(alloc, directory, text, statement.place, &statement.body)?;
+    let slots = so_far.slots + slot_count(&work);
+    if slots > 2000 {
+        return Err(BindFault::TooManySlotsInAll(statement.place));
+    }
+    so_far.statements.items.push(Statement {
+        weight: statement.weight,
+        work,
+    })?;
+    so_far.slots = slots;
+    Ok(so_far)
+}
+
+/// Statements over a catalogue, in order.
+fn statements(
+    alloc: Global,
+    directory: &Directory<'_>,
+    text: &[u8],
+    parsed: &[ParsedStatement],
+) -> Result<Bound, BindFault>
+    requires { All StatementLimits parsed.now }
+    ensures { Gives plain_bound result (bound_of directory.now.cat.now text.now parsed.now) }
+{
+    let mut so_far = Bound {
+        slots: 0,
+        statements: List::new(alloc),
+    };
+    for statement in parsed {
+        so_far = with_statement(alloc, directory, text, so_far, statement)?;
+    }
+    Ok(so_far)
+}
+
+/// The statements that a text means over a catalogue: table, column and source names turned into numbers, from 0.
+///
+/// Names are the same where their ASCII letters agree in any case. Statements are bound in order, and the first fault
+/// is answered. Within a statement its sources come first, in order: `TooManySlots` at the ninth, `NoTable` where no
+/// table has its name, `TwoAliases` where an earlier source goes by the same name. Its other names follow, as they are
+/// written: `NoColumn` where a name or its qualifier has no meaning, `Ambiguous` where two slots have a column of the
+/// name. Then comes `Unjoined`, at the statement's first token, where its equijoins don't connect its slots, and then
+/// `TooManySlotsInAll`, there too, where the statements so far have more than 2000 slots. `Memory` may come at any time.
+/// The rules of scope are those of SQL's FROM clause: a source is visible by its alias, else by its table's name.
+#[tactic(auto, unfolding(crate::specs::Statements::statements_of))]
+pub fn bind(
+    alloc: Global,
+    cat: &Catalogue,
+    parsed: &Parsed<'_>,
+) -> Result<List<Statement>, BindFault>
+    ensures exact { Gives plain_statements result (statements_of cat.now parsed.now.text.now parsed.now.statements) }
+    // The tables and columns of each statement exist in the catalogue.
+    ensures named { IfOk result (λ statements. All (λ statement. NamesWork cat.now statement.work) statements) }
+    // All statements together have at most 2000 slots.
+    ensures few { IfOk result (λ statements. sum_by (λ statement. slots_of_work statement.work) statements ≤ 2000) }
+{
+    let directory = Directory::new(alloc, cat)?;
+    let bound = statements(alloc, &directory, parsed.text, parsed.statements.as_slice())?;
+    Ok(bound.statements)
+}
