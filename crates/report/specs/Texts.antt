@@ -1,0 +1,149 @@
+-- The texts that stand for answers. Each line ends with a line feed.
+use Rattle.std.specs.Prelude.{◌≡◌, ℕ, ◌+◌, ◌==◌, if◌then◌else◌, List, [], ◌∷◌, ◌++◌, length, codes, decimal, Option, Some, None, slice_get, unwrap_or}
+use Rattle.std.specs.Borrow.{Bor}
+use Rattle.adv_base.specs.declared.setting.Setting.{Setting}
+use Rattle.adv_base.specs.declared.workload.Statement.{Statement}
+use Rattle.binder.specs.declared.fault.BindFault.{BindFault}
+use Rattle.binder.specs.declared.fault.BindFault.TheVariants as bind
+use Rattle.catalogue.specs.declared.fault.CatFault.{CatFault}
+use Rattle.catalogue.specs.declared.fault.CatFault.TheVariants as cat
+use Rattle.sql_reader.specs.declared.parsed.SqlFault.{SqlFault}
+use Rattle.sql_reader.specs.declared.parsed.SqlFault.TheVariants as sql
+use Rattle.report.specs.declared.done.Done.{Done}
+use Rattle.report.specs.declared.done.Done.TheVariants.{Usage, ReadFault, WriteFault, Refused, Memory, Priced, Explained as ExplainedDone}
+use Rattle.report.specs.declared.done.Explained.{Explained}
+use Rattle.report.specs.declared.done.Prices.{Prices}
+use Rattle.report.specs.declared.done.Refusal.{Refusal}
+use Rattle.report.specs.declared.done.Refusal.TheVariants.{TooLong, Cat, Sql, Bind, NoStatement, BadConf, NotBuilt}
+use Rattle.report.specs.declared.done.Role.{Role}
+use Rattle.report.specs.declared.done.Role.TheVariants.{Catalogue, Workload, Third}
+use Rattle.report.specs.declared.done.WordFault.{WordFault}
+use Rattle.report.specs.declared.done.WordFault.TheVariants.{NoCommand, UnknownCommand, Missing, Extra, UnknownOption, Twice, BadNumber}
+use Rattle.report.specs.Paths.{path_text}
+
+-- what stands before a number, and the number
+abbrev pub numbered : List ℕ → ℕ → List ℕ
+numbered words n = words ++ decimal n
+
+-- a fault of the words, behind `usage: `
+abbrev pub word_fault : WordFault → List ℕ
+word_fault NoCommand = codes "no command"
+word_fault (UnknownCommand w) = numbered (codes "unknown command at word ") w
+word_fault (Missing w) = numbered (codes "missing word ") w
+word_fault (Extra w) = numbered (codes "extra word ") w
+word_fault (UnknownOption w) = numbered (codes "unknown option at word ") w
+word_fault (Twice w) = numbered (codes "option twice at word ") w
+word_fault (BadNumber w) = numbered (codes "bad number at word ") w
+
+-- the word that names a file
+abbrev pub role_word : Role → ℕ
+role_word Catalogue = 1
+role_word Workload = 2
+role_word Third = 3
+
+-- the file's name, as the words give it
+unfoldable pub file_name : List (List ℕ) → Role → List ℕ
+file_name words role = unwrap_or (slice_get words (role_word role)) []
+
+abbrev pub cat_fault : CatFault → List ℕ
+cat_fault cat.Memory = []
+cat_fault cat.NotToml = codes "not toml"
+cat_fault (cat.Missing path) = codes "missing " ++ path_text path
+cat_fault (cat.WrongKind path) = codes "wrong kind " ++ path_text path
+cat_fault (cat.OutOfRange path) = codes "out of range " ++ path_text path
+cat_fault (cat.TwoNames path) = codes "name twice " ++ path_text path
+cat_fault (cat.UnknownName path) = codes "unknown name " ++ path_text path
+
+abbrev pub sql_fault : SqlFault → List ℕ
+sql_fault sql.Memory = []
+sql_fault (sql.BadByte p) = numbered (codes "bad byte at ") p
+sql_fault (sql.OpenText p) = numbered (codes "open text at ") p
+sql_fault (sql.Syntax p) = numbered (codes "syntax at ") p
+sql_fault (sql.Unsupported p) = numbered (codes "unsupported at ") p
+sql_fault (sql.BadWeight p) = numbered (codes "bad weight at ") p
+sql_fault (sql.TooManyStatements p) = numbered (codes "more than 1000 statements at ") p
+
+abbrev pub bind_fault : BindFault → List ℕ
+bind_fault bind.Memory = []
+bind_fault (bind.NoTable p) = numbered (codes "no table at ") p
+bind_fault (bind.NoColumn p) = numbered (codes "no column at ") p
+bind_fault (bind.Ambiguous p) = numbered (codes "ambiguous at ") p
+bind_fault (bind.TwoAliases p) = numbered (codes "alias twice at ") p
+bind_fault (bind.TooManySlots p) = numbered (codes "more than 8 slots at ") p
+bind_fault (bind.Unjoined p) = numbered (codes "unjoined at ") p
+bind_fault (bind.TooManySlotsInAll p) = numbered (codes "more than 2000 slots at ") p
+
+abbrev pub not_built : ℕ → List ℕ
+not_built n = if n == 0 then codes "not built" else (numbered (codes "statement ") n ++ codes " not built")
+
+-- a refusal, behind `refused: `
+abbrev pub refusal : List (List ℕ) → Refusal → List ℕ
+refusal words (TooLong role) = codes "too long " ++ file_name words role
+refusal words (Cat fault) = cat_fault fault
+refusal words (Sql fault) = sql_fault fault
+refusal words (Bind fault) = bind_fault fault
+refusal words (NoStatement n count) = numbered (codes "no statement ") n ++ numbered (codes " of ") count
+refusal words (BadConf line) = numbered (codes "configuration line ") line
+refusal words (NotBuilt n) = not_built n
+
+abbrev pub line : List ℕ → List ℕ
+line text = text ++ 10 ∷ []
+
+-- the pages of a configuration, where there is one
+abbrev pub size_line : Option ℕ → List ℕ
+size_line None = []
+size_line (Some size) = line (numbered (codes "size ") size)
+
+unfoldable pub cost_line : ℕ → ℕ → ℕ → List ℕ
+cost_line number weight cost =
+    line (numbered (codes "statement ") number ++ (numbered (codes " weight ") weight ++ numbered (codes " cost ") cost))
+
+-- a line for each statement, from that number on, with its weight and its cost
+unfoldable pub cost_lines : ℕ → List Statement → List ℕ → List ℕ
+cost_lines number statements [] = []
+cost_lines number [] (cost ∷ costs) = []
+cost_lines number (statement ∷ statements) (cost ∷ costs) =
+    cost_line number statement.weight cost ++ cost_lines (number + 1) statements costs
+
+abbrev pub prices_text : List Statement → Prices → List ℕ
+prices_text statements prices =
+    size_line prices.size ++ (cost_lines 1 statements prices.costs ++ line (numbered (codes "total ") prices.total))
+
+-- what a plan costs; an INSERT has none
+abbrev pub plan_part : Explained → List ℕ
+plan_part explained = if_planned explained.plan explained.cost
+  where
+    if_planned : {A : Type 0} → Option A → ℕ → List ℕ
+    if_planned None cost = codes " insert"
+    if_planned (Some plan) cost = numbered (codes " plan ") cost
+
+-- the line of a statement and the lines of its plan
+abbrev pub explained_text : Explained → List ℕ
+explained_text explained =
+    line (numbered (codes "statement ") explained.number ++ (plan_part explained ++ numbered (codes " upkeep ") explained.upkeep))
+    ++ explained.text
+
+-- the text of an answer to these words, over these statements
+abbrev pub done_text : List (List ℕ) → List Statement → Done → List ℕ
+done_text words statements (Usage fault) = line (codes "usage: " ++ word_fault fault)
+done_text words statements (ReadFault role) = line (codes "read fault: " ++ file_name words role)
+done_text words statements WriteFault = []
+done_text words statements (Refused r) = line (codes "refused: " ++ refusal words r)
+done_text words statements Memory = []
+done_text words statements (Priced prices) = prices_text statements prices
+done_text words statements (ExplainedDone explained) = explained_text explained
+
+-- the statements of a setting, where there is one
+abbrev pub statements_in : Option (Bor Setting) → List Statement
+statements_in None = []
+statements_in (Some setting) = setting.now.statements.now
+
+-- prices have a cost for each of so many statements
+abbrev pub HasPrices : ℕ → Done → Type 0
+HasPrices count (Usage fault) = Unit {0}
+HasPrices count (ReadFault role) = Unit {0}
+HasPrices count WriteFault = Unit {0}
+HasPrices count (Refused r) = Unit {0}
+HasPrices count Memory = Unit {0}
+HasPrices count (Priced prices) = length prices.costs ≡ count
+HasPrices count (ExplainedDone explained) = Unit {0}

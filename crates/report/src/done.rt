@@ -1,0 +1,78 @@
+//! Answers.
+use adv_base::{Bytes, List};
+use binder::BindFault;
+use catalogue::CatFault;
+use plan_model::Whole;
+use sql_reader::SqlFault;
+
+/// Why the words of the command line ask for nothing. A number is that of the word, from 1; of `Missing`, that of the
+/// word that isn't there.
+#[derive(Clone, Copy, Debug, PartialEq, Eq)]
+pub enum WordFault {
+    NoCommand,
+    UnknownCommand(u32),
+    Missing(u32),
+    Extra(u32),
+    UnknownOption(u32),
+    Twice(u32),
+    BadNumber(u32),
+}
+
+/// Which file is meant, in the order of the words.
+#[derive(Clone, Copy, Debug, PartialEq, Eq)]
+pub enum Role {
+    Catalogue,
+    Workload,
+    Third,
+}
+
+/// Why the input of a command is refused.
+#[derive(Clone, Copy, Debug, PartialEq, Eq)]
+pub enum Refusal {
+    /// The file has more bytes than its limit.
+    TooLong(Role),
+    /// The catalogue is at fault.
+    Cat(CatFault),
+    /// The workload is at fault.
+    Sql(SqlFault),
+    /// A name in the workload is at fault.
+    Bind(BindFault),
+    /// There is no statement of the first number; the second is how many there are.
+    NoStatement(u32, u32),
+    /// The configuration is at fault in that line.
+    BadConf(u64),
+    /// The command, where the number is 0, or the statement of that number isn't built yet.
+    NotBuilt(u32),
+}
+
+/// The cost of each statement, without its weight, and the total with the weights. `size` is the pages of the
+/// configuration, where there is one.
+#[derive(Debug, Drop)]
+pub struct Prices {
+    pub size: Option<u128>,
+    pub costs: List<u128>,
+    pub total: u128,
+}
+
+/// A least plan of the statement of that number, with its cost and its lines, and the upkeep of the statement. An INSERT
+/// has no plan.
+#[derive(Drop)]
+pub struct Explained {
+    pub number: u32,
+    pub plan: Option<Whole>,
+    pub cost: u128,
+    pub upkeep: u128,
+    pub text: Bytes,
+}
+
+/// The answer to the words of a command line.
+#[derive(Drop)]
+pub enum Done {
+    Usage(WordFault),
+    ReadFault(Role),
+    WriteFault,
+    Refused(Refusal),
+    Memory,
+    Priced(Prices),
+    Explained(Explained),
+}

@@ -1,0 +1,169 @@
+//! The text of an answer.
+ghost use Rattle.std.specs.Prelude.{◌≡◌, ◌++◌, OnOk, IfOk, length, map, codes, string_bytes};
+ghost use Rattle.report.specs.Texts.{size_line, cost_line, cost_lines, prices_text, plan_part, explained_text, done_text, line, word_fault, file_name, refusal, statements_in, HasPrices};
+
+use crate::refusal::{push_about_file, push_refusal};
+use crate::usage::{push_numbered, push_word_fault};
+use crate::{Done, Explained, Prices, Refusal, Role, WordFault};
+use adv_base::{Bytes, NoMemory, Setting, Statement};
+use std::alloc::{AllocError, Global};
+
+/// Adds the pages of a configuration, where there is one.
+fn push_size(alloc: Global, out: &mut Vec<u8>, size: Option<u128>) -> Result<(), AllocError>
+    ensures { OnOk result (out.new.items ≡ out.old.items ++ size_line size) }
+{
+    match size {
+        None => Ok(()),
+        Some(pages) => {
+            push_numbered(alloc, out, b"size ", pages)?;
+            out.extend_from_slice(b"\n")
+        }
+    }
+}
+
+/// Adds the line of a statement.
+#[tactic(auto, unfolding(crate::specs::Texts::cost_line))]
+fn push_cost(
+    alloc: Global,
+    out: &mut Vec<u8>,
+    number: u128,
+    weight: u32,
+    cost: u128,
+) -> Result<(), AllocError>
+    ensures { OnOk result (out.new.items ≡ out.old.items ++ cost_line number weight cost) }
+{
+    push_numbered(alloc, out, b"statement ", number)?;
+    push_numbered(alloc, out, b" weight ", weight as u128)?;
+    push_numbered(alloc, out, b" cost ", cost)?;
+    out.extend_from_slice(b"\n")
+}
+
+/// Adds the lines of the statements.
+fn push_costs(
+    alloc: Global,
+    out: &mut Vec<u8>,
+    statements: &[Statement],
+    costs: &[u128],
+) -> Result<(), AllocError>
+    requires { length costs.now ≡ length statements.now }
+    ensures { OnOk result (out.new.items ≡ out.old.items ++ cost_lines 1 statements.now costs.now) }
+{
+    'costs: for at in 0..costs.len() {
+        let statement = &statements[at];
+        push_cost(alloc, out, at as u128 + 1, statement.weight, costs[at])?;
+    }
+    Ok(())
+}
+
+/// Adds the text of prices.
+fn push_prices(
+    alloc: Global,
+    out: &mut Vec<u8>,
+    statements: &[Statement],
+    prices: &Prices,
+) -> Result<(), AllocError>
+    requires { length prices.now.costs ≡ length statements.now }
+    ensures { OnOk result (out.new.items ≡ out.old.items ++ prices_text statements.now prices.now) }
+{
+    push_size(alloc, out, prices.size)?;
+    push_costs(alloc, out, statements, prices.costs.as_slice())?;
+    push_numbered(alloc, out, b"total ", prices.total)?;
+    out.extend_from_slice(b"\n")
+}
+
+/// Adds what a plan costs.
+fn push_plan(alloc: Global, out: &mut Vec<u8>, explained: &Explained) -> Result<(), AllocError>
+    ensures { OnOk result (out.new.items ≡ out.old.items ++ plan_part explained.now) }
+{
+    match explained.plan {
+        None => out.extend_from_slice(b" insert"),
+        Some(_) => push_numbered(alloc, out, b" plan ", explained.cost),
+    }
+}
+
+/// Adds the text of an explained plan.
+fn push_explained(alloc: Global, out: &mut Vec<u8>, explained: &Explained) -> Result<(), AllocError>
+    ensures { OnOk result (out.new.items ≡ out.old.items ++ explained_text explained.now) }
+{
+    push_numbered(alloc, out, b"statement ", explained.number as u128)?;
+    push_plan(alloc, out, explained)?;
+    push_numbered(alloc, out, b" upkeep ", explained.upkeep)?;
+    out.extend_from_slice(b"\n")?;
+    out.extend_from_slice(explained.text.as_slice())
+}
+
+/// Adds the line of a faulty command line.
+fn push_usage(alloc: Global, out: &mut Vec<u8>, fault: WordFault) -> Result<(), AllocError>
+    ensures { OnOk result (out.new.items ≡ out.old.items ++ line (codes "usage: " ++ word_fault fault)) }
+{
+    out.extend_from_slice(b"usage: ")?;
+    push_word_fault(alloc, out, fault)?;
+    out.extend_from_slice(b"\n")
+}
+
+/// Adds the line of a file that could not be read.
+fn push_read_fault(out: &mut Vec<u8>, words: &[String], role: Role) -> Result<(), AllocError>
+    ensures { OnOk result (out.new.items ≡ out.old.items
+        ++ line (codes "read fault: " ++ file_name (map string_bytes words.now) role)) }
+{
+    push_about_file(out, b"read fault: ", words, role)?;
+    out.extend_from_slice(b"\n")
+}
+
+/// Adds the line of a refusal.
+fn push_refused(
+    alloc: Global,
+    out: &mut Vec<u8>,
+    words: &[String],
+    why: Refusal,
+) -> Result<(), AllocError>
+    ensures { OnOk result (out.new.items ≡ out.old.items
+        ++ line (codes "refused: " ++ refusal (map string_bytes words.now) why)) }
+{
+    out.extend_from_slice(b"refused: ")?;
+    push_refusal(alloc, out, words, why)?;
+    out.extend_from_slice(b"\n")
+}
+
+/// Adds the text of an answer.
+fn push_done(
+    alloc: Global,
+    out: &mut Vec<u8>,
+    done: &Done,
+    words: &[String],
+    statements: &[Statement],
+) -> Result<(), AllocError>
+    requires { HasPrices (length statements.now) done.now }
+    ensures { OnOk result (out.new.items ≡ out.old.items ++ done_text (map string_bytes words.now) statements.now done.now) }
+{
+    match done {
+        Done::WriteFault => Ok(()),
+        Done::Memory => Ok(()),
+        Done::Priced(prices) => push_prices(alloc, out, statements, prices),
+        Done::Explained(explained) => push_explained(alloc, out, explained),
+        Done::Usage(fault) => push_usage(alloc, out, *fault),
+        Done::ReadFault(role) => push_read_fault(out, words, *role),
+        Done::Refused(why) => push_refused(alloc, out, words, *why),
+    }
+}
+
+/// The text of an answer to the words. Prices want the setting whose statements they price, one price each.
+pub fn text(
+    alloc: Global,
+    done: &Done,
+    words: &[String],
+    setting: Option<&Setting<'_>>,
+) -> Result<Bytes, NoMemory>
+    requires { HasPrices (length (statements_in setting)) done.now }
+    ensures { IfOk result (λ bytes. bytes ≡ done_text (map string_bytes words.now) (statements_in setting.entry) done.now) }
+{
+    let mut out = Vec::new(alloc);
+    let statements: &[Statement] = match setting {
+        None => &[],
+        Some(setting) => setting.statements,
+    };
+    match push_done(alloc, &mut out, done, words, statements) {
+        Ok(()) => Ok(Bytes { items: out }),
+        Err(_) => Err(NoMemory),
+    }
+}

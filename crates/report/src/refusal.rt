@@ -1,0 +1,161 @@
+//! The texts of refusals.
+ghost use Rattle.std.specs.Prelude.{◌≡◌, ◌++◌, OnOk, codes, map, string_bytes};
+ghost use Rattle.report.specs.Texts.{role_word, file_name as name_of_file, cat_fault, sql_fault, bind_fault, not_built, refusal, numbered};
+ghost use Rattle.report.specs.Paths.{path_text};
+
+use crate::path::push_path;
+use crate::usage::push_numbered;
+use crate::{Refusal, Role};
+use binder::BindFault;
+use catalogue::{CatFault, KeyPath};
+use sql_reader::SqlFault;
+use std::alloc::{AllocError, Global};
+
+/// Adds the name of a file, as the words give it; nothing where there is no such word.
+#[tactic(auto, unfolding(crate::specs::Texts::file_name))]
+fn push_file_name(out: &mut Vec<u8>, words: &[String], role: Role) -> Result<(), AllocError>
+    ensures { OnOk result (out.new.items ≡ out.old.items ++ name_of_file (map string_bytes words.now) role) }
+{
+    match words.get(role_index(role)) {
+        Some(word) => out.extend_from_slice(word.as_bytes()),
+        None => Ok(()),
+    }
+}
+
+/// Adds words and the name of a file.
+pub(crate) fn push_about_file(
+    out: &mut Vec<u8>,
+    text: &[u8],
+    words: &[String],
+    role: Role,
+) -> Result<(), AllocError>
+    ensures { OnOk result (out.new.items ≡ out.old.items ++ (text.now ++ name_of_file (map string_bytes words.now) role)) }
+{
+    out.extend_from_slice(text)?;
+    push_file_name(out, words, role)
+}
+
+/// The number of the word that names a file, from 0.
+fn role_index(role: Role) -> usize
+    ensures { result ≡ role_word role }
+{
+    match role {
+        Role::Catalogue => 1,
+        Role::Workload => 2,
+        Role::Third => 3,
+    }
+}
+
+/// Adds words and the path of a key.
+fn push_at_path(
+    alloc: Global,
+    out: &mut Vec<u8>,
+    words: &[u8],
+    path: KeyPath,
+) -> Result<(), AllocError>
+    ensures { OnOk result (out.new.items ≡ out.old.items ++ (words.now ++ path_text path)) }
+{
+    out.extend_from_slice(words)?;
+    push_path(alloc, out, path)?;
+    Ok(())
+}
+
+/// Adds a fault of the catalogue.
+fn push_cat_fault(alloc: Global, out: &mut Vec<u8>, fault: CatFault) -> Result<(), AllocError>
+    ensures { OnOk result (out.new.items ≡ out.old.items ++ cat_fault fault) }
+{
+    match fault {
+        CatFault::Memory => Ok(()),
+        CatFault::NotToml => out.extend_from_slice(b"not toml"),
+        CatFault::Missing(path) => push_at_path(alloc, out, b"missing ", path),
+        CatFault::WrongKind(path) => push_at_path(alloc, out, b"wrong kind ", path),
+        CatFault::OutOfRange(path) => push_at_path(alloc, out, b"out of range ", path),
+        CatFault::TwoNames(path) => push_at_path(alloc, out, b"name twice ", path),
+        CatFault::UnknownName(path) => push_at_path(alloc, out, b"unknown name ", path),
+    }
+}
+
+/// Adds a fault of the workload's text.
+fn push_sql_fault(alloc: Global, out: &mut Vec<u8>, fault: SqlFault) -> Result<(), AllocError>
+    ensures { OnOk result (out.new.items ≡ out.old.items ++ sql_fault fault) }
+{
+    match fault {
+        SqlFault::Memory => Ok(()),
+        SqlFault::BadByte(p) => push_numbered(alloc, out, b"bad byte at ", p as u128),
+        SqlFault::OpenText(p) => push_numbered(alloc, out, b"open text at ", p as u128),
+        SqlFault::Syntax(p) => push_numbered(alloc, out, b"syntax at ", p as u128),
+        SqlFault::Unsupported(p) => push_numbered(alloc, out, b"unsupported at ", p as u128),
+        SqlFault::BadWeight(p) => push_numbered(alloc, out, b"bad weight at ", p as u128),
+        SqlFault::TooManyStatements(p) => {
+            push_numbered(alloc, out, b"more than 1000 statements at ", p as u128)
+        }
+    }
+}
+
+/// Adds a fault of the workload's names.
+fn push_bind_fault(alloc: Global, out: &mut Vec<u8>, fault: BindFault) -> Result<(), AllocError>
+    ensures { OnOk result (out.new.items ≡ out.old.items ++ bind_fault fault) }
+{
+    match fault {
+        BindFault::Memory => Ok(()),
+        BindFault::NoTable(p) => push_numbered(alloc, out, b"no table at ", p as u128),
+        BindFault::NoColumn(p) => push_numbered(alloc, out, b"no column at ", p as u128),
+        BindFault::Ambiguous(p) => push_numbered(alloc, out, b"ambiguous at ", p as u128),
+        BindFault::TwoAliases(p) => push_numbered(alloc, out, b"alias twice at ", p as u128),
+        BindFault::TooManySlots(p) => {
+            push_numbered(alloc, out, b"more than 8 slots at ", p as u128)
+        }
+        BindFault::Unjoined(p) => push_numbered(alloc, out, b"unjoined at ", p as u128),
+        BindFault::TooManySlotsInAll(p) => {
+            push_numbered(alloc, out, b"more than 2000 slots at ", p as u128)
+        }
+    }
+}
+
+/// Adds that a command or a statement isn't built.
+fn push_not_built(alloc: Global, out: &mut Vec<u8>, number: u32) -> Result<(), AllocError>
+    ensures { OnOk result (out.new.items ≡ out.old.items ++ not_built number) }
+{
+    if number == 0 {
+        return out.extend_from_slice(b"not built");
+    }
+    push_numbered(alloc, out, b"statement ", number as u128)?;
+    out.extend_from_slice(b" not built")?;
+    Ok(())
+}
+
+/// Adds that there is no statement of a number.
+fn push_no_statement(
+    alloc: Global,
+    out: &mut Vec<u8>,
+    number: u32,
+    count: u32,
+) -> Result<(), AllocError>
+    ensures { OnOk result (out.new.items ≡ out.old.items
+        ++ (numbered (codes "no statement ") number ++ numbered (codes " of ") count)) }
+{
+    push_numbered(alloc, out, b"no statement ", number as u128)?;
+    push_numbered(alloc, out, b" of ", count as u128)
+}
+
+/// Adds a refusal.
+pub(crate) fn push_refusal(
+    alloc: Global,
+    out: &mut Vec<u8>,
+    words: &[String],
+    why: Refusal,
+) -> Result<(), AllocError>
+    ensures { OnOk result (out.new.items ≡ out.old.items ++ refusal (map string_bytes words.now) why) }
+{
+    match why {
+        Refusal::TooLong(role) => push_about_file(out, b"too long ", words, role),
+        Refusal::Cat(fault) => push_cat_fault(alloc, out, fault),
+        Refusal::Sql(fault) => push_sql_fault(alloc, out, fault),
+        Refusal::Bind(fault) => push_bind_fault(alloc, out, fault),
+        Refusal::NoStatement(number, count) => push_no_statement(alloc, out, number, count),
+        Refusal::BadConf(line) => {
+            push_numbered(alloc, out, b"configuration line ", line as u128)
+        }
+        Refusal::NotBuilt(number) => push_not_built(alloc, out, number),
+    }
+}

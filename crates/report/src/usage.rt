@@ -1,0 +1,44 @@
+//! The texts of faulty command lines.
+ghost use Rattle.std.specs.Prelude.{◌≡◌, ◌++◌, OnOk};
+ghost use Rattle.report.specs.Texts.{word_fault, numbered};
+
+use crate::WordFault;
+use adv_base::push_decimal;
+use std::alloc::{AllocError, Global};
+
+/// Adds words and a number.
+pub(crate) fn push_numbered(
+    alloc: Global,
+    out: &mut Vec<u8>,
+    words: &[u8],
+    number: u128,
+) -> Result<(), AllocError>
+    ensures { OnOk result (out.new.items ≡ out.old.items ++ numbered words.now number) }
+{
+    out.extend_from_slice(words)?;
+    push_decimal(alloc, out, number)?;
+    Ok(())
+}
+
+/// Adds a fault of the words.
+pub(crate) fn push_word_fault(
+    alloc: Global,
+    out: &mut Vec<u8>,
+    fault: WordFault,
+) -> Result<(), AllocError>
+    ensures { OnOk result (out.new.items ≡ out.old.items ++ word_fault fault) }
+{
+    match fault {
+        WordFault::NoCommand => out.extend_from_slice(b"no command"),
+        WordFault::UnknownCommand(w) => {
+            push_numbered(alloc, out, b"unknown command at word ", w as u128)
+        }
+        WordFault::Missing(w) => push_numbered(alloc, out, b"missing word ", w as u128),
+        WordFault::Extra(w) => push_numbered(alloc, out, b"extra word ", w as u128),
+        WordFault::UnknownOption(w) => {
+            push_numbered(alloc, out, b"unknown option at word ", w as u128)
+        }
+        WordFault::Twice(w) => push_numbered(alloc, out, b"option twice at word ", w as u128),
+        WordFault::BadNumber(w) => push_numbered(alloc, out, b"bad number at word ", w as u128),
+    }
+}
