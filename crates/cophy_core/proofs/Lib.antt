@@ -1,2 +1,3 @@
-pub mod NameLists
-pub mod Mentioned
+pub mod Digits
+pub mod Options
+pub mod Lines

@@ -1,2 +1,3 @@
-pub mod FirstText
-pub mod FirstBlock
+pub mod Numbers
+pub mod Commands
+pub mod Confs

@@ -1,11 +1,14 @@
-//! The words of the command line, and the call that answers them.
+//! The words of the command line and the configuration file that some commands read.
 //!
-//! `run` takes the words, a shelf of files and a sink; it reads the files that the command names, prices the statement
-//! over the indexes that exist, and writes the answer. Its contract says which answer comes when, and that a printed
-//! cost is that of a least plan. Costs are in thousandths of a sequential page read.
+//! In go words or bytes; out comes the command that they ask for, or the first fault with its place. Nothing here takes
+//! memory. Reading files and answering commands are left to the crate's later parts.
 #![tactic(auto)]
 
-mod bind;
-mod first;
+mod conf;
+mod number;
+#[cfg(test)]
+mod tests;
+mod words;
 
-pub use first::FirstStatement;
+pub use conf::read_conf;
+pub use words::{Command, DEFAULT_NODES, read_words};

@@ -1,0 +1,319 @@
+//! The words of the command line.
+ghost use Rattle.std.specs.Prelude.{◌≡◌, ◌≤◌, ◌<◌, IfOk};
+ghost use Rattle.cophy_core.specs.Commands.{GivesBy, plain_command, plain_options, no_options, texts, word_at as read_word, number_at as read_number, end_at as read_end, nodes_option as read_nodes, cert_option as read_cert, option_at as read_option, options_from, cost_of, what_if_of, explain_of, candidates_of, advise_of, check_of, bench_of, named_command, command_of};
+
+use crate::number::number_of;
+use report::WordFault;
+
+/// How many nodes a search may have where no word says it.
+pub const DEFAULT_NODES: u32 = 20000;
+
+/// The most pages of a space budget.
+const MOST_BUDGET: u64 = 1000000000000;
+
+/// The most nodes of a search.
+const MOST_NODES: u64 = 1000000;
+
+/// What the words of a command line ask for. Files go by their names.
+#[derive(Clone, Copy, Debug)]
+pub enum Command<'a> {
+    /// Prices each statement over the indexes that exist.
+    Cost {
+        cat: &'a str,
+        load: &'a str,
+    },
+    /// Prices each statement under a configuration.
+    WhatIf {
+        cat: &'a str,
+        load: &'a str,
+        conf: &'a str,
+    },
+    /// Shows a least plan of one statement under a configuration.
+    Explain {
+        cat: &'a str,
+        load: &'a str,
+        conf: &'a str,
+        number: u32,
+    },
+    /// Lists the candidate indexes.
+    Candidates {
+        cat: &'a str,
+        load: &'a str,
+    },
+    /// Searches for a best configuration within a budget of pages and of nodes, perhaps with a certificate.
+    Advise {
+        cat: &'a str,
+        load: &'a str,
+        budget: u64,
+        nodes: u32,
+        cert: Option<&'a str>,
+    },
+    /// Checks a certificate.
+    Check {
+        cat: &'a str,
+        load: &'a str,
+        cert: &'a str,
+    },
+    /// Makes an input and advises on it.
+    Bench {
+        seed: u64,
+        tables: u32,
+        statements: u32,
+        budget: u64,
+    },
+}
+
+/// The options of a search that were given.
+#[derive(Clone, Copy, Debug)]
+struct Options<'a> {
+    nodes: Option<u32>,
+    cert: Option<&'a str>,
+}
+
+/// The word of a number, from 1.
+#[tactic(auto, unfolding(crate::specs::Commands::word_at))]
+fn word_at<'a>(words: &'a [String], number: u32) -> Result<&'a str, WordFault>
+    requires { 1 ≤ number }
+    ensures { GivesBy (λ word. word.now) result (read_word (texts words.now) number) }
+{
+    match words.get(number as usize - 1) {
+        Some(word) => Ok(word.as_str()),
+        None => Err(WordFault::Missing(number)),
+    }
+}
+
+/// The number that a word is.
+#[tactic(auto, unfolding(crate::specs::Commands::number_at))]
+fn number_at(words: &[String], number: u32, least: u64, most: u64) -> Result<u64, WordFault>
+    requires { 1 ≤ number }
+    ensures exact { result ≡ read_number (texts words.now) number least most }
+    ensures range { IfOk result (λ n. n ≤ most) }
+{
+    let word = word_at(words, number)?;
+    match number_of(word.as_bytes(), least, most) {
+        Some(n) => Ok(n),
+        None => Err(WordFault::BadNumber(number)),
+    }
+}
+
+/// Says that no word stands behind the one of a number.
+#[tactic(auto, unfolding(crate::specs::Commands::end_at))]
+fn end_at(words: &[String], number: u32) -> Result<(), WordFault>
+    requires { number < 100 }
+    ensures { result ≡ read_end (texts words.now) number }
+{
+    if (number as usize) < words.len() {
+        Err(WordFault::Extra(number + 1))
+    } else {
+        Ok(())
+    }
+}
+
+/// `--nodes` with its number.
+fn nodes_option<'a>(
+    words: &[String],
+    number: u32,
+    given: Options<'a>,
+) -> Result<Options<'a>, WordFault>
+    requires { number < 100 }
+    ensures { GivesBy plain_options result (read_nodes (texts words.now) number (plain_options given.entry)) }
+{
+    if given.nodes.is_some() {
+        return Err(WordFault::Twice(number));
+    }
+    let nodes = number_at(words, number + 1, 1, MOST_NODES)?;
+    Ok(Options {
+        nodes: Some(nodes as u32),
+        cert: given.cert,
+    })
+}
+
+/// `--cert` with its file.
+fn cert_option<'a>(
+    words: &'a [String],
+    number: u32,
+    given: Options<'a>,
+) -> Result<Options<'a>, WordFault>
+    requires { number < 100 }
+    ensures { GivesBy plain_options result (read_cert (texts words.now) number (plain_options given.entry)) }
+{
+    if given.cert.is_some() {
+        return Err(WordFault::Twice(number));
+    }
+    let name = word_at(words, number + 1)?;
+    Ok(Options {
+        nodes: given.nodes,
+        cert: Some(name),
+    })
+}
+
+/// The option at the word of a number.
+#[tactic(auto, unfolding(crate::specs::Commands::option_at))]
+fn option_at<'a>(
+    words: &'a [String],
+    number: u32,
+    given: Options<'a>,
+) -> Result<Options<'a>, WordFault>
+    requires some { 1 ≤ number }
+    requires few { number < 100 }
+    ensures { GivesBy plain_options result (read_option (texts words.now) number (plain_options given.entry)) }
+{
+    let word = word_at(words, number)?;
+    if word == "--nodes" {
+        return nodes_option(words, number, given);
+    }
+    if word == "--cert" {
+        return cert_option(words, number, given);
+    }
+    if word.as_bytes().starts_with(b"--") {
+        return Err(WordFault::UnknownOption(number));
+    }
+    Err(WordFault::Extra(number))
+}
+
+/// The options behind the plain words of a search.
+fn read_options<'a>(words: &'a [String]) -> Result<Options<'a>, WordFault>
+    ensures { GivesBy plain_options result (options_from (texts words.now) 3 5 no_options) }
+{
+    let mut given = Options {
+        nodes: None,
+        cert: None,
+    };
+    'options: for turn in 0..3u32 {
+        let number = 5 + 2 * turn;
+        if words.len() < number as usize {
+            return Ok(given);
+        }
+        given = match option_at(words, number, given) {
+            Ok(next) => next,
+            Err(fault) => return Err(fault),
+        };
+    }
+    Err(WordFault::Extra(11))
+}
+
+fn cost<'a>(words: &'a [String]) -> Result<Command<'a>, WordFault>
+    ensures { GivesBy plain_command result (cost_of (texts words.now)) }
+{
+    let cat = word_at(words, 2)?;
+    let load = word_at(words, 3)?;
+    end_at(words, 3)?;
+    Ok(Command::Cost { cat, load })
+}
+
+fn what_if<'a>(words: &'a [String]) -> Result<Command<'a>, WordFault>
+    ensures { GivesBy plain_command result (what_if_of (texts words.now)) }
+{
+    let cat = word_at(words, 2)?;
+    let load = word_at(words, 3)?;
+    let conf = word_at(words, 4)?;
+    end_at(words, 4)?;
+    Ok(Command::WhatIf { cat, load, conf })
+}
+
+fn explain<'a>(words: &'a [String]) -> Result<Command<'a>, WordFault>
+    ensures { GivesBy plain_command result (explain_of (texts words.now)) }
+{
+    let cat = word_at(words, 2)?;
+    let load = word_at(words, 3)?;
+    let conf = word_at(words, 4)?;
+    let number = number_at(words, 5, 1, 1000)? as u32;
+    end_at(words, 5)?;
+    Ok(Command::Explain {
+        cat,
+        load,
+        conf,
+        number,
+    })
+}
+
+fn candidates<'a>(words: &'a [String]) -> Result<Command<'a>, WordFault>
+    ensures { GivesBy plain_command result (candidates_of (texts words.now)) }
+{
+    let cat = word_at(words, 2)?;
+    let load = word_at(words, 3)?;
+    end_at(words, 3)?;
+    Ok(Command::Candidates { cat, load })
+}
+
+fn advise<'a>(words: &'a [String]) -> Result<Command<'a>, WordFault>
+    ensures { GivesBy plain_command result (advise_of (texts words.now)) }
+{
+    let cat = word_at(words, 2)?;
+    let load = word_at(words, 3)?;
+    let budget = number_at(words, 4, 0, MOST_BUDGET)?;
+    let given = read_options(words)?;
+    Ok(Command::Advise {
+        cat,
+        load,
+        budget,
+        nodes: given.nodes.unwrap_or(DEFAULT_NODES),
+        cert: given.cert,
+    })
+}
+
+fn check<'a>(words: &'a [String]) -> Result<Command<'a>, WordFault>
+    ensures { GivesBy plain_command result (check_of (texts words.now)) }
+{
+    let cat = word_at(words, 2)?;
+    let load = word_at(words, 3)?;
+    let cert = word_at(words, 4)?;
+    end_at(words, 4)?;
+    Ok(Command::Check { cat, load, cert })
+}
+
+fn bench<'a>(words: &'a [String]) -> Result<Command<'a>, WordFault>
+    ensures { GivesBy plain_command result (bench_of (texts words.now)) }
+{
+    let seed = number_at(words, 2, 0, u64::MAX)?;
+    let tables = number_at(words, 3, 2, 20)? as u32;
+    let statements = number_at(words, 4, 1, 500)? as u32;
+    let budget = number_at(words, 5, 0, MOST_BUDGET)?;
+    end_at(words, 5)?;
+    Ok(Command::Bench {
+        seed,
+        tables,
+        statements,
+        budget,
+    })
+}
+
+/// The command of a name, with the rest of the words.
+#[tactic(auto, unfolding(crate::specs::Commands::named_command))]
+fn named<'a>(name: &str, words: &'a [String]) -> Result<Command<'a>, WordFault>
+    ensures { GivesBy plain_command result (named_command name.now (texts words.now)) }
+{
+    if name == "cost" {
+        return cost(words);
+    }
+    if name == "whatif" {
+        return what_if(words);
+    }
+    if name == "explain" {
+        return explain(words);
+    }
+    if name == "candidates" {
+        return candidates(words);
+    }
+    if name == "advise" {
+        return advise(words);
+    }
+    if name == "check" {
+        return check(words);
+    }
+    if name == "bench" {
+        return bench(words);
+    }
+    Err(WordFault::UnknownCommand(1))
+}
+
+/// The command that the words are, or the first fault from the left. Takes no memory.
+#[tactic(auto, unfolding(crate::specs::Commands::command_of))]
+pub fn read_words<'a>(words: &'a [String]) -> Result<Command<'a>, WordFault>
+    ensures { GivesBy plain_command result (command_of (texts words.now)) }
+{
+    match words.first() {
+        Some(name) => named(name.as_str(), words),
+        None => Err(WordFault::NoCommand),
+    }
+}
