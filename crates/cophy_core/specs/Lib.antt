@@ -1,3 +1,4 @@
 pub mod Numbers
 pub mod Commands
 pub mod Confs
+pub mod Prices
