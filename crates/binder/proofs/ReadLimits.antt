@@ -26,7 +26,7 @@ list_all-All p P has (x ∷ xs) e = let both = parts (p x) (list_all p xs) e in 
 
 condition-limits : (n : ℕ) (condition : Condition) → condition_in n condition ≡ true → ConditionLimits condition
 condition-limits n condition e = record {
-  items = λ name count is. leb-true 1 count (parts (name_in n name) (nat_le 1 count) (sym (ap (condition_in n) is) ∙ e)).1
+  items = λ name count is. leb-true 1 count (parts (name_in n name) (nat_le 1 count) (sym (ap (condition_in n) is) ∙ e)).1;
 }
 
 conditions-limits : (n : ℕ) (conditions : List Condition) → conditions_in n conditions ≡ true → ConditionsLimits conditions
@@ -44,24 +44,24 @@ select-reads n s e =
     record {
       sources_some = leb-true 1 (length s.sources) (parts (nat_le 1 (length s.sources)) (are_few (length s.sources) && list_all (source_in n) s.sources) b.0).0;
       conditions = conditions-limits n s.conditions c.0;
-      order_most = ltb-true (length s.order) (2 ^ 32) (parts (are_few (length s.order)) (list_all (order_item_in n) s.order) f.1).0
+      order_most = ltb-true (length s.order) (2 ^ 32) (parts (are_few (length s.order)) (list_all (order_item_in n) s.order) f.1).0;
     }
 
 body-limits : (n : ℕ) (body : Body) → body_in n body ≡ true → BodyLimits body
 body-limits n body e = record {
   selects = λ s is. select-reads n s (sym (ap (body_in n) is) ∙ e);
   inserts = λ table columns uses rows is.
-    let a = parts (span_in n table) (names_in n columns && (names_in n uses && rows_in rows)) (sym (ap (body_in n) is) ∙ e) in
-    let b = parts (names_in n columns) (names_in n uses && rows_in rows) a.1 in
-    let c = parts (names_in n uses) (rows_in rows) b.1 in
-    let d = parts (nat_le 1 rows) (are_few rows) c.1 in
-    (leb-true 1 rows d.0, ltb-true rows (2 ^ 32) d.1);
+      let a = parts (span_in n table) (names_in n columns && (names_in n uses && rows_in rows)) (sym (ap (body_in n) is) ∙ e) in
+      let b = parts (names_in n columns) (names_in n uses && rows_in rows) a.1 in
+      let c = parts (names_in n uses) (rows_in rows) b.1 in
+      let d = parts (nat_le 1 rows) (are_few rows) c.1 in
+      (leb-true 1 rows d.0, ltb-true rows (2 ^ 32) d.1);
   updates = λ source columns uses conditions is.
-    let a = parts (source_in n source) (names_in n columns && (names_in n uses && conditions_in n conditions)) (sym (ap (body_in n) is) ∙ e) in
-    let b = parts (names_in n columns) (names_in n uses && conditions_in n conditions) a.1 in
-    let c = parts (names_in n uses) (conditions_in n conditions) b.1 in
-    conditions-limits n conditions c.1;
-  deletes = λ source conditions is. conditions-limits n conditions (parts (source_in n source) (conditions_in n conditions) (sym (ap (body_in n) is) ∙ e)).1
+      let a = parts (source_in n source) (names_in n columns && (names_in n uses && conditions_in n conditions)) (sym (ap (body_in n) is) ∙ e) in
+      let b = parts (names_in n columns) (names_in n uses && conditions_in n conditions) a.1 in
+      let c = parts (names_in n uses) (conditions_in n conditions) b.1 in
+      conditions-limits n conditions c.1;
+  deletes = λ source conditions is. conditions-limits n conditions (parts (source_in n source) (conditions_in n conditions) (sym (ap (body_in n) is) ∙ e)).1;
 }
 
 statement-limits : (n : ℕ) (s : ParsedStatement) → statement_in n s ≡ true → StatementLimits s
