@@ -2,3 +2,11 @@ pub mod Numbers
 pub mod Commands
 pub mod Confs
 pub mod Prices
+pub mod Inputs
+pub mod Settings
+pub mod Explanations
+pub mod Answers
+pub mod Stops
+pub mod View
+pub mod Outcomes
+pub mod Replies

@@ -1,17 +1,27 @@
-//! The words of the command line, the configuration file that some commands read, and the prices of a workload.
+//! The program: from the words of a command line to an answer, its text and an exit status.
 //!
-//! In go words, bytes, or a catalogue with statements over it; out comes the command that is asked for, or the first
-//! fault with its place, the flags of a configuration, and what each SELECT costs by a least plan, in thousandths of a
-//! sequential page read. Reading files, and the call that answers a command line, are left to come.
+//! `run` reads the words, the files that they name, the catalogue and the workload in them, does what the command asks
+//! for, and writes the text of the answer. Costs are in thousandths of a sequential page read. Which plan is least is
+//! found by `planner`, over the offers of `access_paths`; what is read and written goes through a shelf and a sink of
+//! `adv_shelf`.
 #![tactic(auto)]
 
+mod answer;
 mod conf;
+mod explain;
+mod files;
 mod number;
 mod price;
+mod question;
+mod reply;
+mod setting;
+mod stop;
 #[cfg(test)]
 mod tests;
+mod top;
 mod words;
 
 pub use conf::read_conf;
 pub use price::{first_unbuilt, prices_of};
+pub use top::{Outcome, run};
 pub use words::{Command, DEFAULT_NODES, read_words};

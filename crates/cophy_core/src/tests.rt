@@ -1,3 +1,7 @@
+//! What no clause says: that answers are found where there is memory, and that the definitions say what was meant.
+mod catalogues;
+mod rows;
+
 use crate::{read_conf, read_words};
 use std::alloc::{AllocError, Global};
 use std::test::Fail;
