@@ -6,3 +6,6 @@ pub mod Offered
 pub mod CostBounds
 pub mod PriceLists
 pub mod NoUpkeep
+pub mod Counted
+pub mod Risen
+pub mod Stopped

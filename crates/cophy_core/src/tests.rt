@@ -1,5 +1,7 @@
 //! What no clause says: that answers are found where there is memory, and that the definitions say what was meant.
 mod catalogues;
+mod faults;
+mod large;
 mod rows;
 
 use crate::{read_conf, read_words};
