@@ -54,7 +54,7 @@ def arguments(description):
 
 def need_program(path):
     if not os.access(path, os.X_OK):
-        sys.exit(f"there is no program at {path}: give --program")
+        sys.exit(f"there is no program at {path}: build it by a call of ./cophy, or give --program")
 
 
 def need_status_0(run, what):
