@@ -9,3 +9,5 @@ pub mod NoUpkeep
 pub mod Counted
 pub mod Risen
 pub mod Stopped
+pub mod Refusals
+pub mod Replied
