@@ -74,6 +74,7 @@ unfoldable pub source : Rule (Unit {0}) Source
 source = Take names (λ _ p. p.span) ▸ also alias (λ table other. record { table = table; alias = other })
 
 -- literal = Whole | Decimal | Text | DATE Text | NULL | "?"
+-- A Text that holds a date is of a kind of its own, Day. The literals of one piece are taken together.
 unfoldable pub literal : Rule (Unit {0}) Literal
 literal =
     Take literals (λ _ p. literal_of p)
@@ -306,8 +307,8 @@ MeanTheSame {A} {B} read printed =
     (levels : ℕ) (start : A) (pieces : List Piece) (end : B) →
     IsRead factored.grammar levels read start pieces end ↔ IsRead grammar levels printed start pieces end
 
--- Workloads are read by the grammar that is printed: each production that is read by another rule than it is printed
--- by means the same, and so do workloads.
+-- Workloads are read by the grammar that is printed: where a production is read by another rule than it is printed by,
+-- both mean the same.
 pub record IsAsPrinted : Type 0 where
   pub workload_rule : MeanTheSame factored.workload workload
   pub statement_rule : MeanTheSame factored.statement statement
