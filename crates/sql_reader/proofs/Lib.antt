@@ -1,9 +1,14 @@
+pub mod Alike
+pub mod AsPrinted
 pub mod Exactly
 pub mod Good
 pub mod KindSets
 pub mod Loops
 pub mod Nested
 pub mod Outcome
+pub mod PrintedConditions
+pub mod PrintedItems
+pub mod PrintedOperands
 pub mod Same
 pub mod Steps
 pub mod Theory

@@ -2,6 +2,7 @@ pub mod Exact
 pub mod Grammar
 pub mod Kinds
 pub mod Pieces
+pub mod Printed
 pub mod Reads
 pub mod Rule
 pub mod Valid

@@ -25,7 +25,7 @@ mod workload;
 
 pub use found::{Form, Found};
 pub use kind::Kind;
-pub use law::one_meaning;
+pub use law::{as_printed, one_meaning};
 pub use parsed::{
     Body, Compare, Condition, Expr, Literal, NameUse, ParsedItem, ParsedOrder, ParsedSelect,
     ParsedStatement, Source, SqlFault,
