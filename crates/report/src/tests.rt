@@ -329,7 +329,8 @@ fn one_table(alloc: Global) -> Option<Catalogue>
 
 /// A statement of that weight over the table.
 fn statement(weight: u32) -> Statement
-    requires { 1 ≤ weight ≤ 1000000 }
+    requires least { 1 ≤ weight }
+    requires most { weight ≤ 1000000 }
     ensures { result.work ≡ Insert 0 1 }
 {
     Statement {
