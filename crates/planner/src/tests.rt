@@ -21,7 +21,7 @@ fn planned(alloc: Global, task: &Task, table: &Table) -> Result<Found, NoMemory>
     least(alloc, task, table)
 }
 
-/// The least plan of the task costs what is said, and so does the plan that is given.
+/// The least plan of the task costs what is said, by the planner, by trying all plans, and by the plan that is given.
 fn costs(
     rt: &impl Abort,
     alloc: Global,
@@ -31,6 +31,7 @@ fn costs(
 ) -> Result<(), Fail> {
     let found = planned(alloc, task, table)?;
     assert_eq!(rt; found.cost, cost);
+    assert_eq!(rt; least_by_trying(alloc, task, table)?, cost);
     assert_eq!(rt; plan_cost(task, table, &found.plan), Some(cost));
     Ok(())
 }

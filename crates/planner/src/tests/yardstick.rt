@@ -84,8 +84,8 @@ fn hash_price(task: &Task, a: usize, b: usize) -> u128 {
         .saturating_add((task.rates.row_cpu as u128).saturating_mul(joined))
 }
 
-/// All items by which a plan of the task may be sorted or read in order: the first two columns of each slot, upwards, and
-/// what else stands in the list to order by.
+/// The items by which plans are sorted and read in order: the first two columns of each slot, upwards, and what else stands
+/// in the list to order by.
 fn items_of(alloc: Global, task: &Task) -> Result<Vec<Item>, AllocError> {
     let mut items = Vec::new(alloc);
     for slot in 0..task.slots {
@@ -274,7 +274,8 @@ fn ended(task: &Task, order: &[Item], unsorted: u128, any: u128, rows: u128) -> 
     by_hash.min(by_order)
 }
 
-/// The least cost of a whole plan of a task whose slots have two columns each.
+/// The least cost of a whole plan, where edges, indexes and the list to group by have no other items than those by which
+/// plans are sorted here.
 pub fn least_by_trying(alloc: Global, task: &Task, table: &Table) -> Result<u128, AllocError> {
     let items = items_of(alloc, task)?;
     let orders = orders_of(alloc, items.as_slice())?;
