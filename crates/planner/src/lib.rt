@@ -17,3 +17,6 @@ mod ways;
 mod whole;
 
 pub use found::{Found, least};
+
+#[cfg(test)]
+mod tests;
