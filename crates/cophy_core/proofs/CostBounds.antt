@@ -1,5 +1,5 @@
 -- A valid plan of a whole task costs less than 10^24.
-use Rattle.std.proofs.Common.{◌≡◌, ℕ, ◌+◌, ◌*◌, ◌-◌, ◌^◌, ◌<◌, ◌≤◌, Bool, true, false, cond, arith}
+use Rattle.std.proofs.Common.{ℕ, ◌*◌, ◌^◌, ◌<◌, ◌≤◌, Bool, true, false, cond, arith}
 use Rattle.std.proofs.Math.Nat.{mul-le-mul}
 use Rattle.std.proofs.Math.Pow.{pow_mono}
 use Rattle.adv_base.specs.declared.catalogue.rates.Rates.{Rates}
@@ -11,7 +11,7 @@ use Rattle.plan_model.specs.declared.plan.Whole.{Whole}
 use Rattle.plan_model.specs.declared.task.Task.{Task}
 use Rattle.plan_model.specs.OfferTables.{OfferTableLimits}
 use Rattle.plan_model.specs.Plans.{IsWhole, body_sorts, covers}
-use Rattle.plan_model.specs.Costs.{whole_cost, plan_cost, group_cost, sort_cost, rows_in, final_rows}
+use Rattle.plan_model.specs.Costs.{whole_cost, group_cost, rows_in, final_rows}
 use Rattle.plan_model.proofs.Bounds.{valid-covers, valid-cost, sort_cost-most, rows_in-most}
 use Rattle.std.proofs.Common.{Option, Some, None}
 

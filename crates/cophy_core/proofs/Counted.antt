@@ -1,13 +1,16 @@
 -- As many statements are bound as were read.
-use Rattle.std.proofs.Common.{◌≡◌, ℕ, suc, ◌+◌, ◌≤◌, Bool, true, false, List, [], ◌∷◌, ◌++◌, length, map, Result, Ok, Err, if◌then◌else◌, nat_le, refl, sym, ap, ◌∙◌, length-append, arith}
+use Rattle.std.proofs.Common.{◌≡◌, ℕ, suc, ◌+◌, ◌≤◌, Bool, true, false, ◌&&◌, IsTrue, true≢false, List, [], ◌∷◌, length, map, Result, Ok, Err, nat_le, refl, sym, ap, ◌∙◌, length-append, arith}
+use Rattle.std.specs.List.{list_all}
+use Rattle.std.proofs.lemmas.Bool.{leb-true}
 use Rattle.adv_base.specs.declared.catalogue.Catalogue.{Catalogue}
 use Rattle.adv_base.specs.declared.workload.Statement.{Statement}
 use Rattle.binder.specs.declared.fault.BindFault.{BindFault}
 use Rattle.binder.specs.declared.fault.BindFault.TheVariants.{TooManySlotsInAll}
-use Rattle.binder.specs.Plain.{PlainStatement, PlainWork, plain_statements, plain_statement}
+use Rattle.binder.specs.Plain.{PlainWork, plain_statements, plain_statement}
 use Rattle.binder.specs.Results.{◌>>=◌, in_turn, where_holds}
 use Rattle.binder.specs.Statements.{PlainBound, slot_count, with_statement, bound_of, statements_of, work_of}
 use Rattle.sql_reader.specs.declared.parsed.ParsedStatement.{ParsedStatement}
+use Rattle.sql_reader.specs.Valid.{statement_in, statements_in}
 
 -- both steps of a reading that succeeds succeed
 and_then : {A B : Type 0} (r : Result A BindFault) (f : A → Result B BindFault) (y : B) → (r >>= f) ≡ Ok y → (x : A) × ((r ≡ Ok x) × (f x ≡ Ok y))
@@ -52,3 +55,11 @@ as_many cat text parsed statements e =
     mapped : (xs : List Statement) → length (map plain_statement xs) ≡ length xs
     mapped [] = refl
     mapped (x ∷ xs) = ap suc (mapped xs)
+
+first_part : (p q : Bool) → (p && q) ≡ true → p ≡ true
+first_part true q e = refl
+first_part false q e = absurd (true≢false (sym e))
+
+-- a text has at most 1000 statements
+pub few_read : (n : ℕ) (parsed : List ParsedStatement) → IsTrue (statements_in n parsed) → length parsed ≤ 1000
+few_read n parsed e = leb-true (length parsed) 1000 (first_part (nat_le (length parsed) 1000) (list_all (statement_in n) parsed) e)

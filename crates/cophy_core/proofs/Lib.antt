@@ -7,7 +7,6 @@ pub mod CostBounds
 pub mod PriceLists
 pub mod NoUpkeep
 pub mod Counted
-pub mod Risen
-pub mod Stopped
-pub mod Refusals
 pub mod Replied
+pub mod Explained
+pub mod Refused

@@ -16,7 +16,7 @@ use Rattle.cophy_core.specs.declared.question.Wanted.TheVariants.{Prices as Want
 use Rattle.cophy_core.specs.Commands.{PlainCommand}
 use Rattle.cophy_core.specs.Confs.{conf_of}
 use Rattle.cophy_core.specs.Explanations.{Explains}
-use Rattle.cophy_core.specs.Inputs.{Names, Question, question_of, HasInputs, ReadCounts, IsReadFault, IsTooLong}
+use Rattle.cophy_core.specs.Inputs.{Question, question_of, HasInputs, ReadCounts, IsReadFault, IsTooLong}
 use Rattle.cophy_core.specs.Prices.{unbuilt_from, ArePrices}
 use Rattle.cophy_core.specs.Settings.{IsSetting, IsSettingRefusal}
 

@@ -1,6 +1,5 @@
 -- The command that the words of a command line are, read from left to right, or the first fault.
-use Rattle.std.specs.Prelude.{◌≡◌, ℕ, zero, suc, ◌+◌, ◌-◌, ◌*◌, nat_eq, nat_lt, Bool, if◌then◌else◌, List, [], ◌∷◌, length, map, codes, bytes_eq, is_some, slice_get, unwrap_or, Option, Some, None, option_map, Result, Ok, Err, String, string_bytes}
-use Rattle.std.specs.Borrow.{Bor}
+use Rattle.std.specs.Prelude.{◌≡◌, ℕ, zero, suc, ◌+◌, ◌-◌, nat_eq, nat_lt, if◌then◌else◌, List, length, map, codes, bytes_eq, is_some, slice_get, unwrap_or, Option, Some, None, option_map, Result, Ok, Err, String, string_bytes}
 use Rattle.std.specs.List.{starts_with}
 use Rattle.std.specs.declared.alloc.Global.{Global}
 use Rattle.report.specs.declared.done.WordFault.{WordFault}

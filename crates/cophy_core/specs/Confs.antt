@@ -1,5 +1,5 @@
 -- A configuration file: a candidate's number a line, strictly increasing.
-use Rattle.std.specs.Prelude.{◌≡◌, ℕ, zero, suc, ◌+◌, ◌-◌, ◌==◌, nat_lt, Bool, true, false, not, if◌then◌else◌, List, [], length, take, drop, take_while, replicate, slice_set, Option, Some, None, option_and_then, Result, Ok, Err}
+use Rattle.std.specs.Prelude.{◌≡◌, ℕ, zero, suc, ◌+◌, ◌-◌, ◌==◌, nat_lt, Bool, true, false, not, if◌then◌else◌, List, length, take, drop, take_while, replicate, slice_set, Option, Some, None, option_and_then, Result, Ok, Err}
 use Rattle.adv_base.specs.declared.setting.Config.{Config}
 use Rattle.cophy_core.specs.Numbers.{number_within}
 

@@ -1,5 +1,5 @@
 -- What it is to explain a statement by a least plan.
-use Rattle.std.specs.Prelude.{◌≡◌, ◌+◌, [], ℕ, Option, Some, List}
+use Rattle.std.specs.Prelude.{◌≡◌, ◌+◌, [], ℕ, Some}
 use Rattle.access_paths.specs.Labels.{slot_labels, column_labels, offer_labels}
 use Rattle.adv_base.specs.declared.catalogue.Catalogue.{Catalogue}
 use Rattle.adv_base.specs.declared.setting.Config.{Config}

@@ -1,5 +1,5 @@
 -- The setting that two files describe, or the first refusal of them.
-use Rattle.std.specs.Prelude.{◌≡◌, ◌≢◌, ℕ, List, [], Result, Ok, Err}
+use Rattle.std.specs.Prelude.{◌≡◌, ◌≢◌, ℕ, List, Ok, Err}
 use Rattle.adv_base.specs.declared.catalogue.Catalogue.{Catalogue as CatalogueType}
 use Rattle.adv_base.specs.declared.workload.Statement.{Statement}
 use Rattle.binder.specs.Plain.{plain_statements}

@@ -1,7 +1,8 @@
 //! Least plans, explained.
-ghost use Rattle.std.specs.Prelude.{◌≡◌, IfOk, IfErr, true};
+ghost use Rattle.std.specs.Prelude.{◌≡◌, ◌-◌, IfOk, IfErr, true, option_map, slice_get};
 ghost use Rattle.adv_base.specs.Named.{NamesBlock, NamesWork};
 ghost use Rattle.cophy_core.specs.Answers.{ExplainsOne, RefusesSetting};
+ghost use Rattle.cophy_core.specs.declared.question.Wanted.TheVariants.{Plan};
 ghost use Rattle.cophy_core.specs.Explanations.{ExplainsBlock, Explains};
 ghost use Rattle.cophy_core.specs.Prices.{is_select as select_test};
 ghost use Rattle.cophy_core.specs.Stops.{IsRefusalStop};
@@ -64,6 +65,13 @@ fn explained_statement(
     }
 }
 
+/// The statement of a number, from 1.
+fn statement_of(statements: &[Statement], number: u32) -> Option<&Statement>
+    ensures { option_map (λ s. s.now) result ≡ slice_get statements.now (number - 1) }
+{
+    statements.get((number as usize).saturating_sub(1))
+}
+
 /// A least plan of the statement of a number, from 1, under the configuration that the bytes of a file give, or the
 /// first refusal: a statement that isn't built, no such statement, a line of the file.
 pub(crate) fn explain(
@@ -73,13 +81,13 @@ pub(crate) fn explain(
     number: u32,
 ) -> Result<Explained, Stop>
     ensures explains { IfOk result (ExplainsOne opened.now.cat opened.now.statements conf.now number) }
-    ensures stop { IfErr result (IsRefusalStop (RefusesSetting (Wanted.Plan number) opened.now.statements conf.now)) }
+    ensures stop { IfErr result (IsRefusalStop (RefusesSetting (Plan number) opened.now.statements conf.now)) }
 {
     let statements = opened.statements.as_slice();
     if let Some(unbuilt) = first_unbuilt(statements) {
         return Err(Stop::Refused(Refusal::NotBuilt(unbuilt)));
     }
-    let statement = match statements.get((number as usize).saturating_sub(1)) {
+    let statement = match statement_of(statements, number) {
         Some(statement) => statement,
         None => {
             let count = statements.len() as u32;

@@ -1,5 +1,5 @@
-use Rattle.std.proofs.Common.{◌≡◌, ◌≢◌, ℕ, suc, ◌+◌, ◌-◌, ◌<◌, ◌≤◌, true, false, List, length, Some, None, slice_get, slice_set, sym, ap, ◌∙◌, refl, arith}
-use Rattle.cophy_core.specs.Confs.{flags_from, conf_of, number_line, next_lines}
+use Rattle.std.proofs.Common.{◌≡◌, ◌≢◌, suc, ◌+◌, ◌-◌, ◌<◌, true, sym, ap, ◌∙◌, refl, arith}
+use Rattle.cophy_core.specs.Confs.{flags_from, conf_of, next_lines}
 use Rattle.std.proofs.Common.{inl, inr, length-set}
 use Rattle.std.proofs.lemmas.Bool.{cases_lt}
 use Rattle.cophy_core.proofs.Lines.{none_on, on_before, flags_from-end, flags_from-next}

@@ -1,4 +1,4 @@
-use Rattle.std.proofs.Common.{◌≡◌, ℕ, ◌+◌, ◌≤◌, drop, Option, sym, ◌∙◌, ap, option_and_then, arith}
+use Rattle.std.proofs.Common.{ℕ, ◌+◌, drop, Option, sym, ◌∙◌, ap, option_and_then}
 use Rattle.cophy_core.specs.Numbers.{value_from}
 use Rattle.cophy_core.proofs.Digits.{value_from-turn, value_from-end}
 use Rattle.cophy_core.proofs.number.value_of.Goals as goal

@@ -1,6 +1,5 @@
-use Rattle.std.proofs.Common.{◌≡◌, ℕ, ◌<◌, length, sym, subst, arith}
+use Rattle.std.proofs.Common.{◌<◌, length, sym, subst}
 use Rattle.adv_base.specs.Offers.{OfferTable}
-use Rattle.plan_model.specs.Totals.{no_candidates}
 use Rattle.cophy_core.proofs.Offered.{offered}
 use Rattle.cophy_core.proofs.CostBounds.{whole-most}
 use Rattle.cophy_core.proofs.price.block_cost.Goals as goal

@@ -1,4 +1,4 @@
-use Rattle.std.proofs.Common.{◌≡◌, ℕ, ◌+◌, Bool, Option, Some, None, cond, drop, sym, ap, ◌∙◌}
+use Rattle.std.proofs.Common.{◌+◌, Bool, Some, cond, drop, sym, ap, ◌∙◌}
 use Rattle.cophy_core.specs.Prices.{unbuilt_from}
 use Rattle.cophy_core.proofs.Unbuilt.{unbuilt_from-turn, unbuilt_from-end}
 use Rattle.cophy_core.proofs.price.first_unbuilt.Goals as goal

@@ -1,4 +1,3 @@
-use Rattle.std.proofs.Common.{◌≡◌}
 use Rattle.std.proofs.lemmas.Result.{IfOk-weaker}
 use Rattle.cophy_core.proofs.NoUpkeep.{select_costs}
 use Rattle.cophy_core.proofs.price.select_cost.Goals as goal
