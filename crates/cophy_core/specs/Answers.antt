@@ -26,8 +26,8 @@ pub record LacksStatement (statements : List Statement) (number count : ℕ) : T
   pub counts : count ≡ length statements
   pub beyond : slice_get statements (number - 1) ≡ None
 
--- the statement of that number is there, and that line of the configuration is the first that breaks a rule; there are
--- no candidates yet
+-- the statement of that number is there, and that line of the configuration is the first that breaks a rule; the list of
+-- candidates is empty
 pub record HasBadConf (statements : List Statement) (conf : List ℕ) (number line : ℕ) : Type 0 where
   pub statement : Statement
   pub built : unbuilt_from 1 statements ≡ None
@@ -135,7 +135,7 @@ RefusesFiles question files statements (NotBuilt n) = AnswersFiles question file
 -- what is answered to a question over the files, between these counts of faults
 abbrev pub AnswersQuestion : Question → Option Files → ReadCounts → ReadCounts → List Statement → Done → Type 0
 AnswersQuestion question files before after statements (Usage fault) = ⊥
-AnswersQuestion question files before after statements (ReadFault role) = IsReadFault question.names before after role
+AnswersQuestion question files before after statements (ReadFault role) = IsReadFault files question.names before after role
 AnswersQuestion question files before after statements WriteFault = ⊥
 AnswersQuestion question files before after statements (Refused why) = RefusesFiles question files statements why
 AnswersQuestion question files before after statements Memory = Unit {0}

@@ -38,7 +38,7 @@ pub record ExplainsBlock (cat : Catalogue) (config : Config) (block : Block) (ex
   pub least : Least task (offers cat block [] config) explained.cost
   pub lines : explained.text ≡ whole_lines task (offers cat block [] config) labels plan
 
--- a statement is explained by a least plan; statements that change rows aren't yet
+-- a SELECT is explained by a least plan, and no other statement is explained
 abbrev pub ExplainsWork : Catalogue → Config → Work → Explained → Type 0
 ExplainsWork cat config (Select block) explained = ExplainsBlock cat config block explained
 ExplainsWork cat config (Update block columns) explained = ⊥

@@ -74,10 +74,11 @@ pub record RoseAt (before after : ReadCounts) (name : List ℕ) : Type 0 where
   pub rose : Rose before.all after.all
   pub rose_at : Rose (before.at name) (after.at name)
 
--- a read of the file in a role failed
-pub record IsReadFault (names : Names) (before after : ReadCounts) (role : Role) : Type 0 where
+-- a read of the file in a role failed, and it is the first file with a fault
+pub record IsReadFault (files : Option Files) (names : Names) (before after : ReadCounts) (role : Role) : Type 0 where
   pub name : List ℕ
   pub reads : name_in names role ≡ Some name
+  pub earlier : HasEarlier files names role
   pub failed : RoseAt before after name
 
 -- the file in a role is longer than the limit, and it is the first file with a fault

@@ -1,4 +1,4 @@
--- Which statements can be priced so far, and what their prices are.
+-- Which statements are priced, and what their prices are.
 use Rattle.std.specs.Prelude.{◌≡◌, ℕ, ◌+◌, Bool, true, false, if◌then◌else◌, List, [], ◌∷◌, Option, Some, None}
 use Rattle.adv_base.specs.declared.catalogue.Catalogue.{Catalogue}
 use Rattle.adv_base.specs.declared.workload.Statement.{Statement}

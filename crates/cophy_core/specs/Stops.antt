@@ -36,7 +36,7 @@ IsLengthRefusal files names (NotBuilt n) = ⊥
 -- why the files of a command could not be read
 abbrev pub IsFileStop : Option Files → Names → ReadCounts → ReadCounts → Stop → Type 0
 IsFileStop files names before after Memory = Unit {0}
-IsFileStop files names before after (Failed role) = IsReadFault names before after role
+IsFileStop files names before after (Failed role) = IsReadFault files names before after role
 IsFileStop files names before after (Refused why) = IsLengthRefusal files names why
 
 -- a refusal that the file of a name, in a role, is too long

@@ -22,6 +22,5 @@ mod top;
 mod words;
 
 pub use conf::read_conf;
-pub use price::{first_unbuilt, prices_of};
 pub use top::{Outcome, run};
 pub use words::{Command, DEFAULT_NODES, read_words};

@@ -23,8 +23,8 @@ fn is_select(work: &Work) -> bool
     }
 }
 
-/// The number of the first statement that isn't a SELECT; other statements can't be priced yet.
-pub fn first_unbuilt(statements: &[Statement]) -> Option<u32>
+/// The number of the first statement that isn't a SELECT, which alone are priced.
+pub(crate) fn first_unbuilt(statements: &[Statement]) -> Option<u32>
     requires { length statements.now ≤ 1000 }
     ensures { result ≡ unbuilt_from 1 statements.now }
 {
@@ -60,9 +60,9 @@ fn select_cost(alloc: Global, cat: &Catalogue, statement: &Statement) -> Result<
 {
     match &statement.work {
         Work::Select(block) => block_cost(alloc, cat, block),
-        Work::Update(_, _) => Err(NoMemory),
-        Work::Delete(_) => Err(NoMemory),
-        Work::Insert { .. } => Err(NoMemory),
+        Work::Update(_, _) => unreachable!(),
+        Work::Delete(_) => unreachable!(),
+        Work::Insert { .. } => unreachable!(),
     }
 }
 
@@ -76,7 +76,7 @@ fn put(costs: &mut Vec<u128>, cost: u128) -> Result<(), NoMemory>
 /// The cost of each SELECT over the indexes that exist, in thousandths of a sequential page read, and the sum of weight
 /// times cost. Each cost is that of a least plan: no valid plan of the statement costs less (System R's search over
 /// bushy plans). `NoMemory` is want of memory.
-pub fn prices_of(
+pub(crate) fn prices_of(
     alloc: Global,
     cat: &Catalogue,
     statements: &[Statement],

@@ -24,7 +24,7 @@ pub(crate) struct Opened {
 }
 
 impl Opened {
-    /// The setting, which has no candidates yet.
+    /// The setting, whose list of candidates is empty.
     pub(crate) fn setting(&self) -> Setting<'_>
         ensures cat { result.cat.now ≡ self.now.cat }
         ensures statements { result.statements.now ≡ self.now.statements }

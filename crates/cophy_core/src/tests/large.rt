@@ -56,9 +56,10 @@ fn long_workloads_end_with_their_answer(rt: HostRuntime) -> Result<(), Fail> {
             5,
             "refused: syntax at 223\n",
         ),
-        ("SELECT ", "-", "c FROM t", 5, "refused: syntax at 208\n"),
-        ("", "'", "'", 5, "refused: open text at 16777216\n"),
-        ("", "/*", "", 5, "refused: open text at 1\n"),
+        ("SELECT ", "+", "c FROM t", 5, "refused: syntax at 208\n"),
+        (" ", "'", "", 5, "refused: open text at 16777216\n"),
+        // a comment, then a star, in turn; the last comment has no end
+        ("", "/*", "", 5, "refused: open text at 16777213\n"),
         ("", "1.1.1.", "", 5, "refused: syntax at 1\n"),
         ("", " ", "", 0, "total 0\n"),
         ("", ";", "", 0, "total 0\n"),
