@@ -124,10 +124,10 @@ def main():
                         (shape, slots, indexes, f"{1000 * explain:.2f}", f"{1000 * plan:.3f}",
                          "-" if beside is None else f"{beside:.3f}"), widths)
         catalogue = put(folder, "c.toml", catalogue_text(4))
-        for repeat in (1, 10, 100):
+        for repeat in (1, 14, 1428):
             explain, plan = plan_seconds(options, folder, catalogue, select_text("chain", SLOTS, repeat))
             print_row((f"x{repeat}", SLOTS, 4, f"{1000 * explain:.2f}", f"{1000 * plan:.3f}", "-"), widths)
-    print("plan ms: what one more statement adds to a call of cost. x10: a chain whose edges are each written ten times.")
+    print("plan ms: what one more statement adds to a call of cost. x14: a chain whose edges are each written 14 times.")
     if not postgres.psql:
         print("postgres: no server answers psql, so its column is left out")
 
