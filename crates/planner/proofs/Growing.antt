@@ -1,17 +1,18 @@
 -- Fronts that grow.
-use Rattle.std.proofs.Common.{◌≡◌, ℕ, ◌+◌, ◌<◌, inl, inr, List, [], ◌∷◌, ◌++◌, length, Option, Some, None, slice_get, slice_index_or, refl, sym, ap, ◌∙◌, subst, arith}
+use Rattle.std.proofs.Common.{◌≡◌, ℕ, ◌+◌, ◌<◌, inl, inr, Bool, true, false, cond, List, [], ◌∷◌, ◌++◌, length, Option, Some, None, slice_get, slice_index_or, refl, sym, ap, ◌∙◌, subst, arith}
 use Rattle.std.proofs.lemmas.Bool.{cases_lt}
-use Rattle.std.proofs.lemmas.List.{get_or_append_left, get_or_push, length_push, get_or_default}
+use Rattle.std.proofs.lemmas.List.{get_or_append_left, get_or_push, length_push}
 use Rattle.std.proofs.lemmas.Option.{slice_get_within, same_Some, slice_get-get_or}
 use Rattle.adv_base.specs.Items.{Order}
 use Rattle.adv_base.specs.declared.workload.parts.Item.{Item}
 use Rattle.plan_model.specs.declared.edge.TaskEdge.{TaskEdge}
 use Rattle.plan_model.specs.declared.task.Task.{Task}
-use Rattle.plan_model.specs.Orders.{need_order}
+use Rattle.plan_model.specs.Orders.{is_same_item, need_order}
 use Rattle.planner.specs.declared.front.Front.{Front}
-use Rattle.planner.specs.declared.front.Front.TheVariants.{Any, Listed}
+use Rattle.planner.specs.declared.front.Front.TheVariants.{Any, Listed, Need}
 use Rattle.planner.specs.declared.front.Tie.{Tie}
-use Rattle.planner.specs.Fronts.{front_order, need_front, no_tie, listed, IsTie, IsGrowing, AreFronts, AreHeads, AreTiesBelow, AreWays}
+use Rattle.planner.specs.Fronts.{front_order, first_item, longer_front, need_front, no_tie, listed, IsTie, IsGrowing, AreFronts, AreHeadsApart, AreHeads, AreTiesBelow, AreWays}
+use Rattle.planner.proofs.Begins.{same_item}
 
 pub growing_none : (fronts : List Front) → IsGrowing fronts fronts
 growing_none fronts = record { longer = omega arith; keeps = λ k h. refl }
@@ -26,14 +27,28 @@ pub growing_push : (x : List Front) (y : Front) → IsGrowing x (x ++ y ∷ [])
 growing_push x y =
     record { longer = omega (arith, length_push x y); keeps = λ k h. get_or_append_left x (y ∷ []) Any k h }
 
-pub fronts_grow : (x y : List Front) → AreFronts x → IsGrowing x y → AreFronts y
-fronts_grow x y f g =
+-- one more need, for which none of the fronts asks
+pub fronts_push : (x : List Front) (item : Item) → AreFronts x → ((i : ℕ) → i < length x → ¬ (slice_index_or x i Any ≡ Need item)) → AreFronts (x ++ Need item ∷ [])
+fronts_push x item f missing =
+    let y : List Front = x ++ Need item ∷ [] in
     let some = f.some in
-    let longer = g.longer in
+    let more : length y ≡ length x + 1 = length_push x (Need item) in
+    let kept : (k : ℕ) → k < length x → slice_index_or y k Any ≡ slice_index_or x k Any = λ k h. get_or_append_left x (Need item ∷ []) Any k h in
+    let last : (k : ℕ) → length x ≡ k → slice_index_or y k Any ≡ Need item = λ k h. get_or_push x (Need item) Any k h in
     record {
       some = omega arith;
-      nothing = get_or_default y 0 Listed Any (omega arith) ∙ g.keeps 0 (omega arith) ∙ get_or_default x 0 Any Listed (omega arith) ∙ f.nothing;
-      all = g.keeps 1 (omega arith) ∙ f.all;
+      nothing = get_or_append_left x (Need item ∷ []) Listed 0 (omega arith) ∙ f.nothing;
+      all = kept 1 (omega arith) ∙ f.all;
+      needs = λ k from within.
+          elim (cases_lt k (length x)) [
+            | inl less ↦ let h = f.needs k from less in (h.0, kept k less ∙ h.1)
+            | inr past ↦ (item, last k (omega arith))
+          ];
+      once = λ i k from less within same.
+          elim (cases_lt k (length x)) [
+            | inl below ↦ f.once i k from less below (sym (kept i (omega arith)) ∙ same ∙ kept k below)
+            | inr past ↦ missing i (omega arith) (sym (kept i (omega arith)) ∙ same ∙ last k (omega arith))
+          ];
     }
 
 pub need_asks : (list : Order) (need : Option Item) → front_order list (need_front need) ≡ need_order need
@@ -82,6 +97,36 @@ ties_more list x y z edges ties n edge tie found g h left_in left_is right_in ri
 pub ties_none : (list : Order) (fronts : List Front) (edges : List TaskEdge) → AreTiesBelow list fronts edges [] 0
 ties_none list fronts edges = record { count = refl; each = λ k e h at. absurd (omega arith) }
 
+-- needs of two items have no order in common
+longer_none : (y z : Item) (x f : ℕ) (b : Bool) → is_same_item y z ≡ b → ¬ (y ≡ z) → cond b (Some f) None ≡ None
+longer_none y z x f true same other = absurd (other (same_item y z same))
+longer_none y z x f false same other = refl
+
+pub apart_from : (list : Order) (fronts : List Front) (heads : List (Option Item)) → AreFronts fronts → AreHeads list fronts heads → AreHeadsApart heads
+apart_from list fronts heads f h =
+    let count = h.count in
+    let head : (k : ℕ) (item : Item) → k < length fronts → slice_index_or fronts k Any ≡ Need item → slice_index_or heads k None ≡ Some item = λ k item within is. h.each k within ∙ ap (λ t. first_item (front_order list t)) is in
+    record {
+      asks = λ k from within none.
+          let n = f.needs k from (omega arith) in
+          let is : slice_index_or heads k None ≡ Some n.0 = head k n.0 (omega arith) n.1 in
+          cc;
+      apart = λ x k from within from2 within2 other.
+          let n = f.needs x from (omega arith) in
+          let m = f.needs k from2 (omega arith) in
+          let differ : ¬ (n.0 ≡ m.0) = λ same.
+          let fronts_same : slice_index_or fronts x Any ≡ slice_index_or fronts k Any = n.1 ∙ ap Need same ∙ sym m.1 in
+          elim (cases_lt x k) [
+            | inl less ↦ f.once x k from less (omega arith) fronts_same
+            | inr past ↦
+                elim (cases_lt k x) [
+                  | inl more ↦ f.once k x from2 more (omega arith) (sym fronts_same)
+                  | inr equal ↦ other (omega arith)
+                ]
+          ] in
+          ap (λ t. longer_front t (slice_index_or heads k None) x k) (head x n.0 (omega arith) n.1) ∙ ap (λ t. longer_front (Some n.0) t x k) (head k m.0 (omega arith) m.1) ∙ longer_none n.0 m.0 x k (is_same_item n.0 m.0) refl differ;
+    }
+
 pub ways_from : (task : Task) (fronts : List Front) (heads : List (Option Item)) (ties : List Tie) → AreFronts fronts → AreHeads (listed task) fronts heads → AreTiesBelow (listed task) fronts task.edges ties (length task.edges) → AreWays task fronts heads ties
 ways_from task fronts heads ties f h t =
     record {
@@ -89,6 +134,7 @@ ways_from task fronts heads ties f h t =
       nothing = f.nothing;
       all = f.all;
       first = h;
+      apart = apart_from (listed task) fronts heads f h;
       tied = record { count = t.count; each = λ k e at. t.each k e (slice_get_within task.edges k e at) at };
     }
 

@@ -39,6 +39,11 @@ pub record AreHeads (list : Order) (fronts : List Front) (heads : List (Option I
   pub count : length heads ≡ length fronts
   pub each : (f : ℕ) → f < length fronts → slice_index_or heads f None ≡ first_item (asked list fronts f)
 
+-- Fronts past the first two ask for one item each, and no order begins as two of them ask.
+pub record AreHeadsApart (heads : List (Option Item)) : Type 0 where
+  pub asks : (f : ℕ) → 2 ≤ f → f < length heads → ¬ (slice_index_or heads f None ≡ None)
+  pub apart : (x f : ℕ) → 2 ≤ x → x < length heads → 2 ≤ f → f < length heads → ¬ (f ≡ x) → longer_front (slice_index_or heads x None) (slice_index_or heads f None) x f ≡ None
+
 -- two fronts that ask for the needs of an edge
 pub record IsTie (list : Order) (fronts : List Front) (edge : TaskEdge) (tie : Tie) : Type 0 where
   pub left_in : tie.left < length fronts
@@ -54,12 +59,14 @@ pub record AreTies (list : Order) (fronts : List Front) (edges : List TaskEdge) 
   pub count : length ties ≡ length edges
   pub each : (k : ℕ) (edge : TaskEdge) → slice_get edges k ≡ Some edge → IsTie list fronts edge (slice_index_or ties k no_tie)
 
--- The first front asks nothing and the second asks for the list; the edges' needs have fronts, and the first items are at hand.
+-- The first front asks nothing and the second asks for the list; the others are needs, each once. The edges' needs have
+-- fronts, and the first items are at hand.
 pub record AreWays (task : Task) (fronts : List Front) (heads : List (Option Item)) (ties : List Tie) : Type 0 where
   pub some : 2 ≤ length fronts
   pub nothing : slice_index_or fronts 0 Listed ≡ Any
   pub all : slice_index_or fronts 1 Any ≡ Listed
   pub first : AreHeads (listed task) fronts heads
+  pub apart : AreHeadsApart heads
   pub tied : AreTies (listed task) fronts task.edges ties
 
 -- the front that serves the side of an edge that has a set
@@ -87,11 +94,13 @@ pub record IsGrowing (old new : List Front) : Type 0 where
   pub longer : length old ≤ length new
   pub keeps : (k : ℕ) → k < length old → slice_index_or new k Any ≡ slice_index_or old k Any
 
--- fronts that begin with those that ask nothing and for the list
+-- fronts that begin with those that ask nothing and for the list, and go on with needs, each once
 pub record AreFronts (fronts : List Front) : Type 0 where
   pub some : 2 ≤ length fronts
   pub nothing : slice_index_or fronts 0 Listed ≡ Any
   pub all : slice_index_or fronts 1 Any ≡ Listed
+  pub needs : (f : ℕ) → 2 ≤ f → f < length fronts → (item : Item) × (slice_index_or fronts f Any ≡ Need item)
+  pub once : (x f : ℕ) → 2 ≤ x → x < f → f < length fronts → ¬ (slice_index_or fronts x Any ≡ slice_index_or fronts f Any)
 
 -- the fronts of each of the first n edges
 pub record AreTiesBelow (list : Order) (fronts : List Front) (edges : List TaskEdge) (ties : List Tie) (n : ℕ) : Type 0 where

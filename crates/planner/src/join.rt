@@ -2,7 +2,7 @@
 ghost use Rattle.std.specs.Prelude.{◌≡◌, ℕ, ◌+◌, ◌<◌, ◌≤◌, ◌^◌, bit_and, length, None, slice_index_or};
 ghost use Rattle.std.specs.List.{list_any};
 ghost use Rattle.plan_model.specs.Plans.{crosses as edge_crosses};
-ghost use Rattle.planner.specs.Fronts.{longer_front, listed, AreWays, IsWay};
+ghost use Rattle.planner.specs.Fronts.{longer_front, listed, AreHeadsApart, AreWays, IsWay};
 ghost use Rattle.planner.specs.Cells.{cell_at, cost_at, any_at, merged as merged_of, hashed as hashed_of};
 ghost use Rattle.planner.specs.Rows.{IsCapped, IsStep, MergesBound, JoinsBound};
 
@@ -12,7 +12,44 @@ use crate::price::{hash_price, merge_price};
 use adv_base::Item;
 use plan_model::{Task, TaskEdge};
 
-/// Offers each cell of a row a merge; `base` is its cost without the left side.
+/// Offers one cell of a row a merge; `base` is its cost without the left side.
+fn merge_cell(
+    row: &mut [Cell],
+    heads: &[Option<Item>],
+    left: &[Cell],
+    merge: Merge,
+    base: u128,
+    f: usize,
+)
+    requires front_in { f < length row.old }
+    requires heads_each { length heads.now ≡ length row.old }
+    requires left_each { length left.now ≡ length row.old }
+    requires need_in { merge.left_need < length row.old }
+    requires capped { IsCapped left.now }
+    requires base_most { base ≤ 2000000000000000000000000000000 }
+    ensures here { cell_at row.new f ≡ merged_of (cell_at row.old f) (longer_front (slice_index_or heads.now merge.left_need None) (slice_index_or heads.now f None) merge.left_need f) left.now merge base }
+    ensures others { (k : ℕ) → ¬ (k ≡ f) → cell_at row.new k ≡ cell_at row.old k }
+{
+    let front = longer(heads[merge.left_need], heads[f], merge.left_need, f);
+    row[f] = merged(row[f], front, left, merge, base);
+}
+
+/// Offers each cell of a row a merge, one after the other.
+fn merge_each(row: &mut [Cell], heads: &[Option<Item>], left: &[Cell], merge: Merge, base: u128)
+    requires heads_each { length heads.now ≡ length row.old }
+    requires left_each { length left.now ≡ length row.old }
+    requires need_in { merge.left_need < length row.old }
+    requires capped { IsCapped left.now }
+    requires base_most { base ≤ 2000000000000000000000000000000 }
+    ensures { (f : ℕ) → f < length row.old → cell_at row.new f ≡ merged_of (cell_at row.old f) (longer_front (slice_index_or heads.now merge.left_need None) (slice_index_or heads.now f None) merge.left_need f) left.now merge base }
+{
+    for f in 0..row.len() {
+        merge_cell(row, heads, left, merge, base, f);
+    }
+}
+
+/// Offers each cell of a row a merge; `base` is its cost without the left side. Where that side serves an item, an order
+/// that begins with it can serve no front but the first two and the item's own.
 pub(crate) fn merge_row(
     row: &mut [Cell],
     heads: &[Option<Item>],
@@ -21,27 +58,31 @@ pub(crate) fn merge_row(
     base: u128,
 )
     requires heads_each { length heads.now ≡ length row.old }
+    requires apart { AreHeadsApart heads.now }
     requires left_each { length left.now ≡ length row.old }
     requires need_in { merge.left_need < length row.old }
     requires capped { IsCapped left.now }
     requires base_most { base ≤ 2000000000000000000000000000000 }
     ensures { (f : ℕ) → f < length row.old → cell_at row.new f ≡ merged_of (cell_at row.old f) (longer_front (slice_index_or heads.now merge.left_need None) (slice_index_or heads.now f None) merge.left_need f) left.now merge base }
 {
-    let need = heads[merge.left_need];
-    for f in 0..row.len() {
-        let front = longer(need, heads[f], merge.left_need, f);
-        row[f] = merged(row[f], front, left, merge, base);
+    if merge.left_need < 2 {
+        merge_each(row, heads, left, merge, base);
+    } else {
+        merge_cell(row, heads, left, merge, base, 0);
+        merge_cell(row, heads, left, merge, base, 1);
+        merge_cell(row, heads, left, merge, base, merge.left_need);
     }
 }
 
-/// Offers each cell of a row a hash join of that cost.
+/// Offers each cell of a row a hash join of that cost, which serves no front but the first two.
 pub(crate) fn hash_row(row: &mut [Cell], heads: &[Option<Item>], left: usize, cost: u128)
+    requires some { 2 ≤ length row.old }
     requires heads_each { length heads.now ≡ length row.old }
+    requires apart { AreHeadsApart heads.now }
     ensures { (f : ℕ) → f < length row.old → cell_at row.new f ≡ hashed_of (cell_at row.old f) (slice_index_or heads.now f None) left cost }
 {
-    for f in 0..row.len() {
-        row[f] = hashed(row[f], heads[f], left, cost);
-    }
+    row[0] = hashed(row[0], heads[0], left, cost);
+    row[1] = hashed(row[1], heads[1], left, cost);
 }
 
 /// An edge of the task and the fronts of its needs.

@@ -1,5 +1,5 @@
 //! The fronts that matter to a task.
-ghost use Rattle.std.specs.Prelude.{◌≡◌, ℕ, ◌+◌, ◌<◌, ◌≤◌, IfOk, IsTrue, length, slice_index_or};
+ghost use Rattle.std.specs.Prelude.{◌≡◌, ◌↔◌, ℕ, ◌+◌, ◌<◌, ◌≤◌, IfOk, IsTrue, length, slice_index_or};
 ghost use Rattle.std.specs.Option.{ForSome};
 ghost use Rattle.adv_base.specs.Items.{Order};
 ghost use Rattle.planner.specs.declared.front.Front.TheVariants.{Any as ANY, Need as NEED};
@@ -34,7 +34,7 @@ fn heads_of(alloc: Global, fronts: &[Front], list: &[Item]) -> Result<Vec<Option
 
 /// Whether a front asks for the item.
 fn is_need(front: Front, item: Item) -> bool
-    ensures { IsTrue result → front ≡ NEED item }
+    ensures { IsTrue result ↔ front ≡ NEED item }
 {
     match front {
         Front::Any => false,
@@ -47,6 +47,7 @@ fn is_need(front: Front, item: Item) -> bool
 fn find_need(fronts: &[Front], item: Item) -> Option<usize>
     ensures within { ForSome result (λ i. i < length fronts.now) }
     ensures found { ForSome result (λ i. slice_index_or fronts.now i ANY ≡ NEED item) }
+    ensures missing { result ≡ None → (i : ℕ) → i < length fronts.now → ¬ (slice_index_or fronts.now i ANY ≡ NEED item) }
 {
     for i in 0..fronts.len() {
         if is_need(fronts[i], item) {
