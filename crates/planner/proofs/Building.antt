@@ -1,21 +1,24 @@
 -- Plans that are built from the choices.
-use Rattle.std.proofs.Common.{◌≡◌, ℕ, ◌+◌, ◌-◌, ◌<◌, ◌⊎◌, inl, inr, Bool, true, false, not, ◌==◌, List, [], length, bit_and, All, slice_index_or, refl, sym, ap, ◌∙◌, subst, arith}
+use Rattle.std.proofs.Common.{◌≡◌, ℕ, ◌+◌, ◌-◌, ◌<◌, ◌⊎◌, inl, inr, Bool, true, false, not, ◌==◌, List, [], length, bit_and, All, Option, slice_index_or, refl, sym, ap, ◌∙◌, subst, arith}
 use Rattle.std.specs.List.{list_any}
-use Rattle.std.proofs.lemmas.Bool.{eqb-true, eqb-false, not-true, not-false, false≢true}
+use Rattle.std.proofs.lemmas.Bool.{cases_lt, eqb-true, eqb-false, not-true, not-false, false≢true}
 use Rattle.adv_base.specs.Items.{Order, BeginsWith}
 use Rattle.adv_base.specs.Offers.{OfferTable}
 use Rattle.plan_model.specs.declared.plan.Plan.{Plan}
 use Rattle.plan_model.specs.declared.plan.Plan.TheVariants.{Leaf, Sort', Merge', Hash'}
 use Rattle.plan_model.specs.declared.task.Task.{Task}
-use Rattle.plan_model.specs.Plans.{Merges, covers, crosses, delivers, is_column_of, side_need}
+use Rattle.plan_model.specs.Plans.{IsValid, Merges, covers, crosses, delivers, is_column_of, side_need}
 use Rattle.plan_model.specs.Costs.{rows_in, sort_cost}
+use Rattle.adv_base.specs.declared.workload.parts.Item.{Item}
 use Rattle.planner.specs.declared.front.Front.{Front}
-use Rattle.planner.specs.declared.front.Front.TheVariants.{Any}
+use Rattle.planner.specs.declared.front.Tie.{Tie}
+use Rattle.planner.specs.declared.front.Front.TheVariants.{Any, Listed, Need}
 use Rattle.planner.specs.declared.cell.Cell.{Cell}
 use Rattle.planner.specs.declared.cell.Choice.{Choice}
 use Rattle.planner.specs.declared.cell.Choice.TheVariants.{Unknown, Read, MergeOf, HashOf}
 use Rattle.planner.specs.declared.cell.TheConstants.{IMPOSSIBLE}
-use Rattle.planner.specs.Fronts.{asked, front_order}
+use Rattle.planner.specs.Sorts.{IsWantedList}
+use Rattle.planner.specs.Fronts.{asked, first_item, front_order, listed, AreNeeded, AreWays}
 use Rattle.planner.specs.Cells.{cell_at, cost_at, any_at}
 use Rattle.planner.specs.Choices.{IsCut, IsRead, IsMerge, IsHash, IsJoinOf, IsJoin, IsOffer, IsSorting, merge_price, hash_price}
 use Rattle.planner.specs.Built.{IsPlanFor, IsSortOf, IsMergeOf, IsHashOf, IsChosen, is_sorted, front_cost}
@@ -58,13 +61,13 @@ module _ (task : Task) (table : OfferTable) (list : Order) (fronts : List Front)
 
 pub read_built : (sorts : Bool) (task : Task) (table : OfferTable) (order : Order) (set cost slot offer : ℕ) → IsRead task table order set cost slot offer → IsPlanFor sorts task table order set cost (Leaf slot offer)
 read_built sorts task table order set cost slot offer h =
-    record { valid = (h.slot_in, h.offer_in); covers_set = h.set_is; begins = h.begins; costs = sym h.costs }
+    record { valid = (h.slot_in, h.offer_in); covers_set = h.set_is; begins = h.begins; costs = sym h.costs; sorts_wanted = tt }
 
-pub sort_built : (task : Task) (table : OfferTable) (list : Order) (fronts : List Front) (row : List Cell) (set f any : ℕ) (input plan : Plan) → IsSortOf (asked list fronts f) input plan → IsPlanFor false task table (asked list fronts 0) set (cost_at row 0) input → IsSorting task list fronts row set f any → IsPlanFor true task table (asked list fronts f) set any plan
-sort_built task table list fronts row set f any input (Leaf slot offer) is inner sorting = absurd is
-sort_built task table list fronts row set f any input (Merge' e p l q r) is inner sorting = absurd is
-sort_built task table list fronts row set f any input (Hash' p l q r) is inner sorting = absurd is
-sort_built task table list fronts row set f any input (Sort' o p i) is inner sorting =
+pub sort_built : (task : Task) (table : OfferTable) (list : Order) (fronts : List Front) (row : List Cell) (set f any : ℕ) (input plan : Plan) → IsSortOf (asked list fronts f) input plan → IsPlanFor false task table (asked list fronts 0) set (cost_at row 0) input → IsSorting task list fronts row set f any → IsWantedList task (asked list fronts f) → IsPlanFor true task table (asked list fronts f) set any plan
+sort_built task table list fronts row set f any input (Leaf slot offer) is inner sorting wanted = absurd is
+sort_built task table list fronts row set f any input (Merge' e p l q r) is inner sorting wanted = absurd is
+sort_built task table list fronts row set f any input (Hash' p l q r) is inner sorting wanted = absurd is
+sort_built task table list fronts row set f any input (Sort' o p i) is inner sorting wanted =
     let order = asked list fronts f in
     let columns : All (λ item. is_column_of (covers input) item ≡ true) order = subst (λ s. All (λ item. is_column_of s item ≡ true) order) (sym inner.covers_set) sorting.columns in
     let price : sort_cost task.rates (rows_in task (covers input)) ≡ sort_cost task.rates (rows_in task set) = ap (λ s. sort_cost task.rates (rows_in task s)) inner.covers_set in
@@ -73,6 +76,7 @@ sort_built task table list fronts row set f any input (Sort' o p i) is inner sor
       covers_set = inner.covers_set;
       begins = begins_self order;
       costs = omega (arith, inner.costs, sorting.costs, price);
+      sorts_wanted = (wanted, inner.sorts_wanted);
     } in
     subst (λ x. IsPlanFor true task table order set any (Sort' x p i)) (sym is.0) (subst (λ y. IsPlanFor true task table order set any (Sort' order p y)) (sym is.1) whole)
 
@@ -99,6 +103,7 @@ merge_built sorts task table list fronts left right set a f cost edge g h l r (M
       covers_set = both;
       begins = begins_trans (delivers table l) (asked list fronts g) (asked list fronts f) pl.begins m.keeps;
       costs = omega (arith, pl.costs, pr.costs, m.costs, price);
+      sorts_wanted = (pl.sorts_wanted, pr.sorts_wanted);
     } in
     subst (λ k. IsPlanFor sorts task table (asked list fronts f) set cost (Merge' k p x q y)) (sym is.0) (subst (λ s. IsPlanFor sorts task table (asked list fronts f) set cost (Merge' edge p s q y)) (sym is.1) (subst (λ t. IsPlanFor sorts task table (asked list fronts f) set cost (Merge' edge p l q t)) (sym is.2) whole))
 
@@ -118,6 +123,7 @@ hash_built sorts task table list fronts left right set a f cost l r (Hash' p x q
       covers_set = both;
       begins = subst (BeginsWith []) (sym m.asks_nothing) refl;
       costs = omega (arith, pl.costs, pr.costs, m.costs, price);
+      sorts_wanted = (pl.sorts_wanted, pr.sorts_wanted);
     } in
     subst (λ s. IsPlanFor sorts task table (asked list fronts f) set cost (Hash' p s q y)) (sym is.0) (subst (λ t. IsPlanFor sorts task table (asked list fronts f) set cost (Hash' p l q t)) (sym is.1) whole)
 
@@ -142,13 +148,55 @@ plain_cost row f true cell is e =
     let same : (cell_at row f).any ≡ (cell_at row f).cost = eqb-true (cell_at row f).any (cell_at row f).cost (not-false ((cell_at row f).any == (cell_at row f).cost) (subst (λ (x : Cell). not (x.any == x.cost) ≡ false) is e)) in
     same
 
--- and where one is, it made the cost
+-- where a sort is on top, the costs with and without it differ
+top_differs : (row : List Cell) (f : ℕ) (sorts : Bool) (cell : Cell) → cell ≡ cell_at row f → is_sorted cell sorts ≡ true → ¬ (any_at row f ≡ cost_at row f)
+top_differs row f false cell is e = absurd (false≢true e)
+top_differs row f true cell is e =
+    eqb-false (cell_at row f).any (cell_at row f).cost (not-true ((cell_at row f).any == (cell_at row f).cost) (subst (λ (x : Cell). not (x.any == x.cost) ≡ true) is e))
+
+-- and it made the cost
 pub sorted_top : (task : Task) (list : Order) (fronts : List Front) (row : List Cell) (set f : ℕ) (sorts : Bool) (cell : Cell) → cell ≡ cell_at row f → is_sorted cell sorts ≡ true → (any_at row f ≡ cost_at row f) ⊎ IsSorting task list fronts row set f (any_at row f) → (sorts ≡ true) × IsSorting task list fronts row set f (any_at row f)
 sorted_top task list fronts row set f false cell is e h = absurd (false≢true e)
 sorted_top task list fronts row set f true cell is e (inr h) = (refl, h)
 sorted_top task list fronts row set f true cell is e (inl h) =
-    let differ : ((cell_at row f).any == (cell_at row f).cost) ≡ false = not-true ((cell_at row f).any == (cell_at row f).cost) (subst (λ (x : Cell). not (x.any == x.cost) ≡ true) is e) in
-    absurd (eqb-false (cell_at row f).any (cell_at row f).cost differ h)
+    absurd (top_differs row f true cell is e h)
+
+-- a plan without a sort at its top may stand where a sort may
+valid_sorting : (task : Task) (table : OfferTable) (plan : Plan) → IsValid false task table plan → IsValid true task table plan
+valid_sorting task table (Leaf slot offer) h = h
+valid_sorting task table (Sort' o p i) h = absurd (false≢true h.0)
+valid_sorting task table (Merge' e p l q r) h = h
+valid_sorting task table (Hash' p l q r) h = h
+
+front_wanted : (task : Task) (fronts : List Front) (f : ℕ) (x : Front) → slice_index_or fronts f Any ≡ x → f < length fronts → AreNeeded task.edges fronts → ¬ (x ≡ Any) → IsWantedList task (front_order (listed task) x)
+front_wanted task fronts f Any is within needed some = absurd (some refl)
+front_wanted task fronts f Listed is within needed some = inl refl
+front_wanted task fronts f (Need item) is within needed some = inr (item, refl, needed.each f item within is)
+
+-- A sort stands on top only by a wanted list: one for a front that asks nothing would cost no more than its input.
+pub sort_wanted : (task : Task) (table : OfferTable) (fronts : List Front) (heads : List (Option Item)) (ties : List Tie) (rows : ℕ → List Cell) (set f : ℕ) (row : List Cell) (sorts : Bool) (cell : Cell) (input : Plan) → AreWays task fronts heads ties → IsRow task table (listed task) fronts rows set row → f < length fronts → cell ≡ cell_at row f → is_sorted cell sorts ≡ true → IsSorting task (listed task) fronts row set f (any_at row f) → IsPlanFor false task table (asked (listed task) fronts 0) set (cost_at row 0) input → IsWantedList task (asked (listed task) fronts f)
+sort_wanted task table fronts heads ties rows set f row sorts cell input ways h within is e sorting inner =
+    let count = ways.first.count in
+    let any_is : ¬ (slice_index_or fronts f Any ≡ Any) = λ any.
+    let asks_none : asked (listed task) fronts f ≡ [] = ap (front_order (listed task)) any in
+    elim (cases_lt f 2) [
+      | inl less ↦
+          elim (cases_lt f 1) [
+            | inl first ↦
+                let zeroth : f ≡ 0 = omega arith in
+                let bound = (h.least_any f within).each input (valid_sorting task table input inner.valid) inner.covers_set (subst (BeginsWith (delivers table input)) (sym asks_none) refl) in
+                let costs = inner.costs in
+                let sum = sorting.costs in
+                let same : cost_at row f ≡ cost_at row 0 = ap (cost_at row) zeroth in
+                top_differs row f sorts cell is e (omega arith)
+            | inr second ↦
+                let one : f ≡ 1 = omega arith in
+                let listed_is : slice_index_or fronts f Any ≡ Listed = ap (λ k. slice_index_or fronts k Any) one ∙ ways.all in
+                cc
+          ]
+      | inr past ↦ ways.apart.asks f (omega arith) (omega arith) (ways.first.each f within ∙ ap first_item asks_none)
+    ] in
+    front_wanted task fronts f (slice_index_or fronts f Any) refl within ways.needed any_is
 
 pub asked_sort : (l list : Order) (x : Front) (fronts : List Front) (f : ℕ) (input plan : Plan) → l ≡ list → x ≡ slice_index_or fronts f Any → IsSortOf (front_order l x) input plan → IsSortOf (asked list fronts f) input plan
 asked_sort l list x fronts f input plan same is h =

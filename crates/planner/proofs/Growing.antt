@@ -1,5 +1,5 @@
 -- Fronts that grow.
-use Rattle.std.proofs.Common.{◌≡◌, ℕ, ◌+◌, ◌<◌, inl, inr, Bool, true, false, cond, List, [], ◌∷◌, ◌++◌, length, Option, Some, None, slice_get, slice_index_or, refl, sym, ap, ◌∙◌, subst, arith}
+use Rattle.std.proofs.Common.{◌≡◌, ℕ, zero, suc, ◌+◌, ◌<◌, inl, inr, Bool, true, false, cond, List, [], ◌∷◌, ◌++◌, length, Option, Some, None, slice_get, slice_index_or, refl, sym, ap, ◌∙◌, subst, arith}
 use Rattle.std.proofs.lemmas.Bool.{cases_lt}
 use Rattle.std.proofs.lemmas.List.{get_or_append_left, get_or_push, length_push}
 use Rattle.std.proofs.lemmas.Option.{slice_get_within, same_Some, slice_get-get_or}
@@ -8,10 +8,11 @@ use Rattle.adv_base.specs.declared.workload.parts.Item.{Item}
 use Rattle.plan_model.specs.declared.edge.TaskEdge.{TaskEdge}
 use Rattle.plan_model.specs.declared.task.Task.{Task}
 use Rattle.plan_model.specs.Orders.{is_same_item, need_order}
+use Rattle.planner.specs.Sorts.{IsNeeded}
 use Rattle.planner.specs.declared.front.Front.{Front}
 use Rattle.planner.specs.declared.front.Front.TheVariants.{Any, Listed, Need}
 use Rattle.planner.specs.declared.front.Tie.{Tie}
-use Rattle.planner.specs.Fronts.{front_order, first_item, longer_front, need_front, no_tie, listed, IsTie, IsGrowing, AreFronts, AreHeadsApart, AreHeads, AreTiesBelow, AreWays}
+use Rattle.planner.specs.Fronts.{front_order, first_item, longer_front, need_front, no_tie, listed, IsTie, IsGrowing, AreFronts, AreHeadsApart, AreHeads, AreTiesBelow, AreNeeded, AreWays, IsAdded}
 use Rattle.planner.proofs.Begins.{same_item}
 
 pub growing_none : (fronts : List Front) → IsGrowing fronts fronts
@@ -26,6 +27,14 @@ growing_then x y z s t =
 pub growing_push : (x : List Front) (y : Front) → IsGrowing x (x ++ y ∷ [])
 growing_push x y =
     record { longer = omega (arith, length_push x y); keeps = λ k h. get_or_append_left x (y ∷ []) Any k h }
+
+pub added_none : (fronts : List Front) (front : Front) → IsAdded fronts fronts front
+added_none fronts front = record { each = λ f past within. absurd (omega arith) }
+
+pub added_push : (x : List Front) (y : Front) → IsAdded x (x ++ y ∷ []) y
+added_push x y =
+    let more : length (x ++ y ∷ []) ≡ length x + 1 = length_push x y in
+    record { each = λ f past within. get_or_push x y Any f (omega arith) }
 
 -- one more need, for which none of the fronts asks
 pub fronts_push : (x : List Front) (item : Item) → AreFronts x → ((i : ℕ) → i < length x → ¬ (slice_index_or x i Any ≡ Need item)) → AreFronts (x ++ Need item ∷ [])
@@ -54,6 +63,36 @@ fronts_push x item f missing =
 pub need_asks : (list : Order) (need : Option Item) → front_order list (need_front need) ≡ need_order need
 need_asks list None = refl
 need_asks list (Some item) = refl
+
+-- the need of a front that asks for an item
+need_is : (need : Option Item) (item : Item) → need_front need ≡ Need item → need ≡ Some item
+need_is None item is = absurd (cc)
+need_is (Some other) item is = cc
+
+needed_step : (edges : List TaskEdge) (x y : List Front) (need : Option Item) → IsGrowing x y → IsAdded x y (need_front need) → ((item : Item) → need ≡ Some item → IsNeeded edges item) → AreNeeded edges x → AreNeeded edges y
+needed_step edges x y need g a needs n =
+    record {
+      each = λ f item within is.
+          elim (cases_lt f (length x)) [
+            | inl less ↦ n.each f item less (sym (g.keeps f less) ∙ is)
+            | inr past ↦ needs item (need_is need item (sym (a.each f (omega arith) within) ∙ is))
+          ];
+    }
+
+-- after the fronts of an edge's needs
+pub needed_more : (edges : List TaskEdge) (x y z : List Front) (k : ℕ) (edge : TaskEdge) → slice_get edges k ≡ Some edge → IsGrowing x y → IsGrowing y z → IsAdded x y (need_front edge.left_need) → IsAdded y z (need_front edge.right_need) → AreNeeded edges x → AreNeeded edges z
+needed_more edges x y z k edge found g h a b n =
+    let left : AreNeeded edges y = needed_step edges x y edge.left_need g a (λ item is. record { number = k; edge = edge; found = found; needs = inl is }) n in
+    needed_step edges y z edge.right_need h b (λ item is. record { number = k; edge = edge; found = found; needs = inr is }) left
+
+start_needs : (f : ℕ) (item : Item) → f < 2 → ¬ (slice_index_or (Any ∷ Listed ∷ []) f Any ≡ Need item)
+start_needs zero item within is = cc
+start_needs (suc zero) item within is = cc
+start_needs (suc (suc f)) item within is = absurd (omega arith)
+
+-- the first two fronts ask for no need
+pub needed_start : (edges : List TaskEdge) → AreNeeded edges (Any ∷ Listed ∷ [])
+needed_start edges = record { each = λ f item within is. absurd (start_needs f item within is) }
 
 pub tie_grows : (list : Order) (x y : List Front) (edge : TaskEdge) (tie : Tie) → IsGrowing x y → IsTie list x edge tie → IsTie list y edge tie
 tie_grows list x y edge tie g t =
@@ -127,14 +166,15 @@ apart_from list fronts heads f h =
           ap (λ t. longer_front t (slice_index_or heads k None) x k) (head x n.0 (omega arith) n.1) ∙ ap (λ t. longer_front (Some n.0) t x k) (head k m.0 (omega arith) m.1) ∙ longer_none n.0 m.0 x k (is_same_item n.0 m.0) refl differ;
     }
 
-pub ways_from : (task : Task) (fronts : List Front) (heads : List (Option Item)) (ties : List Tie) → AreFronts fronts → AreHeads (listed task) fronts heads → AreTiesBelow (listed task) fronts task.edges ties (length task.edges) → AreWays task fronts heads ties
-ways_from task fronts heads ties f h t =
+pub ways_from : (task : Task) (fronts : List Front) (heads : List (Option Item)) (ties : List Tie) → AreFronts fronts → AreNeeded task.edges fronts → AreHeads (listed task) fronts heads → AreTiesBelow (listed task) fronts task.edges ties (length task.edges) → AreWays task fronts heads ties
+ways_from task fronts heads ties f n h t =
     record {
       some = f.some;
       nothing = f.nothing;
       all = f.all;
       first = h;
       apart = apart_from (listed task) fronts heads f h;
+      needed = n;
       tied = record { count = t.count; each = λ k e at. t.each k e (slice_get_within task.edges k e at) at };
     }
 

@@ -11,6 +11,7 @@ use Rattle.planner.specs.declared.front.Front.{Front}
 use Rattle.planner.specs.declared.cell.Cell.{Cell}
 use Rattle.planner.specs.declared.cell.Choice.{Choice}
 use Rattle.planner.specs.declared.cell.Choice.TheVariants.{Unknown, Read, MergeOf, HashOf}
+use Rattle.planner.specs.Sorts.{SortsWanted}
 use Rattle.planner.specs.Fronts.{asked}
 use Rattle.planner.specs.Choices.{IsCut, IsRead, IsMerge, IsHash}
 use Rattle.planner.specs.Cells.{cost_at, any_at}
@@ -19,12 +20,13 @@ use Rattle.planner.specs.Cells.{cost_at, any_at}
 abbrev pub front_cost : Bool → List Cell → ℕ → ℕ
 front_cost sorts row f = if sorts then any_at row f else cost_at row f
 
--- a valid plan of the set whose order begins so, of that cost
+-- a valid plan of the set whose order begins so, of that cost, with sorts by wanted lists alone
 pub record IsPlanFor (sorts : Bool) (task : Task) (table : OfferTable) (order : Order) (set cost : ℕ) (plan : Plan) : Type 0 where
   pub valid : IsValid sorts task table plan
   pub covers_set : covers plan ≡ set
   pub begins : BeginsWith (delivers table plan) order
   pub costs : plan_cost task table plan ≡ cost
+  pub sorts_wanted : SortsWanted task plan
 
 -- a sort of the input by the order
 abbrev pub IsSortOf : Order → Plan → Plan → Type 0

@@ -6,6 +6,7 @@ use Rattle.plan_model.specs.declared.edge.TaskEdge.{TaskEdge}
 use Rattle.plan_model.specs.declared.task.Task.{Task}
 use Rattle.plan_model.specs.Orders.{is_same_item, need_order}
 use Rattle.adv_base.specs.declared.workload.parts.Item.{Item}
+use Rattle.planner.specs.Sorts.{IsNeeded}
 use Rattle.planner.specs.declared.front.Front.{Front}
 use Rattle.planner.specs.declared.front.Tie.{Tie}
 use Rattle.planner.specs.declared.front.Front.TheVariants.{Any, Listed, Need}
@@ -59,14 +60,19 @@ pub record AreTies (list : Order) (fronts : List Front) (edges : List TaskEdge) 
   pub count : length ties ≡ length edges
   pub each : (k : ℕ) (edge : TaskEdge) → slice_get edges k ≡ Some edge → IsTie list fronts edge (slice_index_or ties k no_tie)
 
--- The first front asks nothing and the second asks for the list; the others are needs, each once. The edges' needs have
--- fronts, and the first items are at hand.
+-- each front that asks for an item asks for the need of an edge
+pub record AreNeeded (edges : List TaskEdge) (fronts : List Front) : Type 0 where
+  pub each : (f : ℕ) (item : Item) → f < length fronts → slice_index_or fronts f Any ≡ Need item → IsNeeded edges item
+
+-- The first front asks nothing and the second asks for the list; the others are needs of edges, each once. The edges'
+-- needs have fronts, and the first items are at hand.
 pub record AreWays (task : Task) (fronts : List Front) (heads : List (Option Item)) (ties : List Tie) : Type 0 where
   pub some : 2 ≤ length fronts
   pub nothing : slice_index_or fronts 0 Listed ≡ Any
   pub all : slice_index_or fronts 1 Any ≡ Listed
   pub first : AreHeads (listed task) fronts heads
   pub apart : AreHeadsApart heads
+  pub needed : AreNeeded task.edges fronts
   pub tied : AreTies (listed task) fronts task.edges ties
 
 -- the front that serves the side of an edge that has a set
@@ -93,6 +99,10 @@ need_front (Some item) = Need item
 pub record IsGrowing (old new : List Front) : Type 0 where
   pub longer : length old ≤ length new
   pub keeps : (k : ℕ) → k < length old → slice_index_or new k Any ≡ slice_index_or old k Any
+
+-- the fronts past those of the old list are all this one
+pub record IsAdded (old new : List Front) (front : Front) : Type 0 where
+  pub each : (f : ℕ) → length old ≤ f → f < length new → slice_index_or new f Any ≡ front
 
 -- fronts that begin with those that ask nothing and for the list, and go on with needs, each once
 pub record AreFronts (fronts : List Front) : Type 0 where

@@ -1,3 +1,4 @@
+pub mod Sorts
 pub mod Fronts
 pub mod Cells
 pub mod Choices

@@ -4,6 +4,7 @@ ghost use Rattle.plan_model.specs.OfferTables.{HasOffers};
 ghost use Rattle.plan_model.specs.Plans.{IsWhole};
 ghost use Rattle.plan_model.specs.Costs.{whole_cost};
 ghost use Rattle.plan_model.specs.Least.{Least};
+ghost use Rattle.planner.specs.Sorts.{SortsWanted};
 ghost use Rattle.planner.specs.Fronts.{listed as list_of, AreWays};
 ghost use Rattle.planner.specs.Rows.{IsTable};
 
@@ -39,6 +40,7 @@ fn whole_of<O: Offers>(
     ensures valid { IfOk result (λ found. IsWhole task.now (O.table offers.now) found.plan) }
     ensures costs { IfOk result (λ found. whole_cost task.now (O.table offers.now) found.plan ≡ found.cost) }
     ensures least { IfOk result (λ found. Least task.now (O.table offers.now) found.cost) }
+    ensures sorts { IfOk result (λ found. SortsWanted task.now found.plan.body) }
 {
     offers.limits();
     let sets = task.rows.len();
@@ -71,6 +73,7 @@ fn find<O: Offers>(alloc: Global, task: &Task, offers: &O) -> Result<Found, Allo
     ensures valid { IfOk result (λ found. IsWhole task.now (O.table offers.now) found.plan) }
     ensures costs { IfOk result (λ found. whole_cost task.now (O.table offers.now) found.plan ≡ found.cost) }
     ensures least { IfOk result (λ found. Least task.now (O.table offers.now) found.cost) }
+    ensures sorts { IfOk result (λ found. SortsWanted task.now found.plan.body) }
 {
     let ways = ways_of(alloc, task)?;
     let cells = plan_sets(alloc, task, offers, &ways)?;
@@ -81,13 +84,15 @@ fn find<O: Offers>(alloc: Global, task: &Task, offers: &O) -> Result<Found, Allo
 /// A least plan of a task over a table of offers, with its cost. The plan is valid and whole, it costs `cost`, and no
 /// valid whole plan costs less: over all bushy trees, merges on every crossing edge in both directions, hash joins, sorts
 /// under merges and groups by any list, both ways to group, and final sorts. Which of several least plans is given is
-/// left open. Each slot has an offer. The search is that of System R (Selinger and others, 1979), over bushy trees and
+/// left open. Each sort in the body is by the list to group by, or else to order by, or by a need of an edge. Each slot
+/// has an offer. The search is that of System R (Selinger and others, 1979), over bushy trees and
 /// with hash joins. `NoMemory` is want of memory.
 pub fn least<O: Offers>(alloc: Global, task: &Task, offers: &O) -> Result<Found, NoMemory>
     requires { HasOffers task.now.slots (O.table offers.now) }
     ensures valid { IfOk result (λ found. IsWhole task.now (O.table offers.now) found.plan) }
     ensures costs { IfOk result (λ found. whole_cost task.now (O.table offers.now) found.plan ≡ found.cost) }
     ensures least { IfOk result (λ found. Least task.now (O.table offers.now) found.cost) }
+    ensures sorts { IfOk result (λ found. SortsWanted task.now found.plan.body) }
 {
     match find(alloc, task, offers) {
         Ok(found) => Ok(found),

@@ -3,7 +3,7 @@ ghost use Rattle.std.specs.Prelude.{◌≡◌, ◌↔◌, ℕ, ◌+◌, ◌<◌,
 ghost use Rattle.std.specs.Option.{ForSome};
 ghost use Rattle.adv_base.specs.Items.{Order};
 ghost use Rattle.planner.specs.declared.front.Front.TheVariants.{Any as ANY, Need as NEED};
-ghost use Rattle.planner.specs.Fronts.{first_item, front_order, need_front, listed as list_of, AreHeads, AreWays, AreFronts, AreTiesBelow, IsGrowing};
+ghost use Rattle.planner.specs.Fronts.{first_item, front_order, need_front, listed as list_of, AreHeads, AreWays, AreFronts, AreNeeded, AreTiesBelow, IsAdded, IsGrowing};
 
 use crate::front::{Front, Tie, Ways, listed};
 use adv_base::Item;
@@ -64,6 +64,7 @@ fn add_need(fronts: &mut Vec<Front>, item: Item) -> Result<usize, AllocError>
     ensures found { IfOk result (λ i. slice_index_or fronts.new.items i ANY ≡ NEED item) }
     ensures fronts { IfOk result (λ _. AreFronts fronts.new.items) }
     ensures growing { IfOk result (λ _. IsGrowing fronts.old.items fronts.new.items) }
+    ensures added { IfOk result (λ _. IsAdded fronts.old.items fronts.new.items (NEED item)) }
 {
     if let Some(i) = find_need(fronts.as_slice(), item) {
         return Ok(i);
@@ -80,6 +81,7 @@ fn add_front(fronts: &mut Vec<Front>, need: Option<Item>) -> Result<usize, Alloc
     ensures found { IfOk result (λ i. slice_index_or fronts.new.items i ANY ≡ need_front need) }
     ensures fronts { IfOk result (λ _. AreFronts fronts.new.items) }
     ensures growing { IfOk result (λ _. IsGrowing fronts.old.items fronts.new.items) }
+    ensures added { IfOk result (λ _. IsAdded fronts.old.items fronts.new.items (need_front need)) }
 {
     match need {
         None => Ok(0),
@@ -95,9 +97,11 @@ fn add_tie(
     k: usize,
 ) -> Result<(), AllocError>
     requires fronts { AreFronts fronts.old.items }
+    requires needed { AreNeeded task.now.edges fronts.old.items }
     requires number { k < length task.now.edges }
     requires ties { AreTiesBelow (list_of task.now) fronts.old.items task.now.edges ties.old.items k }
     ensures fronts { IfOk result (λ _. AreFronts fronts.new.items) }
+    ensures needed { IfOk result (λ _. AreNeeded task.now.edges fronts.new.items) }
     ensures ties { IfOk result (λ _. AreTiesBelow (list_of task.now) fronts.new.items task.now.edges ties.new.items (k + 1)) }
 {
     let edge = task.edges.as_slice()[k];

@@ -2,7 +2,7 @@ use Rattle.std.proofs.Common.{◌-◌, Bool, length, sym, subst, ◌∙◌, arit
 use Rattle.planner.specs.Fronts.{asked, listed}
 use Rattle.planner.specs.Cells.{cost_at, any_at, row_of}
 use Rattle.planner.specs.Built.{IsPlanFor, front_cost}
-use Rattle.planner.proofs.Building.{asked_sort, sort_built, merge_built, hash_built, plain_cost, sorted_top}
+use Rattle.planner.proofs.Building.{asked_sort, sort_built, merge_built, hash_built, plain_cost, sorted_top, sort_wanted}
 use Rattle.planner.proofs.build.+build.Goals as goal
 
 pub choice_of-requires-clause-possible : goal.choice_of-requires-clause-possible
@@ -22,7 +22,8 @@ returns-then-is_sorted g t c =
     let f = c.args.front in
     let top = sorted_top task list fronts (rows set) set f c.args.sorts c.cell_of-cell.result c.cell_of-cell.ensures (sym c.is_sorted.ensures ∙ c.if-is_sorted.true) ((c.requires.table.rows set c.requires.set_in).sorted f c.requires.front_in) in
     let is = asked_sort c.listed.result.now list c.front_at.result fronts f c.in_ok-input.input c.in_ok-plan.plan c.listed.ensures c.front_at.ensures c.in_ok-plan.ensures in
-    let built = sort_built task table list fronts (rows set) set f (any_at (rows set) f) c.in_ok-input.input c.in_ok-plan.plan is c.in_ok-input.ensures top.1 in
+    let wanted = sort_wanted task table fronts c.args.ways.now.heads.items c.args.ways.now.ties.items rows set f (rows set) c.args.sorts c.cell_of-cell.result c.in_ok-input.input c.requires.ways (c.requires.table.rows set c.requires.set_in) c.requires.front_in c.cell_of-cell.ensures (sym c.is_sorted.ensures ∙ c.if-is_sorted.true) top.1 c.in_ok-input.ensures in
+    let built = sort_built task table list fronts (rows set) set f (any_at (rows set) f) c.in_ok-input.input c.in_ok-plan.plan is c.in_ok-input.ensures top.1 wanted in
     subst (λ (b : Bool). IsPlanFor b task table (asked list fronts f) set (front_cost b (rows set) f) c.in_ok-plan.plan) (sym top.0) built
 
 pub returns-in_ok-plan-in-MergeOf : goal.returns-in_ok-plan-in-MergeOf

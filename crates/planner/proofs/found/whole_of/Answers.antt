@@ -56,5 +56,6 @@ returns g c =
     record {
       valid = whole_valid task table fronts row shape s full f.0 c.in_ok-body.body b;
       costs = whole_costs task table fronts row shape s full f.0 c.in_ok-body.body b;
+      sorts = b.sorts_wanted;
       least = whole_least task table fronts row shape s full f.0 c.in_ok-body.body b;
     }

@@ -11,4 +11,4 @@ returns c =
     let fronts = c.loop-k.fronts.items in
     let heads = subst (λ (l : Order). AreHeads l fronts c.in_ok-heads.heads.items) c.listed.ensures (subst (λ (fs : List Front). AreHeads c.listed.result.now fs c.in_ok-heads.heads.items) c.as_slice.ensures.value c.in_ok-heads.ensures) in
     let end : c.loop-k.k ≡ length task.edges = omega (arith, c.len-k-end.ensures, c.loop-k-test.false, c.loop-k.auto.k-end) in
-    ways_from task fronts c.in_ok-heads.heads.items c.loop-k.ties.items c.loop-k.invariant.fronts heads (subst (AreTiesBelow (listed task) fronts task.edges c.loop-k.ties.items) end c.loop-k.invariant.ties)
+    ways_from task fronts c.in_ok-heads.heads.items c.loop-k.ties.items c.loop-k.invariant.fronts c.loop-k.invariant.needed heads (subst (AreTiesBelow (listed task) fronts task.edges c.loop-k.ties.items) end c.loop-k.invariant.ties)
