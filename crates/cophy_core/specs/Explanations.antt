@@ -16,6 +16,7 @@ use Rattle.plan_model.specs.Costs.{whole_cost}
 use Rattle.plan_model.specs.Least.{Least}
 use Rattle.plan_model.specs.Plans.{IsWhole}
 use Rattle.plan_model.specs.PlanTexts.{whole_lines}
+use Rattle.planner.specs.Sorts.{SortsWanted}
 use Rattle.report.specs.declared.done.Explained.{Explained}
 
 -- the words by which the plans of a block are told
@@ -24,8 +25,8 @@ pub record AreLabelsOf (cat : Catalogue) (config : Config) (block : Block) (labe
   pub columns : labels.columns ≡ column_labels cat block
   pub offers_are : labels.offers ≡ offer_labels cat block [] config
 
--- A least plan of a block over its indexes and a configuration's: it is valid and whole, it costs what is said, no valid
--- whole plan costs less, and the text has its lines.
+-- A least plan of a block over its indexes and a configuration's: it is valid and whole, each of its sorts is by a list
+-- that serves, it costs what is said, no valid whole plan costs less, and the text has its lines.
 pub record ExplainsBlock (cat : Catalogue) (config : Config) (block : Block) (explained : Explained) : Type 0 where
   pub task : Task
   pub plan : Whole
@@ -34,6 +35,7 @@ pub record ExplainsBlock (cat : Catalogue) (config : Config) (block : Block) (ex
   pub labels_are : AreLabelsOf cat config block labels
   pub plan_is : explained.plan ≡ Some plan
   pub valid : IsWhole task (offers cat block [] config) plan
+  pub sorts : SortsWanted task plan.body
   pub costs : whole_cost task (offers cat block [] config) plan ≡ explained.cost
   pub least : Least task (offers cat block [] config) explained.cost
   pub lines : explained.text ≡ whole_lines task (offers cat block [] config) labels plan

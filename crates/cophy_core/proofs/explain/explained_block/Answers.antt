@@ -19,6 +19,7 @@ returns-clause-by_plan c =
       labels_are = record { slots = c.in_ok-labels.ensures.slots; columns = c.in_ok-labels.ensures.columns; offers_are = c.in_ok-labels.ensures.offers };
       plan_is = refl;
       valid = rw (← c.in_ok-offers.ensures.offers_are) c.in_ok-found.ensures.valid;
+      sorts = c.in_ok-found.ensures.sorts;
       costs = rw (← c.in_ok-offers.ensures.offers_are) c.in_ok-found.ensures.costs;
       least = rw (← c.in_ok-offers.ensures.offers_are) c.in_ok-found.ensures.least;
       lines = rw (← c.in_ok-offers.ensures.offers_are) c.in_ok-text.ensures;
