@@ -61,17 +61,17 @@ def put(folder, name, text):
     return path
 
 
-def plan_seconds(options, folder, catalogue, statement):
+def plan_seconds(options, folder, catalogue, statement, copies=COPIES):
     """The time of one call of `explain`, and the time that one more statement adds to `cost`."""
     one = put(folder, "one.sql", statement + ";\n")
-    many = put(folder, "many.sql", (statement + ";\n") * COPIES)
+    many = put(folder, "many.sql", (statement + ";\n") * copies)
     empty = put(folder, "none.conf", "")
     explain = run_best([options.program, "explain", catalogue, one, empty, "1"], options.repeat)
-    need_status_0(explain, statement)
+    need_status_0(explain, statement[:80])
     first = run_best([options.program, "cost", catalogue, one], options.repeat)
     last = run_best([options.program, "cost", catalogue, many], options.repeat)
-    need_status_0(last, statement)
-    return explain.seconds, max(0.0, last.seconds - first.seconds) / (COPIES - 1)
+    need_status_0(last, statement[:80])
+    return explain.seconds, max(0.0, last.seconds - first.seconds) / (copies - 1)
 
 
 class Postgres:
@@ -125,7 +125,7 @@ def main():
                          "-" if beside is None else f"{beside:.3f}"), widths)
         catalogue = put(folder, "c.toml", catalogue_text(4))
         for repeat in (1, 14, 1428):
-            explain, plan = plan_seconds(options, folder, catalogue, select_text("chain", SLOTS, repeat))
+            explain, plan = plan_seconds(options, folder, catalogue, select_text("chain", SLOTS, repeat), 20)
             print_row((f"x{repeat}", SLOTS, 4, f"{1000 * explain:.2f}", f"{1000 * plan:.3f}", "-"), widths)
     print("plan ms: what one more statement adds to a call of cost. x14: a chain whose edges are each written 14 times.")
     if not postgres.psql:
