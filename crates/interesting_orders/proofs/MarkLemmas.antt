@@ -15,7 +15,7 @@ use Rattle.plan_model.specs.declared.task.Task.{Task}
 use Rattle.plan_model.specs.Limits.Tasks.{is_numbered, AreNumbered}
 use Rattle.plan_model.specs.OfferTables.{is_up_of}
 use Rattle.plan_model.specs.Orders.{is_same_order, edge_orders, own_list, is_own_list, wanted_list, without_repeats, interesting_orders}
-use Rattle.interesting_orders.specs.Marks.{add_order, is_marked, AreMarks}
+use Rattle.interesting_orders.specs.inner.Marks.{add_order, is_marked, AreMarks}
 
 pub add_order-known : (orders : List Order) (order : Order) → list_any (is_same_order order) orders ≡ true → add_order orders order ≡ orders
 add_order-known orders order h = rw h

@@ -37,7 +37,7 @@ each-sound : (task : Task) → AreSound task (IsEach task)
 each-sound task = record { combination = λ needs internal each. each.combination; plan = λ needs internal each. each.least.plan }
 
 -- over the free leaves that it needs, a least plan is a least one
-least-core : (task : Task) (table : OfferTable) (cost : ℕ) → OfferTableLimits table → (least : Least task table cost) → IsEach task (core-needs task table least.plan.whole) (whole_internal task least.plan.whole)
+pub least-core : (task : Task) (table : OfferTable) (cost : ℕ) → OfferTableLimits table → (least : Least task table cost) → IsEach task (core-needs task table least.plan.whole) (whole_internal task least.plan.whole)
 least-core task table cost limits least =
     let whole = least.plan.whole in
     let valid = least.plan.valid in
@@ -62,12 +62,12 @@ least-core task table cost limits least =
           };
     }
 
-each-covers : (task : Task) (needs : Orders) (internal cost : ℕ) → IsEach task needs internal → internal ≤ cost → Covers (IsEach task) needs cost
+pub each-covers : (task : Task) (needs : Orders) (internal cost : ℕ) → IsEach task needs internal → internal ≤ cost → Covers (IsEach task) needs cost
 each-covers task needs internal cost each less =
     record { other = needs; internal = internal; template = each; fronts = λ slot. BeginsWith-self (needs slot); less = less }
 
 -- what is least over templates that weakly cover each combination is least over plans
-covered-least : (task : Task) (templates : Templates) (table : OfferTable) (cost : ℕ) → OfferTableLimits table → AreSound task templates → ((needs : Orders) (internal : ℕ) → IsEach task needs internal → (Covers templates needs internal → ⊥) → ⊥) → CachedBy templates task table cost → Least task table cost
+pub covered-least : (task : Task) (templates : Templates) (table : OfferTable) (cost : ℕ) → OfferTableLimits table → AreSound task templates → ((needs : Orders) (internal : ℕ) → IsEach task needs internal → (Covers templates needs internal → ⊥) → ⊥) → CachedBy templates task table cost → Least task table cost
 covered-least task templates table cost limits sound weakly cached =
     record {
       plan = sound-plan task templates table cached.needs cached.internal cost sound cached.template cached.priced;
@@ -100,7 +100,7 @@ cache-decomposes task table cost limits = (
 -- ## Combinations that are kept
 
 -- how many items a combination asks for
-size : Task → Orders → ℕ
+pub size : Task → Orders → ℕ
 size task needs = sum_below (λ slot. length (needs slot)) task.slots
 
 sum-less : (f g : ℕ → ℕ) (n k : ℕ) → ((slot : ℕ) → slot < n → f slot ≤ g slot) → k < n → f k < g k → sum_below f n < sum_below g n
@@ -135,7 +135,7 @@ weaker-smaller task weaker needs w =
     ])
 
 -- a combination is covered by a kept one
-weakly-kept : (task : Task) (n : ℕ) (needs : Orders) (internal : ℕ) → IsEach task needs internal → size task needs < n → (Covers (IsKept task) needs internal → ⊥) → ⊥
+pub weakly-kept : (task : Task) (n : ℕ) (needs : Orders) (internal : ℕ) → IsEach task needs internal → size task needs < n → (Covers (IsKept task) needs internal → ⊥) → ⊥
 weakly-kept task zero needs internal each below never = absurd (omega (arith, below))
 weakly-kept task (suc n) needs internal each below never =
     never (record {

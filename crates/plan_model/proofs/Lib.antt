@@ -7,3 +7,4 @@ pub mod Decomposing
 pub mod Caching
 pub mod Comparing
 pub mod Unique
+pub mod Listing

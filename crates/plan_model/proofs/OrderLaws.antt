@@ -7,14 +7,14 @@ use Rattle.std.proofs.Math.Seq.{take-length}
 use Rattle.std.proofs.lemmas.List.{take-take, length-take}
 use Rattle.std.proofs.lemmas.Option.{get_or_from_slice_get, slice_get_within}
 use Rattle.std.proofs.lemmas.Map.Keys.{any_passes_from_place}
-use Rattle.std.proofs.lemmas.Bool.{cases_Bool, false≢true, eqb-true, and_parts, or_cases, or_left, or_right}
+use Rattle.std.proofs.lemmas.Bool.{cases_Bool, false≢true, eqb-true, ltb-true, and_parts, or_cases, or_left, or_right}
 use Rattle.std.proofs.lemmas.Bool.Decides.{Decides-and, Decides-eqb, Decides-like}
 use Rattle.std.proofs.lemmas.List.Elements.{All-head, All-tail, All-cons, All-nil, All-append}
 use Rattle.std.proofs.lemmas.List.Folds.{list_any-append}
 use Rattle.std.proofs.lemmas.List.Sums.{AllPass-from_list_all, list_all-from_AllPass}
 use Rattle.adv_base.specs.declared.workload.parts.Item.{Item}
 use Rattle.adv_base.specs.declared.workload.parts.Item.TheVariants.{Up, Down, Made}
-use Rattle.adv_base.specs.Items.{Order, AreApart, BeginsWith}
+use Rattle.adv_base.specs.Items.{Order, AreApart, AreWithinSlots, is_within_slots, BeginsWith}
 use Rattle.adv_base.specs.Sets.{has_slot}
 use Rattle.plan_model.specs.declared.edge.TaskEdge.{TaskEdge}
 use Rattle.plan_model.specs.declared.task.Task.{Task}
@@ -336,3 +336,59 @@ pub front-served : (task : Task) (slot : ℕ) (o r order : Order) → list_all (
 front-served task slot o r order own serves front begins =
     All-among (λ q. BeginsWith o q → BeginsWith r q) order (interesting_orders task slot) serves
     (front-among task slot order front (All-front (is_up_of slot) o order own begins)) begins
+
+-- ## Slots past those of the task have no interesting order but the empty one
+
+needs-past : (slot at' : ℕ) (need : Option Item) → at' < slot → needs_at slot (at' == slot) need ≡ []
+needs-past slot at' need below =
+    elim (cases_Bool (at' == slot)) [
+      | inl same ↦ let equal : at' ≡ slot = eqb-true at' slot same in absurd (omega (arith, equal, below))
+      | inr other ↦ ap (λ (b : Bool). needs_at slot b need) other
+    ]
+
+edges-past : (n slot : ℕ) (edges : List TaskEdge) → n ≤ slot → All (EdgeLimits n) edges → flat_map (edge_orders slot) edges ≡ []
+edges-past n slot [] past limits = refl
+edges-past n slot (e ∷ es) past limits =
+    let l = All-head (EdgeLimits n) e es limits in
+    let left = needs-past slot e.left e.left_need (omega (arith, past, l.left_slot)) in
+    let right = needs-past slot e.right e.right_need (omega (arith, past, l.right_slot)) in
+    let rest = edges-past n slot es past (All-tail (EdgeLimits n) e es limits) in
+    ap (λ t. (t ++ needs_at slot (e.right == slot) e.right_need) ++ flat_map (edge_orders slot) es) left
+    ∙ (ap (λ t. t ++ flat_map (edge_orders slot) es) right ∙ rest)
+
+item-past : (n slot : ℕ) (item : Item) → n ≤ slot → is_within_slots n item ≡ true → is_up_of slot item ≡ true → ⊥
+item-past n slot (Up s c) past within own =
+    let below : s < n = ltb-true s n within in
+    let same : s ≡ slot = eqb-true s slot own in
+    omega (arith, past, below, same)
+item-past n slot (Down s c) past within own = false≢true own
+item-past n slot (Made k) past within own = false≢true own
+
+own-past : (n slot : ℕ) (order : Order) → n ≤ slot → AreWithinSlots n order → own_list slot order ≡ []
+own-past n slot [] past within = refl
+own-past n slot (x ∷ xs) past within =
+    elim (cases_Bool (list_all (is_up_of slot) (x ∷ xs))) [
+      | inl own ↦ absurd (item-past n slot x past (All-head (λ item. is_within_slots n item ≡ true) x xs within) (and_parts (is_up_of slot x) (list_all (is_up_of slot) xs) own).0)
+      | inr other ↦ rw other refl
+    ]
+
+wanted-within : (task : Task) → AreWithinSlots task.slots (wanted_list task.group task.order)
+wanted-within task =
+    wanted-of (AreWithinSlots task.slots) task.group task.order (λ group is. (task.limits.group_list group is).list.within) task.limits.order_list.within
+
+pub interesting_orders-past : (task : Task) (slot : ℕ) → task.slots ≤ slot → interesting_orders task slot ≡ [] ∷ []
+unfolding interesting_orders
+interesting_orders-past task slot past =
+    let edges = edges-past task.slots slot task.edges past task.limits.each_edge in
+    let own = own-past task.slots slot (wanted_list task.group task.order) past (wanted-within task) in
+    let gathered : flat_map (edge_orders slot) task.edges ++ own_list slot (wanted_list task.group task.order) ≡ [] = ap (λ t. t ++ own_list slot (wanted_list task.group task.order)) edges ∙ own in
+    ap (λ t. without_repeats [] ([] ∷ t)) gathered
+
+-- an order of such a slot is the empty one
+pub past-none : (task : Task) (slot : ℕ) (o : Order) → task.slots ≤ slot → list_any (is_same_order o) (interesting_orders task slot) ≡ true → o ≡ []
+past-none task slot o past among =
+    let alone : list_any (is_same_order o) ([] ∷ []) ≡ true = subst (λ t. list_any (is_same_order o) t ≡ true) (interesting_orders-past task slot past) among in
+    elim (or_cases (is_same_order o []) false alone) [
+      | inl same ↦ (is_same_order-decides o []).0 same
+      | inr none ↦ absurd (false≢true none)
+    ]

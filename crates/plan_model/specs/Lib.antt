@@ -3,7 +3,7 @@ pub mod OfferTables
 pub mod Orders
 pub mod Plans
 pub mod Costs
-pub mod Judging
+pub mod inner
 pub mod PlanTexts
 pub mod Least
 pub mod Exchange

@@ -1,6 +1,6 @@
 //! Laws of plans and their costs, each proved of all tasks and tables of offers. They are what an index advisor stands on:
 //! System R's interesting orders, INUM's plans with exchanged leaves, and the cost that a cache of such plans gives.
-ghost use Rattle.plan_model.specs.Combinations.{EnoughDecompose, CacheDecomposes, KeptDecompose};
+ghost use Rattle.plan_model.specs.Combinations.{EnoughDecompose, EachDecompose, KeptListDecompose, CacheDecomposes, KeptDecompose};
 ghost use Rattle.plan_model.specs.Comparisons.{LeastIsOne, LeastNeverRises, AddedNeverRaises, RaisedLiesBetween, BestIsEnough};
 ghost use Rattle.plan_model.specs.Uniqueness.{TaskIsOne, BlockCostIsOne, CostIsOne, TotalIsOne};
 ghost use Rattle.plan_model.specs.Exchange.{CostSplits, WholeCostSplits, LeavesExchange, WholeLeavesExchange};
@@ -19,9 +19,12 @@ pub fn leaves_exchange()
     ensures whole { WholeLeavesExchange }
 {}
 
-/// The least cost that enough templates give for a table of offers is the cost of a least plan.
-pub fn enough_decompose()
-    ensures { EnoughDecompose }
+/// The least cost that enough templates give for a table of offers is the cost of a least plan. One template for each
+/// combination of interesting orders is enough; so is one for each that no weaker one replaces.
+pub fn templates_decompose()
+    ensures enough { EnoughDecompose }
+    ensures each { EachDecompose }
+    ensures kept { KeptListDecompose }
 {}
 
 /// The cached cost, over a least plan for each combination of interesting orders, is the cost of a least plan; so is the

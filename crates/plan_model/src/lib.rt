@@ -26,8 +26,8 @@ pub use checked::checked_task;
 pub use edge::TaskEdge;
 pub use labels::Labels;
 pub use laws::{
-    best_is_enough, cache_decomposes, cost_splits, costs_are_one, enough_decompose, least_is_one,
-    least_never_rises, leaves_exchange, raised_lies_between,
+    best_is_enough, cache_decomposes, cost_splits, costs_are_one, least_is_one, least_never_rises,
+    leaves_exchange, raised_lies_between, templates_decompose,
 };
 pub use lines::plan_text;
 pub use offers::Offers;

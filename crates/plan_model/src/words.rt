@@ -1,7 +1,7 @@
 //! The words of lines, pushed to a text.
 ghost use Rattle.std.specs.Prelude.{◌≡◌, ◌++◌, ◌*◌, ◌<◌, ◌≤◌, [], decimal, codes, replicate, slice_index_or};
 ghost use Rattle.std.specs.Result.{OnOk};
-ghost use Rattle.plan_model.specs.PlanTexts.{name_at as name_words, column_words, item_words, items_words, leaf_words, edge_words};
+ghost use Rattle.plan_model.specs.PlanTexts as texts;
 
 use crate::edge::TaskEdge;
 use crate::labels::Labels;
@@ -42,7 +42,7 @@ pub(crate) fn push_indent(text: &mut Vec<u8>, depth: usize) -> Result<(), NoMemo
 
 /// A name of a list, which is empty where there is none.
 fn name_at(names: &[Name], at: usize) -> &[u8]
-    ensures { result.now ≡ name_words names.now at }
+    ensures { result.now ≡ texts.name_at names.now at }
 {
     match names.get(at) {
         Some(name) => name.as_slice(),
@@ -61,7 +61,7 @@ fn names_of(lists: &List<List<Name>>, slot: u8) -> &[Name]
 }
 
 fn push_column(text: &mut Vec<u8>, labels: &Labels, slot: u8, column: u16) -> Result<(), NoMemory>
-    ensures { OnOk result (text.new.items ≡ text.old.items ++ column_words labels.now slot column) }
+    ensures { OnOk result (text.new.items ≡ text.old.items ++ texts.column_words labels.now slot column) }
 {
     push(text, name_at(labels.slots.as_slice(), slot as usize))?;
     push(text, b".")?;
@@ -77,7 +77,7 @@ fn push_item(
     labels: &Labels,
     item: &Item,
 ) -> Result<(), NoMemory>
-    ensures { OnOk result (text.new.items ≡ text.old.items ++ item_words labels.now item.now) }
+    ensures { OnOk result (text.new.items ≡ text.old.items ++ texts.item_words labels.now item.now) }
 {
     match item {
         Item::Up { slot, column } => push_column(text, labels, *slot, *column),
@@ -99,7 +99,7 @@ pub(crate) fn push_items(
     labels: &Labels,
     items: &[Item],
 ) -> Result<(), NoMemory>
-    ensures { OnOk result (text.new.items ≡ text.old.items ++ items_words labels.now items.now) }
+    ensures { OnOk result (text.new.items ≡ text.old.items ++ texts.items_words labels.now items.now) }
 {
     let Some((first, rest)) = items.split_first() else {
         return Ok(());
@@ -119,7 +119,7 @@ pub(crate) fn push_leaf(
     slot: u8,
     offer: u32,
 ) -> Result<(), NoMemory>
-    ensures { OnOk result (text.new.items ≡ text.old.items ++ leaf_words labels.now slot offer) }
+    ensures { OnOk result (text.new.items ≡ text.old.items ++ texts.leaf_words labels.now slot offer) }
 {
     push(
         text,
@@ -136,7 +136,7 @@ pub(crate) fn push_edge(
     set: usize,
     edge: &TaskEdge,
 ) -> Result<(), NoMemory>
-    ensures { OnOk result (text.new.items ≡ text.old.items ++ edge_words labels.now set edge.now) }
+    ensures { OnOk result (text.new.items ≡ text.old.items ++ texts.edge_words labels.now set edge.now) }
 {
     if has_slot(set, edge.left) {
         push_column(text, labels, edge.left, edge.left_column)?;

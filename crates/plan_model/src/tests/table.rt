@@ -3,7 +3,7 @@ ghost use Rattle.std.specs.Prelude.{◌≡◌, ◌==◌, ◌≤◌, All, List, [
 ghost use Rattle.std.specs.List.{find};
 ghost use Rattle.std.specs.Option.{option_map_or, option_copied};
 ghost use Rattle.adv_base.specs.Items.{AreApart};
-ghost use Rattle.plan_model.specs.OfferTables.{is_up_of as is_up};
+ghost use Rattle.plan_model.specs.OfferTables as offers;
 
 use crate::checked::are_apart;
 use crate::offers::Offers;
@@ -19,12 +19,12 @@ pub struct Reads {
     pub has_index: bool,
     pub ghost heap_most: { heap ≤ 10000000000000000000 },
     pub ghost index_most: { index ≤ 10000000000000000000 },
-    pub ghost own: { All (λ item. is_up slot item ≡ true) keys },
+    pub ghost own: { All (λ item. offers.is_up_of slot item ≡ true) keys },
     pub ghost apart: { AreApart keys },
 }
 
 fn is_key(item: &Item, slot: u8) -> bool
-    ensures { result ≡ is_up slot item.now }
+    ensures { result ≡ offers.is_up_of slot item.now }
 {
     match item {
         Item::Up { slot: own, .. } => *own == slot,
