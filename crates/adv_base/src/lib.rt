@@ -10,9 +10,12 @@
 mod catalogue;
 mod days;
 mod decimal;
+pub mod limits;
 mod list;
+mod memory;
 mod numbers;
 mod setting;
+mod sets;
 #[cfg(test)]
 mod tests;
 mod workload;
@@ -25,8 +28,10 @@ pub use catalogue::table::Table;
 pub use days::day_of;
 pub use decimal::push_decimal;
 pub use list::{Bytes, List, Name};
-pub use numbers::{NoMemory, binary_digits, times_part};
+pub use memory::NoMemory;
+pub use numbers::{binary_digits, times_part};
 pub use setting::{Config, Setting};
+pub use sets::{all_slots, has_slot};
 pub use workload::block::Block;
 pub use workload::parts::{Edge, Item, Slot};
 pub use workload::predicate::{Pred, Test, Value};
