@@ -24,6 +24,9 @@ pub const MOST_INDEXES: usize = 1000;
 pub const MOST_KEYS: usize = 8;
 /// The pages of one index.
 pub const MOST_INDEX_PAGES: u64 = 2_000_000_000_000;
+/// The upkeep of one index by one statement, in thousandths of a page read: two writes of 10^12 rows, each down two
+/// levels.
+pub const MOST_UPKEEP: u64 = 6_000_000_000_000_000_000;
 /// The statements of a workload.
 pub const MOST_STATEMENTS: usize = 1000;
 /// The slots of a block.
