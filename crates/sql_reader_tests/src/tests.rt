@@ -1,5 +1,5 @@
 //! Texts with their answers, and what they mean.
-use super::*;
+use sql_reader::{SqlFault, read_workload};
 use std::alloc::{AllocError, Global};
 use std::test::Fail;
 
