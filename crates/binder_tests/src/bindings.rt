@@ -1,18 +1,36 @@
-//! Tests: names that have no meaning or two, and what other names mean, a case a line.
+//! What names in statements mean, or which have no meaning or two: cases as lines.
 //!
 //! Each case is the answer, `|` and the text, in which `~` stands for a line feed. The answer is the fault with its place
 //! or, as `shown` writes them, the statements.
-mod build;
 mod shown;
 
-use crate::bind;
-use crate::tests::build::catalogue;
-use crate::tests::shown::shown;
+use crate::bindings::shown::shown;
+use crate::written::{add, written};
 use adv_base::Catalogue;
+use binder::bind;
+use catalogue::read_catalogue;
 use sql_reader::{Parsed, read_workload};
 use std::alloc::{AllocError, Global};
 use std::process::Abort;
 use std::test::Fail;
+
+/// Three tables, `t`, `u` and `Mixed`, with four columns each.
+const CATALOGUE: &str = r#"version = 1
+[[table]]
+name = "t"
+rows = 0
+pages = 0
+column = [{ name = "a", kind = "int", width = 4 }, { name = "b", kind = "int", width = 4 }, { name = "d", kind = "date", width = 4 }, { name = "s", kind = "text", width = 4 }]
+[[table]]
+name = "u"
+rows = 0
+pages = 0
+column = [{ name = "a", kind = "int", width = 4 }, { name = "c", kind = "int", width = 4 }, { name = "e", kind = "date", width = 4 }, { name = "f", kind = "text", width = 4 }]
+[[table]]
+name = "Mixed"
+rows = 0
+pages = 0
+column = [{ name = "Id", kind = "int", width = 4 }, { name = "b", kind = "int", width = 4 }, { name = "Day", kind = "date", width = 4 }, { name = "From", kind = "text", width = 4 }]"#;
 
 /// Texts of which a name has no meaning, or two, or whose sources are too many or unjoined.
 const FAULTS: &str = r#"no table at 15|SELECT * FROM zz
@@ -305,23 +323,23 @@ fn answer(alloc: Global, cat: &Catalogue, text: &[u8]) -> Result<String, AllocEr
     }
 }
 
-/// Writes the text of a case behind `text`.
-fn add(text: &mut Vec<u8>, written: &str) -> Result<(), AllocError> {
-    for byte in written.as_bytes() {
-        text.push(if *byte == b'~' { b'\n' } else { *byte })?;
-    }
-    Ok(())
+/// The catalogue over which the cases are bound.
+fn catalogue(alloc: Global) -> Result<Catalogue, Fail> {
+    Ok(
+        read_catalogue(alloc, CATALOGUE.as_bytes())
+            .ok()
+            .ok_or("a catalogue")?,
+    )
 }
 
 /// Compares the answers of a table with those to its texts.
 fn compare(rt: &impl Abort, alloc: Global, cases: &str) -> Result<(), Fail> {
-    let cat = catalogue(alloc).ok_or("a catalogue")?;
+    let cat = catalogue(alloc)?;
     for case in cases.lines() {
-        let (wanted, written) = case.split_once('|').ok_or("no bar")?;
-        let mut text = Vec::new(alloc);
-        add(&mut text, written)?;
+        let (wanted, case_text) = case.split_once('|').ok_or("no bar")?;
+        let text = written(alloc, case_text)?;
         let found = answer(alloc, &cat, text.as_slice())?;
-        assert_eq!(rt; found.as_str(), wanted, "in {written}");
+        assert_eq!(rt; found.as_str(), wanted, "in {case_text}");
     }
     Ok(())
 }
@@ -338,16 +356,16 @@ fn what_names_mean(rt: HostRuntime) -> Result<(), Fail> {
 
 #[test]
 fn slots_end_at_2000(rt: HostRuntime) -> Result<(), Fail> {
-    let cat = catalogue(rt.alloc()).ok_or("a catalogue")?;
+    let cat = catalogue(rt.alloc())?;
     for case in BEHIND_2000_SLOTS.lines() {
-        let (wanted, written) = case.split_once('|').ok_or("no bar")?;
+        let (wanted, case_text) = case.split_once('|').ok_or("no bar")?;
         let mut text = Vec::new(rt.alloc());
         for _ in 0..250u32 {
             add(&mut text, EIGHT_SLOTS)?;
         }
-        add(&mut text, written)?;
+        add(&mut text, case_text)?;
         let found = answer(rt.alloc(), &cat, text.as_slice())?;
-        assert!(rt; found.as_str().ends_with(wanted), "in {written}");
+        assert!(rt; found.as_str().ends_with(wanted), "in {case_text}");
     }
     Ok(())
 }
