@@ -4,7 +4,7 @@ ghost use Rattle.std.specs.List.{list_all};
 ghost use Rattle.std.specs.Option.{ForSome};
 ghost use Rattle.adv_base.specs.Items.{Order};
 ghost use Rattle.plan_model.specs.Limits.Tasks.{AreNumbered};
-ghost use Rattle.plan_model.specs.OfferTables as offers;
+ghost use Rattle.adv_base.specs.Items as rule;
 ghost use Rattle.plan_model.specs.Orders as interesting;
 ghost use Rattle.interesting_orders.specs.inner.Marks.{add_order, column_orders, is_marked, AreMarks, IsEdge};
 
@@ -46,7 +46,7 @@ pub fn mark_count(seen: &[bool; 200]) -> u64
 
 /// Whether an item is an upward column of the slot.
 fn is_up_of(item: &Item, slot: u8) -> bool
-    ensures { result ≡ offers.is_up_of slot item.now }
+    ensures { result ≡ rule.is_up_of slot item.now }
 {
     match item {
         Item::Up { slot: own, .. } => *own == slot,
@@ -56,7 +56,7 @@ fn is_up_of(item: &Item, slot: u8) -> bool
 
 /// Whether each item is an upward column of the slot.
 fn are_up_of(list: &[Item], slot: u8) -> bool
-    ensures { result ≡ list_all (offers.is_up_of slot) list.now }
+    ensures { result ≡ list_all (rule.is_up_of slot) list.now }
 {
     list.iter().all(|item| is_up_of(item, slot))
 }

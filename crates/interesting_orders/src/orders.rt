@@ -13,19 +13,16 @@ use std::alloc::Global;
 fn copied(alloc: Global, items: &[Item]) -> Result<List<Item>, NoMemory>
     ensures { IfOk result (λ list. list ≡ items.now) }
 {
-    match Vec::from_slice(alloc, items) {
-        Ok(items) => Ok(List { items }),
-        Err(_) => Err(NoMemory),
-    }
+    Ok(List {
+        items: Vec::from_slice(alloc, items)?,
+    })
 }
 
 fn push_order(orders: &mut Vec<List<Item>>, order: List<Item>) -> Result<(), NoMemory>
     ensures { OnOk result (orders.new.items ≡ orders.old.items ++ order ∷ []) }
 {
-    match orders.push(order) {
-        Ok(()) => Ok(()),
-        Err(_) => Err(NoMemory),
-    }
+    orders.push(order)?;
+    Ok(())
 }
 
 /// Pushes the order of an edge's column at the slot, where it is new.

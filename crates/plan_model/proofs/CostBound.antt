@@ -13,7 +13,7 @@ use Rattle.plan_model.specs.declared.plan.Plan.{Plan}
 use Rattle.plan_model.specs.declared.plan.Plan.TheVariants.{Leaf, Sort', Merge', Hash'}
 use Rattle.plan_model.specs.declared.plan.Whole.{Whole}
 use Rattle.plan_model.specs.declared.task.Task.{Task}
-use Rattle.plan_model.specs.OfferTables.{OfferTableLimits}
+use Rattle.adv_base.specs.OfferTables.{OfferTableLimits}
 use Rattle.plan_model.specs.Plans.{covers, IsValid, IsWhole, body_sorts}
 use Rattle.plan_model.specs.Costs.{rows_in, sort_cost, merge_of, hash_of, plan_cost, group_cost, final_rows, whole_cost}
 use Rattle.plan_model.specs.inner.Judging.{plan_judged, IsKept}

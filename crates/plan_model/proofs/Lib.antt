@@ -8,3 +8,4 @@ pub mod Caching
 pub mod Comparing
 pub mod Unique
 pub mod Listing
+pub mod TotalBound

@@ -1,18 +1,21 @@
 -- Lists of templates that decompose their task.
-use Rattle.std.proofs.Common.{◌≡◌, ◌⊎◌, ◌↔◌, inl, inr, ℕ, zero, suc, ◌<◌, ◌≤◌, List, [], length, take, Option, Some, None, refl, sym, ap, ◌∙◌, subst, arith}
+use Rattle.std.proofs.Common.{◌≡◌, ◌⊎◌, ◌↔◌, inl, inr, ℕ, zero, suc, ◌<◌, ◌≤◌, true, List, [], ◌∷◌, length, get_or, take, Option, Some, None, refl, sym, ap, ◌∙◌, subst, arith}
 use Rattle.std.specs.Prelude.{slice_get}
-use Rattle.std.proofs.lemmas.Bool.{cases_Bool, cases_lt, false≢true}
+use Rattle.std.proofs.lemmas.Bool.{cases_Bool, cases_lt, or_cases, false≢true}
+use Rattle.std.specs.List.{list_any}
+use Rattle.std.proofs.lemmas.List.Folds.{list_any_at}
 use Rattle.std.proofs.lemmas.Option.{slice_get_within}
-use Rattle.adv_base.specs.Items.{Order, BeginsWith}
+use Rattle.adv_base.specs.Items.{Order, BeginsWith, is_same_order}
 use Rattle.adv_base.specs.Offers.{OfferTable}
+use Rattle.adv_base.proofs.ItemLaws.{is_same_order-decides, order_same}
 use Rattle.plan_model.specs.declared.task.Task.{Task}
 use Rattle.plan_model.specs.declared.template.Template.{Template}
-use Rattle.plan_model.specs.OfferTables.{OfferTableLimits}
-use Rattle.plan_model.specs.Orders.{is_same_order}
+use Rattle.adv_base.specs.OfferTables.{OfferTableLimits}
+use Rattle.plan_model.specs.Orders.{interesting_orders}
 use Rattle.plan_model.specs.Least.{Least}
 use Rattle.plan_model.specs.Exchange.{whole_internal}
 use Rattle.plan_model.specs.Combinations.{Orders, IsCombination, CachedBy, IsEach, IsKept, Templates, Covers, needed, IsIn, Decompose, AreEach, AreKept}
-use Rattle.plan_model.proofs.OrderLaws.{is_same_order-decides, past-none}
+use Rattle.plan_model.proofs.OrderLaws.{past-none}
 use Rattle.plan_model.proofs.Decomposing.{AreSound, core-needs, core-combination, least-cached}
 use Rattle.plan_model.proofs.Caching.{least-core, covered-least, each-covers, weakly-kept, size}
 
@@ -146,3 +149,26 @@ kept-list-decompose task templates are =
     (λ needs internal each none.
     weakly-kept task (suc (size task needs)) needs internal each (omega arith)
     (λ c. none (covers-in task (IsKept task) templates needs internal are.all c)))
+
+-- ## Combinations by the numbers of their orders
+
+-- an order of a list, by its number, is among its orders
+numbered-among : (orders : List Order) (k : ℕ) → k < length orders → list_any (is_same_order (get_or orders k [])) orders ≡ true
+numbered-among orders k within = list_any_at (is_same_order (get_or orders k [])) orders k [] within (order_same (get_or orders k []))
+
+-- one among the orders of a list has a number
+among-number : (o : Order) (orders : List Order) → list_any (is_same_order o) orders ≡ true → (k : ℕ) × (k < length orders) × (get_or orders k [] ≡ o)
+among-number o [] among = absurd (false≢true among)
+among-number o (x ∷ xs) among =
+    elim (or_cases (is_same_order o x) (list_any (is_same_order o) xs) among) [
+      | inl here ↦ (0, omega arith, sym ((is_same_order-decides o x).0 here))
+      | inr later ↦ let rest = among-number o xs later in (suc rest.0, omega (arith, rest.1), rest.2)
+    ]
+
+-- numbers of orders that each slot has make a combination
+pub numbers-combination : (task : Task) (numbers : ℕ → ℕ) → ((slot : ℕ) → numbers slot < length (interesting_orders task slot)) → IsCombination task (λ slot. get_or (interesting_orders task slot) (numbers slot) [])
+numbers-combination task numbers within slot = numbered-among (interesting_orders task slot) (numbers slot) (within slot)
+
+-- and a combination has such numbers
+pub combination-number : (task : Task) (needs : Orders) → IsCombination task needs → (slot : ℕ) → (k : ℕ) × (k < length (interesting_orders task slot)) × (get_or (interesting_orders task slot) k [] ≡ needs slot)
+combination-number task needs c slot = among-number (needs slot) (interesting_orders task slot) (c slot)

@@ -2,13 +2,13 @@
 -- plans gives, after INUM.
 use Rattle.std.specs.Prelude.{◌≡◌, ◌≢◌, ℕ, ◌+◌, ◌<◌, ◌≤◌, true, ◌↔◌, List, [], ◌∷◌, length, Some, slice_get, slice_index_or}
 use Rattle.std.specs.List.{list_any}
-use Rattle.adv_base.specs.Items.{Order, BeginsWith}
+use Rattle.adv_base.specs.Items.{Order, BeginsWith, is_same_order}
 use Rattle.adv_base.specs.Offers.{OfferTable}
 use Rattle.plan_model.specs.declared.plan.Whole.{Whole}
 use Rattle.plan_model.specs.declared.task.Task.{Task}
 use Rattle.plan_model.specs.declared.template.Template.{Template}
-use Rattle.plan_model.specs.OfferTables.{price_at, order_at, OfferTableLimits}
-use Rattle.plan_model.specs.Orders.{is_same_order, interesting_orders}
+use Rattle.adv_base.specs.OfferTables.{price_at, order_at, OfferTableLimits}
+use Rattle.plan_model.specs.Orders.{interesting_orders}
 use Rattle.plan_model.specs.Plans.{IsWhole}
 use Rattle.plan_model.specs.Costs.{whole_cost}
 use Rattle.plan_model.specs.Least.{IsCostOfPlan, Least}

@@ -1,8 +1,7 @@
 -- The Lagrangian value of a node of a search for a configuration, after CoPhy. A plan may use a candidate that isn't
 -- chosen, at a rent; and pages of the budget have a price. Both are multipliers.
-use Rattle.std.specs.Prelude.{◌≡◌, ℕ, zero, suc, ◌+◌, ◌-◌, ◌*◌, ◌<◌, ◌≤◌, ◌==◌, if◌then◌else◌, List, [], ◌∷◌, sum_by, Option, Some, None, ℤ, pos, negsuc}
+use Rattle.std.specs.Prelude.{◌≡◌, ℕ, zero, suc, ◌+◌, ◌-◌, ◌*◌, ◌<◌, ◌≤◌, ◌==◌, if◌then◌else◌, List, [], ◌∷◌, sum_by, ℤ, pos, negsuc}
 use Rattle.std.specs.Option.{option_map_or}
-use Rattle.adv_base.specs.declared.catalogue.Catalogue.{Catalogue}
 use Rattle.adv_base.specs.declared.catalogue.index.IndexShape.{IndexShape}
 use Rattle.adv_base.specs.declared.setting.Config.{Config}
 use Rattle.adv_base.specs.declared.workload.Statement.{Statement}
@@ -19,7 +18,7 @@ use Rattle.adv_base.specs.Upkeep.{upkeep, kept_upkeep}
 use Rattle.plan_model.specs.declared.task.Task.{Task}
 use Rattle.plan_model.specs.BlockTask.{IsTaskOf}
 use Rattle.plan_model.specs.Least.{Least}
-use Rattle.plan_model.specs.Totals.{weighted_sum}
+use Rattle.plan_model.specs.Totals.{block_of, weighted_sum}
 
 -- For each statement, from 1, slot, from 0, and candidate, from 1, the rent of one use; and the price of a page, in parts
 -- of 65536.
@@ -64,12 +63,6 @@ abbrev pub slot_rents : (ℕ → ℕ) → ℕ → ℕ → List Slot → ℕ
 slot_rents rent t s [] = 0
 slot_rents rent t s (slot ∷ slots) = (if slot.table == t then rent s else 0) + slot_rents rent t (suc s) slots
 
-abbrev pub block_of : Work → Option Block
-block_of (Select block) = Some block
-block_of (Update block columns) = Some block
-block_of (Delete block) = Some block
-block_of (Insert table rows) = None
-
 -- the sum of weight times rents, for the statements from number q on
 abbrev pub weighted_rents : (ℕ → ℕ → ℕ) → ℕ → ℕ → List Statement → ℕ
 weighted_rents rent t q [] = 0
@@ -101,8 +94,8 @@ abbrev pub earnings : TheSetting → TheMultipliers → ℕ → Node → ℕ →
 earnings setting multipliers budget node a [] = 0
 earnings setting multipliers budget node a (shape ∷ shapes) =
     (if has_candidate node.inside a then candidate_rents setting multipliers a shape else
-     if is_open setting.cat setting.shapes budget node a
-     then candidate_rents setting multipliers a shape - candidate_cost setting multipliers shape else 0)
+    if is_open setting.cat setting.shapes budget node a
+    then candidate_rents setting multipliers a shape - candidate_cost setting multipliers shape else 0)
     + earnings setting multipliers budget node (suc a) shapes
 
 -- the whole number is (more - less) / 65536, rounded up
@@ -115,7 +108,7 @@ pub record IsLagrangian (setting : TheSetting) (budget : ℕ) (node : Node) (mul
   pub costs : List ℕ
   pub costs_are : AreRentedPlans setting (available setting.cat setting.shapes budget node) multipliers.rent 1 setting.statements costs
   pub value_is :
-    IsRoundedUp
-    (65536 * (weighted_sum setting.statements costs + weighted_kept setting) + costs_inside setting multipliers node 1 setting.shapes)
-    (earnings setting multipliers budget node 1 setting.shapes + multipliers.page * budget)
-    value
+      IsRoundedUp
+      (65536 * (weighted_sum setting.statements costs + weighted_kept setting) + costs_inside setting multipliers node 1 setting.shapes)
+      (earnings setting multipliers budget node 1 setting.shapes + multipliers.page * budget)
+      value

@@ -11,4 +11,6 @@ pub mod Combinations
 pub mod Comparisons
 pub mod BlockTask
 pub mod Totals
+pub mod Lagrangian
+pub mod Useful
 pub mod Uniqueness

@@ -1,23 +1,21 @@
 -- Candidates that may be of use: each fits the budget alone, and gives some slot an interesting order for less than all
 -- that exists.
-use Rattle.std.specs.Prelude.{◌≡◌, ℕ, ◌-◌, ◌<◌, ◌≤◌, ◌↔◌, Bool, true, List, length, All, count_by, Some, slice_get, slice_index_or}
+use Rattle.std.specs.Prelude.{◌≡◌, ℕ, ◌-◌, ◌<◌, ◌≤◌, ◌↔◌, Bool, true, false, List, length, All, count_by, Some, slice_get, slice_index_or}
 use Rattle.std.specs.List.{list_any}
-use Rattle.adv_base.specs.declared.catalogue.Catalogue.{Catalogue}
 use Rattle.adv_base.specs.declared.catalogue.index.IndexShape.{IndexShape}
 use Rattle.adv_base.specs.declared.catalogue.table.Table.{Table}
 use Rattle.adv_base.specs.declared.workload.Statement.{Statement}
 use Rattle.adv_base.specs.declared.workload.block.Block.{Block}
 use Rattle.adv_base.specs.declared.workload.parts.Slot.{Slot}
-use Rattle.adv_base.specs.Items.{Order, BeginsWith}
+use Rattle.adv_base.specs.Items.{Order, BeginsWith, is_same_order}
 use Rattle.adv_base.specs.Lookups.{table_at}
 use Rattle.adv_base.specs.Offers.{offers, index_offer}
 use Rattle.adv_base.specs.Settings.{TheSetting}
 use Rattle.adv_base.specs.Sizes.{shape_pages}
 use Rattle.plan_model.specs.declared.task.Task.{Task}
-use Rattle.plan_model.specs.Orders.{is_same_order, interesting_orders}
+use Rattle.plan_model.specs.Orders.{interesting_orders}
 use Rattle.plan_model.specs.BlockTask.{IsTaskOf}
-use Rattle.plan_model.specs.Lagrangian.{block_of}
-use Rattle.plan_model.specs.Totals.{no_candidates}
+use Rattle.plan_model.specs.Totals.{no_candidates, block_of}
 
 -- at a slot of a block an index gives some interesting order, at a price below every existing offer that gives it
 pub record IsCheaper (setting : TheSetting) (block : Block) (s : ℕ) (shape : IndexShape) : Type 0 where

@@ -5,12 +5,14 @@ ghost use Rattle.std.specs.Option.{ForSome, IfSome, IsNone};
 ghost use Rattle.adv_base.specs.declared.workload.parts.Item.TheVariants.{Up};
 ghost use Rattle.adv_base.specs.Items as rule;
 ghost use Rattle.adv_base.specs.Sets.{IsConnected};
+ghost use Rattle.adv_base.specs.declared.limits.TheConstants.{MOST_SLOTS};
 ghost use Rattle.adv_base.specs.Limits.Blocks.{ListLimits, GroupLimits};
 ghost use Rattle.plan_model.specs.Limits.Tasks as tasks;
 
 use crate::edge::TaskEdge;
 use crate::order::{all_slots, are_joined};
 use crate::task::Task;
+use adv_base::limits::{MOST_COLUMNS, MOST_ROWS, MOST_SLOTS};
 use adv_base::{Item, List, Rates};
 
 fn is_need(need: Option<Item>, slot: u8, column: u16) -> bool
@@ -28,7 +30,7 @@ fn is_edge(edge: &TaskEdge, slots: u8) -> bool
     if edge.left >= slots || edge.right >= slots || edge.left == edge.right {
         return false;
     }
-    if edge.left_column >= 200 || edge.right_column >= 200 {
+    if edge.left_column as usize >= MOST_COLUMNS || edge.right_column as usize >= MOST_COLUMNS {
         return false;
     }
     is_need(edge.left_need, edge.left, edge.left_column)
@@ -44,7 +46,7 @@ fn are_edges(edges: &[TaskEdge], slots: u8) -> bool
 fn is_row_count(rows: u64) -> bool
     ensures { IsTrue result ↔ tasks.RowLimits rows }
 {
-    rows >= 1 && rows <= 1000000000000
+    rows >= 1 && rows <= MOST_ROWS
 }
 
 fn are_row_counts(rows: &[u64]) -> bool
@@ -57,8 +59,8 @@ fn is_numbered(item: &Item) -> bool
     ensures { result ≡ tasks.is_numbered item.now }
 {
     match item {
-        Item::Up { column, .. } => *column < 200,
-        Item::Down { column, .. } => *column < 200,
+        Item::Up { column, .. } => (*column as usize) < MOST_COLUMNS,
+        Item::Down { column, .. } => (*column as usize) < MOST_COLUMNS,
         Item::Made(_) => true,
     }
 }
@@ -152,7 +154,7 @@ fn is_group(items: &[Item], slots: u8) -> bool
 
 /// Whether each cut of the slots in two is crossed.
 fn is_connected(edges: &[TaskEdge], slots: u8) -> bool
-    requires { slots ≤ 8 }
+    requires { slots ≤ MOST_SLOTS }
     ensures { IsTrue result ↔ IsConnected slots (map tasks.ends edges.now) }
 {
     let all = all_slots(slots);
@@ -166,10 +168,10 @@ fn is_connected(edges: &[TaskEdge], slots: u8) -> bool
 
 /// Whether edges connect slots of a task, of which there are 1 to 8.
 fn are_tied(edges: &[TaskEdge], slots: u8) -> bool
-    ensures yes { IsTrue result → (1 ≤ slots) × (slots ≤ 8) × All (tasks.EdgeLimits slots) edges.now × (length edges.now < 2 ^ 32) × IsConnected slots (map tasks.ends edges.now) }
-    ensures no { (1 ≤ slots) × (slots ≤ 8) × All (tasks.EdgeLimits slots) edges.now × (length edges.now < 2 ^ 32) × IsConnected slots (map tasks.ends edges.now) → IsTrue result }
+    ensures yes { IsTrue result → (1 ≤ slots) × (slots ≤ MOST_SLOTS) × All (tasks.EdgeLimits slots) edges.now × (length edges.now < 2 ^ 32) × IsConnected slots (map tasks.ends edges.now) }
+    ensures no { (1 ≤ slots) × (slots ≤ MOST_SLOTS) × All (tasks.EdgeLimits slots) edges.now × (length edges.now < 2 ^ 32) × IsConnected slots (map tasks.ends edges.now) → IsTrue result }
 {
-    if slots < 1 || slots > 8 || edges.len() >= 4294967296 {
+    if slots < 1 || slots as usize > MOST_SLOTS || edges.len() >= 4294967296 {
         return false;
     }
     are_edges(edges, slots) && is_connected(edges, slots)
@@ -177,7 +179,7 @@ fn are_tied(edges: &[TaskEdge], slots: u8) -> bool
 
 /// Whether there are rows for each set of slots.
 fn are_rows(rows: &[u64], slots: u8) -> bool
-    requires { slots ≤ 8 }
+    requires { slots ≤ MOST_SLOTS }
     ensures { IsTrue result ↔ ((length rows.now ≡ 2 ^ slots) × All tasks.RowLimits rows.now) }
 {
     rows.len() == 1 << slots && are_row_counts(rows)

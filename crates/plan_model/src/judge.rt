@@ -2,7 +2,7 @@
 ghost use Rattle.std.specs.Prelude.{◌≡◌, ◌+◌, ◌<◌, ◌^◌, bit_and, All, IsTrue, true, length};
 ghost use Rattle.std.specs.List.{list_any};
 ghost use Rattle.std.specs.Option.{SomeIff};
-ghost use Rattle.plan_model.specs.OfferTables.{OfferTableLimits};
+ghost use Rattle.adv_base.specs.OfferTables.{OfferTableLimits};
 ghost use Rattle.plan_model.specs.Plans as plans;
 ghost use Rattle.plan_model.specs.inner.Judging as judging;
 

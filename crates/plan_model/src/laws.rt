@@ -2,7 +2,8 @@
 //! System R's interesting orders, INUM's plans with exchanged leaves, and the cost that a cache of such plans gives.
 ghost use Rattle.plan_model.specs.Combinations.{EnoughDecompose, EachDecompose, KeptListDecompose, CacheDecomposes, KeptDecompose};
 ghost use Rattle.plan_model.specs.Comparisons.{LeastIsOne, LeastNeverRises, AddedNeverRaises, RaisedLiesBetween, BestIsEnough};
-ghost use Rattle.plan_model.specs.Uniqueness.{TaskIsOne, BlockCostIsOne, CostIsOne, TotalIsOne};
+ghost use Rattle.plan_model.specs.Totals.{TotalStaysBelow};
+ghost use Rattle.plan_model.specs.Uniqueness.{TaskIsOne, BlockCostIsOne, CostIsOne, TotalIsOne, LagrangianIsOne};
 ghost use Rattle.plan_model.specs.Exchange.{CostSplits, WholeCostSplits, LeavesExchange, WholeLeavesExchange};
 
 /// A valid plan costs what its operators cost above the leaves, and the price of one offer for each slot (INUM's internal
@@ -56,10 +57,17 @@ pub fn best_is_enough()
     ensures { BestIsEnough }
 {}
 
-/// A block has one task, and each cost is one number: that of a block, of a statement, of a workload.
+/// A block has one task, and each cost is one number: that of a block, of a statement, of a workload; so is the
+/// Lagrangian value of a node.
 pub fn costs_are_one()
     ensures task { TaskIsOne }
     ensures block { BlockCostIsOne }
     ensures statement { CostIsOne }
     ensures total { TotalIsOne }
+    ensures lagrangian { LagrangianIsOne }
+{}
+
+/// The total of a workload within the limits is less than 10^31.
+pub fn total_stays_below()
+    ensures { TotalStaysBelow }
 {}

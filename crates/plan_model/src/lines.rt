@@ -1,7 +1,7 @@
 //! The lines of a plan.
 ghost use Rattle.std.specs.Prelude.{◌≡◌, ◌++◌, ◌+◌, ◌*◌, ◌<◌, ◌≤◌, IfOk, decimal, codes, if◌then◌else◌, slice_get};
 ghost use Rattle.std.specs.Result.{OnOk};
-ghost use Rattle.plan_model.specs.OfferTables.{OfferTableLimits};
+ghost use Rattle.adv_base.specs.OfferTables.{OfferTableLimits};
 ghost use Rattle.plan_model.specs.Plans.{covers, IsValid, IsWhole, body_sorts};
 ghost use Rattle.plan_model.specs.Costs as costs;
 ghost use Rattle.plan_model.specs.inner.Judging.{plan_judged, IsKept};

@@ -1,6 +1,7 @@
 //! Orders, the edges between sets of slots, and what plans deliver.
 ghost use Rattle.std.specs.Prelude.{◌≡◌, ◌↔◌, ◌<◌, ◌≤◌, IsTrue, if◌then◌else◌};
 ghost use Rattle.std.specs.List.{list_any};
+ghost use Rattle.adv_base.specs.declared.limits.TheConstants.{MOST_SLOTS};
 ghost use Rattle.adv_base.specs.Items.{BeginsWith};
 ghost use Rattle.adv_base.specs.Sets as sets;
 ghost use Rattle.plan_model.specs.Limits.Tasks.{AreNumbered};
@@ -22,7 +23,7 @@ pub fn has_slot(set: usize, slot: u8) -> bool
 
 /// The set of all slots of a task with that many.
 pub fn all_slots(slots: u8) -> usize
-    requires { slots ≤ 8 }
+    requires { slots ≤ MOST_SLOTS }
     ensures exact { result ≡ sets.all_slots slots }
     ensures small { result < 256 }
 {

@@ -1,7 +1,9 @@
 //! Which whole plans are valid, and what they cost.
-ghost use Rattle.std.specs.Prelude.{◌≡◌, ◌≢◌, ◌↔◌, ◌+◌, ◌<◌, ◌≤◌, [], IsTrue, if◌then◌else◌};
+ghost use Rattle.std.specs.Prelude.{◌≡◌, ◌≢◌, ◌↔◌, ◌+◌, ◌*◌, ◌<◌, ◌≤◌, [], IsTrue, if◌then◌else◌};
 ghost use Rattle.std.specs.Option.{SomeIff, IfSome};
+ghost use Rattle.adv_base.specs.declared.limits.TheConstants.{MOST_RATE, MOST_ROWS};
 ghost use Rattle.adv_base.specs.Items.{BeginsWith};
+ghost use Rattle.plan_model.specs.declared.plan.TheConstants.{MOST_COST};
 ghost use Rattle.plan_model.specs.Plans as plans;
 ghost use Rattle.plan_model.specs.Costs as costs;
 
@@ -76,10 +78,10 @@ fn is_ordered(task: &Task, whole: &Whole, order: &[Item]) -> bool
 /// The rows that a final sort gets, of a body with that many rows.
 fn final_rows(task: &Task, rows: u64) -> u64
     requires some { 1 ≤ rows }
-    requires most { rows ≤ 1000000000000 }
+    requires most { rows ≤ MOST_ROWS }
     ensures exact { result ≡ costs.final_rows task.now task.now.group rows }
     ensures some { 1 ≤ result }
-    ensures most { result ≤ 1000000000000 }
+    ensures most { result ≤ MOST_ROWS }
 {
     match &task.group {
         None => rows,
@@ -90,9 +92,9 @@ fn final_rows(task: &Task, rows: u64) -> u64
 /// What the group step and the final sort cost above a body with that many rows.
 pub(crate) fn steps_price(task: &Task, whole: &Whole, rows: u64) -> u128
     requires some { 1 ≤ rows }
-    requires most { rows ≤ 1000000000000 }
+    requires most { rows ≤ MOST_ROWS }
     ensures exact { result ≡ costs.group_cost task.now.rates whole.now.group rows + (if whole.now.final_sort then costs.sort_cost task.now.rates (costs.final_rows task.now task.now.group rows) else 0) }
-    ensures most { result ≤ 42000000000000000000 }
+    ensures most { result ≤ 42 * (MOST_RATE * MOST_ROWS) }
 {
     let grouping = group_price(task, whole.group, rows);
     if whole.final_sort {
@@ -107,7 +109,7 @@ pub(crate) fn steps_price(task: &Task, whole: &Whole, rows: u64) -> u128
 /// takes no memory.
 pub fn plan_cost<O: Offers>(task: &Task, offers: &O, whole: &Whole) -> Option<u128>
     ensures exact { SomeIff result (plans.IsWhole task.now (O.table offers.now) whole.now) (costs.whole_cost task.now (O.table offers.now) whole.now) }
-    ensures most { IfSome result (λ cost. cost < 1000000000000000000000) }
+    ensures most { IfSome result (λ cost. cost < MOST_COST) }
 {
     offers.limits();
     let body = judge(task, offers, &whole.body, may_sort(whole.group))?;

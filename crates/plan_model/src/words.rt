@@ -6,27 +6,23 @@ ghost use Rattle.plan_model.specs.PlanTexts as texts;
 use crate::edge::TaskEdge;
 use crate::labels::Labels;
 use crate::order::has_slot;
-use adv_base::{Item, List, Name, NoMemory};
+use adv_base::{Item, List, Name, NoMemory, push_decimal};
 use std::alloc::Global;
 
 /// Pushes bytes.
 pub(crate) fn push(text: &mut Vec<u8>, bytes: &[u8]) -> Result<(), NoMemory>
     ensures { OnOk result (text.new.items ≡ text.old.items ++ bytes.now) }
 {
-    match text.extend_from_slice(bytes) {
-        Ok(()) => Ok(()),
-        Err(_) => Err(NoMemory),
-    }
+    text.extend_from_slice(bytes)?;
+    Ok(())
 }
 
 /// Pushes a number in decimal.
 pub(crate) fn push_number(alloc: Global, text: &mut Vec<u8>, number: u128) -> Result<(), NoMemory>
     ensures { OnOk result (text.new.items ≡ text.old.items ++ decimal number) }
 {
-    match format!(in alloc; "{number}") {
-        Ok(digits) => push(text, digits.as_bytes()),
-        Err(_) => Err(NoMemory),
-    }
+    push_decimal(alloc, text, number)?;
+    Ok(())
 }
 
 /// Pushes two spaces for each level.
@@ -34,10 +30,8 @@ pub(crate) fn push_indent(text: &mut Vec<u8>, depth: usize) -> Result<(), NoMemo
     requires { depth ≤ 1000 }
     ensures { OnOk result (text.new.items ≡ text.old.items ++ replicate (2 * depth) 32) }
 {
-    match text.resize(text.len() + 2 * depth, b' ') {
-        Ok(()) => Ok(()),
-        Err(_) => Err(NoMemory),
-    }
+    text.resize(text.len() + 2 * depth, b' ')?;
+    Ok(())
 }
 
 /// A name of a list, which is empty where there is none.

@@ -2,10 +2,9 @@
 use Rattle.std.specs.Prelude.{◌≡◌, ℕ, ◌+◌, ◌<◌, ◌≤◌, Bool, false, if◌then◌else◌, List, [], ◌∷◌, ◌++◌, length, All, Option, Some, None, count_by, slice_index_or}
 use Rattle.std.specs.List.{list_any}
 use Rattle.adv_base.specs.declared.workload.parts.Item.TheVariants.{Up, Down, Made}
-use Rattle.adv_base.specs.Items.{Order}
+use Rattle.adv_base.specs.Items.{Order, is_same_order}
 use Rattle.plan_model.specs.declared.edge.TaskEdge.{TaskEdge}
 use Rattle.plan_model.specs.Limits.Tasks.{EdgeLimits}
-use Rattle.plan_model.specs.Orders.{is_same_order}
 
 -- an edge of some task
 abbrev pub IsEdge : TaskEdge → Type 0

@@ -3,8 +3,9 @@ use Rattle.std.specs.Prelude.{ℕ, ◌+◌, ◌<◌, ◌^◌}
 use Rattle.adv_base.specs.Offers.{OfferTable}
 use Rattle.plan_model.specs.declared.judge.Judged.{Judged}
 use Rattle.plan_model.specs.declared.plan.Plan.{Plan}
+use Rattle.plan_model.specs.declared.plan.TheConstants.{MOST_COST}
 use Rattle.plan_model.specs.declared.task.Task.{Task}
-use Rattle.plan_model.specs.OfferTables.{price_at}
+use Rattle.adv_base.specs.OfferTables.{price_at}
 use Rattle.plan_model.specs.Plans.{covers}
 use Rattle.plan_model.specs.Costs.{rows_in, sort_cost, merge_of, hash_of, plan_cost}
 
@@ -32,7 +33,7 @@ hash_judged task left right =
 abbrev pub plan_judged : Task → OfferTable → Plan → Judged
 plan_judged task table plan = record { covers = covers plan; cost = plan_cost task table plan }
 
--- it covers slots of the task, and costs less than 10^21
+-- it covers slots of the task, and costs no more than a plan may
 pub record IsKept (task : Task) (judged : Judged) : Type 0 where
   pub within : judged.covers < 2 ^ task.slots
-  pub most : judged.cost < 1000000000000000000000
+  pub most : judged.cost < MOST_COST

@@ -14,4 +14,4 @@ returns-clause-most g c =
     let exact = c.in_ok-body.ensures.exact in
     let most : c.in_ok-body.body.cost ≤ 800000000000000000000 =
     rw exact.1 (valid-most _ c.args.task.now _ c.args.whole.now.body c.limits.ensures exact.0) in
-    λ cost is. ?
+    omega (arith, most, c.steps_price.ensures.most)
