@@ -13,26 +13,26 @@ use Rattle.adv_base.specs.declared.workload.predicate.Test.{Test}
 use Rattle.adv_base.specs.declared.workload.predicate.Test.TheVariants.{Equal, NotEqual, Below, Above, Between, OneOf, Like, IsNull, NotNull, Same}
 use Rattle.adv_base.specs.declared.workload.predicate.Value.{Value}
 use Rattle.adv_base.specs.declared.workload.predicate.Value.TheVariants.{Number, Plain}
+use Rattle.adv_base.specs.declared.limits.TheConstants.{MOST_ROWS, WHOLE}
 use Rattle.adv_base.specs.Limits.Tests.{TestLimits}
 use Rattle.adv_base.specs.Lookups.{slot_table, slot_distinct, table_distinct}
 use Rattle.adv_base.specs.Parts.{equal_part, tied_part, range_part, above_part, below_part, between_part, test_part, column_test_part, table_pred_part, pred_part, edge_part}
-use Rattle.adv_base.specs.Rows.{table_rows, slot_preds, filtered_rows, edges_back, rows_below, set_rows}
+use Rattle.adv_base.specs.Rows.{AreRows, table_rows, slot_preds, filtered_rows, edges_back, rows_below, set_rows}
 use Rattle.adv_base.specs.Sets.{has_slot}
 use Rattle.adv_base.specs.Sums.{clamped_part, times_part, capped}
 use Rattle.adv_base.proofs.SumLemmas.{times_part-bounds}
-use Rattle.cardinality.specs.Tables.{AreRows}
 
 -- a selectivity: a part of 10^9, at least 1
 pub record IsPart (part : ℕ) : Type 0 where
   pub least : 1 ≤ part
-  pub most : part ≤ 1000000000
+  pub most : part ≤ WHOLE
 
 pub clamped_part-bounds : (n d : ℕ) → IsPart (clamped_part n d)
 unfolding clamped_part
 clamped_part-bounds n d = record { least = omega arith; most = omega arith }
 
 pub equal_part-bounds : (distinct : Option ℕ) → IsPart (equal_part distinct)
-equal_part-bounds (Some d) = clamped_part-bounds 1000000000 d
+equal_part-bounds (Some d) = clamped_part-bounds WHOLE d
 equal_part-bounds None = record { least = omega arith; most = omega arith }
 
 pub tied_part-bounds : (left right : Option ℕ) → IsPart (tied_part left right)
@@ -118,7 +118,7 @@ through-bounds part is start some (x ∷ xs) =
     record { least = rest.least; most = omega arith }
 
 table_rows-bounds : (table : Option Table) → AreRows (option_map_or table_rows table 1)
-table_rows-bounds (Some table) = record { least = omega arith; most = let most : table.rows ≤ 1000000000000 = table.limits.rows_most in omega arith }
+table_rows-bounds (Some table) = record { least = omega arith; most = let most : table.rows ≤ MOST_ROWS = table.limits.rows_most in omega arith }
 table_rows-bounds None = record { least = omega arith; most = omega arith }
 
 -- the filtered rows of a slot
