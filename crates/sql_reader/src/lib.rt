@@ -34,6 +34,3 @@ pub use parsed_text::Parsed;
 pub use parts::{InsertParts, Progress, UpdateParts};
 pub use piece::{Mark, Piece};
 pub use workload::read_workload;
-
-#[cfg(test)]
-mod tests;
