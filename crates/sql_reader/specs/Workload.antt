@@ -13,11 +13,12 @@ use Rattle.sql_reader.specs.declared.parts.Progress.{Progress}
 use Rattle.sql_reader.specs.Kinds.{has}
 use Rattle.sql_reader.specs.Rule.{Meaning}
 use Rattle.sql_reader.specs.Exact.{IsRead, FailsAt}
-use Rattle.sql_reader.specs.Grammar.{grammar, levels, workload}
+use Rattle.sql_reader.specs.Grammar.{levels}
+use Rattle.sql_reader.specs.Printed.{grammar, workload}
 use Rattle.sql_reader.specs.Values.{place_of, no_statements}
 use Rattle.sql_reader.specs.Pieces.{ArePieces, no_mark, bad_weight, start_behind}
 
--- pieces, and the statements that they are
+-- pieces, and the statements that they are by the grammar as it is printed
 abbrev pub MeansStatements : Meaning Progress Progress
 MeansStatements start pieces progress = IsRead grammar levels workload start pieces progress
 

@@ -7,20 +7,20 @@ ghost use Rattle.std.specs.Prelude.{◌≡◌};
 use crate::{Kind, Piece};
 
 /// Why reading stops: there is no memory, or nothing goes on with the next piece.
-#[derive(Clone, Copy, Debug)]
+#[derive(Clone, Copy)]
 pub enum Stop {
     Memory,
     Here,
 }
 
 /// The pieces that are left.
-#[derive(Debug, Drop)]
+#[derive(Drop)]
 pub struct Cursor<'a> {
     pub rest: &'a [Piece],
 }
 
 /// Reads by the grammar, where so many more levels may nest.
-#[derive(Clone, Copy, Debug)]
+#[derive(Clone, Copy)]
 pub struct Reader {
     pub levels: u8,
 }

@@ -4,7 +4,7 @@ use crate::NameUse;
 use adv_base::List;
 
 /// What the expression that was read last is.
-#[derive(Clone, Copy, Debug)]
+#[derive(Clone, Copy)]
 pub enum Form {
     /// A column and nothing else.
     Column,
@@ -15,7 +15,7 @@ pub enum Form {
 
 /// The columns of the expressions read so far in written order, the number of their calls of `*`, whether
 /// they call an aggregate, and the form of the last of them.
-#[derive(Debug, Drop)]
+#[derive(Drop)]
 pub struct Found {
     pub uses: List<NameUse>,
     pub stars: u32,

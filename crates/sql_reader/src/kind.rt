@@ -2,7 +2,7 @@
 
 /// What the grammar sees of a token: a reserved word, a symbol, a name or a literal. Tokens that the
 /// grammar treats alike share a kind.
-#[derive(Clone, Copy, Debug)]
+#[derive(Clone, Copy)]
 pub enum Kind {
     All,
     And,

@@ -19,13 +19,12 @@ mod piece;
 mod scan;
 mod select;
 mod statement;
-mod valid;
 mod words;
 mod workload;
 
 pub use found::{Form, Found};
 pub use kind::Kind;
-pub use law::{as_printed, one_meaning};
+pub use law::{as_printed, one_answer, one_meaning};
 pub use parsed::{
     Body, Compare, Condition, Expr, Literal, NameUse, ParsedItem, ParsedOrder, ParsedSelect,
     ParsedStatement, Source, SqlFault,

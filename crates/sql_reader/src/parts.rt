@@ -5,7 +5,7 @@ use adv_base::List;
 use sql_tokens::Span;
 
 /// An INSERT so far.
-#[derive(Debug, Drop)]
+#[derive(Drop)]
 pub struct InsertParts {
     pub table: Span,
     pub columns: List<NameUse>,
@@ -14,7 +14,7 @@ pub struct InsertParts {
 }
 
 /// An UPDATE so far.
-#[derive(Debug, Drop)]
+#[derive(Drop)]
 pub struct UpdateParts {
     pub source: Source,
     pub columns: List<NameUse>,
@@ -23,7 +23,7 @@ pub struct UpdateParts {
 }
 
 /// A workload so far: its statements, and the place of the last one's first token, 0 where there is none.
-#[derive(Debug, Drop)]
+#[derive(Drop)]
 pub struct Progress {
     pub statements: List<ParsedStatement>,
     pub before: u64,

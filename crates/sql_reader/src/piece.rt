@@ -7,7 +7,7 @@ use crate::Kind;
 use sql_tokens::Span;
 
 /// The last weight comment before a token: its place in the text, 0 where there is none, and its number.
-#[derive(Clone, Copy, Debug)]
+#[derive(Clone, Copy)]
 pub struct Mark {
     pub place: u64,
     pub weight: u32,
@@ -15,7 +15,7 @@ pub struct Mark {
 
 /// A token as the grammar sees it. `number` is the number of a whole number of at most 18 digits, and
 /// the day of a text that holds a date, in days since 1970-01-01.
-#[derive(Clone, Copy, Debug)]
+#[derive(Clone, Copy)]
 pub struct Piece {
     pub kind: Kind,
     pub span: Span,

@@ -1,16 +1,16 @@
 //! Reads a workload.
 ghost use Rattle.sql_reader.specs.Pieces.{ArePieces, bad_weight, no_mark, start_behind};
 ghost use Rattle.sql_reader.specs.Values.{no_statements};
+ghost use Rattle.sql_reader.specs.Valid.{statements_in};
 ghost use Rattle.sql_reader.specs.Workload as workload;
 ghost use Rattle.sql_reader.specs.declared.cursor.Stop.TheVariants.{Here, Memory};
 ghost use Rattle.sql_reader.specs.declared.parsed.ParsedStatement.{ParsedStatement};
 ghost use Rattle.sql_reader.specs.declared.parsed.SqlFault.{SqlFault};
 ghost use Rattle.sql_tokens.specs.Cut.{AreTokens};
-ghost use Rattle.std.specs.Prelude.{◌≡◌, ◌+◌, ◌<◌, ◌^◌, ◌⊎◌, IfErr, IfOk, List, MatchResult, length, option_map};
+ghost use Rattle.std.specs.Prelude.{◌≡◌, ◌+◌, ◌<◌, ◌^◌, ◌⊎◌, IfErr, IfOk, List, IsTrue, MatchResult, length, option_map};
 
 use crate::cursor::{Cursor, Reader, Stop, has};
 use crate::scan::{bad_weight, scan, start_behind_1000};
-use crate::valid::statements_in;
 use crate::{Kind, Parsed, ParsedStatement, Piece, Progress, SqlFault};
 use adv_base::List;
 use sql_tokens::{TokenFault, Tokens, tokens};
@@ -149,17 +149,13 @@ fn first_fault(tokens: &Tokens<'_>, list: &[Piece], fault: Option<SqlFault>) -> 
 }
 
 /// A text and its statements, which keep what a Parsed keeps.
-fn parsed<'a>(text: &'a [u8], statements: List<ParsedStatement>) -> Result<Parsed<'a>, SqlFault>
-    requires { length text.now < 2 ^ 32 }
-    ensures text { IfOk result (λ parsed. parsed.text.now ≡ text.now) }
-    ensures statements { IfOk result (λ parsed. parsed.statements ≡ statements) }
-    ensures err { IfErr result (λ e. e ≡ SqlFault.Memory) }
+fn parsed<'a>(text: &'a [u8], statements: List<ParsedStatement>) -> Parsed<'a>
+    requires short { length text.now < 2 ^ 32 }
+    requires within { IsTrue (statements_in (length text.now) statements) }
+    ensures text { result.text.now ≡ text.now }
+    ensures statements { result.statements ≡ statements }
 {
-    // What was read always keeps this: each span is that of a token, and each count is at most that of the tokens.
-    if !statements_in(text.len() as u64, statements.as_slice()) {
-        return Err(SqlFault::Memory);
-    }
-    Ok(Parsed { text, statements })
+    Parsed { text, statements }
 }
 
 /// What a text says with these tokens and pieces, of which the grammar says this.
@@ -185,7 +181,7 @@ fn conclude<'a>(
                 statements,
                 before: _,
             } = progress;
-            parsed(tokens.text, statements)
+            Ok(parsed(tokens.text, statements))
         }
     }
 }
