@@ -1,6 +1,6 @@
 -- What reading keeps: where each step of a rule makes of what is known before what is known after, so does the rule.
 use Rattle.std.proofs.Common.{◌≡◌, ℕ, zero, suc, ◌+◌, ◌<◌, ◌≤◌, true, List, [], ◌∷◌, ◌++◌, sym, refl, ap, ◌∙◌, subst, inl, inr, arith}
-use Rattle.sql_reader.specs.declared.kind.Kind.{Kind}
+use Rattle.sql_reader.specs.declared.kind.PieceKind.{PieceKind}
 use Rattle.sql_reader.specs.declared.piece.Piece.{Piece}
 use Rattle.sql_reader.specs.Kinds.{has}
 use Rattle.sql_reader.specs.Rule.{Nesting, State, Rule, Give, Take, Then, Use, Either, Many, Nest, Meaning, Turns, IsOver}
@@ -81,26 +81,26 @@ module _ (c : Scale) where
   pub give_keeps : {A B : Type 0} {P : Known A} {Q : Known B} {f : A → B} → ((k : ℕ) (a : A) → k < c.limit → P k a → Q k (f a)) → Keeps c P (Give f) Q
   give_keeps {P = P} {Q = Q} {f = f} step = record {
     keeps = λ k j a ps b e room good known is.
-      let same = nothing_read c k j ps is.0 e in
-      subst (λ x. Q j x) (sym is.1) (subst (λ i. Q i (f a)) same (step k a (subst (λ i. i < c.limit) (sym same) room) known));
+        let same = nothing_read c k j ps is.0 e in
+        subst (λ x. Q j x) (sym is.1) (subst (λ i. Q i (f a)) same (step k a (subst (λ i. i < c.limit) (sym same) room) known));
   }
 
-  pub take_keeps : {A B : Type 0} {P : Known A} {Q : Known B} {kinds : List Kind} {f : A → Piece → B} →
+  pub take_keeps : {A B : Type 0} {P : Known A} {Q : Known B} {kinds : List PieceKind} {f : A → Piece → B} →
       ((k : ℕ) (a : A) (p : Piece) → k + c.weigh p < c.limit → has kinds p.kind ≡ true → c.Good p → P k a → Q (k + c.weigh p) (f a p)) → Keeps c P (Take kinds f) Q
   take_keeps {P = P} {Q = Q} {kinds = kinds} {f = f} step = record {
     keeps = λ k j a ps b e room good known is.
-      let (p, among, one, same_value) = is in
-      let same = one_read c k j ps p one e in
-      let good_one : c.Good p = (subst (AllGood c) one good).0 in
-      subst (λ x. Q j x) (sym same_value) (subst (λ i. Q i (f a p)) same (step k a p (subst (λ i. i < c.limit) (sym same) room) among good_one known));
+        let (p, among, one, same_value) = is in
+        let same = one_read c k j ps p one e in
+        let good_one : c.Good p = (subst (AllGood c) one good).0 in
+        subst (λ x. Q j x) (sym same_value) (subst (λ i. Q i (f a p)) same (step k a p (subst (λ i. i < c.limit) (sym same) room) among good_one known));
   }
 
   pub then_keeps : {A M B : Type 0} {P : Known A} {Q : Known B} {r : Rule A M} {s : Rule M B} (R : Known M) → Keeps c P r R → Keeps c R s Q → Keeps c P (Then r s) Q
   then_keeps R f g = record {
     keeps = λ k j a ps b e room good known is.
-      let (front, back, m, split, h, t) = is in
-      let p = parted c k j ps front back split e room good in
-      g.keeps p.middle j m back b p.second room p.good_back (f.keeps k p.middle a front m p.first p.room p.good_front known h) t;
+        let (front, back, m, split, h, t) = is in
+        let p = parted c k j ps front back split e room good in
+        g.keeps p.middle j m back b p.second room p.good_back (f.keeps k p.middle a front m p.first p.room p.good_front known h) t;
   }
 
   -- a rule that is read from a part of what is known, as if nothing were read before
@@ -108,9 +108,9 @@ module _ (c : Scale) where
       ((k : ℕ) (a : A) → P k a → P2 0 (part a)) → ((k i : ℕ) (a : A) (m : C) → k + i < c.limit → P k a → Q2 i m → Q (k + i) (join a m)) → Keeps c P (Use part r join) Q
   use_keeps {P = P} {Q = Q} {part = part} {r = r} {join = join} P2 Q2 f start step = record {
     keeps = λ k j a ps b e room good known is.
-      let (m, h, same) = is in
-      let after = f.keeps 0 (weight_of c ps) (part a) ps m (omega arith) (omega (arith, e, room)) good (start k a known) h in
-      subst (λ x. Q j x) (sym same) (subst (λ i. Q i (join a m)) (sym e) (step k (weight_of c ps) a m (subst (λ i. i < c.limit) e room) known after));
+        let (m, h, same) = is in
+        let after = f.keeps 0 (weight_of c ps) (part a) ps m (omega arith) (omega (arith, e, room)) good (start k a known) h in
+        subst (λ x. Q j x) (sym same) (subst (λ i. Q i (join a m)) (sym e) (step k (weight_of c ps) a m (subst (λ i. i < c.limit) e room) known after));
   }
 
   -- a rule that is read from a part of what is known, and goes on from what was read before
@@ -118,11 +118,11 @@ module _ (c : Scale) where
       ((k : ℕ) (a : A) → P k a → P2 k (part a)) → ((k j : ℕ) (a : A) (m : C) → k ≤ j → j < c.limit → P k a → Q2 j m → Q j (join a m)) → Keeps c P (Use part r join) Q
   part_keeps {P = P} {Q = Q} {part = part} {r = r} {join = join} P2 Q2 f start step = record {
     keeps = λ k j a ps b e room good known is.
-      let (m, h, same) = is in
-      subst (λ x. Q j x) (sym same) (step k j a m (omega (arith, e)) room known (f.keeps k j (part a) ps m e room good (start k a known) h));
+        let (m, h, same) = is in
+        subst (λ x. Q j x) (sym same) (step k j a m (omega (arith, e)) room known (f.keeps k j (part a) ps m e room good (start k a known) h));
   }
 
-  pub either_keeps : {A B : Type 0} {P : Known A} {Q : Known B} {kinds : List Kind} {r s : Rule A B} → Keeps c P r Q → Keeps c P s Q → Keeps c P (Either kinds r s) Q
+  pub either_keeps : {A B : Type 0} {P : Known A} {Q : Known B} {kinds : List PieceKind} {r s : Rule A B} → Keeps c P r Q → Keeps c P s Q → Keeps c P (Either kinds r s) Q
   either_keeps f g = record {
     keeps = λ k j a ps b e room good known is. elim is [
       | inl h ↦ f.keeps k j a ps b e room good known h
@@ -130,7 +130,7 @@ module _ (c : Scale) where
     ];
   }
 
-  pub many_keeps : {A : Type 0} {P : Known A} {kinds : List Kind} {r : Rule A A} → Keeps c P r P → Keeps c P (Many kinds r) P
+  pub many_keeps : {A : Type 0} {P : Known A} {kinds : List PieceKind} {r : Rule A A} → Keeps c P r P → Keeps c P (Many kinds r) P
   many_keeps {P = P} {r = r} f = record {
     keeps = λ k j a ps b e room good known is. turns_keep c P r f is.0 k j a ps b e room good known is.1;
   }

@@ -4,12 +4,12 @@ use Rattle.std.specs.List.{list_all}
 use Rattle.std.proofs.lemmas.List.Folds.{list_all-append}
 use Rattle.std.proofs.lemmas.Bool.{le-leb}
 use Rattle.sql_tokens.specs.declared.token.Span.{Span}
-use Rattle.sql_reader.specs.declared.kind.Kind.{Kind}
-use Rattle.sql_reader.specs.declared.kind.Kind.TheVariants as kinds
+use Rattle.sql_reader.specs.declared.kind.PieceKind.{PieceKind}
+use Rattle.sql_reader.specs.declared.kind.PieceKind.TheVariants as kinds
 use Rattle.sql_reader.specs.declared.piece.Piece.{Piece}
-use Rattle.sql_reader.specs.declared.found.Form.{Form}
-use Rattle.sql_reader.specs.declared.found.Form.TheVariants as forms
-use Rattle.sql_reader.specs.declared.found.Found.{Found}
+use Rattle.sql_reader.specs.declared.seen.ExprForm.{ExprForm}
+use Rattle.sql_reader.specs.declared.seen.ExprForm.TheVariants as forms
+use Rattle.sql_reader.specs.declared.seen.Seen.{Seen}
 use Rattle.sql_reader.specs.declared.parsed.NameUse.{NameUse}
 use Rattle.sql_reader.specs.declared.parsed.Expr.{Expr}
 use Rattle.sql_reader.specs.declared.parsed.Source.{Source}
@@ -66,24 +66,24 @@ pub few_in : {X : Type 0} (f : X → Bool) (k : ℕ) (xs : List X) → k < 2 ^ 3
 few_in f k xs room (short, all) = both (are_few (length xs)) (list_all f xs) (nat_lt_true (length xs) (2 ^ 32) (omega (arith, room, short))) all
 
 -- the columns of an expression
-abbrev pub Loose : ℕ → ℕ → Found → Type 0
+abbrev pub Loose : ℕ → ℕ → Seen → Type 0
 Loose n k found = Few (name_in n) k found.uses
 
 -- and something was read
-abbrev pub Taken : ℕ → ℕ → Found → Type 0
+abbrev pub Taken : ℕ → ℕ → Seen → Type 0
 Taken n k found = (1 ≤ k) × Loose n k found
 
 -- behind so many columns
-abbrev pub At : ℕ → ℕ → ℕ → Found → Type 0
+abbrev pub At : ℕ → ℕ → ℕ → Seen → Type 0
 At n before k found = Loose n k found × (length found.uses ≡ before)
 
 -- an expression behind so many columns: where it is a column and nothing else, that is one more
-pub record Alone (n before k : ℕ) (found : Found) : Type 0 where
+pub record Alone (n before k : ℕ) (found : Seen) : Type 0 where
   pub some_read : 1 ≤ k
   pub loose : Loose n k found
   pub one : is_column found.form ≡ true → length found.uses ≡ before + 1
 
-not_column_literal : (kind : Kind) (number : Option ℤ) → is_column (literal_form kind number) ≡ false
+not_column_literal : (kind : PieceKind) (number : Option ℤ) → is_column (literal_form kind number) ≡ false
 not_column_literal kinds.Whole None = refl
 not_column_literal kinds.Whole (Some m) = by_size (nat_lt (nat_abs m) (2 ^ 32))
   where
@@ -97,12 +97,12 @@ plain_one true count h = search (tests, rules)
 plain_one false count h = refl
 
 -- an expression that stands alone
-pub expr_known : (n k : ℕ) (found : Found) → k < 2 ^ 32 → Alone n 0 k found → expr_in n (expr_of found) ≡ true
+pub expr_known : (n k : ℕ) (found : Seen) → k < 2 ^ 32 → Alone n 0 k found → expr_in n (expr_of found) ≡ true
 expr_known n k found room known =
     both (are_few (length found.uses) && list_all (name_in n) found.uses) (one_if_plain (is_column found.form) (length found.uses)) (few_in (name_in n) k found.uses room known.loose)
     (plain_one (is_column found.form) (length found.uses) known.one)
 
-literal_known_kind : (n : ℕ) (kind : Kind) (p : Piece) → span_in n p.span ≡ true → literal_in n (literal_of_kind kind p) ≡ true
+literal_known_kind : (n : ℕ) (kind : PieceKind) (p : Piece) → span_in n p.span ≡ true → literal_in n (literal_of_kind kind p) ≡ true
 literal_known_kind n kinds.Whole p h = by_number p.number
   where
     by_number : (number : Option ℤ) → literal_in n (whole_literal number) ≡ true
@@ -118,7 +118,7 @@ negative_known n (literals.Day m) h = h
 negative_known n (literals.Text s) h = h
 negative_known n literals.Other h = h
 
-signed_known : (n : ℕ) (sign : Kind) (p : Piece) → span_in n p.span ≡ true → literal_in n (signed sign p) ≡ true
+signed_known : (n : ℕ) (sign : PieceKind) (p : Piece) → span_in n p.span ≡ true → literal_in n (signed sign p) ≡ true
 signed_known n kinds.Minus p h = negative_known n (literal_of p) (literal_known_kind n p.kind p h)
 signed_known n _ p h = literal_known_kind n p.kind p h
 
@@ -130,7 +130,7 @@ pub record NestedKeep (n : ℕ) (d : (x : Nesting) → Meaning (State x) (State 
   pub signed_operand : (before : ℕ) → Keeps (text_scale n d) (At n before) (Nest Signed) (Alone n before)
 
 -- what ends is more than a column alone
-pub ended : (n before k j : ℕ) (found : Found) → k ≤ j → 1 ≤ j → Loose n k found → Alone n before j (not_alone found)
+pub ended : (n before k j : ℕ) (found : Seen) → k ≤ j → 1 ≤ j → Loose n k found → Alone n before j (not_alone found)
 ended n before k j found room first known = record { some_read = first; loose = few_later (name_in n) k j found.uses room known; one = λ h. cc }
 
 module _ (n : ℕ) (d : (x : Nesting) → Meaning (State x) (State x)) where
@@ -181,7 +181,7 @@ module _ (n : ℕ) (d : (x : Nesting) → Meaning (State x) (State x)) where
   -- rules that add to a list
 
   -- a word or sign that says no more than that it stands there
-  pub word_keeps : {A : Type 0} {P : Known A} {kind : Kind} → ((k j : ℕ) (a : A) → k ≤ j → P k a → P j a) → Keeps c P (printed.word kind) P
+  pub word_keeps : {A : Type 0} {P : Known A} {kind : PieceKind} → ((k j : ℕ) (a : A) → k ≤ j → P k a → P j a) → Keeps c P (printed.word kind) P
   word_keeps later = take_keeps c (λ k a p room among good known. later k (k + 1) a (omega arith) known)
 
   pub maybe_keeps : {A : Type 0} {P : Known A} {r : Rule A A} → Keeps c P r P → Keeps c P (printed.maybe r) P
@@ -202,11 +202,11 @@ module _ (n : ℕ) (d : (x : Nesting) → Meaning (State x) (State x)) where
     literal_operand_keeps before =
         either_keeps c
         (take_keeps c (λ k found p room among good known.
-          record {
-            some_read = some k;
-            loose = few_later (name_in n) k (k + 1) found.uses (omega arith) known.0;
-            one = λ h. not_both (is_column (literal_form p.kind p.number)) h (not_column_literal p.kind p.number);
-          }))
+        record {
+          some_read = some k;
+          loose = few_later (name_in n) k (k + 1) found.uses (omega arith) known.0;
+          one = λ h. not_both (is_column (literal_form p.kind p.number)) h (not_column_literal p.kind p.number);
+        }))
         (then_keeps c (Loose n) (take_keeps c (λ k found p room among good known. few_later (name_in n) k (k + 1) found.uses (omega arith) known.0))
         (take_keeps c (λ k found p room among good known. ended n before k (k + 1) found (omega arith) (some k) known)))
 
@@ -220,19 +220,19 @@ module _ (n : ℕ) (d : (x : Nesting) → Meaning (State x) (State x)) where
         (either_keeps c
         (use_keeps c Free (Passes (name_in n)) column_keeps (λ k found known. tt)
         (λ k i found name room known new.
-          record {
-            some_read = omega (arith, new.0);
-            loose = few_more (name_in n) k (k + i) found.uses name (omega (arith, new.0)) known.0 new.1;
-            one = λ h. omega (arith, length-append found.uses (name ∷ []), known.1);
-          }))
+        record {
+          some_read = omega (arith, new.0);
+          loose = few_more (name_in n) k (k + i) found.uses name (omega (arith, new.0)) known.0 new.1;
+          one = λ h. omega (arith, length-append found.uses (name ∷ []), known.1);
+        }))
         (nested.call before))))
 
     -- where it doesn't matter how many columns stand before
-    loosely : {r : Rule Found Found} → ((before : ℕ) → Keeps c (At n before) r (Alone n before)) → Keeps c (Loose n) r (Taken n)
+    loosely : {r : Rule Seen Seen} → ((before : ℕ) → Keeps c (At n before) r (Alone n before)) → Keeps c (Loose n) r (Taken n)
     loosely f = record {
       keeps = λ k j a ps b e room good known is.
-        let h = (f (length a.uses)).keeps k j a ps b e room good (known, refl) is in
-        (h.some_read, h.loose);
+          let h = (f (length a.uses)).keeps k j a ps b e room good (known, refl) is in
+          (h.some_read, h.loose);
     }
 
     -- expr = prim { ("+" | "-" | "*" | "/" | "%" | "||") prim }
@@ -247,7 +247,7 @@ module _ (n : ℕ) (d : (x : Nesting) → Meaning (State x) (State x)) where
     pub loose_expr : Keeps c (Loose n) printed.expr (Loose n)
     loose_expr = known_keeps c (λ k a h. h) (λ k b h. h.1) (loosely expr_keeps)
 
-    pub loose_later : (k j : ℕ) (found : Found) → k ≤ j → Loose n k found → Loose n j found
+    pub loose_later : (k j : ℕ) (found : Seen) → k ≤ j → Loose n k found → Loose n j found
     loose_later k j found room known = few_later (name_in n) k j found.uses room known
 
     -- expr { "," expr }

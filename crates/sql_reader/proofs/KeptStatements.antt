@@ -5,9 +5,9 @@ use Rattle.std.proofs.lemmas.List.Folds.{list_all-append}
 use Rattle.std.proofs.lemmas.Bool.{le-leb}
 use Rattle.sql_tokens.specs.declared.token.Span.{Span}
 use Rattle.sql_reader.specs.declared.piece.Piece.{Piece}
-use Rattle.sql_reader.specs.declared.found.Found.{Found}
+use Rattle.sql_reader.specs.declared.seen.Seen.{Seen}
 use Rattle.sql_reader.specs.declared.parsed.NameUse.{NameUse}
-use Rattle.sql_reader.specs.declared.kind.Kind.{Kind}
+use Rattle.sql_reader.specs.declared.kind.PieceKind.{PieceKind}
 use Rattle.sql_reader.specs.declared.parsed.Condition.{Condition}
 use Rattle.sql_reader.specs.declared.parsed.ParsedItem.{ParsedItem}
 use Rattle.sql_reader.specs.declared.parsed.ParsedOrder.{ParsedOrder}
@@ -158,7 +158,7 @@ module _ (n : ℕ) (d : (x : Nesting) → Meaning (State x) (State x)) (nested :
       (then_keeps c (λ k found. (1 ≤ k) × Alone n 0 k found) (known_keeps c (λ k a h. h) (λ k b h. (h.some_read, h)) (expr_keeps n d nested 0))
       (use_keeps c Free (λ k o. option_in n o ≡ true) (alias_keeps n d) (λ k found known. tt)
       (λ k i found o room known other.
-        (omega (arith, known.0), both (expr_in n (expr_of found)) (option_in n o) (expr_known n k found (omega (arith, room)) known.1) other))))))
+      (omega (arith, known.0), both (expr_in n (expr_of found)) (option_in n o) (expr_known n k found (omega (arith, room)) known.1) other))))))
 
   -- [ALL | DISTINCT]
   quantifier_keeps : Keeps c (SelectSoFar n) quantifier (SelectSoFar n)
@@ -167,8 +167,8 @@ module _ (n : ℕ) (d : (x : Nesting) → Meaning (State x) (State x)) (nested :
       either_keeps c (take_keeps c (λ k s p room among good known. select_later n k (k + 1) s (omega arith) known))
       (either_keeps c
       (take_keeps c (λ k s p room among good known.
-        let later = select_later n k (k + 1) s (omega arith) known in
-        record { items = later.items; sources = later.sources; conditions = later.conditions; group = later.group; having = later.having; order = later.order }))
+      let later = select_later n k (k + 1) s (omega arith) known in
+      record { items = later.items; sources = later.sources; conditions = later.conditions; group = later.group; having = later.having; order = later.order }))
       (give_keeps c (λ k s room known. known)))
 
   -- source, put behind those before
@@ -176,15 +176,17 @@ module _ (n : ℕ) (d : (x : Nesting) → Meaning (State x) (State x)) (nested :
   one_source_keeps =
       use_keeps c Free (Passes (source_in n)) (source_keeps n d) (λ k s known. tt)
       (λ k i s x room known new.
-        let later = select_later n k (k + i) s (omega arith) known in
-        (record {
+      let later = select_later n k (k + i) s (omega arith) known in (
+        record {
           items = later.items;
           sources = few_more (source_in n) k (k + i) s.sources x (omega (arith, new.0)) known.sources new.1;
           conditions = later.conditions;
           group = later.group;
           having = later.having;
           order = later.order;
-        }, more_is_some s.sources x))
+        },
+        more_is_some s.sources x,
+      ))
 
   more_source_keeps : Keeps c (SelectKnown n) (printed.also printed.source with_source) (SelectKnown n)
   more_source_keeps = known_keeps c (λ k s known. known.0) (λ k s known. known) one_source_keeps
@@ -194,8 +196,8 @@ module _ (n : ℕ) (d : (x : Nesting) → Meaning (State x) (State x)) (nested :
   conditions_keep f =
       part_keeps c (Few (condition_in n)) (Few (condition_in n)) f (λ k s known. known.0.conditions)
       (λ k j s all before room known new.
-        let later = select_later n k j s before known.0 in
-        (record { items = later.items; sources = later.sources; conditions = new; group = later.group; having = later.having; order = later.order }, known.1))
+      let later = select_later n k j s before known.0 in
+      (record { items = later.items; sources = later.sources; conditions = new; group = later.group; having = later.having; order = later.order }, known.1))
 
   sources_keep : Keeps c (SelectSoFar n) printed.sources (SelectKnown n)
   unfolding printed.sources
@@ -221,8 +223,8 @@ module _ (n : ℕ) (d : (x : Nesting) → Meaning (State x) (State x)) (nested :
       (then_keeps c (SelectKnown n) (take_keeps c (λ k s p room among good known. full_later n k (k + 1) s (omega arith) known))
       (part_keeps c (Few (name_in n)) (Few (name_in n)) column_list_keeps (λ k s known. known.0.group)
       (λ k j s all before room known new.
-        let later = select_later n k j s before known.0 in
-        (record { items = later.items; sources = later.sources; conditions = later.conditions; group = new; having = later.having; order = later.order }, known.1)))))
+      let later = select_later n k j s before known.0 in
+      (record { items = later.items; sources = later.sources; conditions = later.conditions; group = new; having = later.having; order = later.order }, known.1)))))
       (give_keeps c (λ k s room known. known))
 
   -- test = expr compare expr
@@ -242,17 +244,19 @@ module _ (n : ℕ) (d : (x : Nesting) → Meaning (State x) (State x)) (nested :
       (then_keeps c (Loose n) test_keeps (many_keeps c (then_keeps c (Loose n) (word_keeps n d (loose_later n d nested)) test_keeps)))
       (λ k s known. few_none (name_in n) 0)
       (λ k i s found room known new.
-        let later = select_later n k (k + i) s (omega arith) known.0 in
-        (record {
+      let later = select_later n k (k + i) s (omega arith) known.0 in (
+        record {
           items = later.items;
           sources = later.sources;
           conditions = later.conditions;
           group = later.group;
           having = few_later (name_in n) i (k + i) found.uses (omega arith) new;
           order = later.order;
-        }, known.1))))
+        },
+        known.1,
+      ))))
 
-  order_known : (k : ℕ) (found : Found) → k + 1 < 2 ^ 32 → Alone n 0 k found → expr_in n (expr_of found) ≡ true
+  order_known : (k : ℕ) (found : Seen) → k + 1 < 2 ^ 32 → Alone n 0 k found → expr_in n (expr_of found) ≡ true
   order_known k found room known = expr_known n k found (omega (arith, room)) known
 
   -- [ASC | DESC]
@@ -287,22 +291,22 @@ module _ (n : ℕ) (d : (x : Nesting) → Meaning (State x) (State x)) (nested :
       (commas_keeps n d few_orders_later (behind_keeps n d (order_item_in n) order_keeps) (behind_keeps n d (order_item_in n) order_keeps))
       (λ k s known. known.0.order)
       (λ k j s all before room known new.
-        let later = select_later n k j s before known.0 in
-        (record { items = later.items; sources = later.sources; conditions = later.conditions; group = later.group; having = later.having; order = new }, known.1)))))
+      let later = select_later n k j s before known.0 in
+      (record { items = later.items; sources = later.sources; conditions = later.conditions; group = later.group; having = later.having; order = new }, known.1)))))
 
   select_rest_keeps : Keeps c Free printed.select_rest (SelectKnown n)
   unfolding printed.select_rest
   select_rest_keeps =
       then_keeps c (SelectSoFar n)
       (give_keeps c (λ k u room known.
-        record {
-          items = few_none (item_in n) k;
-          sources = few_none (source_in n) k;
-          conditions = few_none (condition_in n) k;
-          group = few_none (name_in n) k;
-          having = few_none (name_in n) k;
-          order = few_none (order_item_in n) k;
-        }))
+      record {
+        items = few_none (item_in n) k;
+        sources = few_none (source_in n) k;
+        conditions = few_none (condition_in n) k;
+        group = few_none (name_in n) k;
+        having = few_none (name_in n) k;
+        order = few_none (order_item_in n) k;
+      }))
       (then_keeps c (SelectKnown n)
       (then_keeps c (SelectSoFar n) quantifier_keeps
       (then_keeps c (SelectSoFar n)
@@ -310,8 +314,8 @@ module _ (n : ℕ) (d : (x : Nesting) → Meaning (State x) (State x)) (nested :
       (commas_keeps n d few_items_later (behind_keeps n d (item_in n) item_keeps) (behind_keeps n d (item_in n) item_keeps))
       (λ k s known. known.items)
       (λ k j s all before room known new.
-        let later = select_later n k j s before known in
-        record { items = new; sources = later.sources; conditions = later.conditions; group = later.group; having = later.having; order = later.order }))
+      let later = select_later n k j s before known in
+      record { items = new; sources = later.sources; conditions = later.conditions; group = later.group; having = later.having; order = later.order }))
       (then_keeps c (SelectSoFar n) (word_keeps n d (select_later n)) sources_keep)))
       (then_keeps c (SelectKnown n) (conditions_keep (where_keeps n d nested))
       (then_keeps c (SelectKnown n) (then_keeps c (SelectKnown n) group_keeps having_keeps)
@@ -342,7 +346,7 @@ module _ (n : ℕ) (d : (x : Nesting) → Meaning (State x) (State x)) (nested :
   insert_table_keeps =
       then_keeps c Free (free_keeps c)
       (take_keeps c (λ k u p room among good known.
-        record { table = good.0; columns = few_none (name_in n) (k + 1); values = few_none (name_in n) (k + 1); rows = omega arith }))
+      record { table = good.0; columns = few_none (name_in n) (k + 1); values = few_none (name_in n) (k + 1); rows = omega arith }))
 
   -- row = "(" expr { "," expr } ")"
   row_keeps : Keeps c (InsertSoFar n) printed.row (InsertKnown n)
@@ -352,11 +356,11 @@ module _ (n : ℕ) (d : (x : Nesting) → Meaning (State x) (State x)) (nested :
       (then_keeps c (InsertSoFar n)
       (part_keeps c (Loose n) (Loose n) (exprs_keeps n d nested) (λ k p known. known.values)
       (λ k j p found before room known new.
-        let later = insert_later n k j p before known in
-        record { table = later.table; columns = later.columns; values = new; rows = later.rows }))
+      let later = insert_later n k j p before known in
+      record { table = later.table; columns = later.columns; values = new; rows = later.rows }))
       (take_keeps c (λ k p q room among good known.
-        let later = insert_later n k (k + 1) p (omega arith) known in
-        (record { table = later.table; columns = later.columns; values = later.values; rows = omega (arith, known.rows) }, le-leb 1 (p.rows + 1) (omega arith)))))
+      let later = insert_later n k (k + 1) p (omega arith) known in
+      (record { table = later.table; columns = later.columns; values = later.values; rows = omega (arith, known.rows) }, le-leb 1 (p.rows + 1) (omega arith)))))
 
   insert_full_later : (k j : ℕ) (p : InsertParts) → k ≤ j → InsertKnown n k p → InsertKnown n j p
   insert_full_later k j p room known = (insert_later n k j p room known.0, known.1)
@@ -368,8 +372,8 @@ module _ (n : ℕ) (d : (x : Nesting) → Meaning (State x) (State x)) (nested :
       (then_keeps c (InsertSoFar n)
       (part_keeps c (Few (name_in n)) (Few (name_in n)) insert_columns_keeps (λ k p known. known.columns)
       (λ k j p all before room known new.
-        let later = insert_later n k j p before known in
-        record { table = later.table; columns = new; values = later.values; rows = later.rows }))
+      let later = insert_later n k j p before known in
+      record { table = later.table; columns = new; values = later.values; rows = later.rows }))
       (then_keeps c (InsertSoFar n) (word_keeps n d (insert_later n))
       (commas_keeps n d insert_full_later row_keeps (known_keeps c (λ k p known. known.0) (λ k p known. known) row_keeps))))
 
@@ -381,13 +385,13 @@ module _ (n : ℕ) (d : (x : Nesting) → Meaning (State x) (State x)) (nested :
       (then_keeps c (UpdateKnown n)
       (part_keeps c (Few (name_in n)) (Few (name_in n)) name_as_column_keeps (λ k p known. known.columns)
       (λ k j p all before room known new.
-        let later = update_later n k j p before known in
-        record { source = later.source; columns = new; values = later.values; conditions = later.conditions }))
+      let later = update_later n k j p before known in
+      record { source = later.source; columns = new; values = later.values; conditions = later.conditions }))
       (word_keeps n d (update_later n)))
       (part_keeps c (Loose n) (Loose n) (loose_expr n d nested) (λ k p known. known.values)
       (λ k j p found before room known new.
-        let later = update_later n k j p before known in
-        record { source = later.source; columns = later.columns; values = new; conditions = later.conditions }))
+      let later = update_later n k j p before known in
+      record { source = later.source; columns = later.columns; values = new; conditions = later.conditions }))
 
   update_rest_keeps : Keeps c Free printed.update_rest (UpdateKnown n)
   unfolding printed.update_rest
@@ -395,13 +399,13 @@ module _ (n : ℕ) (d : (x : Nesting) → Meaning (State x) (State x)) (nested :
       then_keeps c (UpdateKnown n)
       (use_keeps c Free (Passes (source_in n)) (source_keeps n d) (λ k u known. tt)
       (λ k i u x room known new.
-        record { source = new.1; columns = few_none (name_in n) (k + i); values = few_none (name_in n) (k + i); conditions = few_none (condition_in n) (k + i) }))
+      record { source = new.1; columns = few_none (name_in n) (k + i); values = few_none (name_in n) (k + i); conditions = few_none (condition_in n) (k + i) }))
       (then_keeps c (UpdateKnown n) (word_keeps n d (update_later n))
       (then_keeps c (UpdateKnown n) (commas_keeps n d (update_later n) assignment_keeps assignment_keeps)
       (part_keeps c (Few (condition_in n)) (Few (condition_in n)) (where_keeps n d nested) (λ k p known. known.conditions)
       (λ k j p all before room known new.
-        let later = update_later n k j p before known in
-        record { source = later.source; columns = later.columns; values = later.values; conditions = new }))))
+      let later = update_later n k j p before known in
+      record { source = later.source; columns = later.columns; values = later.values; conditions = new }))))
 
   delete_rest_keeps : Keeps c Free printed.delete_rest (λ k body. body_in n body ≡ true)
   unfolding printed.delete_rest
@@ -413,7 +417,7 @@ module _ (n : ℕ) (d : (x : Nesting) → Meaning (State x) (State x)) (nested :
 
   -- workloads
 
-  first_keeps : {kind : Kind} → Keeps c (StatementsKnown n) (Take (kind ∷ []) beside) (NextKnown n)
+  first_keeps : {kind : PieceKind} → Keeps c (StatementsKnown n) (Take (kind ∷ []) beside) (NextKnown n)
   first_keeps = take_keeps c (λ k progress p room among good known. (known, good.1))
 
   statement_keeps : Keeps c (StatementsKnown n) printed.statement (StatementsKnown n)

@@ -1,5 +1,6 @@
 pub mod Alike
 pub mod AsPrinted
+pub mod Begun
 pub mod Exactly
 pub mod Good
 pub mod Keeps

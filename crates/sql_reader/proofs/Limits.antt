@@ -4,15 +4,15 @@ use Rattle.std.specs.List.{list_all}
 use Rattle.std.proofs.lemmas.List.Elements.{All-head, All-tail}
 use Rattle.std.proofs.lemmas.Bool.{le-leb}
 use Rattle.sql_tokens.specs.declared.token.Token.{Token}
-use Rattle.sql_tokens.specs.declared.piece.Form.{Form}
-use Rattle.sql_tokens.specs.declared.piece.Form.TheVariants as form
+use Rattle.sql_tokens.specs.declared.lexeme.Form.{Form}
+use Rattle.sql_tokens.specs.declared.lexeme.Form.TheVariants as form
 use Rattle.sql_tokens.specs.Cut.{AreTokens, IsCut, Part, tokens_of, tokens_of_piece, weight_token}
 use Rattle.sql_tokens.specs.Weight.{weight_length}
 use Rattle.sql_tokens.specs.Span.{LiesIn}
 use Rattle.sql_tokens.proofs.Exact.{form_some}
 use Rattle.sql_tokens.proofs.Places.{lies-cut}
-use Rattle.sql_reader.specs.declared.kind.Kind.{Kind}
-use Rattle.sql_reader.specs.declared.kind.Kind.TheVariants as kinds
+use Rattle.sql_reader.specs.declared.kind.PieceKind.{PieceKind}
+use Rattle.sql_reader.specs.declared.kind.PieceKind.TheVariants as kinds
 use Rattle.sql_reader.specs.declared.piece.Piece.{Piece}
 use Rattle.sql_reader.specs.declared.piece.Mark.{Mark}
 use Rattle.sql_reader.specs.declared.parsed.Body.{Body}
@@ -95,8 +95,15 @@ one_token at (form.Token k) bytes = omega arith
 few_tokens : (at : ℕ) (parts : List Part) (text rest : List ℕ) → IsCut parts text rest → length (tokens_of at parts) ≤ length text
 few_tokens at [] text rest cut = omega arith
 few_tokens at (p ∷ ps) text rest (behind, split, stands, cut) =
-    omega (arith, length-append (tokens_of_piece at p.form p.bytes) (tokens_of (at + length p.bytes) ps), one_token at p.form p.bytes, form_some p.form p.bytes stands.is_form,
-    few_tokens (at + length p.bytes) ps behind rest cut, ap length split, length-append p.bytes behind)
+    omega (
+      arith,
+      length-append (tokens_of_piece at p.form p.bytes) (tokens_of (at + length p.bytes) ps),
+      one_token at p.form p.bytes,
+      form_some p.form p.bytes stands.is_form,
+      few_tokens (at + length p.bytes) ps behind rest cut,
+      ap length split,
+      length-append p.bytes behind,
+    )
 
 few : (text : List ℕ) (list : List Token) (pieces : List Piece) → AreTokens text list → ArePieces text list no_mark pieces → length pieces ≤ length text
 few text list pieces tokens are =

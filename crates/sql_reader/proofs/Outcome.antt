@@ -4,9 +4,9 @@ use Rattle.sql_reader.specs.declared.piece.Piece.{Piece}
 use Rattle.sql_reader.specs.declared.parsed.SqlFault.{SqlFault}
 use Rattle.sql_reader.specs.declared.parsed.SqlFault.TheVariants as faults
 use Rattle.sql_reader.specs.declared.parts.Progress.{Progress}
-use Rattle.sql_reader.specs.declared.cursor.Stop.{Stop}
-use Rattle.sql_reader.specs.declared.cursor.Stop.TheVariants.{Memory, Here}
-use Rattle.sql_reader.specs.Reads.{StopsAt}
+use Rattle.sql_reader.specs.declared.cursor.Unread.{Unread}
+use Rattle.sql_reader.specs.declared.cursor.Unread.TheVariants.{Memory, Here}
+use Rattle.sql_reader.specs.inner.Reads.{StopsAt}
 use Rattle.sql_reader.specs.Kinds.{has}
 use Rattle.sql_reader.specs.Rule.{Meaning, Reading, Read, Stuck}
 use Rattle.sql_reader.specs.Exact.{GoesOn, NoneGoesOn, FailsAt, IsExact, IsRead, reads}
@@ -57,7 +57,7 @@ pub says_stuck : (end : ℕ) (pieces : List Piece) (progress : Progress) (rest :
 says_stuck end pieces progress rest e = (rest, exact_at pieces (Stuck rest) e, refl)
 
 -- where a function stops before the next piece the reading is stuck
-pub stuck_from : (stop : Stop) (reading : Reading Progress) (rest : List Piece) → stop ≡ Here → StopsAt stop reading rest → reading ≡ Stuck rest
+pub stuck_from : (stop : Unread) (reading : Reading Progress) (rest : List Piece) → stop ≡ Here → StopsAt stop reading rest → reading ≡ Stuck rest
 stuck_from Memory reading rest e h = absurd cc
 stuck_from Here reading rest e h = h
 

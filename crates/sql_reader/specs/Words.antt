@@ -3,16 +3,16 @@ use Rattle.std.specs.Prelude.{ℕ, ℤ, pos, neg_ℤ, ◌+◌, ◌*◌, ◌-◌,
 use Rattle.std.specs.Char.{is_ascii_digit}
 use Rattle.std.specs.Str.{str_eq_ignore_ascii_case}
 use Rattle.adv_base.specs.Days.{day_number}
-use Rattle.sql_reader.specs.declared.kind.Kind.{Kind}
-use Rattle.sql_reader.specs.declared.kind.Kind.TheVariants as kinds
+use Rattle.sql_reader.specs.declared.kind.PieceKind.{PieceKind}
+use Rattle.sql_reader.specs.declared.kind.PieceKind.TheVariants as kinds
 use Rattle.sql_reader.specs.declared.words.Word.{Word}
 
 -- a word that the grammar knows, and its kind
 abbrev pub Entry : Type 0
-Entry = List ℕ × Kind
+Entry = List ℕ × PieceKind
 
 -- the kind of the first of these words that the bytes are, in any case of letters
-abbrev pub kind_in : List Entry → List ℕ → Option Kind
+abbrev pub kind_in : List Entry → List ℕ → Option PieceKind
 kind_in [] bytes = None
 kind_in (w ∷ ws) bytes = if str_eq_ignore_ascii_case bytes w.0 then Some w.1 else kind_in ws bytes
 
@@ -36,12 +36,12 @@ abbrev pub entries : List Word → List Entry
 entries [] = []
 entries (w ∷ ws) = (w.0.now, w.1) ∷ entries ws
 
-abbrev pub kind_or : Kind → Option Kind → Kind
+abbrev pub kind_or : PieceKind → Option PieceKind → PieceKind
 kind_or other None = other
 kind_or other (Some k) = k
 
 -- a word: one that the grammar knows, or a name
-unfoldable pub word_kind : List ℕ → Kind
+unfoldable pub word_kind : List ℕ → PieceKind
 word_kind bytes = kind_or kinds.Name (kind_in known bytes)
 
 -- the bytes between the quotes
@@ -49,16 +49,16 @@ abbrev pub inside : List ℕ → List ℕ
 inside bytes = slice_range bytes 1 (length bytes - 1)
 
 -- a name that is an aggregate or not
-abbrev pub aggregate_or_name : Option Kind → Kind
+abbrev pub aggregate_or_name : Option PieceKind → PieceKind
 aggregate_or_name (Some kinds.Aggregate) = kinds.Aggregate
 aggregate_or_name _ = kinds.Name
 
 -- a quoted name: an aggregate, or another name
-unfoldable pub quoted_kind : List ℕ → Kind
+unfoldable pub quoted_kind : List ℕ → PieceKind
 quoted_kind bytes = aggregate_or_name (kind_in known (inside bytes))
 
 -- a symbol, by its first byte and, for `<`, its second
-unfoldable pub symbol_kind : ℕ → ℕ → Kind
+unfoldable pub symbol_kind : ℕ → ℕ → PieceKind
 symbol_kind first second =
     if first == 40 then kinds.Open
     else (if first == 41 then kinds.Close

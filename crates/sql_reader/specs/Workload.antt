@@ -3,8 +3,8 @@ use Rattle.std.specs.Prelude.{◌≡◌, ℕ, ◌+◌, nat_lt, List, [], ◌∷�
 use Rattle.sql_tokens.specs.declared.token.Token.{Token}
 use Rattle.sql_tokens.specs.declared.token_list.TokenFault.TheVariants as tokens
 use Rattle.sql_tokens.specs.Cut.{AreTokens, HasFault}
-use Rattle.sql_reader.specs.declared.kind.Kind.{Kind}
-use Rattle.sql_reader.specs.declared.kind.Kind.TheVariants as kinds
+use Rattle.sql_reader.specs.declared.kind.PieceKind.{PieceKind}
+use Rattle.sql_reader.specs.declared.kind.PieceKind.TheVariants as kinds
 use Rattle.sql_reader.specs.declared.piece.Piece.{Piece}
 use Rattle.sql_reader.specs.declared.parsed.ParsedStatement.{ParsedStatement}
 use Rattle.sql_reader.specs.declared.parsed.SqlFault.{SqlFault}
@@ -23,7 +23,7 @@ abbrev pub MeansStatements : Meaning Progress Progress
 MeansStatements start pieces progress = IsRead grammar levels workload start pieces progress
 
 -- the kinds of words at which the fault is Unsupported
-abbrev pub left_out : List Kind
+abbrev pub left_out : List PieceKind
 left_out = kinds.LeftOut ∷ kinds.Not ∷ kinds.Select ∷ []
 
 -- the fault where the grammar fails before these pieces, with the place of the end of the text

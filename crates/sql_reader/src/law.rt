@@ -1,5 +1,7 @@
 //! Laws of the grammar.
+ghost use Rattle.sql_reader.specs.Pieces.{places_of, starts_in};
 ghost use Rattle.sql_reader.specs.Printed.{IsAsPrinted};
+ghost use Rattle.sql_reader.specs.Values.{no_statements};
 ghost use Rattle.sql_reader.specs.Workload.{HasSqlFault, IsWorkload, MeansStatements};
 ghost use Rattle.sql_reader.specs.declared.parsed.ParsedStatement.{ParsedStatement};
 ghost use Rattle.sql_reader.specs.declared.parsed.SqlFault.{SqlFault};
@@ -18,6 +20,13 @@ pub fn one_answer()
     ensures statements { (text : List ℕ) (first second : List ParsedStatement) → IsWorkload text first → IsWorkload text second → first ≡ second }
     ensures fault { (text : List ℕ) (first second : SqlFault) → HasSqlFault text first → HasSqlFault text second → first ≡ second }
     ensures either { (text : List ℕ) (statements : List ParsedStatement) (fault : SqlFault) → IsWorkload text statements → HasSqlFault text fault → ⊥ }
+{}
+
+/// The statements of a workload begin at its words that begin one, in order. So the 1001st of these words is the
+/// first token of the 1001st statement of each workload that goes on through it.
+pub fn statements_begin()
+    ensures { (pieces : List Piece) (progress : Progress) →
+        MeansStatements no_statements pieces progress → places_of progress.statements ≡ starts_in pieces }
 {}
 
 /// The grammar as it is printed in the reference, alternative by alternative, means what the rules mean by which

@@ -1,6 +1,6 @@
 //! Statements that are half read.
 
-use crate::{Condition, Found, NameUse, ParsedStatement, Source};
+use crate::{Condition, NameUse, ParsedStatement, Seen, Source};
 use adv_base::List;
 use sql_tokens::Span;
 
@@ -9,7 +9,7 @@ use sql_tokens::Span;
 pub struct InsertParts {
     pub table: Span,
     pub columns: List<NameUse>,
-    pub found: Found,
+    pub found: Seen,
     pub rows: u64,
 }
 
@@ -18,7 +18,7 @@ pub struct InsertParts {
 pub struct UpdateParts {
     pub source: Source,
     pub columns: List<NameUse>,
-    pub found: Found,
+    pub found: Seen,
     pub conditions: List<Condition>,
 }
 

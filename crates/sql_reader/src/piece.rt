@@ -1,9 +1,9 @@
 //! The pieces of a text: its tokens as the grammar sees them.
 
-ghost use Rattle.std.specs.Prelude.{pos, neg_ℤ, ◌<ℤ◌, ◌^◌};
+ghost use Rattle.std.specs.Prelude.{pos, neg_ℤ, ◌<◌, ◌<ℤ◌, ◌^◌};
 ghost use Rattle.std.specs.Option.{ForSome};
 
-use crate::Kind;
+use crate::PieceKind;
 use sql_tokens::Span;
 
 /// The last weight comment before a token: its place in the text, 0 where there is none, and its number.
@@ -17,11 +17,13 @@ pub struct Mark {
 /// the day of a text that holds a date, in days since 1970-01-01.
 #[derive(Clone, Copy)]
 pub struct Piece {
-    pub kind: Kind,
+    pub kind: PieceKind,
     pub span: Span,
     pub number: Option<i64>,
     pub mark: Mark,
     /// The number has at most 18 digits.
     pub ghost least: { ForSome number (λ n. neg_ℤ (pos (10 ^ 18)) <ℤ n) },
     pub ghost most: { ForSome number (λ n. n <ℤ pos (10 ^ 18)) },
+    /// Places fit 32 bits.
+    pub ghost placed: { span.from < 2 ^ 32 },
 }

@@ -4,67 +4,67 @@ ghost use Rattle.std.specs.Prelude.{◌≡◌, ◌≤◌, ◌<◌, ◌^◌, ◌<
 ghost use Rattle.std.specs.Option.{ForSome};
 ghost use Rattle.std.specs.Str.{str_eq_ignore_ascii_case};
 
-use crate::Kind;
+use crate::PieceKind;
 use adv_base::day_of;
 
 /// A word that the grammar knows, in capital letters, and its kind.
 #[derive(Clone, Copy)]
-pub struct Word(pub &'static [u8], pub Kind);
+pub struct Word(pub &'static [u8], pub PieceKind);
 
 /// The words that the grammar knows: the reserved ones, the aggregates and DATE.
 const WORDS: [Word; 52] = [
-    Word(b"ALL", Kind::All),
-    Word(b"AND", Kind::And),
-    Word(b"AS", Kind::As),
-    Word(b"ASC", Kind::Asc),
-    Word(b"BETWEEN", Kind::Between),
-    Word(b"BY", Kind::By),
-    Word(b"CASE", Kind::LeftOut),
-    Word(b"CROSS", Kind::LeftOut),
-    Word(b"DELETE", Kind::Delete),
-    Word(b"DESC", Kind::Desc),
-    Word(b"DISTINCT", Kind::Distinct),
-    Word(b"EXCEPT", Kind::LeftOut),
-    Word(b"EXISTS", Kind::LeftOut),
-    Word(b"FROM", Kind::From),
-    Word(b"FULL", Kind::LeftOut),
-    Word(b"GROUP", Kind::Group),
-    Word(b"HAVING", Kind::Having),
-    Word(b"IN", Kind::In),
-    Word(b"INNER", Kind::Inner),
-    Word(b"INSERT", Kind::Insert),
-    Word(b"INTERSECT", Kind::LeftOut),
-    Word(b"INTO", Kind::Into),
-    Word(b"IS", Kind::Is),
-    Word(b"JOIN", Kind::Join),
-    Word(b"LEFT", Kind::LeftOut),
-    Word(b"LIKE", Kind::Like),
-    Word(b"LIMIT", Kind::Limit),
-    Word(b"NATURAL", Kind::LeftOut),
-    Word(b"NOT", Kind::Not),
-    Word(b"NULL", Kind::Null),
-    Word(b"OFFSET", Kind::Offset),
-    Word(b"ON", Kind::On),
-    Word(b"OR", Kind::LeftOut),
-    Word(b"ORDER", Kind::Order),
-    Word(b"OUTER", Kind::LeftOut),
-    Word(b"OVER", Kind::LeftOut),
-    Word(b"RETURNING", Kind::LeftOut),
-    Word(b"RIGHT", Kind::LeftOut),
-    Word(b"SELECT", Kind::Select),
-    Word(b"SET", Kind::Set),
-    Word(b"UNION", Kind::LeftOut),
-    Word(b"UPDATE", Kind::Update),
-    Word(b"USING", Kind::LeftOut),
-    Word(b"VALUES", Kind::Values),
-    Word(b"WHERE", Kind::Where),
-    Word(b"WITH", Kind::LeftOut),
-    Word(b"COUNT", Kind::Aggregate),
-    Word(b"SUM", Kind::Aggregate),
-    Word(b"MIN", Kind::Aggregate),
-    Word(b"MAX", Kind::Aggregate),
-    Word(b"AVG", Kind::Aggregate),
-    Word(b"DATE", Kind::Date),
+    Word(b"ALL", PieceKind::All),
+    Word(b"AND", PieceKind::And),
+    Word(b"AS", PieceKind::As),
+    Word(b"ASC", PieceKind::Asc),
+    Word(b"BETWEEN", PieceKind::Between),
+    Word(b"BY", PieceKind::By),
+    Word(b"CASE", PieceKind::LeftOut),
+    Word(b"CROSS", PieceKind::LeftOut),
+    Word(b"DELETE", PieceKind::Delete),
+    Word(b"DESC", PieceKind::Desc),
+    Word(b"DISTINCT", PieceKind::Distinct),
+    Word(b"EXCEPT", PieceKind::LeftOut),
+    Word(b"EXISTS", PieceKind::LeftOut),
+    Word(b"FROM", PieceKind::From),
+    Word(b"FULL", PieceKind::LeftOut),
+    Word(b"GROUP", PieceKind::Group),
+    Word(b"HAVING", PieceKind::Having),
+    Word(b"IN", PieceKind::In),
+    Word(b"INNER", PieceKind::Inner),
+    Word(b"INSERT", PieceKind::Insert),
+    Word(b"INTERSECT", PieceKind::LeftOut),
+    Word(b"INTO", PieceKind::Into),
+    Word(b"IS", PieceKind::Is),
+    Word(b"JOIN", PieceKind::Join),
+    Word(b"LEFT", PieceKind::LeftOut),
+    Word(b"LIKE", PieceKind::Like),
+    Word(b"LIMIT", PieceKind::Limit),
+    Word(b"NATURAL", PieceKind::LeftOut),
+    Word(b"NOT", PieceKind::Not),
+    Word(b"NULL", PieceKind::Null),
+    Word(b"OFFSET", PieceKind::Offset),
+    Word(b"ON", PieceKind::On),
+    Word(b"OR", PieceKind::LeftOut),
+    Word(b"ORDER", PieceKind::Order),
+    Word(b"OUTER", PieceKind::LeftOut),
+    Word(b"OVER", PieceKind::LeftOut),
+    Word(b"RETURNING", PieceKind::LeftOut),
+    Word(b"RIGHT", PieceKind::LeftOut),
+    Word(b"SELECT", PieceKind::Select),
+    Word(b"SET", PieceKind::Set),
+    Word(b"UNION", PieceKind::LeftOut),
+    Word(b"UPDATE", PieceKind::Update),
+    Word(b"USING", PieceKind::LeftOut),
+    Word(b"VALUES", PieceKind::Values),
+    Word(b"WHERE", PieceKind::Where),
+    Word(b"WITH", PieceKind::LeftOut),
+    Word(b"COUNT", PieceKind::Aggregate),
+    Word(b"SUM", PieceKind::Aggregate),
+    Word(b"MIN", PieceKind::Aggregate),
+    Word(b"MAX", PieceKind::Aggregate),
+    Word(b"AVG", PieceKind::Aggregate),
+    Word(b"DATE", PieceKind::Date),
 ];
 
 /// Whether a word is spelled so, in any case of letters.
@@ -75,7 +75,7 @@ fn is_spelled(word: &[u8], spelled: &[u8]) -> bool
 }
 
 /// The kind of the first of these words that this is, in any case of letters.
-fn look_up(table: &[Word], word: &[u8]) -> Option<Kind>
+fn look_up(table: &[Word], word: &[u8]) -> Option<PieceKind>
     ensures { result ≡ words.kind_in (words.entries table.now) word.now }
 {
     let Some((entry, rest)) = table.split_first() else {
@@ -89,10 +89,10 @@ fn look_up(table: &[Word], word: &[u8]) -> Option<Kind>
 
 /// The kind of a word: that of a word that the grammar knows, or a name.
 #[tactic(auto, unfolding(crate::specs::Words::word_kind))]
-pub fn word_kind(word: &[u8]) -> Kind
+pub fn word_kind(word: &[u8]) -> PieceKind
     ensures { result ≡ words.word_kind word.now }
 {
-    look_up(&WORDS, word).unwrap_or(Kind::Name)
+    look_up(&WORDS, word).unwrap_or(PieceKind::Name)
 }
 
 /// The bytes between the quotes.
@@ -107,42 +107,42 @@ fn inside(bytes: &[u8]) -> &[u8]
 
 /// The kind of a quoted name: an aggregate, or another name.
 #[tactic(auto, unfolding(crate::specs::Words::quoted_kind))]
-pub fn quoted_kind(bytes: &[u8]) -> Kind
+pub fn quoted_kind(bytes: &[u8]) -> PieceKind
     ensures { result ≡ words.quoted_kind bytes.now }
 {
     match look_up(&WORDS, inside(bytes)) {
-        Some(Kind::Aggregate) => Kind::Aggregate,
-        _ => Kind::Name,
+        Some(PieceKind::Aggregate) => PieceKind::Aggregate,
+        _ => PieceKind::Name,
     }
 }
 
 /// The kind of a symbol, by its first byte and, for `<`, its second.
 #[tactic(auto, unfolding(crate::specs::Words::symbol_kind))]
-pub fn symbol_kind(first: u8, second: u8) -> Kind
+pub fn symbol_kind(first: u8, second: u8) -> PieceKind
     ensures { result ≡ words.symbol_kind first second }
 {
     match first {
-        b'(' => Kind::Open,
-        b')' => Kind::Close,
-        b',' => Kind::Comma,
-        b'.' => Kind::Point,
-        b';' => Kind::Semicolon,
-        b'*' => Kind::Star,
-        b'+' => Kind::Plus,
-        b'-' => Kind::Minus,
-        b'=' => Kind::Equal,
+        b'(' => PieceKind::Open,
+        b')' => PieceKind::Close,
+        b',' => PieceKind::Comma,
+        b'.' => PieceKind::Point,
+        b';' => PieceKind::Semicolon,
+        b'*' => PieceKind::Star,
+        b'+' => PieceKind::Plus,
+        b'-' => PieceKind::Minus,
+        b'=' => PieceKind::Equal,
         b'<' => {
             if second == b'>' {
-                Kind::NotEqual
+                PieceKind::NotEqual
             } else {
-                Kind::Below
+                PieceKind::Below
             }
         }
-        b'!' => Kind::NotEqual,
-        b'>' => Kind::Above,
-        b'?' => Kind::Question,
-        b'$' => Kind::Question,
-        _ => Kind::Operator,
+        b'!' => PieceKind::NotEqual,
+        b'>' => PieceKind::Above,
+        b'?' => PieceKind::Question,
+        b'$' => PieceKind::Question,
+        _ => PieceKind::Operator,
     }
 }
 
