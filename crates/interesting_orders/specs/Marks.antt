@@ -20,11 +20,6 @@ abbrev pub column_orders : ℕ → Option ℕ → List Order
 column_orders slot None = []
 column_orders slot (Some column) = (Up slot column ∷ []) ∷ []
 
--- the list to group by, or else the list to order by
-abbrev pub wanted_list : Option Order → Order → Order
-wanted_list (Some group) order = group
-wanted_list None order = order
-
 -- a single column that is marked
 abbrev pub is_marked : List Bool → Order → Bool
 is_marked seen [] = false

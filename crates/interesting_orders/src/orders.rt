@@ -3,23 +3,12 @@ ghost use Rattle.std.specs.Prelude.{◌≡◌, ◌<◌, ◌≤◌, ◌^◌, ◌+
 ghost use Rattle.std.specs.Result.{OnOk};
 ghost use Rattle.plan_model.specs.Limits.Tasks.{AreNumbered};
 ghost use Rattle.plan_model.specs.Orders.{edge_orders, own_list, interesting_orders as orders_of, combinations as choices_of};
-ghost use Rattle.interesting_orders.specs.Marks.{add_order, wanted_list as wanted_of, AreMarks, IsEdge};
+ghost use Rattle.interesting_orders.specs.Marks.{add_order, AreMarks, IsEdge};
 
 use crate::columns::{column_at, is_new_list, mark_column, mark_count};
 use adv_base::{Item, List, NoMemory};
 use plan_model::{Task, TaskEdge};
 use std::alloc::Global;
-
-/// The list to group by, or where the block doesn't group, the list to order by.
-fn wanted_list(task: &Task) -> &[Item]
-    ensures exact { result.now ≡ wanted_of task.now.group task.now.order }
-    ensures numbered { AreNumbered result.now }
-{
-    match &task.group {
-        Some(group) => group.as_slice(),
-        None => task.order.as_slice(),
-    }
-}
 
 fn copied(alloc: Global, items: &[Item]) -> Result<List<Item>, NoMemory>
     ensures { IfOk result (λ list. list ≡ items.now) }
@@ -96,7 +85,7 @@ pub fn slot_orders(alloc: Global, task: &Task, slot: u8) -> Result<List<List<Ite
     for edge in edges {
         push_column(alloc, edge, slot, &mut seen, &mut orders)?;
     }
-    push_list(alloc, wanted_list(task), slot, &seen, &mut orders)?;
+    push_list(alloc, task.wanted_list(), slot, &seen, &mut orders)?;
     Ok(List { items: orders })
 }
 
@@ -111,7 +100,7 @@ fn order_count(task: &Task, slot: u8) -> u64
         mark_column(edge, slot, &mut seen);
     }
     let columns = mark_count(&seen);
-    if is_new_list(wanted_list(task), slot, &seen) {
+    if is_new_list(task.wanted_list(), slot, &seen) {
         columns + 2
     } else {
         columns + 1

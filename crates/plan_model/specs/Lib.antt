@@ -6,5 +6,9 @@ pub mod Costs
 pub mod Judging
 pub mod PlanTexts
 pub mod Least
+pub mod Exchange
+pub mod Combinations
+pub mod Comparisons
 pub mod BlockTask
 pub mod Totals
+pub mod Uniqueness

@@ -47,10 +47,10 @@ is_own_list slot (x ∷ xs) = list_all (is_up_of slot) (x ∷ xs)
 abbrev pub own_list : ℕ → Order → List Order
 own_list slot order = if is_own_list slot order then order ∷ [] else []
 
--- the list to group by; where the block doesn't group, the list to order by
-abbrev pub list_orders : ℕ → Option Order → Order → List Order
-list_orders slot (Some group) order = own_list slot group
-list_orders slot None order = own_list slot order
+-- the list to group by, or where the block doesn't group, the list to order by
+abbrev pub wanted_list : Option Order → Order → Order
+wanted_list (Some group) order = group
+wanted_list None order = order
 
 -- the orders without those that stand in the list before
 abbrev pub without_repeats : List Order → List Order → List Order
@@ -62,7 +62,7 @@ without_repeats before (x ∷ xs) =
 -- columns are all the slot's.
 unfoldable pub interesting_orders : Task → ℕ → List Order
 interesting_orders task slot =
-    without_repeats [] ([] ∷ (flat_map (edge_orders slot) task.edges ++ list_orders slot task.group task.order))
+    without_repeats [] ([] ∷ (flat_map (edge_orders slot) task.edges ++ own_list slot (wanted_list task.group task.order)))
 
 -- the product of the numbers of orders of the slots below n
 unfoldable pub combinations_below : Task → ℕ → ℕ

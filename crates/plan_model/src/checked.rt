@@ -1,16 +1,15 @@
 //! Tasks from parts of which nothing is known.
 ghost use Rattle.std.specs.Prelude.{◌≡◌, ◌↔◌, ◌<◌, ◌≤◌, ◌^◌, IsTrue, All, map, not, length};
-ghost use Rattle.std.specs.List.{list_any, list_all};
+ghost use Rattle.std.specs.List.{list_all};
 ghost use Rattle.std.specs.Option.{ForSome, IfSome, IsNone};
 ghost use Rattle.adv_base.specs.declared.workload.parts.Item.TheVariants.{Up};
 ghost use Rattle.adv_base.specs.Items.{AreApart, AreUpward, AreWithinSlots, is_within_slots, is_same_column as is_same, is_upward as is_up};
 ghost use Rattle.adv_base.specs.Sets.{IsConnected};
 ghost use Rattle.adv_base.specs.Limits.Blocks.{ListLimits, GroupLimits};
 ghost use Rattle.plan_model.specs.Limits.Tasks.{TaskLimits, EdgeLimits, RowLimits, AreNumbered, ends, is_numbered as numbered};
-ghost use Rattle.plan_model.specs.Plans.{crosses as edge_crosses};
 
 use crate::edge::TaskEdge;
-use crate::order::{all_slots, crosses};
+use crate::order::{all_slots, are_joined};
 use crate::task::Task;
 use adv_base::{Item, List, Rates};
 
@@ -151,15 +150,6 @@ fn is_group(items: &[Item], slots: u8) -> bool
     is_list(items, slots) && are_upward(items)
 }
 
-/// Whether an edge has one end in each of two sets.
-fn is_crossed(edges: &[TaskEdge], left: u16, right: u16) -> bool
-    requires left_set { left < 256 }
-    requires right_set { right < 256 }
-    ensures { result ≡ list_any (edge_crosses left right) edges.now }
-{
-    edges.iter().any(|edge| crosses(left, right, edge))
-}
-
 /// Whether each cut of the slots in two is crossed.
 fn is_connected(edges: &[TaskEdge], slots: u8) -> bool
     requires { slots ≤ 8 }
@@ -167,7 +157,7 @@ fn is_connected(edges: &[TaskEdge], slots: u8) -> bool
 {
     let all = all_slots(slots);
     for part in 1..all {
-        if part & (all - part) == 0 && !is_crossed(edges, part, all - part) {
+        if part & (all - part) == 0 && !are_joined(edges, part, all - part) {
             return false;
         }
     }

@@ -7,7 +7,7 @@ ghost use Rattle.plan_model.specs.Plans.{Merges, IsValid, crosses as edge_crosse
 ghost use Rattle.plan_model.specs.Judging.{leaf_judged, sort_judged, merge_judged, hash_judged, plan_judged, IsKept};
 
 use crate::offers::Offers;
-use crate::order::{crosses, delivered, is_column_of, serves};
+use crate::order::{are_joined, crosses, delivered, is_column_of, serves};
 use crate::plan::Plan;
 use crate::price::{hash_price, merge_price, rows_of, sort_price};
 use crate::task::Task;
@@ -16,7 +16,7 @@ use adv_base::Item;
 /// What a valid plan covers, as a number, and what it costs.
 #[derive(Clone, Copy)]
 pub(crate) struct Judged {
-    pub covers: u16,
+    pub covers: usize,
     pub cost: u128,
 }
 
@@ -49,13 +49,11 @@ fn judge_sort(task: &Task, order: &[Item], input: Judged) -> Option<Judged>
 fn merges(
     task: &Task,
     number: u32,
-    left: u16,
-    right: u16,
+    left: usize,
+    right: usize,
     left_order: &[Item],
     right_order: &[Item],
 ) -> bool
-    requires left_set { left < 256 }
-    requires right_set { right < 256 }
     ensures yes { IsTrue result → Merges task.now number left right left_order.now right_order.now }
     ensures no { Merges task.now number left right left_order.now right_order.now → IsTrue result }
 {
@@ -93,29 +91,12 @@ fn judge_merge(
     ) {
         return None;
     }
-    let covers = left.covers | right.covers;
-    let price = merge_price(
-        task,
-        rows_of(task, left.covers),
-        rows_of(task, right.covers),
-        rows_of(task, covers),
-    );
+    let covers = left.covers + right.covers;
+    let price = merge_price(task, left.covers, right.covers);
     Some(Judged {
         covers,
         cost: left.cost + right.cost + price,
     })
-}
-
-/// Whether some edge has one end in each of two sets.
-fn are_tied(task: &Task, left: u16, right: u16) -> bool
-    requires left_set { left < 256 }
-    requires right_set { right < 256 }
-    ensures { result ≡ list_any (edge_crosses left right) task.now.edges }
-{
-    task.edges
-        .as_slice()
-        .iter()
-        .any(|edge| crosses(left, right, edge))
 }
 
 fn judge_hash(task: &Task, left: Judged, right: Judged) -> Option<Judged>
@@ -126,16 +107,11 @@ fn judge_hash(task: &Task, left: Judged, right: Judged) -> Option<Judged>
     if left.covers & right.covers != 0 {
         return None;
     }
-    if !are_tied(task, left.covers, right.covers) {
+    if !are_joined(task.edges.as_slice(), left.covers, right.covers) {
         return None;
     }
-    let covers = left.covers | right.covers;
-    let price = hash_price(
-        task,
-        rows_of(task, left.covers),
-        rows_of(task, right.covers),
-        rows_of(task, covers),
-    );
+    let covers = left.covers + right.covers;
+    let price = hash_price(task, left.covers, right.covers);
     Some(Judged {
         covers,
         cost: left.cost + right.cost + price,

@@ -93,9 +93,8 @@ fn push_merge(
     task: &Task,
     labels: &Labels,
     number: u32,
-    set: u16,
+    set: usize,
 ) -> Result<(), NoMemory>
-    requires { set < 256 }
     ensures { OnOk result (text.new.items ≡ text.old.items ++ merge_words labels.now set (slice_get task.now.edges number)) }
 {
     match task.edges.as_slice().get(number as usize) {

@@ -133,10 +133,9 @@ pub(crate) fn push_leaf(
 pub(crate) fn push_edge(
     text: &mut Vec<u8>,
     labels: &Labels,
-    set: u16,
+    set: usize,
     edge: &TaskEdge,
 ) -> Result<(), NoMemory>
-    requires { set < 256 }
     ensures { OnOk result (text.new.items ≡ text.old.items ++ edge_words labels.now set edge.now) }
 {
     if has_slot(set, edge.left) {

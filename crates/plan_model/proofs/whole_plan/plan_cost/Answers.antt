@@ -1,6 +1,6 @@
 use Rattle.std.proofs.Common.{arith}
 use Rattle.plan_model.specs.Judging.{IsKept}
-use Rattle.plan_model.proofs.Bounds.{valid-kept}
+use Rattle.plan_model.proofs.CostBound.{valid-kept}
 use Rattle.plan_model.proofs.whole_plan.plan_cost.Goals as goal
 
 pub overflow_add-result : goal.overflow_add-result
