@@ -44,7 +44,7 @@ def summary(workload: Workload) -> list[str]:
     if shown:
         lines.append("changes (accepted isn't equal: " + "; ".join(f"{it}: {text}" for it, text in EFFECTS.items()) + ")")
     for name in shown:
-        lines.append(f"  {CHANGES[name].effect}  {shares.of(counts[name])}  {CHANGES[name].text}")
+        lines.append(f"  {CHANGES[name].effect}  {shares.of(counts[name])}  {name}: {CHANGES[name].text}")
     reasons: dict[str, list[Record]] = {}
     for it in records:
         if it.found.skipped:

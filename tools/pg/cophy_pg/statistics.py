@@ -171,7 +171,7 @@ class Reader:
                 rows += counted / counted_pages * now
             pages += now
         table.rows, table.pages = min(MOST_ROWS, round(rows)), min(MOST_ROWS, pages)
-        if not table.is_analysed:
+        if not table.is_analysed and table.columns:
             self.warnings.append(f"{table.shown} was never analysed: run ANALYZE, its numbers are guesses")
 
     def add_statistics(self, rows: list[Row]) -> None:
