@@ -15,7 +15,9 @@ from cophy_text.tokens import tokens
 from cophy_pg.server import Server, quoted_name
 
 _BACKSLASH = re.compile(r"^[ \t]*\\[^\n]*$", re.MULTILINE)
-_VARIABLE = re.compile(r"(?<![:\w]):(?:'([A-Za-z_]\w*)'|\"([A-Za-z_]\w*)\"|([A-Za-z_]\w*))(?!:)")
+_VARIABLE = re.compile(
+    r"(?<![:\w]):(?:'([A-Za-z_]\w*)'|\"([A-Za-z_]\w*)\"|([A-Za-z_]\w*))(?!:)|'[^']*'|\"[^\"]*\"|--[^\n]*|/\*.*?\*/", re.DOTALL
+)
 _LOGGED = re.compile(
     r"(?:LOG|DEBUG\d?):\s+(?:duration: (?P<ms>[0-9.]+) ms\s+)?(?:statement|execute [^:]*|parse [^:]*|bind [^:]*): (?P<sql>.*)",
     re.DOTALL,
@@ -106,7 +108,12 @@ def _readable(text: str) -> str:
         return text
     except ParseError:
         names: dict[str, int] = {}
-        return _VARIABLE.sub(lambda it: f"${names.setdefault(it[1] or it[2] or it[3], len(names) + 1)}", text)
+
+        def numbered(found: re.Match[str]) -> str:
+            name = found[1] or found[2] or found[3]
+            return f"${names.setdefault(name, len(names) + 1)}" if name else found[0]
+
+        return _VARIABLE.sub(numbered, text)
 
 
 def from_log(content: bytes) -> list[Input]:

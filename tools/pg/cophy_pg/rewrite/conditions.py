@@ -40,6 +40,11 @@ class Conditions:
     def _term(self, node: Any, scope: Scope) -> Term:
         return self.rewriter.expressions.term(node, scope)
 
+    def _value(self, term: Term) -> Value:
+        if not isinstance(term, Value):
+            self.note("value")
+        return as_value(term)
+
     def _test(self, col: Col, form: str, *values: Value) -> None:
         self.block.conditions.append(Test(col, form, tuple(fitted(col, it) for it in values)))
 
@@ -159,7 +164,7 @@ class Conditions:
         if is_value(left):
             self.note("constant condition")
         elif isinstance(left, Col) and is_value(right):
-            self._test(left, operator, as_value(right))
+            self._test(left, operator, self._value(right))
         elif isinstance(left, Col) and isinstance(right, Col) and operator == "=":
             self.block.conditions.append(Tie(left, right))
         elif has_unknown(left) or has_unknown(right):
@@ -190,7 +195,7 @@ class Conditions:
             return
         left, items = self._term(node.lexpr, scope), [self._term(it, scope) for it in node.rexpr]
         if isinstance(left, Col) and all(map(is_value, items)):
-            self._listed_in(left, [as_value(it) for it in items], negated)
+            self._listed_in(left, [self._value(it) for it in items], negated)
         elif is_value(left) and all(map(is_value, items)):
             self.note("constant condition")
         else:
@@ -220,7 +225,7 @@ class Conditions:
         for at, left in enumerate(lefts):
             items = [self._term(row[at], scope) for row in rows]
             if isinstance(left, Col) and all(map(is_value, items)):
-                self._test(left, "IN", *map(as_value, items))
+                self._test(left, "IN", *map(self._value, items))
             else:
                 self._need("columns compared", left, *items)
 
@@ -246,7 +251,7 @@ class Conditions:
             node = node.arg
         if isinstance(node, ast.A_ArrayExpr):
             found = [self._term(it, scope) for it in node.elements or ()]
-            return [as_value(it) for it in found] or [ANY] if all(map(is_value, found)) else None
+            return [self._value(it) for it in found] or [ANY] if all(map(is_value, found)) else None
         term = self._term(node, scope)
         if isinstance(term, Value) and isinstance(term.known, str) and re.fullmatch(r"\{[^{}\"]*\}", term.known):
             listed = [it.strip() for it in term.known[1:-1].split(",")]
@@ -260,7 +265,7 @@ class Conditions:
         if negated:
             self._need("not", col, low, high)
         elif isinstance(col, Col) and is_value(low) and is_value(high):
-            self._test(col, "BETWEEN", as_value(low), as_value(high))
+            self._test(col, "BETWEEN", self._value(low), self._value(high))
         elif isinstance(col, Col) and (is_value(low) or is_value(high)):
             self._compare(col, ">=", low)
             self._compare(col, "<=", high)
@@ -283,7 +288,7 @@ class Conditions:
         elif isinstance(left, Col) and is_value(right):
             if not is_like:
                 self.note("pattern")
-            self._test(left, "LIKE", as_value(right) if is_like else ANY)
+            self._test(left, "LIKE", self._value(right) if is_like else ANY)
         elif is_value(left) and is_value(right):
             self.note("constant condition")
         else:

@@ -89,7 +89,7 @@ class Infix:
 
 @dataclass(frozen=True)
 class Mix:
-    """A form that the grammar doesn't have: its columns and aggregates count; `is_test` says that it holds or not."""
+    """A form that the grammar doesn't have: its columns and aggregates count."""
 
     parts: tuple[Term, ...]
 
@@ -150,13 +150,13 @@ def as_value(term: Term) -> Value:
 
 
 def mixed(*terms: Term) -> Term:
-    """The columns and the aggregates of terms, without repeats; a single one stands for itself."""
+    """The columns and the aggregates of terms, without repeats; a single aggregate stands for itself."""
     parts: list[Term] = []
     for term in terms:
         for it in _reduced(term):
             if it not in parts:
                 parts.append(it)
-    return parts[0] if len(parts) == 1 else Mix(tuple(parts))
+    return parts[0] if len(parts) == 1 and isinstance(parts[0], Call) else Mix(tuple(parts))
 
 
 def _reduced(term: Term) -> Iterator[Term]:
@@ -226,5 +226,4 @@ class Printer:
         found = [*it.parts] if isinstance(it, Mix) else [*columns(it)]
         if not found:
             return "?"
-        listed = [self.term(part) for part in found]
-        return listed[0] if len(listed) == 1 else f"any_of({', '.join(listed)})"
+        return f"any_of({', '.join(map(self.term, found))})"
