@@ -33,8 +33,9 @@ def catalogue_text(schema: Schema, rates: dict[str, int], head: list[str]) -> st
         if not table.is_analysed:
             lines.append("# Never analysed: these numbers are guesses.")
         lines += [f"rows = {table.rows}", f"pages = {table.pages}"]
-        if (table.schema, table.name) != ("public", table.shown):
-            lines.append(f"{keys.OURS} = [{toml_text(table.schema)}, {toml_text(table.name)}]")
+        if (table.schema, table.name) != ("public", table.shown) or table.is_partitioned:
+            real = [table.schema, table.name, *["partitioned"] * table.is_partitioned]
+            lines.append(f"{keys.OURS} = [{', '.join(map(toml_text, real))}]")
         for column in table.columns.values():
             lines += ["", *_column(column)]
         for index in table.indexes:
@@ -77,8 +78,8 @@ def read_schema(content: bytes) -> Schema:
 
 
 def _read_table(element: dict[str, Any]) -> Table:
-    schema, name = element.get(keys.OURS, ("public", element["name"]))
-    table = Table(schema, name, element["name"], element["rows"], element["pages"])
+    schema, name, *rest = element.get(keys.OURS, ("public", element["name"]))
+    table = Table(schema, name, element["name"], element["rows"], element["pages"], is_partitioned="partitioned" in rest)
     by_shown: dict[str, str] = {}
     for it in element["column"]:
         column = Column(it.get(keys.OURS, it["name"]), it["name"], it["kind"], it["width"], it.get("distinct"))

@@ -55,6 +55,7 @@ class Table:
     columns: dict[str, Column] = field(default_factory=dict)
     indexes: list[Index] = field(default_factory=list)
     is_analysed: bool = True
+    is_partitioned: bool = False
     oid: int = 0
     remarks: list[str] = field(default_factory=list)
 

@@ -133,7 +133,7 @@ class Reader:
         for it in sorted(roots[:MOST_TABLES], key=lambda it: (str(it[1]) != "public", str(it[1]), str(it[2]))):
             schema, name = keys[int(it[0])]
             shown = cleaned(name, taken, "" if schema == "public" else schema)
-            self.tables[int(it[0])] = Table(schema, name, shown, oid=int(it[0]))
+            self.tables[int(it[0])] = Table(schema, name, shown, oid=int(it[0]), is_partitioned=it[3] == "p")
 
     def add_columns(self, rows: list[Row]) -> None:
         """Adds the columns, with the widths of their types."""

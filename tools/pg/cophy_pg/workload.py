@@ -5,12 +5,13 @@ from collections.abc import Callable
 from dataclasses import dataclass, field
 
 from pglast import ast, parse_sql
-from pglast.parser import ParseError
+from pglast.parser import ParseError, fingerprint
 
 from cophy_pg.inputs import Input
 from cophy_pg.rewrite import Rewriter, Rewritten
 from cophy_pg.rewrite.expressions import nodes_of
 
+FROM = "from"
 MOST_STATEMENTS, MOST_SLOTS, MOST_WEIGHT, MOST_BYTES = 1000, 2000, 10**6, 16777216
 
 
@@ -32,9 +33,32 @@ class Workload:
     divisor: float = 1.0
 
     def text(self) -> str:
-        """The workload as a file."""
-        lines = [f"-- weight {weight}\n{text};\n" for text, weight in self.statements]
-        return "\n".join(lines)
+        """The workload as a file. Before each statement stand the fingerprints of the inputs that it comes from."""
+        forms: dict[int, list[str]] = {}
+        for record in self.records:
+            for number in record.numbers:
+                forms.setdefault(number, []).append(form_of(record.input.text))
+        return "\n".join(
+            f"-- {FROM} {' '.join(dict.fromkeys(forms[number]))}\n-- weight {weight}\n{text};\n"
+            for number, (text, weight) in enumerate(self.statements, 1)
+        )
+
+
+def form_of(text: str) -> str:
+    """PostgreSQL's fingerprint of a statement, which its literals don't change."""
+    try:
+        return str(fingerprint(text))
+    except ParseError:
+        return "none"
+
+
+def forms_in(text: str) -> dict[str, list[int]]:
+    """The numbers of the statements in a written workload that come from the input of each fingerprint."""
+    found: dict[str, list[int]] = {}
+    for number, line in enumerate((it for it in text.splitlines() if it.startswith(f"-- {FROM} ")), 1):
+        for form in line.removeprefix(f"-- {FROM} ").split():
+            found.setdefault(form, []).append(number)
+    return found
 
 
 def mentioned(inputs: list[Input]) -> tuple[set[str], set[str]]:
