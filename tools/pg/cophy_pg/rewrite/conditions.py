@@ -339,17 +339,17 @@ class Conditions:
         kind, rewriter = node.subLinkType, self.rewriter
         if kind == SubLinkType.EXISTS_SUBLINK:
             if negated or not rewriter.join_subquery(self.block, node.subselect, scope, None):
-                self.block.need(rewriter.own_statement(node.subselect, scope))
+                rewriter.own_statement(node.subselect, scope)
         elif kind == SubLinkType.ANY_SUBLINK and not node.operName:
             left = node.testexpr
             if negated or not rewriter.join_subquery(self.block, node.subselect, scope, left):
                 self._need("own statement", self._term(left, scope))
-                self.block.need(rewriter.own_statement(node.subselect, scope))
+                rewriter.own_statement(node.subselect, scope)
         elif kind == SubLinkType.EXPR_SUBLINK:
             rewriter.own_statement(node.subselect, scope)
         else:
             self._need("own statement", self._term(node.testexpr, scope))
-            self.block.need(rewriter.own_statement(node.subselect, scope))
+            rewriter.own_statement(node.subselect, scope)
 
 
 def fitted(col: Col, value: Value) -> Value:

@@ -12,7 +12,7 @@ from pglast.enums import A_Expr_Kind, MinMaxOp, SubLinkType
 
 from cophy_pg.rewrite.scope import SYSTEM, NoSuchColumn, Scope
 from cophy_pg.rewrite.terms import (
-    AGGREGATES, ANY, DEEPEST, Call, Col, Infix, Interval, Mix, Rows, Term, Unknown, Value, as_value, columns, day_of,
+    AGGREGATES, ANY, DEEPEST, Call, Col, Infix, Interval, Mix, Rows, Term, Unknown, Value, columns, day_of,
     depth, has_unknown, is_value, literal_of_day, mixed, shifted,
 )
 
@@ -150,7 +150,7 @@ class Expressions:
         self.note("value")
         if isinstance(inner, Value) and isinstance(inner.known, date) and target in DATES:
             return inner
-        plain = isinstance(inner, Value) and isinstance(inner.known, (int, str)) and not isinstance(inner.known, date)
+        plain = isinstance(inner, Value) and isinstance(inner.known, (int, str, Decimal)) and not isinstance(inner.known, date)
         return inner if plain and target not in DATES else ANY
 
     def _interval(self, text: str, type_name: Any) -> Term:
@@ -189,8 +189,8 @@ class Expressions:
 
     def _signed(self, operator: str, inner: Term) -> Term:
         if isinstance(inner, Value):
-            if isinstance(inner.known, int) and operator == "-":
-                return Value(str(-inner.known), -inner.known)
+            if isinstance(inner.known, (int, Decimal)) and operator == "-":
+                return number(-Decimal(inner.known))
             return inner if operator == "+" else ANY
         return inner if operator == "+" or isinstance(inner, (Mix, Unknown)) else Infix(operator, Value("0", 0), inner)
 
@@ -206,10 +206,9 @@ class Expressions:
         if isinstance(left.known, date) and isinstance(right.known, int) and operator in "+-":
             moved = shifted(left.known, Interval(0, right.known), 1 if operator == "+" else -1)
             return literal_of_day(moved) if moved else ANY
-        if isinstance(left.known, int) and isinstance(right.known, int) and operator in "+-*":
-            one, other = left.known, right.known
-            result = one + other if operator == "+" else one - other if operator == "-" else one * other
-            return Value(str(result), result) if abs(result) < 10**18 else ANY
+        if isinstance(left.known, (int, Decimal)) and isinstance(right.known, (int, Decimal)) and operator in "+-*":
+            one, other = Decimal(left.known), Decimal(right.known)
+            return number(one + other if operator == "+" else one - other if operator == "-" else one * other)
         return ANY
 
     # Calls
@@ -265,10 +264,10 @@ class Expressions:
         return mixed(*args) if any(isinstance(it, (Mix, Unknown, Rows)) for it in args) else Call(name, tuple(args))
 
     def _SubLink(self, node: Any, scope: Scope) -> Term:
-        outside = self.rewriter.own_statement(node.subselect, scope)
+        self.rewriter.own_statement(node.subselect, scope)
         if node.subLinkType in (SubLinkType.EXPR_SUBLINK, SubLinkType.ARRAY_SUBLINK, SubLinkType.EXISTS_SUBLINK):
-            return mixed(ANY, *outside) if outside else ANY
-        return mixed(self.term(node.testexpr, scope), *outside)
+            return ANY
+        return mixed(self.term(node.testexpr, scope))
 
     def _MultiAssignRef(self, node: Any, scope: Scope) -> Term:
         if isinstance(node.source, ast.RowExpr):
@@ -281,8 +280,7 @@ def number(value: Decimal) -> Value:
     text = format(value, "f")
     if len(text) > 40:
         return ANY
-    whole = re.fullmatch(r"-?\d{1,18}", text)
-    return Value(text, int(text) if whole else None)
+    return Value(text, int(text) if re.fullmatch(r"-?\d{1,18}", text) else value)
 
 
 def _word(name: str) -> str:

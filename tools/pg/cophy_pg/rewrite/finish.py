@@ -10,6 +10,8 @@ from cophy_pg.schema import Column
 Note = Callable[[str], None]
 GENERIC_PART = 200
 """PostgreSQL's generic plan takes a range of parameters to keep one row in 200."""
+NARROWEST = 20
+"""From this length on a column's range has whole numbers for a small share of it."""
 MOST_LOOKED_UP = 1000
 
 
@@ -26,17 +28,22 @@ def is_parameter(value: Value) -> bool:
     return value.text == "?"
 
 
+def is_wide(column: Column) -> bool:
+    """Whether a small share of a column's range can be written as a literal range."""
+    return column.has_range() and column.high - column.low >= NARROWEST  # type: ignore[operator]
+
+
 def join_bounds(block: Block, note: Note) -> None:
     """Writes a lower and an upper bound of a column as BETWEEN, and ranges of parameters as literal ones."""
     for col in dict.fromkeys(it.col for it in block.conditions if isinstance(it, Test)):
-        if not col.column.has_range():
+        if not is_wide(col.column):
             continue
         lows = [it for it in block.conditions if isinstance(it, Test) and it.col == col and it.form in (">", ">=")]
         highs = [it for it in block.conditions if isinstance(it, Test) and it.col == col and it.form in ("<", "<=")]
         if len(lows) == 1 and len(highs) == 1:
             _join_pair(block, lows[0], highs[0], note)
     for at, it in enumerate(block.conditions):
-        if isinstance(it, Test) and it.form == "BETWEEN" and it.col.column.has_range() and all(map(is_parameter, it.values)):
+        if isinstance(it, Test) and it.form == "BETWEEN" and is_wide(it.col.column) and all(map(is_parameter, it.values)):
             note("parameter range")
             block.conditions[at] = Test(it.col, "BETWEEN", _narrow(it.col.column))
 
@@ -54,7 +61,7 @@ def _join_pair(block: Block, low: Test, high: Test, note: Note) -> None:
 
 def _narrow(column: Column) -> tuple[Value, Value]:
     assert column.low is not None and column.high is not None
-    width = max(1, (column.high - column.low) // GENERIC_PART)
+    width = max(1, round((column.high - column.low) / GENERIC_PART))
     return tuple(Value(text_of_number(column, it)) for it in (column.low, column.low + width))  # type: ignore[return-value]
 
 

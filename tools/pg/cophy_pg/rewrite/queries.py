@@ -39,7 +39,8 @@ class Queries:
 
     def select(self, node: Any, outer: Scope | None, common: dict[str, Common] | None = None) -> Scope:
         """Makes the statements of a query that stands for itself; the scope tells what it took from around it."""
-        scope = Scope(outer)
+        block = Block()
+        scope = Scope(block, outer)
         scope.common.update(common or {})
         self.with_clause(node.withClause, scope)
         if node.op != SetOperation.SETOP_NONE:
@@ -47,7 +48,6 @@ class Queries:
             for side in (node.larg, node.rarg):
                 scope.used_outside += self.select(side, outer, scope.common).used_outside
             return scope
-        block = Block()
         self.from_clause(node.fromClause, block, scope)
         items = self._items(node, block, scope)
         Conditions(self.rewriter, block).add(node.whereClause, scope)
@@ -153,13 +153,13 @@ class Queries:
         """A query in FROM: joined where it is a plain join, else priced by itself."""
         if is_simple(tree):
             self.note("subquery")
-            inner = Scope(scope, outer_is_value=False)
+            inner = Scope(block, scope, outer_is_value=False)
             self.from_clause(tree.fromClause, block, inner)
             Conditions(self.rewriter, block).add(tree.whereClause, inner)
             listed = self.outputs(tree, inner)
             scope.entries.append(Entry(alias, dict(listed)).renamed(names))
             return
-        block.need(self.rewriter.own_statement(tree, scope))
+        self.rewriter.own_statement(tree, scope)
         scope.entries.append(Entry(alias, self._outputs(tree, names), is_open=True) if tree.valuesLists is None
                              else Entry(alias, {it: Unknown() for it in names}, is_open=True))
 
@@ -176,7 +176,7 @@ class Queries:
         return listed
 
     def _join(self, node: Any, block: Block, scope: Scope) -> None:
-        inner = Scope(scope.outer, scope.outer_is_value)
+        inner = Scope(block, scope.outer, scope.outer_is_value)
         inner.common, inner.entries, inner.merged = scope.common, [*scope.entries], scope.merged
         before = len(inner.entries)
         self._source(node.larg, block, inner)

@@ -127,11 +127,11 @@ class Rewriter:
             self.named += named_tables(tree)
         return self._views[key]
 
-    def own_statement(self, tree: Any, scope: Scope) -> list[Col]:
-        """Writes a query as a statement of its own, and gives the columns around it that it uses."""
+    def own_statement(self, tree: Any, scope: Scope) -> None:
+        """Writes a query as a statement of its own; the columns around it that it uses stay needed."""
         self.note("own statement")
         inner = self.queries.select(tree, scope, scope.common)
-        return inner.used_outside
+        scope.need(inner.used_outside)
 
     def join_subquery(self, block: Block, tree: Any, scope: Scope, compared: Any) -> bool:
         """Joins a query of EXISTS, or of IN with what is compared, where it is a plain join that ties; else changes
@@ -140,7 +140,7 @@ class Rewriter:
             return False
         mark, changes, before = block.mark(), [*self.found.changes], [*self.found.statements]
         old = set(map(id, block.slots))
-        inner = Scope(scope, outer_is_value=False)
+        inner = Scope(block, scope, outer_is_value=False)
         self.queries.from_clause(tree.fromClause, block, inner)
         conditions = Conditions(self, block)
         conditions.add(tree.whereClause, inner)

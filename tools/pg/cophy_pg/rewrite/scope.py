@@ -3,9 +3,12 @@ from __future__ import annotations
 
 from collections.abc import Iterator
 from dataclasses import dataclass, field
-from typing import Any
+from typing import TYPE_CHECKING, Any
 
 from cophy_pg.rewrite.terms import ANY, Col, Rows, Slot, Term, Unknown
+
+if TYPE_CHECKING:
+    from cophy_pg.rewrite.block import Block
 
 SYSTEM = frozenset(("ctid", "xmin", "xmax", "cmin", "cmax", "tableoid"))
 
@@ -54,11 +57,11 @@ class NoSuchColumn(Exception):
 
 
 class Scope:
-    """The entries of a query, and the scope around it. `outer_is_value` says that columns of the scope around are values
-    here, since this query is a statement of its own."""
+    """The entries of a query, the block that it is written to, and the scope around it. `outer_is_value` says that columns
+    of the scope around are values here, since this query is a statement of its own."""
 
-    def __init__(self, outer: Scope | None = None, outer_is_value: bool = True) -> None:
-        self.outer, self.outer_is_value = outer, outer_is_value
+    def __init__(self, block: Block | None, outer: Scope | None = None, outer_is_value: bool = True) -> None:
+        self.block, self.outer, self.outer_is_value = block, outer, outer_is_value
         self.entries: list[Entry] = []
         self.common: dict[str, Common] = dict(outer.common) if outer else {}
         self.used_outside: list[Col] = []
@@ -95,6 +98,11 @@ class Scope:
         if isinstance(found, Col):
             self.used_outside.append(found)
         return ANY
+
+    def need(self, found: list[Col]) -> None:
+        """Keeps columns of the query's block needed."""
+        if self.block is not None:
+            self.block.need(found)
 
     def starred(self, qualifier: str | None = None) -> Iterator[Term]:
         """What a star stands for."""

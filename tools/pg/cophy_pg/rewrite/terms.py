@@ -4,6 +4,7 @@ from __future__ import annotations
 from collections.abc import Iterator
 from dataclasses import dataclass
 from datetime import date, timedelta
+from decimal import Decimal
 
 from cophy_pg.schema import Column, Table, quoted
 
@@ -41,7 +42,7 @@ class Value:
     """A value: its text in a workload, and what is known of it; `is_literal` says that it was written as it stands."""
 
     text: str
-    known: int | date | str | Interval | None = None
+    known: int | Decimal | date | str | Interval | None = None
     is_literal: bool = True
 
     def day(self) -> date | None:

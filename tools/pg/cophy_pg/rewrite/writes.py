@@ -30,7 +30,8 @@ class Writes:
         self.rewriter.note(change)
 
     def _target(self, node: Any, scope: Scope) -> tuple[Block, Slot]:
-        block = Block()
+        block = scope.block
+        assert block is not None
         self.rewriter.queries.from_clause((node.relation,), block, scope)
         if len(block.slots) != 1 or scope.entries[0].slot is None:
             raise Skip("it writes to a view")
@@ -38,7 +39,7 @@ class Writes:
 
     def insert(self, node: Any, outer: Scope | None) -> None:
         """INSERT of rows, or of what a query gives."""
-        scope = Scope(outer)
+        scope = Scope(Block(), outer)
         self.rewriter.queries.with_clause(node.withClause, scope)
         table = self._target(node, scope)[1].table
         if node.onConflictClause is not None:
@@ -67,7 +68,7 @@ class Writes:
         return [["?"]] * self.rows_of_call(1)
 
     def _value(self, node: Any, scope: Scope) -> str:
-        term = self.rewriter.expressions.term(node, Scope(scope))
+        term = self.rewriter.expressions.term(node, Scope(None, scope))
         return term.text if isinstance(term, Value) else "?"
 
     def rows_of_call(self, otherwise: int) -> int:
@@ -77,7 +78,7 @@ class Writes:
 
     def update(self, node: Any, outer: Scope | None) -> None:
         """UPDATE, whose join with other sources is a statement of its own."""
-        scope = Scope(outer)
+        scope = Scope(Block(), outer)
         self.rewriter.queries.with_clause(node.withClause, scope)
         block, slot = self._target(node, scope)
         self.rewriter.queries.from_clause(node.fromClause, block, scope)
@@ -107,7 +108,7 @@ class Writes:
 
     def delete(self, node: Any, outer: Scope | None) -> None:
         """DELETE, whose join with other sources is a statement of its own."""
-        scope = Scope(outer)
+        scope = Scope(Block(), outer)
         self.rewriter.queries.with_clause(node.withClause, scope)
         block, slot = self._target(node, scope)
         self.rewriter.queries.from_clause(node.usingClause, block, scope)
