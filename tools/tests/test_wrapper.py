@@ -309,5 +309,38 @@ class Hints(unittest.TestCase):
         self.assertEqual(self.hinted("refused: not toml", "", words=("cost", "pipe", "l.sql")), "")
 
 
+class Completion(unittest.TestCase):
+    """The completion for bash, as bash itself would ask it."""
+
+    def completed(self, function: str, *words: str) -> list[str]:
+        script = (
+            f"source {ROOT}/tools/wrapper/cophy.bash; COMP_WORDS=(\"$@\"); COMP_CWORD=$((${{#COMP_WORDS[@]}} - 1)); "
+            f"{function}; printf '%s\\n' \"${{COMPREPLY[@]}}\""
+        )
+        ran = subprocess.run(["bash", "-c", script, "bash", *words], cwd=ROOT, capture_output=True, text=True, check=True)
+        return sorted(ran.stdout.split())
+
+    def test_each_place_is_completed_by_what_may_stand_there(self) -> None:
+        files = ["examples/shop.sql", "examples/shop.toml"]
+        table = [
+            ("_cophy", ("cophy", "c"), ["candidates", "check", "cost"]), ("_cophy", ("cophy", "--u"), ["--unproved"]),
+            ("_cophy", ("cophy", "--unproved", "ex"), ["explain"]), ("_cophy", ("cophy", "cost", "examples/shop."), files),
+            ("_cophy", ("cophy", "advise", "a", "b", "9", "--c"), ["--cert"]), ("_cophy", ("cophy", "cost", "a", "b", ""), []),
+            ("_cophy", ("cophy", "advise", "a", "b", "9", "--cert", "examples/shop."), files),
+            ("_cophy_pg", ("cophy-pg", "ex"), ["export"]), ("_cophy_pg", ("cophy-pg", "export", "--s"), ["--sql"]),
+            ("_cophy_lint", ("cophy-lint", "examples/shop."), files),
+        ]
+        for function, words, wanted in table:
+            with self.subTest(words=words):
+                self.assertEqual(self.completed(function, *words), wanted)
+
+    def test_help_and_manual_name_every_command(self) -> None:
+        for file in ("help.txt", "cophy.1"):
+            text = (ROOT / "tools" / "wrapper" / file).read_text()
+            for word in ("cost", "explain", "whatif", "candidates", "advise", "check", "bench", "unproved", "COPHY_HINTS"):
+                with self.subTest(file=file, word=word):
+                    self.assertIn(word, text)
+
+
 if __name__ == "__main__":
     unittest.main()

@@ -97,10 +97,8 @@ def rewrite(words: argparse.Namespace) -> int:
 
 def _write(workload: Workload, warnings: list[str], words: argparse.Namespace) -> None:
     Path(words.workload).write_bytes(workload.text().encode(errors="replace"))
-    for it in [*(f"warning: {it}" for it in warnings), *summary(workload)]:
-        say(it)
+    told = [*(f"warning: {it}" for it in warnings), *summary(workload)]
     if words.report:
-        lines = [*(f"warning: {it}" for it in warnings), *summary(workload), *each(workload)]
-        Path(words.report).write_text("\n".join(lines) + "\n", encoding="ascii")
-
-
+        Path(words.report).write_text("\n".join([*told, *each(workload)]) + "\n", encoding="ascii")
+    for it in told:
+        say(it)

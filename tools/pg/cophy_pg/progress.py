@@ -1,6 +1,7 @@
 """What goes to the standard error."""
 from __future__ import annotations
 
+import contextlib
 import sys
 import time
 
@@ -20,5 +21,6 @@ class Progress:
 
 
 def say(text: str) -> None:
-    """Writes a line to the standard error."""
-    print(f"cophy-pg: {text}", file=sys.stderr, flush=True)
+    """Writes a line to the standard error, where somebody reads it."""
+    with contextlib.suppress(BrokenPipeError):
+        print(f"cophy-pg: {text}", file=sys.stderr, flush=True)

@@ -3,7 +3,7 @@ from __future__ import annotations
 
 import re
 from collections.abc import Iterator, Sequence
-from contextlib import contextmanager
+from contextlib import contextmanager, suppress
 from typing import Any
 
 try:
@@ -77,6 +77,9 @@ def connected(dsn: str = "") -> Iterator[Server]:
         server.rows(f"SET client_encoding TO '{'LATIN1' if odd else 'UTF8'}'")
         for setting in ("datestyle TO 'ISO, YMD'", "timezone TO 'UTC'", "lock_timeout TO '5s'", "extra_float_digits TO 3"):
             server.rows(f"SET {setting}")
+        with suppress(ServerFault):
+            # What is asked here is no part of the workload. Not every role may say so.
+            server.rows("SET pg_stat_statements.track TO 'none'")
         yield server
     finally:
         connection.close()
