@@ -16,8 +16,6 @@ mod names;
 mod paths;
 mod rates;
 mod tables;
-#[cfg(test)]
-mod tests;
 mod values;
 
 pub use document::read_catalogue;

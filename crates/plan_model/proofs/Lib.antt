@@ -1,2 +1,11 @@
+pub mod SetLaws
+pub mod OrderLaws
 pub mod Bounds
 pub mod CostBound
+pub mod Exchanging
+pub mod Decomposing
+pub mod Caching
+pub mod Comparing
+pub mod Unique
+pub mod Listing
+pub mod TotalBound
