@@ -309,6 +309,39 @@ class Hints(unittest.TestCase):
         self.assertEqual(self.hinted("refused: not toml", "", words=("cost", "pipe", "l.sql")), "")
 
 
+class Gate(unittest.TestCase):
+    """The script of the merge gate, over an `rt` and tests that are scripts of a line."""
+
+    def ended(self, proof: str, proof_status: int, tools: str, tools_status: int) -> tuple[int, list[str]]:
+        with tempfile.TemporaryDirectory() as name:
+            folder = Path(name)
+            for path, text, status in (("bin/rt", proof, proof_status), ("r/tools/tests/run", tools, tools_status)):
+                (folder / path).parent.mkdir(parents=True)
+                (folder / path).write_text(f"#!/bin/sh\necho \"$0 $*\" >>{folder}/calls\nprintf '{text}'\nexit {status}\n")
+                (folder / path).chmod(0o755)
+            (folder / "r" / ".ci").mkdir()
+            shutil.copy(ROOT / ".ci" / "run", folder / "r" / ".ci" / "run")
+            environment = {**os.environ, "PATH": f"{folder / 'bin'}:{os.environ['PATH']}"}
+            ran = subprocess.run([folder / "r" / ".ci" / "run"], env=environment, capture_output=True, text=True, check=False)
+            self.assertEqual((folder / "calls").read_text().splitlines()[0], f"{folder}/bin/rt ci")
+            return ran.returncode, ran.stdout.splitlines()
+
+    def test_the_last_line_sums_both_and_the_status_is_that_of_either(self) -> None:
+        table = [
+            (("a\\n5 passed, 0 failed\\n", 0, "3 passed, 0 failed\\n", 0), 0, "8 passed, 0 failed"),
+            (("5 passed, 1 failed\\n", 1, "3 passed, 0 failed\\n", 0), 1, "8 passed, 1 failed"),
+            (("5 passed, 0 failed\\n", 0, "3 passed, 2 failed\\n", 1), 1, "8 passed, 2 failed"),
+            (("5 passed, 0 failed (more words)\\n", 0, "a fault\\n", 3), 3, "5 passed, 1 failed"),
+            (("", 2, "3 passed, 0 failed\\n", 0), 2, "3 passed, 1 failed"),
+            (("5 passed, 0 failed\\n", 4, "3 passed, 0 failed\\n", 0), 4, "8 passed, 1 failed"),
+        ]
+        for given, status, last in table:
+            with self.subTest(given=given):
+                ended, lines = self.ended(*given)
+                self.assertEqual((ended, lines[-1]), (status, last))
+                self.assertEqual([it for it in lines if it.split(" ")[1:2] == ["passed,"]], [last])
+
+
 class Completion(unittest.TestCase):
     """The completion for bash, as bash itself would ask it."""
 
