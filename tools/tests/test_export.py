@@ -11,6 +11,7 @@ import tomllib
 import unittest
 from pathlib import Path
 
+from grammar import accepted
 from private_server import PrivateServer, missing, program
 
 HERE = Path(__file__).resolve().parent
@@ -95,6 +96,13 @@ class Export(unittest.TestCase):
         allowed = {"SET", "SHOW", "EXPLAIN", "it reads no table", "a query of the database's own catalogs", "COPY",
                    "a command of transactions", "a command that defines or manages something", "VACUUM or ANALYZE", "TRUNCATE"}
         self.assertLessEqual(reasons, allowed)
+
+    def test_the_grammar_takes_what_is_written(self) -> None:
+        for more in ([], ["--no-ranges"], ["--look-ups"], ["--sql", str(DATA / "forms.sql")]):
+            with self.subTest(more=more):
+                self.export(*more)
+                tables = {name: [it["name"] for it in table["column"]] for name, table in self.catalogue().items()}  # type: ignore[attr-defined]
+                self.assertGreater(accepted(self.files[1].read_text(), tables), 85)
 
     @unittest.skipUnless(os.access(COPHY, os.X_OK), "the program isn't built: run rt ci, or set COPHY_PROGRAM")
     def test_the_program_takes_what_is_written(self) -> None:

@@ -3,9 +3,16 @@ from __future__ import annotations
 
 import importlib.util
 import json
+import subprocess
+import tempfile
+import tomllib
 import unittest
+from pathlib import Path
 
 from cophy_text.tokens import tokens
+from grammar import accepted
+
+ROOT = Path(__file__).resolve().parents[2]
 
 HAS_PARSER = importlib.util.find_spec("pglast") is not None
 if HAS_PARSER:
@@ -186,6 +193,25 @@ class Rewriting(unittest.TestCase):
 
     def test_all_changes_are_explained(self) -> None:
         self.assertTrue(all(it.effect in ("same", "near", "less") and it.text for it in CHANGES.values()))
+
+
+@unittest.skipUnless(HAS_PARSER, "python3-pglast isn't installed")
+class Examples(unittest.TestCase):
+    def test_the_examples_are_what_the_tool_writes(self) -> None:
+        folder = ROOT / "examples" / "tpch"
+        with tempfile.TemporaryDirectory() as name:
+            files = [folder / "catalogue.toml", folder / "queries.sql", Path(name) / "workload.sql"]
+            ran = subprocess.run([ROOT / "tools/pg/cophy-pg", "rewrite", *files], capture_output=True, text=True, check=False)
+            self.assertEqual(ran.returncode, 0, ran.stderr)
+            self.assertEqual(files[2].read_text(), (folder / "workload.sql").read_text())
+        self.assertIn("22 statements, written as 32", ran.stderr)
+
+    def test_the_examples_are_in_the_grammar(self) -> None:
+        for name, count in (("tpch", 32), ("oltp", 6)):
+            with self.subTest(name=name):
+                catalogue = tomllib.loads((ROOT / "examples" / name / "catalogue.toml").read_text())
+                tables = {it["name"]: [column["name"] for column in it["column"]] for it in catalogue["table"]}
+                self.assertEqual(accepted((ROOT / "examples" / name / "workload.sql").read_text(), tables), count)
 
 
 @unittest.skipUnless(HAS_PARSER, "python3-pglast isn't installed")

@@ -75,6 +75,8 @@ class Rewriter:
             return Rewritten(skipped=f"no source has the column {str(name)!a}")
         except RecursionError:
             return Rewritten(skipped="it nests too deep")
+        except (AttributeError, LookupError, TypeError, ValueError, AssertionError):
+            return Rewritten(skipped="the rewriter doesn't know a form in it")
         if not self.found.statements:
             return Rewritten(skipped="it reads no table")
         return self.found
