@@ -33,7 +33,9 @@ class Reader:
             self.uses: list[tuple[str, str]] = []
             self.edges: list[tuple[tuple[str, str], tuple[str, str]]] = []
             word = self.peek().word
-            {"SELECT": self.select, "INSERT": self.insert, "UPDATE": self.update, "DELETE": self.delete}.get(word, self.fail)()
+            {"SELECT": self.select, "INSERT": self.insert, "UPDATE": self.update, "DELETE": self.delete}.get(
+                word, self.fail
+            )()
             self.bind()
             count += 1
             if self.at < len(self.tokens) and not self.takes(";"):
@@ -179,7 +181,12 @@ class Reader:
         if token.word == "DATE" and self.peek(1).kind == "text":
             self.at += 2
             return True
-        if token.kind in ("whole", "decimal", "text") or token.word == "NULL" or token.text == b"?" or token.text[:1] == b"$":
+        if (
+            token.kind in ("whole", "decimal", "text")
+            or token.word == "NULL"
+            or token.text == b"?"
+            or token.text[:1] == b"$"
+        ):
             self.at += 1
             return True
         return False
@@ -267,7 +274,11 @@ class Reader:
             raise Refused(f"unjoined {names}")
 
     def slot(self, use: tuple[str, str]) -> str:
-        found = [alias for alias, table in self.slots if use[0] in ("", alias) and (use[1] == "*" or use[1] in self.tables[table])]
+        found = [
+            alias
+            for alias, table in self.slots
+            if use[0] in ("", alias) and (use[1] == "*" or use[1] in self.tables[table])
+        ]
         if len(found) != 1:
             raise Refused(f"{'ambiguous' if found else 'no column'} {use}")
         return found[0]

@@ -12,6 +12,15 @@ import time
 from pathlib import Path
 
 PACKAGES = ("pglast",)
+SETTINGS = (
+    "listen_addresses=",
+    "fsync=off",
+    "autovacuum=off",
+    "shared_preload_libraries=pg_stat_statements",
+    "logging_collector=off",
+    "shared_buffers=32MB",
+    "statement_timeout=60s",
+)
 
 
 def missing() -> str:
@@ -30,7 +39,10 @@ def missing() -> str:
 
 def program(name: str) -> str | None:
     """The path of one of PostgreSQL's programs."""
-    found = sorted(glob.glob(f"/usr/lib/postgresql/*/bin/{name}"), key=lambda it: int(it.split("/")[4]) if it.split("/")[4].isdigit() else 0)
+    found = sorted(
+        glob.glob(f"/usr/lib/postgresql/*/bin/{name}"),
+        key=lambda it: int(it.split("/")[4]) if it.split("/")[4].isdigit() else 0,
+    )
     return found[-1] if found else shutil.which(name)
 
 
@@ -51,22 +63,21 @@ class PrivateServer:
 
     def __init__(self, encoding: str = "UTF8", settings: tuple[str, ...] = ()) -> None:
         self.folder = Path(tempfile.mkdtemp(prefix="cophy-pg-"))
-        self.how: dict[str, object] = {"stdin": subprocess.DEVNULL, "stdout": subprocess.DEVNULL, "stderr": subprocess.DEVNULL}
+        self.how: dict[str, object] = {
+            "stdin": subprocess.DEVNULL,
+            "stdout": subprocess.DEVNULL,
+            "stderr": subprocess.DEVNULL,
+        }
         if os.geteuid() == 0:
             shutil.chown(self.folder, _user())
             self.how["user"] = _user()
         self.folder.chmod(0o755)
         data = str(self.folder / "data")
-        subprocess.run(
-            [str(program("initdb")), "-D", data, "-U", "cophy", "--auth=trust", "-E", encoding, "--locale=C", "--no-sync"],
-            check=True, cwd="/", **self.how,  # type: ignore[call-overload]
-        )
-        given = ["listen_addresses=", "fsync=off", "autovacuum=off", "shared_preload_libraries=pg_stat_statements",
-                 "logging_collector=off", "shared_buffers=32MB", "statement_timeout=60s", *settings]
-        self.process = subprocess.Popen(
-            [str(program("postgres")), "-D", data, "-k", str(self.folder), *(word for it in given for word in ("-c", it))],
-            cwd="/", **self.how,  # type: ignore[call-overload]
-        )
+        words = f"-D {data} -U cophy --auth=trust -E {encoding} --locale=C --no-sync".split()
+        subprocess.run([str(program("initdb")), *words], check=True, cwd="/", **self.how)  # type: ignore[call-overload]
+        given = [word for it in (*SETTINGS, *settings) for word in ("-c", it)]
+        words = [str(program("postgres")), "-D", data, "-k", str(self.folder), *given]
+        self.process = subprocess.Popen(words, cwd="/", **self.how)  # type: ignore[call-overload]
         self._wait()
 
     def _wait(self) -> None:
@@ -84,7 +95,9 @@ class PrivateServer:
     def psql(self, text: str, database: str = "postgres", check: bool = True) -> subprocess.CompletedProcess[str]:
         """Runs a script of SQL."""
         words = [str(program("psql")), "-X", "-q", "-A", "-t", "-v", "ON_ERROR_STOP=1"]
-        ran = subprocess.run(words, input=text, text=True, capture_output=True, env=self.environment(database), check=False, timeout=120)
+        ran = subprocess.run(
+            words, input=text, text=True, capture_output=True, env=self.environment(database), check=False, timeout=120
+        )
         if check and ran.returncode:
             raise RuntimeError(f"psql: {ran.stderr}")
         return ran

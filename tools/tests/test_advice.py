@@ -50,10 +50,15 @@ TWO = "budget 9\ncandidates 2 left over 0\npick 1 a(x) 3 pages\npick 2 a(y) 4 pa
 class Texts(unittest.TestCase):
     def test_each_answer_is_taken_apart(self) -> None:
         advice = answers.read_advice(ADVICE)
-        self.assertEqual((advice.budget, advice.size, advice.cost, advice.bound, advice.gap, advice.is_finished), (3000, 132, 583783100, 580000000, 3783100, False))
+        self.assertEqual(
+            (advice.budget, advice.size, advice.cost, advice.bound, advice.gap, advice.is_finished),
+            (3000, 132, 583783100, 580000000, 3783100, False),
+        )
         self.assertEqual(advice.picks[1], answers.Candidate(2, "Odd_Name", ("select", "_n_code"), 2))
         self.assertEqual(answers.read_advice("tables 2\nstatements 1\nslots 1\n" + TWO).picks[0].shown(), "a(x)")
-        self.assertEqual([it.number for it in answers.read_candidates("1 a(x) 3 pages\n2 a(x, y) 4 pages\nleft over 0\n")], [1, 2])
+        self.assertEqual(
+            [it.number for it in answers.read_candidates("1 a(x) 3 pages\n2 a(x, y) 4 pages\nleft over 0\n")], [1, 2]
+        )
         prices = answers.read_prices("size 3\nstatement 1 weight 2 cost 5\ntotal 10\n")
         self.assertEqual((prices.size, prices.statements[1], prices.total), (3, answers.Price(2, 5), 10))
 
@@ -64,7 +69,10 @@ class Texts(unittest.TestCase):
                     self.assertRaises(answers.NoAnswer, read, text)
 
 
-@unittest.skipIf(importlib.util.find_spec("pglast") is None or not Path("/usr/bin/python3").exists(), "python3-pglast isn't installed")
+@unittest.skipIf(
+    importlib.util.find_spec("pglast") is None or not Path("/usr/bin/python3").exists(),
+    "python3-pglast isn't installed",
+)
 class Programs(unittest.TestCase):
     """`why` and `curve`, over a program that is a script."""
 
@@ -86,8 +94,14 @@ class Programs(unittest.TestCase):
     def test_why_tells_who_gains_and_who_loses(self) -> None:
         text = self.call("why", "advice")
         self.assertIn("without any pick the workload costs 15000, with all 7100 (47.3 %)", text)
-        self.assertIn("pick 1 a(x), 3 pages (0.0 MB)\n  without it the workload costs 15100, 8000 more (212.7 %)\n  statement    1 gains 8000\n", text)
-        self.assertIn("pick 2 a(y), 4 pages (0.0 MB)\n  without it the workload costs 7000, -100 more (98.6 %)\n  statement    2 loses 100\n", text)
+        self.assertIn(
+            "pick 1 a(x), 3 pages (0.0 MB)\n  without it the workload costs 15100, 8000 more (212.7 %)\n  statement    1 gains 8000\n",
+            text,
+        )
+        self.assertIn(
+            "pick 2 a(y), 4 pages (0.0 MB)\n  without it the workload costs 7000, -100 more (98.6 %)\n  statement    2 loses 100\n",
+            text,
+        )
         found = json.loads(self.call("why", "advice", "--json"))
         self.assertEqual((found["total_without_picks"], found["total"]), (15000, 7100))
         self.assertEqual(found["picks"][0]["statements"], {"1": 8000})
@@ -97,7 +111,9 @@ class Programs(unittest.TestCase):
         self.assertEqual([it.split()[0] for it in lines[1:]], ["0", "10", "20", "30"])
         self.assertEqual(lines[4].split(), ["30", "0.2", "30", "1", "6000", "5000", "16.67", "%"])
         found = json.loads(self.call("curve", "--budgets", "5,40", "--json"))
-        self.assertEqual([(it["budget"], it["cost"], it["picks"]) for it in found], [(5, 8500, []), (40, 6000, ["customer(city)"])])
+        self.assertEqual(
+            [(it["budget"], it["cost"], it["picks"]) for it in found], [(5, 8500, []), (40, 6000, ["customer(city)"])]
+        )
 
     @unittest.skipIf(importlib.util.find_spec("matplotlib") is None, "python3-matplotlib isn't installed")
     def test_curve_draws_a_png(self) -> None:
@@ -138,17 +154,27 @@ class OnServer(unittest.TestCase):
         self.assertIn("-- budget 3000 pages (23.4 MB), size 132 pages (1.0 MB)", text)
         self.assertIn("-- cost 583783100, bound 580000000, gap 3783100: the search stopped early", text)
         self.server.psql(text, "shop")
-        made = self.server.value("SELECT string_agg(indexdef, E'\\n' ORDER BY indexname) FROM pg_indexes WHERE indexname ~ '_idx$'"
-                                 " AND tablename !~ '^event_'", "shop")
+        made = self.server.value(
+            "SELECT string_agg(indexdef, E'\\n' ORDER BY indexname) FROM pg_indexes WHERE indexname ~ '_idx$'"
+            " AND tablename !~ '^event_'",
+            "shop",
+        )
         for name in ("customer_city_idx", "Odd_Name_select__n_code_idx", "event_kind_idx", "sales_orders_total_idx"):
             self.assertIn(name, made)
-        for name in ("customer_city_idx", '"Odd_Name_select__n_code_idx"', "event_kind_idx", "sales.sales_orders_total_idx"):
+        for name in (
+            "customer_city_idx",
+            '"Odd_Name_select__n_code_idx"',
+            "event_kind_idx",
+            "sales.sales_orders_total_idx",
+        ):
             self.server.psql(f"DROP INDEX {name}", "shop")
 
     def test_ddl_gives_json_for_scripts(self) -> None:
         found = json.loads(self.call("ddl", self.files[0], self.files[2], "--json").stdout)
-        self.assertEqual([it["name"] for it in found["picks"]],
-                         ["customer_city_idx", "Odd_Name_select__n_code_idx", "event_kind_idx", "sales_orders_total_idx"])
+        self.assertEqual(
+            [it["name"] for it in found["picks"]],
+            ["customer_city_idx", "Odd_Name_select__n_code_idx", "event_kind_idx", "sales_orders_total_idx"],
+        )
         self.assertIn('"Odd Name" ("select", "\u00dcn\u00efcode")', found["picks"][1]["statement"])
 
     @unittest.skipUnless(has_extension("hypopg"), "postgresql-15-hypopg isn't installed")
@@ -159,12 +185,16 @@ class OnServer(unittest.TestCase):
         program.chmod(0o755)
         words = ("verify", *self.files, "--program", str(program))
         text = self.call(*words).stdout
-        self.assertRegex(text, r"pick 1 customer\(city\): taken by \d+ statements\n  input +\d+ \(calls 1\): a call costs")
+        self.assertRegex(
+            text, r"pick 1 customer\(city\): taken by \d+ statements\n  input +\d+ \(calls 1\): a call costs"
+        )
         self.assertIn("pick 2 Odd_Name(select, _n_code): taken by no statement", text)
         found = json.loads(self.call(*words, "--json").stdout)
         self.assertGreater(len(found["picks"][0]["taken_by"]), 2)
         self.assertGreater(sum(it["after"] is not None for it in found["statements"]), 70)
-        self.assertEqual(self.server.value("SELECT count(*) FROM pg_indexes WHERE indexname LIKE '%city%'", "shop"), "0")
+        self.assertEqual(
+            self.server.value("SELECT count(*) FROM pg_indexes WHERE indexname LIKE '%city%'", "shop"), "0"
+        )
 
     def test_verify_without_hypopg_says_so(self) -> None:
         self.server.psql("CREATE DATABASE bare")

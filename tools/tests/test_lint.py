@@ -17,7 +17,9 @@ class Lint(unittest.TestCase):
         with tempfile.TemporaryDirectory() as folder:
             for name, text in (("c", catalogue), ("l", workload)):
                 (Path(folder) / name).write_text(text)
-            ran = subprocess.run([ROOT / "tools/lint/cophy-lint", "c", "l"], cwd=folder, capture_output=True, text=True, check=False)
+            ran = subprocess.run(
+                [ROOT / "tools/lint/cophy-lint", "c", "l"], cwd=folder, capture_output=True, text=True, check=False
+            )
         self.assertEqual(ran.stderr, "")
         return ran.returncode, ran.stdout
 
@@ -27,10 +29,19 @@ class Lint(unittest.TestCase):
 
     def test_each_warning_has_its_place_and_its_reason(self) -> None:
         table = [
-            (HEAD + COLUMN.replace("distinct", "distnct"), "c: table[1].column[1].distnct: means nothing and is passed over: did you mean distinct?"),
+            (
+                HEAD + COLUMN.replace("distinct", "distnct"),
+                "c: table[1].column[1].distnct: means nothing and is passed over: did you mean distinct?",
+            ),
             (HEAD + COLUMN.replace("distinct", "distnct"), "'t.c' has no distinct"),
-            (HEAD.replace("version = 1", "version = 1\nrand_page = 5") + COLUMN, "c: rand_page: means nothing and is passed over: it belongs under [rates]"),
-            (HEAD + COLUMN + '[[index]]\nname = "i"\nkeys = ["c"]\n', "c: index: means nothing and is passed over: write [[table.index]]"),
+            (
+                HEAD.replace("version = 1", "version = 1\nrand_page = 5") + COLUMN,
+                "c: rand_page: means nothing and is passed over: it belongs under [rates]",
+            ),
+            (
+                HEAD + COLUMN + '[[index]]\nname = "i"\nkeys = ["c"]\n',
+                "c: index: means nothing and is passed over: write [[table.index]]",
+            ),
             (HEAD.replace("100", "0") + COLUMN, "'t' has no rows and counts as one row on one page"),
             (HEAD.replace("pages = 2", "pages = 0") + COLUMN, "has rows but no pages"),
             (HEAD + COLUMN.replace("50", "500"), "more distinct values than its table has rows"),
@@ -45,7 +56,10 @@ class Lint(unittest.TestCase):
 
     def test_guesses_of_a_workload_are_told(self) -> None:
         table = [
-            ("SELECT c FROM t;\n\nSELECT c FROM t WHERE c BETWEEN ? AND ?", "l: statement 2, line 3: the range of 'c' is of parameters"),
+            (
+                "SELECT c FROM t;\n\nSELECT c FROM t WHERE c BETWEEN ? AND ?",
+                "l: statement 2, line 3: the range of 'c' is of parameters",
+            ),
             ("SELECT c FROM t WHERE c >= $1", "the bound of 'c' is a parameter"),
             ("SELECT c FROM t WHERE t.x > 'q'", "'x' is of kind text"),
             ("SELECT c FROM t WHERE x LIKE 'q%'", "LIKE a prefix"),

@@ -68,14 +68,23 @@ class Copy:
     def environment(self, **more: str) -> dict[str, str]:
         kept = {it: value for it, value in os.environ.items() if not it.startswith(("COPHY_", "FAKE_"))}
         return {
-            **kept, "PATH": f"{self.folder / 'bin'}:{kept['PATH']}", "FAKE_CALLS": str(self.calls), "FAKE_TEXT": "",
-            "FAKE_PROGRAM": str(self.folder / "program"), **more,
+            **kept,
+            "PATH": f"{self.folder / 'bin'}:{kept['PATH']}",
+            "FAKE_CALLS": str(self.calls),
+            "FAKE_TEXT": "",
+            "FAKE_PROGRAM": str(self.folder / "program"),
+            **more,
         }
 
     def call(self, *words: str, **more: str) -> subprocess.CompletedProcess[bytes]:
         return subprocess.run(
-            [self.root / "cophy", *words], cwd=self.root, env=self.environment(**more), stdin=subprocess.DEVNULL,
-            capture_output=True, check=False, timeout=60,
+            [self.root / "cophy", *words],
+            cwd=self.root,
+            env=self.environment(**more),
+            stdin=subprocess.DEVNULL,
+            capture_output=True,
+            check=False,
+            timeout=60,
         )
 
     def called(self) -> list[str]:
@@ -120,7 +129,9 @@ class Wrapper(unittest.TestCase):
         for status in range(8):
             for hints in ("0", "1"):
                 with self.subTest(status=status, hints=hints):
-                    ran = self.copy.call("cost", "a", "b", FAKE_TEXT="x\\000\\377y", FAKE_STATUS=str(status), COPHY_HINTS=hints)
+                    ran = self.copy.call(
+                        "cost", "a", "b", FAKE_TEXT="x\\000\\377y", FAKE_STATUS=str(status), COPHY_HINTS=hints
+                    )
                     self.assertEqual((ran.returncode, ran.stdout), (status, b"x\0\xffy"))
 
     def test_a_build_tells_each_crate_and_its_number(self) -> None:
@@ -180,8 +191,12 @@ class Wrapper(unittest.TestCase):
         """What a call writes to the standard error where that is a terminal."""
         ours, its = pty.openpty()
         with subprocess.Popen(
-            [self.copy.root / "cophy", *words], cwd=self.copy.root, env=self.copy.environment(**more),
-            stdin=subprocess.DEVNULL, stdout=subprocess.DEVNULL, stderr=its,
+            [self.copy.root / "cophy", *words],
+            cwd=self.copy.root,
+            env=self.copy.environment(**more),
+            stdin=subprocess.DEVNULL,
+            stdout=subprocess.DEVNULL,
+            stderr=its,
         ) as ran:
             os.close(its)
             shown = b""
@@ -196,7 +211,11 @@ class Wrapper(unittest.TestCase):
 
     def test_unproved_hands_on_text_and_status_and_says_so(self) -> None:
         ran = self.copy.call(
-            "--unproved", "cost", "examples/single.toml", "nowhere.sql", FAKE_TEXT="read fault: nowhere.sql\\n",
+            "--unproved",
+            "cost",
+            "examples/single.toml",
+            "nowhere.sql",
+            FAKE_TEXT="read fault: nowhere.sql\\n",
             FAKE_ENDS="run=ended status=3 runners=1 proved=no",
         )
         self.assertEqual((ran.returncode, ran.stdout), (3, b"read fault: nowhere.sql\n"))
@@ -209,7 +228,11 @@ class Wrapper(unittest.TestCase):
 
     def test_unproved_calls_files_as_the_caller_does(self) -> None:
         ran = self.copy.call(
-            "--unproved", "cost", "examples/single.toml", "examples/single.sql", FAKE_TEXT="refused: too long cophy-file-2\\n",
+            "--unproved",
+            "cost",
+            "examples/single.toml",
+            "examples/single.sql",
+            FAKE_TEXT="refused: too long cophy-file-2\\n",
             FAKE_ENDS="run=ended status=5 runners=1 proved=no",
         )
         self.assertEqual((ran.returncode, ran.stdout), (5, b"refused: too long examples/single.sql\n"))
@@ -239,12 +262,16 @@ class Hints(unittest.TestCase):
         (self.copy.root / "l.sql").write_text(workload)
         status = "3" if text.startswith("read") else "2" if text.startswith("usage") else "5" if text else "0"
         shown = text.replace("\\", "\\\\").replace("%", "%%") + "\\n"
-        ran = self.copy.call(*(words or ("cost", "c.toml", "l.sql")), FAKE_TEXT=shown, FAKE_STATUS=status, COPHY_HINTS="1")
+        ran = self.copy.call(
+            *(words or ("cost", "c.toml", "l.sql")), FAKE_TEXT=shown, FAKE_STATUS=status, COPHY_HINTS="1"
+        )
         self.assertEqual(ran.stdout, (text + "\n").encode())
         return ran.stderr.decode()
 
     def test_a_place_is_told_by_line_column_and_statement(self) -> None:
-        hints = self.hinted("refused: unsupported at 52", "SELECT city FROM orders;\nSELECT city FROM orders\nOR city = 1")
+        hints = self.hinted(
+            "refused: unsupported at 52", "SELECT city FROM orders;\nSELECT city FROM orders\nOR city = 1"
+        )
         self.assertIn("l.sql, line 3, column 3, statement 2", hints)
         hints = self.hinted("refused: syntax at 14", "SELECT city\n\tFROM; SELECT")
         self.assertIn("\ncophy:    FROM; SELECT\ncophy:    ^\n", hints)
@@ -302,7 +329,9 @@ class Hints(unittest.TestCase):
 
     def test_faulty_words_are_told_the_form(self) -> None:
         self.assertIn("CONF N", self.hinted("usage: missing word 5", "", words=("explain", "c.toml", "l.sql", "x")))
-        self.assertIn("did you mean explain?", self.hinted("usage: unknown command at word 1", "", words=("explian", "x")))
+        self.assertIn(
+            "did you mean explain?", self.hinted("usage: unknown command at word 1", "", words=("explian", "x"))
+        )
 
     def test_a_file_that_is_read_once_gets_no_hints(self) -> None:
         os.mkfifo(self.copy.root / "pipe")
@@ -317,12 +346,16 @@ class Gate(unittest.TestCase):
             folder = Path(name)
             for path, text, status in (("bin/rt", proof, proof_status), ("r/tools/tests/run", tools, tools_status)):
                 (folder / path).parent.mkdir(parents=True)
-                (folder / path).write_text(f"#!/bin/sh\necho \"$0 $*\" >>{folder}/calls\nprintf '{text}'\nexit {status}\n")
+                (folder / path).write_text(
+                    f"#!/bin/sh\necho \"$0 $*\" >>{folder}/calls\nprintf '{text}'\nexit {status}\n"
+                )
                 (folder / path).chmod(0o755)
             (folder / "r" / ".ci").mkdir()
             shutil.copy(ROOT / ".ci" / "run", folder / "r" / ".ci" / "run")
             environment = {**os.environ, "PATH": f"{folder / 'bin'}:{os.environ['PATH']}"}
-            ran = subprocess.run([folder / "r" / ".ci" / "run"], env=environment, capture_output=True, text=True, check=False)
+            ran = subprocess.run(
+                [folder / "r" / ".ci" / "run"], env=environment, capture_output=True, text=True, check=False
+            )
             self.assertEqual((folder / "calls").read_text().splitlines()[0], f"{folder}/bin/rt ci")
             return ran.returncode, ran.stdout.splitlines()
 
@@ -347,20 +380,26 @@ class Completion(unittest.TestCase):
 
     def completed(self, function: str, *words: str) -> list[str]:
         script = (
-            f"source {ROOT}/tools/wrapper/cophy.bash; COMP_WORDS=(\"$@\"); COMP_CWORD=$((${{#COMP_WORDS[@]}} - 1)); "
+            f'source {ROOT}/tools/wrapper/cophy.bash; COMP_WORDS=("$@"); COMP_CWORD=$((${{#COMP_WORDS[@]}} - 1)); '
             f"{function}; printf '%s\\n' \"${{COMPREPLY[@]}}\""
         )
-        ran = subprocess.run(["bash", "-c", script, "bash", *words], cwd=ROOT, capture_output=True, text=True, check=True)
+        ran = subprocess.run(
+            ["bash", "-c", script, "bash", *words], cwd=ROOT, capture_output=True, text=True, check=True
+        )
         return sorted(ran.stdout.split())
 
     def test_each_place_is_completed_by_what_may_stand_there(self) -> None:
         files = ["examples/shop.sql", "examples/shop.toml"]
         table = [
-            ("_cophy", ("cophy", "c"), ["candidates", "check", "cost"]), ("_cophy", ("cophy", "--u"), ["--unproved"]),
-            ("_cophy", ("cophy", "--unproved", "ex"), ["explain"]), ("_cophy", ("cophy", "cost", "examples/shop."), files),
-            ("_cophy", ("cophy", "advise", "a", "b", "9", "--c"), ["--cert"]), ("_cophy", ("cophy", "cost", "a", "b", ""), []),
+            ("_cophy", ("cophy", "c"), ["candidates", "check", "cost"]),
+            ("_cophy", ("cophy", "--u"), ["--unproved"]),
+            ("_cophy", ("cophy", "--unproved", "ex"), ["explain"]),
+            ("_cophy", ("cophy", "cost", "examples/shop."), files),
+            ("_cophy", ("cophy", "advise", "a", "b", "9", "--c"), ["--cert"]),
+            ("_cophy", ("cophy", "cost", "a", "b", ""), []),
             ("_cophy", ("cophy", "advise", "a", "b", "9", "--cert", "examples/shop."), files),
-            ("_cophy_pg", ("cophy-pg", "ex"), ["export"]), ("_cophy_pg", ("cophy-pg", "export", "--s"), ["--sql"]),
+            ("_cophy_pg", ("cophy-pg", "ex"), ["export"]),
+            ("_cophy_pg", ("cophy-pg", "export", "--s"), ["--sql"]),
             ("_cophy_lint", ("cophy-lint", "examples/shop."), files),
         ]
         for function, words, wanted in table:
@@ -370,7 +409,17 @@ class Completion(unittest.TestCase):
     def test_help_and_manual_name_every_command(self) -> None:
         for file in ("help.txt", "cophy.1"):
             text = (ROOT / "tools" / "wrapper" / file).read_text()
-            for word in ("cost", "explain", "whatif", "candidates", "advise", "check", "bench", "unproved", "COPHY_HINTS"):
+            for word in (
+                "cost",
+                "explain",
+                "whatif",
+                "candidates",
+                "advise",
+                "check",
+                "bench",
+                "unproved",
+                "COPHY_HINTS",
+            ):
                 with self.subTest(file=file, word=word):
                     self.assertIn(word, text)
 

@@ -8,8 +8,12 @@ PAGE = 8192
 _PICK = re.compile(r"(?:pick )?(\d+) ([A-Za-z0-9_]+)\(([A-Za-z0-9_]+(?:, [A-Za-z0-9_]+)*)\) (\d+) pages\Z")
 _PRICE = re.compile(r"statement (\d+) weight (\d+) cost (\d+)\Z")
 _NUMBERS = {
-    "budget": re.compile(r"budget (\d+)\Z"), "size": re.compile(r"size (\d+)\Z"), "cost": re.compile(r"cost (\d+)\Z"),
-    "bound": re.compile(r"bound (-?\d+)\Z"), "gap": re.compile(r"gap (\d+)\Z"), "total": re.compile(r"total (\d+)\Z"),
+    "budget": re.compile(r"budget (\d+)\Z"),
+    "size": re.compile(r"size (\d+)\Z"),
+    "cost": re.compile(r"cost (\d+)\Z"),
+    "bound": re.compile(r"bound (-?\d+)\Z"),
+    "gap": re.compile(r"gap (\d+)\Z"),
+    "total": re.compile(r"total (\d+)\Z"),
 }
 
 

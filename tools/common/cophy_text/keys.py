@@ -7,7 +7,13 @@ from collections.abc import Iterator
 from typing import Any
 
 RATES = {
-    "seq_page": 1000, "rand_page": 4000, "row_cpu": 10, "sort_cpu": 5, "merge_cpu": 5, "hash_cpu": 8, "group_cpu": 5,
+    "seq_page": 1000,
+    "rand_page": 4000,
+    "row_cpu": 10,
+    "sort_cpu": 5,
+    "merge_cpu": 5,
+    "hash_cpu": 8,
+    "group_cpu": 5,
 }
 KNOWN: dict[str, tuple[str, ...]] = {
     "": ("version", "rates", "table"),
@@ -18,17 +24,22 @@ KNOWN: dict[str, tuple[str, ...]] = {
 }
 RANGES = {
     "version": "the whole number 1",
-    "rows": "a whole number from 0 to 10^12", "pages": "a whole number from 0 to 10^12",
-    "width": "a whole number of bytes from 1 to 1000", "distinct": "a whole number from 1 to 10^12",
-    "kind": "one of the texts \"int\", \"text\" and \"date\"",
-    "low": "a whole number for a column of kind int, a text \"yyyy-mm-dd\" for one of kind date",
+    "rows": "a whole number from 0 to 10^12",
+    "pages": "a whole number from 0 to 10^12",
+    "width": "a whole number of bytes from 1 to 1000",
+    "distinct": "a whole number from 1 to 10^12",
+    "kind": 'one of the texts "int", "text" and "date"',
+    "low": 'a whole number for a column of kind int, a text "yyyy-mm-dd" for one of kind date',
     "high": "what low may be, and not below it",
     "name": "a text of 1 to 64 ASCII letters, digits and _, with no digit first",
     "keys": "a list of 1 to 8 names of columns of the table",
-    "unique": "true or false", "clustered": "true or false, and true for one index of a table at most",
-    "table": "at most 200 tables, each written [[table]]", "column": "1 to 200 columns, each written [[table.column]]",
+    "unique": "true or false",
+    "clustered": "true or false, and true for one index of a table at most",
+    "table": "at most 200 tables, each written [[table]]",
+    "column": "1 to 200 columns, each written [[table.column]]",
     "index": "at most 1000 indexes in all, each written [[table.index]]",
-    "rates": "a table [rates]", **{it: "a whole number from 0 to 1000000" for it in RATES},
+    "rates": "a table [rates]",
+    **{it: "a whole number from 0 to 1000000" for it in RATES},
 }
 OURS = "postgres"
 """A key under which the export keeps what PostgreSQL calls a table, a column or an index; `cophy` passes it over."""

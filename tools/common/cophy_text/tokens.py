@@ -79,7 +79,9 @@ def place_of(text: bytes, place: int) -> Place:
     low = max(0, at - begin - 60)
     before = _plain(line[low : at - begin])
     shown = before + _plain(line[at - begin : at - begin + 60])
-    return Place(text.count(b"\n", 0, at) + 1, at - begin + 1, shown, " " * len(before) + "^", statement_at(text, place))
+    return Place(
+        text.count(b"\n", 0, at) + 1, at - begin + 1, shown, " " * len(before) + "^", statement_at(text, place)
+    )
 
 
 def statement_at(text: bytes, place: int) -> int:

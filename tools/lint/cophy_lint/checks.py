@@ -27,7 +27,10 @@ def catalogue_warnings(content: bytes) -> tuple[list[Warning], dict[str, Any]]:
         document = tomllib.loads(content.decode())
     except (ValueError, RecursionError) as fault:
         return [Warning("catalogue", f"not TOML: {_place(str(fault))}")], {}
-    found = [Warning(path, f"means nothing and is passed over{': ' + hint if hint else ''}") for path, hint in keys.unknown_keys(document)]
+    found = [
+        Warning(path, f"means nothing and is passed over{': ' + hint if hint else ''}")
+        for path, hint in keys.unknown_keys(document)
+    ]
     for number, table in enumerate(_listed(document, "table"), 1):
         found += _table(f"table[{number}]", table)
     return found, document
@@ -48,15 +51,22 @@ def _table(path: str, table: dict[str, Any]) -> Iterator[Warning]:
         yield Warning(path, f"{name!a} has no rows and counts as one row on one page: was it analysed?")
     elif table.get("pages") == 0:
         yield Warning(path, f"{name!a} has rows but no pages, and counts as one page")
-    indexed = {str(key).lower() for index in _listed(table, "index") for key in index.get("keys", ()) if isinstance(key, str)}
+    indexed = {
+        str(key).lower() for index in _listed(table, "index") for key in index.get("keys", ()) if isinstance(key, str)
+    }
     for number, column in enumerate(_listed(table, "column"), 1):
         yield from _column(f"{path}.column[{number}]", name, column, table, indexed)
     for number, index in enumerate(_listed(table, "index"), 1):
         if isinstance(index.get("keys"), list) and len(index["keys"]) > 4:
-            yield Warning(f"{path}.index[{number}]", f"{index.get('name')!a} has {len(index['keys'])} keys: its size grows with each")
+            yield Warning(
+                f"{path}.index[{number}]",
+                f"{index.get('name')!a} has {len(index['keys'])} keys: its size grows with each",
+            )
 
 
-def _column(path: str, table: str, column: dict[str, Any], parent: dict[str, Any], indexed: set[str]) -> Iterator[Warning]:
+def _column(
+    path: str, table: str, column: dict[str, Any], parent: dict[str, Any], indexed: set[str]
+) -> Iterator[Warning]:
     name = f"{table}.{column.get('name')}"
     distinct, rows = column.get("distinct"), parent.get("rows")
     if distinct is None:
@@ -81,7 +91,10 @@ def workload_warnings(content: bytes, document: dict[str, Any]) -> list[Warning]
         elif statement:
             number += 1
             place = place_of(content, statement[0].place)
-            found += [Warning(f"statement {number}, line {place.line}", it) for it in dict.fromkeys(_statement(statement, kinds))]
+            found += [
+                Warning(f"statement {number}, line {place.line}", it)
+                for it in dict.fromkeys(_statement(statement, kinds))
+            ]
             statement = []
     return found or ([Warning("workload", "it holds no statement: every total is 0")] if number == 0 else [])
 
@@ -103,7 +116,12 @@ def _statement(listed: list[Token], kinds: dict[str, set[str]]) -> Iterator[str]
             yield f"the range of {column!a} is of parameters, which is taken to keep a quarter of the rows"
         elif token.text in _RANGES and after is not None and _is_parameter(after):
             yield f"the bound of {column!a} is a parameter, which is taken to keep a third of the rows"
-        elif token.text in _RANGES and after is not None and after.kind in _LITERALS and kinds.get(column.lower()) == {"text"}:
+        elif (
+            token.text in _RANGES
+            and after is not None
+            and after.kind in _LITERALS
+            and kinds.get(column.lower()) == {"text"}
+        ):
             yield f"{column!a} is of kind text, so its bound is taken to keep a third of the rows"
         elif token.word == "LIKE" and after is not None and after.kind == "text" and not after.text.startswith(b"'%"):
             yield f"{column!a} LIKE a prefix: no index is taken to serve it, a tenth of the rows is kept"

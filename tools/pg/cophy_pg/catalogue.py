@@ -79,7 +79,9 @@ def read_schema(content: bytes) -> Schema:
 
 def _read_table(element: dict[str, Any]) -> Table:
     schema, name, *rest = element.get(keys.OURS, ("public", element["name"]))
-    table = Table(schema, name, element["name"], element["rows"], element["pages"], is_partitioned="partitioned" in rest)
+    table = Table(
+        schema, name, element["name"], element["rows"], element["pages"], is_partitioned="partitioned" in rest
+    )
     by_shown: dict[str, str] = {}
     for it in element["column"]:
         column = Column(it.get(keys.OURS, it["name"]), it["name"], it["kind"], it["width"], it.get("distinct"))

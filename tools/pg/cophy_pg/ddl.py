@@ -22,7 +22,8 @@ class NoIndex(Exception):
 def add_ddl(commands: argparse._SubParsersAction[argparse.ArgumentParser]) -> None:
     """The words of `ddl`."""
     parser = commands.add_parser(
-        "ddl", help="print the statements CREATE INDEX of an advice",
+        "ddl",
+        help="print the statements CREATE INDEX of an advice",
         description="Prints CREATE INDEX CONCURRENTLY for each pick of an advice, with PostgreSQL's own names. Each runs by "
         "itself, outside a transaction; psql -f runs them in turn.",
     )
@@ -85,7 +86,9 @@ def ddl(words: argparse.Namespace) -> int:
         print(json.dumps(_as_json(advice, made), indent=2))
         return 0
     end = "the bound is reached: no other choice costs less" if advice.is_finished else "the search stopped early"
-    print(f"-- budget {advice.budget} pages ({megabytes(advice.budget)}), size {advice.size} pages ({megabytes(advice.size)})")
+    print(
+        f"-- budget {advice.budget} pages ({megabytes(advice.budget)}), size {advice.size} pages ({megabytes(advice.size)})"
+    )
     print(f"-- cost {advice.cost}, bound {advice.bound}, gap {advice.gap}: {end}")
     for pick, _, text in made:
         print(f"\n-- pick {pick.number}: {pick.pages} pages ({megabytes(pick.pages)})\n{text}")
@@ -94,10 +97,21 @@ def ddl(words: argparse.Namespace) -> int:
 
 def _as_json(advice: Advice, made: list[tuple[Candidate, str, str]]) -> dict[str, Any]:
     return {
-        "budget": advice.budget, "size": advice.size, "cost": advice.cost, "bound": advice.bound, "gap": advice.gap,
+        "budget": advice.budget,
+        "size": advice.size,
+        "cost": advice.cost,
+        "bound": advice.bound,
+        "gap": advice.gap,
         "finished": advice.is_finished,
         "picks": [
-            {"number": it.number, "table": it.table, "columns": it.columns, "pages": it.pages, "name": name, "statement": text}
+            {
+                "number": it.number,
+                "table": it.table,
+                "columns": it.columns,
+                "pages": it.pages,
+                "name": name,
+                "statement": text,
+            }
             for it, name, text in made
         ],
     }

@@ -17,16 +17,21 @@ from cophy_pg.workload import Workload, made, mentioned
 def add_export(commands: argparse._SubParsersAction[argparse.ArgumentParser]) -> None:
     """The words of `export`."""
     parser = commands.add_parser(
-        "export", help="write a catalogue and a workload from a server",
+        "export",
+        help="write a catalogue and a workload from a server",
         description="Reads a database in one read-only transaction and writes a catalogue and a workload. The connection "
         "is that of psql's environment (PGHOST, PGDATABASE, PGSERVICE, ..), or of --dsn. The catalogue holds the least and "
         "the greatest value of columns, as PostgreSQL's statistics have them.",
     )
     parser.add_argument("catalogue", metavar="CATALOGUE", help="the file of the catalogue")
     parser.add_argument("workload", metavar="WORKLOAD", help="the file of the workload")
-    parser.add_argument("--dsn", default="", help="a connection string; better in PGSERVICE, since others may see words")
+    parser.add_argument(
+        "--dsn", default="", help="a connection string; better in PGSERVICE, since others may see words"
+    )
     source = parser.add_mutually_exclusive_group()
-    source.add_argument("--sql", metavar="FILE", help="statements from a file of SQL, with weights in comments '-- weight N'")
+    source.add_argument(
+        "--sql", metavar="FILE", help="statements from a file of SQL, with weights in comments '-- weight N'"
+    )
     source.add_argument("--log", metavar="FILE", help="statements from a log (stderr, csvlog or jsonlog)")
     _add_options(parser)
     parser.set_defaults(run=export)
@@ -35,7 +40,8 @@ def add_export(commands: argparse._SubParsersAction[argparse.ArgumentParser]) ->
 def add_rewrite(commands: argparse._SubParsersAction[argparse.ArgumentParser]) -> None:
     """The words of `rewrite`."""
     parser = commands.add_parser(
-        "rewrite", help="write a workload from a file of SQL over a catalogue, without a server",
+        "rewrite",
+        help="write a workload from a file of SQL over a catalogue, without a server",
         description="Rewrites PostgreSQL's SQL into the grammar of a workload, over the tables of a catalogue.",
     )
     parser.add_argument("catalogue", metavar="CATALOGUE", help="a catalogue that is there")
@@ -47,11 +53,17 @@ def add_rewrite(commands: argparse._SubParsersAction[argparse.ArgumentParser]) -
 
 def _add_options(parser: argparse.ArgumentParser) -> None:
     parser.add_argument("--report", metavar="FILE", help="a report on each statement; a summary goes to standard error")
-    parser.add_argument("--no-ranges", action="store_true",
-                        help="leave ranges of parameters as they are, which the model takes for a quarter of the table; "
-                        "else they become literal ranges of 0.5 %% of the column, as in PostgreSQL's generic plan")
-    parser.add_argument("--look-ups", action="store_true",
-                        help="say by IN what PostgreSQL would look up by a nested loop, which the model doesn't have")
+    parser.add_argument(
+        "--no-ranges",
+        action="store_true",
+        help="leave ranges of parameters as they are, which the model takes for a quarter of the table; "
+        "else they become literal ranges of 0.5 %% of the column, as in PostgreSQL's generic plan",
+    )
+    parser.add_argument(
+        "--look-ups",
+        action="store_true",
+        help="say by IN what PostgreSQL would look up by a nested loop, which the model doesn't have",
+    )
 
 
 def _options(words: argparse.Namespace) -> Options:
@@ -73,15 +85,21 @@ def export(words: argparse.Namespace) -> int:
     return 0
 
 
-def _exported(server: Server, given: list[inputs.Input] | None, options: Options, progress: Progress) -> tuple[str, Workload, list[str]]:
+def _exported(
+    server: Server, given: list[inputs.Input] | None, options: Options, progress: Progress
+) -> tuple[str, Workload, list[str]]:
     progress("reading statements")
     listed = inputs.from_server(server) if given is None else given
     hidden = sum(it.text == "<insufficient privilege>" for it in listed)
     found = read_database(server, *mentioned(listed), progress)
-    warnings = [f"the role isn't a member of {it}, so some statements or statistics may be missing" for it in rights(server)]
+    warnings = [
+        f"the role isn't a member of {it}, so some statements or statistics may be missing" for it in rights(server)
+    ]
     if hidden:
         warnings.append(f"the texts of {hidden} statements of other users can't be read")
-    workload = made([it for it in listed if it.text != "<insufficient privilege>"], Rewriter(found.schema, options), progress)
+    workload = made(
+        [it for it in listed if it.text != "<insufficient privilege>"], Rewriter(found.schema, options), progress
+    )
     name = server.value("SELECT current_database()::text")
     head = [f"The database {str(name)!a}, exported by cophy-pg.", "A cost divided by 1000 is in the unit of EXPLAIN."]
     return catalogue_text(found.schema, found.rates, head), workload, [*warnings, *found.warnings]

@@ -16,13 +16,16 @@ from cophy_pg.server import Server, quoted_name
 
 _BACKSLASH = re.compile(r"^[ \t]*\\[^\n]*$", re.MULTILINE)
 _VARIABLE = re.compile(
-    r"(?<![:\w]):(?:'([A-Za-z_]\w*)'|\"([A-Za-z_]\w*)\"|([A-Za-z_]\w*))(?!:)|'[^']*'|\"[^\"]*\"|--[^\n]*|/\*.*?\*/", re.DOTALL
+    r"(?<![:\w]):(?:'([A-Za-z_]\w*)'|\"([A-Za-z_]\w*)\"|([A-Za-z_]\w*))(?!:)|'[^']*'|\"[^\"]*\"|--[^\n]*|/\*.*?\*/",
+    re.DOTALL,
 )
 _LOGGED = re.compile(
     r"(?:LOG|DEBUG\d?):\s+(?:duration: (?P<ms>[0-9.]+) ms\s+)?(?:statement|execute [^:]*|parse [^:]*|bind [^:]*): (?P<sql>.*)",
     re.DOTALL,
 )
-_BEGINS = re.compile(r"^.*?\b(?:LOG|ERROR|FATAL|PANIC|WARNING|NOTICE|INFO|DEBUG\d?|DETAIL|HINT|STATEMENT|CONTEXT|QUERY|LOCATION):\s")
+_BEGINS = re.compile(
+    r"^.*?\b(?:LOG|ERROR|FATAL|PANIC|WARNING|NOTICE|INFO|DEBUG\d?|DETAIL|HINT|STATEMENT|CONTEXT|QUERY|LOCATION):\s"
+)
 
 
 @dataclass
@@ -44,15 +47,23 @@ def from_server(server: Server) -> list[Input]:
     if where is None:
         raise NoInput("the extension pg_stat_statements isn't there: give the statements by --sql or --log")
     view = f"{quoted_name(where)}.pg_stat_statements"
-    names = {str(it[0]) for it in server.rows("SELECT attname::text FROM pg_catalog.pg_attribute WHERE attrelid = %s::regclass", (view,))}
+    names = {
+        str(it[0])
+        for it in server.rows(
+            "SELECT attname::text FROM pg_catalog.pg_attribute WHERE attrelid = %s::regclass", (view,)
+        )
+    }
     time = "total_exec_time" if "total_exec_time" in names else "total_time"
     rows = server.rows(
         f"SELECT query, sum(calls)::int8, sum({time})::float8 / 1000, sum(rows)::float8 FROM {view} "
         "WHERE dbid = (SELECT oid FROM pg_catalog.pg_database WHERE datname = current_database()) "
         "GROUP BY query ORDER BY 3 DESC, 1"
     )
-    return [Input(str(text), max(1, int(calls)), float(seconds), float(count) / max(1, int(calls)))
-            for text, calls, seconds, count in rows if text is not None]
+    return [
+        Input(str(text), max(1, int(calls)), float(seconds), float(count) / max(1, int(calls)))
+        for text, calls, seconds, count in rows
+        if text is not None
+    ]
 
 
 class NoInput(Exception):
@@ -153,7 +164,7 @@ def _plain_messages(text: str) -> Iterator[str]:
 
 
 def _is_csv(text: str) -> bool:
-    row = next(csv.reader(io.StringIO(text[:100000])), [])
+    row: list[str] = next(csv.reader(io.StringIO(text[:100000])), [])
     return len(row) >= 14 and row[11] in ("LOG", "ERROR", "FATAL", "PANIC", "WARNING", "NOTICE", "INFO", "DEBUG")
 
 

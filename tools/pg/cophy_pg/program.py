@@ -19,8 +19,12 @@ class ProgramFault(Exception):
 
 def add_program(parser: argparse.ArgumentParser) -> None:
     """The word that names the program."""
-    parser.add_argument("--program", default=os.environ.get("COPHY_PROGRAM", str(SCRIPT)), metavar="FILE",
-                        help="the program; else that of COPHY_PROGRAM, and else the script cophy of this repository")
+    parser.add_argument(
+        "--program",
+        default=os.environ.get("COPHY_PROGRAM", str(SCRIPT)),
+        metavar="FILE",
+        help="the program; else that of COPHY_PROGRAM, and else the script cophy of this repository",
+    )
 
 
 class Program:
@@ -33,7 +37,9 @@ class Program:
         """What a command prints. The program gets nothing of the connection to a server."""
         kept = {it: value for it, value in os.environ.items() if not it.startswith("PG")}
         words = [self.file, command, self.catalogue, self.workload, *more]
-        ran = subprocess.run(words, stdin=subprocess.DEVNULL, stdout=subprocess.PIPE, env={**kept, "COPHY_HINTS": "0"}, check=False)
+        ran = subprocess.run(
+            words, stdin=subprocess.DEVNULL, stdout=subprocess.PIPE, env={**kept, "COPHY_HINTS": "0"}, check=False
+        )
         text = ran.stdout.decode(errors="replace")
         if ran.returncode not in (0, 1):
             said = text.split("\n", 1)[0] or f"status {ran.returncode}"

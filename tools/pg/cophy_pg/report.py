@@ -42,7 +42,9 @@ def summary(workload: Workload) -> list[str]:
     counts = {name: [it for it in records if name in it.found.changes] for name in CHANGES}
     shown = sorted((it for it in counts if counts[it]), key=lambda it: (-len(counts[it]), it))
     if shown:
-        lines.append("changes (accepted isn't equal: " + "; ".join(f"{it}: {text}" for it, text in EFFECTS.items()) + ")")
+        lines.append(
+            "changes (accepted isn't equal: " + "; ".join(f"{it}: {text}" for it, text in EFFECTS.items()) + ")"
+        )
     for name in shown:
         lines.append(f"  {CHANGES[name].effect}  {shares.of(counts[name])}  {name}: {CHANGES[name].text}")
     reasons: dict[str, list[Record]] = {}
@@ -66,6 +68,9 @@ def each(workload: Workload) -> list[str]:
             lines.append(f"  {number} skipped ({calls}): {found.skipped}")
             continue
         written = ", ".join(map(str, it.numbers)) or "none"
-        lines.append(f"  {number} {found.outcome} ({calls}), statement {written}" + (": " if found.changes else "")
-                     + ", ".join(found.changes))
+        lines.append(
+            f"  {number} {found.outcome} ({calls}), statement {written}"
+            + (": " if found.changes else "")
+            + ", ".join(found.changes)
+        )
     return lines

@@ -72,14 +72,19 @@ def connected(dsn: str = "") -> Iterator[Server]:
     try:
         connection.autocommit = True
         server = Server(connection)
-        # A database without an encoding hands its bytes as they are; this one maps each byte to a character.
-        odd = server.value("SELECT current_setting('server_encoding')") == "SQL_ASCII"
-        server.rows(f"SET client_encoding TO '{'LATIN1' if odd else 'UTF8'}'")
-        for setting in ("datestyle TO 'ISO, YMD'", "timezone TO 'UTC'", "lock_timeout TO '5s'", "extra_float_digits TO 3"):
-            server.rows(f"SET {setting}")
         with suppress(ServerFault):
             # What is asked here is no part of the workload. Not every role may say so.
             server.rows("SET pg_stat_statements.track TO 'none'")
+        # A database without an encoding hands its bytes as they are; this one maps each byte to a character.
+        odd = server.value("SELECT current_setting('server_encoding')") == "SQL_ASCII"
+        server.rows(f"SET client_encoding TO '{'LATIN1' if odd else 'UTF8'}'")
+        for setting in (
+            "datestyle TO 'ISO, YMD'",
+            "timezone TO 'UTC'",
+            "lock_timeout TO '5s'",
+            "extra_float_digits TO 3",
+        ):
+            server.rows(f"SET {setting}")
         yield server
     finally:
         connection.close()

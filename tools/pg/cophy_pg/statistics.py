@@ -82,19 +82,28 @@ def read_database(server: Server, named: set[str], words: set[str], progress: Pr
     schema = Schema([it for it in reader.tables.values() if it.columns], path)
     schema.views, schema.left_out = reader.views, reader.left_out
     schema.parents = reader.parents
-    schema.aggregates = frozenset(str(it[0]) for it in server.rows("SELECT DISTINCT proname::text FROM pg_catalog.pg_proc WHERE prokind = 'a'"))
+    schema.aggregates = frozenset(
+        str(it[0]) for it in server.rows("SELECT DISTINCT proname::text FROM pg_catalog.pg_proc WHERE prokind = 'a'")
+    )
     return Found(schema, read_rates(server), warnings)
 
 
 def read_rates(server: Server) -> dict[str, int]:
     """The rates that make a cost, divided by 1000, one of EXPLAIN's."""
-    cost = {name: float(server.value("SELECT current_setting(%s)", (name,)))
-            for name in ("seq_page_cost", "random_page_cost", "cpu_tuple_cost", "cpu_operator_cost")}
+    cost = {
+        name: float(server.value("SELECT current_setting(%s)", (name,)))
+        for name in ("seq_page_cost", "random_page_cost", "cpu_tuple_cost", "cpu_operator_cost")
+    }
     page = 1000 / cost["seq_page_cost"] if cost["seq_page_cost"] > 0 else 1000.0
     operator = cost["cpu_operator_cost"] * page
     rates = {
-        "seq_page": 1000, "rand_page": cost["random_page_cost"] * page, "row_cpu": cost["cpu_tuple_cost"] * page,
-        "sort_cpu": 2 * operator, "merge_cpu": 2 * operator, "hash_cpu": 3.2 * operator, "group_cpu": 2 * operator,
+        "seq_page": 1000,
+        "rand_page": cost["random_page_cost"] * page,
+        "row_cpu": cost["cpu_tuple_cost"] * page,
+        "sort_cpu": 2 * operator,
+        "merge_cpu": 2 * operator,
+        "hash_cpu": 3.2 * operator,
+        "group_cpu": 2 * operator,
     }
     return {name: min(1_000_000, max(0, round(rate))) for name, rate in rates.items()}
 
@@ -128,7 +137,9 @@ class Reader:
         named |= {root[1] for child, root in self.parents.items() if child[1] in named}
         roots.sort(key=lambda it: (it[2] not in named, -sum(int(leaf[6]) for leaf in self.density.get(int(it[0]), []))))
         for it in roots[MOST_TABLES:]:
-            self.left_out[keys[int(it[0])]] = f"only {MOST_TABLES} tables are kept, those that the workload names and the largest"
+            self.left_out[
+                keys[int(it[0])]
+            ] = f"only {MOST_TABLES} tables are kept, those that the workload names and the largest"
         taken: set[str] = set()
         for it in sorted(roots[:MOST_TABLES], key=lambda it: (str(it[1]) != "public", str(it[1]), str(it[2]))):
             schema, name = keys[int(it[0])]
@@ -144,7 +155,9 @@ class Reader:
             listed = by_table.get(oid, [])
             if len(listed) > MOST_COLUMNS:
                 listed.sort(key=lambda it: (it[2] not in self.words, it[1]))
-                self.warnings.append(f"{table.shown}: {len(listed) - MOST_COLUMNS} columns over {MOST_COLUMNS} are left out")
+                self.warnings.append(
+                    f"{table.shown}: {len(listed) - MOST_COLUMNS} columns over {MOST_COLUMNS} are left out"
+                )
                 listed = sorted(listed[:MOST_COLUMNS], key=lambda it: int(it[1]))
             taken: set[str] = set()
             for _, number, name, kind, length, modifier in listed:
@@ -196,9 +209,21 @@ class Reader:
             if table is None:
                 continue
             columns = [self.numbers.get(int(oid), {}).get(int(it)) for it in keys]
-            why = ("not of kind btree" if method != "btree" else "not valid" if not valid else "partial" if partial
-                   else "over an expression" if expressions else "over a column that is left out" if None in columns
-                   else f"of more than {MOST_KEYS} columns" if len({*columns}) > MOST_KEYS else "")
+            why = (
+                "not of kind btree"
+                if method != "btree"
+                else "not valid"
+                if not valid
+                else "partial"
+                if partial
+                else "over an expression"
+                if expressions
+                else "over a column that is left out"
+                if None in columns
+                else f"of more than {MOST_KEYS} columns"
+                if len({*columns}) > MOST_KEYS
+                else ""
+            )
             if why:
                 table.remarks.append(f"index {str(name)!a} is left out: it is {why}")
                 continue
@@ -222,7 +247,9 @@ class Reader:
         room = MOST_INDEXES
         for table in sorted(self.tables.values(), key=lambda it: -it.pages):
             for it in table.indexes[room:]:
-                table.remarks.append(f"index {it.name!a} is left out: only {MOST_INDEXES} are kept, those of the largest tables")
+                table.remarks.append(
+                    f"index {it.name!a} is left out: only {MOST_INDEXES} are kept, those of the largest tables"
+                )
             del table.indexes[room:]
             room -= len(table.indexes)
 

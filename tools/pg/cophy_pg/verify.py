@@ -43,7 +43,8 @@ class Verdict:
 def add_verify(commands: argparse._SubParsersAction[argparse.ArgumentParser]) -> None:
     """The words of `verify`."""
     parser = commands.add_parser(
-        "verify", help="ask PostgreSQL's planner about an advice",
+        "verify",
+        help="ask PostgreSQL's planner about an advice",
         description="Makes the picks as hypothetical indexes (extension hypopg) in one session, explains the statements "
         "without and with them, and says which statements take which pick and what is saved by PostgreSQL's estimate and by "
         "ours. Nothing is executed and nothing is made.",
@@ -100,10 +101,14 @@ def index_names(plan: Any) -> set[str]:
 
 def make(server: Server, schema: Schema, picks: list[Candidate]) -> dict[str, int]:
     """Makes the picks as hypothetical indexes; the number of the pick for each name."""
-    where = server.value("SELECT n.nspname::text FROM pg_catalog.pg_extension e JOIN pg_catalog.pg_namespace n "
-                         "ON n.oid = e.extnamespace WHERE e.extname = 'hypopg'")
+    where = server.value(
+        "SELECT n.nspname::text FROM pg_catalog.pg_extension e JOIN pg_catalog.pg_namespace n "
+        "ON n.oid = e.extnamespace WHERE e.extname = 'hypopg'"
+    )
     if where is None:
-        raise ServerFault("the extension hypopg isn't there: CREATE EXTENSION hypopg makes it, and changes nothing else")
+        raise ServerFault(
+            "the extension hypopg isn't there: CREATE EXTENSION hypopg makes it, and changes nothing else"
+        )
     made = {}
     server.rows(f"SELECT {quoted_name(where)}.hypopg_reset()")
     for it in picks:
@@ -115,11 +120,19 @@ def make(server: Server, schema: Schema, picks: list[Candidate]) -> dict[str, in
     return made
 
 
-def judge(server: Server, schema: Schema, advice: Advice, listed: list[inputs.Input], forms: dict[str, list[int]],
-          progress: Progress) -> list[Verdict]:
+def judge(
+    server: Server,
+    schema: Schema,
+    advice: Advice,
+    listed: list[inputs.Input],
+    forms: dict[str, list[int]],
+    progress: Progress,
+) -> list[Verdict]:
     """Explains the statements of the workload without and with the picks."""
     explainer = Explainer(server)
-    found = [Verdict(at, it.calls, forms[form]) for at, it in enumerate(listed, 1) if (form := form_of(it.text)) in forms]
+    found = [
+        Verdict(at, it.calls, forms[form]) for at, it in enumerate(listed, 1) if (form := form_of(it.text)) in forms
+    ]
     for it in found:
         progress(f"explaining statement {it.number} of {len(listed)}")
         plan = explainer.explain(listed[it.number - 1].text)
@@ -183,7 +196,8 @@ def _print(advice: Advice, found: list[Verdict], prices: tuple[Prices, Prices] |
         for it in sorted(users, key=lambda it: -it.calls * it.saved()):
             own = our_saving(it, prices)
             shown = f", ours {own:.1f}" if own is not None else ""
-            print(f"  input {it.number:4d} (calls {it.calls}): a call costs {it.before:.1f}, then {it.after:.1f}, saves {it.saved():.1f}{shown}")
+            costs = f"a call costs {it.before:.1f}, then {it.after:.1f}, saves {it.saved():.1f}{shown}"
+            print(f"  input {it.number:4d} (calls {it.calls}): {costs}")
     worse = [it for it in known if it.saved() < -0.005 * max(1.0, it.before or 0)]
     for it in worse:
         print(f"input {it.number}: a call costs more with the picks: {it.before:.1f}, then {it.after:.1f}")
@@ -194,10 +208,19 @@ def _print(advice: Advice, found: list[Verdict], prices: tuple[Prices, Prices] |
 
 def _as_json(advice: Advice, found: list[Verdict], prices: tuple[Prices, Prices] | None) -> dict[str, Any]:
     statements = [
-        {"input": it.number, "calls": it.calls, "statements": it.written, "before": it.before, "after": it.after,
-         "picks": it.taken, "ours": our_saving(it, prices)}
+        {
+            "input": it.number,
+            "calls": it.calls,
+            "statements": it.written,
+            "before": it.before,
+            "after": it.after,
+            "picks": it.taken,
+            "ours": our_saving(it, prices),
+        }
         for it in found
     ]
-    picks = [{"number": it.number, "index": it.shown(), "taken_by": [v.number for v in found if it.number in v.taken]}
-             for it in advice.picks]
+    picks = [
+        {"number": it.number, "index": it.shown(), "taken_by": [v.number for v in found if it.number in v.taken]}
+        for it in advice.picks
+    ]
     return {"picks": picks, "statements": statements}

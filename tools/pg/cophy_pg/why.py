@@ -25,7 +25,8 @@ class Reason:
 def add_why(commands: argparse._SubParsersAction[argparse.ArgumentParser]) -> None:
     """The words of `why`."""
     parser = commands.add_parser(
-        "why", help="say what each pick of an advice is good for",
+        "why",
+        help="say what each pick of an advice is good for",
         description="Prices the workload with all picks and with all but one, by cophy whatif, and shows for each pick which "
         "statements gain and lose by it, weighted, and what the workload costs without it.",
     )
@@ -47,7 +48,8 @@ def reasons(program: Program, advice: Advice, progress: Progress) -> tuple[Price
         without = program.whatif(numbers - {pick.number})
         changes = {
             number: it.weight * (without.statements[number].cost - it.cost)
-            for number, it in all_.statements.items() if without.statements[number].cost != it.cost
+            for number, it in all_.statements.items()
+            if without.statements[number].cost != it.cost
         }
         found.append(Reason(pick, without.total, changes))
     return none, all_, found
@@ -59,8 +61,14 @@ def why(words: argparse.Namespace) -> int:
     none, all_, found = reasons(Program(words.program, words.catalogue, words.workload), advice, Progress())
     if words.json:
         picks = [
-            {"number": it.pick.number, "index": it.pick.shown(), "pages": it.pick.pages, "total_without": it.total_without,
-             "saves": it.total_without - all_.total, "statements": {str(at): change for at, change in it.changes.items()}}
+            {
+                "number": it.pick.number,
+                "index": it.pick.shown(),
+                "pages": it.pick.pages,
+                "total_without": it.total_without,
+                "saves": it.total_without - all_.total,
+                "statements": {str(at): change for at, change in it.changes.items()},
+            }
             for it in found
         ]
         print(json.dumps({"total_without_picks": none.total, "total": all_.total, "picks": picks}, indent=2))
@@ -69,7 +77,9 @@ def why(words: argparse.Namespace) -> int:
     for it in found:
         saves = it.total_without - all_.total
         print(f"\npick {it.pick.number} {it.pick.shown()}, {it.pick.pages} pages ({megabytes(it.pick.pages)})")
-        print(f"  without it the workload costs {it.total_without}, {saves} more ({_share(it.total_without, all_.total)})")
+        print(
+            f"  without it the workload costs {it.total_without}, {saves} more ({_share(it.total_without, all_.total)})"
+        )
         for kind, listed in (("gains", _sorted(it, 1)), ("loses", _sorted(it, -1))):
             for number, change in listed:
                 print(f"  statement {number:4d} {kind} {abs(change)}")
@@ -88,7 +98,8 @@ def _share(one: int, other: int) -> str:
 def add_curve(commands: argparse._SubParsersAction[argparse.ArgumentParser]) -> None:
     """The words of `curve`."""
     parser = commands.add_parser(
-        "curve", help="show what a budget buys",
+        "curve",
+        help="show what a budget buys",
         description="Calls cophy advise for a row of budgets, and prints budget, size, cost and bound of each; with --png it "
         "draws cost and bound over pages. Without --budgets, there are 0 and shares of the size that no budget limits.",
     )
@@ -119,12 +130,18 @@ def curve(words: argparse.Namespace) -> int:
         found.append(program.advise(budget, words.nodes))
     if words.json:
         keys = ("budget", "size", "cost", "bound", "gap", "is_finished")
-        print(json.dumps([{key: getattr(it, key) for key in keys} | {"picks": [p.shown() for p in it.picks]} for it in found], indent=2))
+        print(
+            json.dumps(
+                [{key: getattr(it, key) for key in keys} | {"picks": [p.shown() for p in it.picks]} for it in found],
+                indent=2,
+            )
+        )
     else:
         print(f"{'budget':>12} {'MB':>10} {'size':>12} {'picks':>6} {'cost':>20} {'bound':>20} {'gap':>8}")
         for it in found:
             gap = f"{100 * it.gap / it.cost:.2f} %" if it.cost else "0"
-            print(f"{it.budget:12d} {megabytes(it.budget)[:-3]:>10} {it.size:12d} {len(it.picks):6d} {it.cost:20d} {it.bound:20d} {gap:>8}")
+            space = f"{it.budget:12d} {megabytes(it.budget)[:-3]:>10} {it.size:12d} {len(it.picks):6d}"
+            print(f"{space} {it.cost:20d} {it.bound:20d} {gap:>8}")
     if words.png:
         draw(found, words.png)
     return 0
@@ -141,8 +158,20 @@ def draw(found: list[Advice], file: str) -> None:
         say("no curve is drawn: python3-matplotlib isn't installed")
         return
     figure, axes = pyplot.subplots(figsize=(8, 5))
-    axes.step([it.budget for it in found], [it.cost / 1000 for it in found], where="post", marker="o", label="cost of the advice")
-    axes.step([it.budget for it in found], [it.bound / 1000 for it in found], where="post", linestyle="--", label="proved bound")
+    axes.step(
+        [it.budget for it in found],
+        [it.cost / 1000 for it in found],
+        where="post",
+        marker="o",
+        label="cost of the advice",
+    )
+    axes.step(
+        [it.budget for it in found],
+        [it.bound / 1000 for it in found],
+        where="post",
+        linestyle="--",
+        label="proved bound",
+    )
     axes.set_xlabel("budget (pages of 8192 bytes)")
     axes.set_ylabel("cost of the workload (pages read in sequence)")
     axes.set_ylim(bottom=0)

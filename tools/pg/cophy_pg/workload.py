@@ -108,7 +108,9 @@ def _within_limits(records: list[Record]) -> dict[str, int]:
         more = sum(record.found.slots.get(it, 1) for it in new)
         length = sum(len(it.encode()) + 40 for it in new)
         if len(calls) + len(new) > MOST_STATEMENTS or slots + more > MOST_SLOTS or size + length > MOST_BYTES:
-            record.found = Rewritten(skipped=f"beyond {MOST_STATEMENTS} statements or {MOST_SLOTS} sources: others cost more")
+            record.found = Rewritten(
+                skipped=f"beyond {MOST_STATEMENTS} statements or {MOST_SLOTS} sources: others cost more"
+            )
             continue
         slots, size = slots + more, size + length
         for it in record.found.statements:

@@ -43,7 +43,10 @@ def prepare(folder: Path) -> None:
             said = []
             for at, (table, columns, query) in enumerate(pairs()):
                 server.rows("SELECT hypopg_reset()")
-                names = server.rows("SELECT indexname FROM hypopg_create_index(%s)", (f"CREATE INDEX ON {table} ({', '.join(columns)})",))
+                names = server.rows(
+                    "SELECT indexname FROM hypopg_create_index(%s)",
+                    (f"CREATE INDEX ON {table} ({', '.join(columns)})",),
+                )
                 plan = explainer.explain(query)
                 said.append(f"{int(str(names[0][0]) in index_names(plan))} {plan['Total Cost']}")
                 case = folder / f"{number}-{at}"
@@ -65,7 +68,9 @@ def ask(folder: Path, program: str) -> None:
 
 def judge(folder: Path) -> None:
     """Prints a line for each setting."""
-    print("| random_page_cost | --look-ups | agree | both | neither | ours alone | PostgreSQL's alone | rank correlation | median ratio |")
+    print(
+        "| random_page_cost | --look-ups | agree | both | neither | ours alone | PostgreSQL's alone | rank correlation | median ratio |"
+    )
     print("|---|---|---|---|---|---|---|---|---|")
     for number, (page, look_ups) in enumerate(SETTINGS):
         counts, ours, theirs = {(it, other): 0 for it in (True, False) for other in (True, False)}, [], []
@@ -77,12 +82,15 @@ def judge(folder: Path) -> None:
             theirs.append(float(cost))
         ratio = statistics.median(one / other for one, other in zip(ours, theirs))
         both, neither, own, other = counts[True, True], counts[False, False], counts[True, False], counts[False, True]
-        print(f"| {page} | {'yes' if look_ups else 'no'} | {both + neither} of {len(ours)} | {both} | {neither} | {own} | {other} "
-              f"| {correlation(ours, theirs):.2f} | {ratio:.2f} |")
+        print(
+            f"| {page} | {'yes' if look_ups else 'no'} | {both + neither} of {len(ours)} | {both} | {neither} | {own} | {other} "
+            f"| {correlation(ours, theirs):.2f} | {ratio:.2f} |"
+        )
 
 
 def correlation(one: list[float], other: list[float]) -> float:
     """Spearman's rank correlation."""
+
     def ranks(values: list[float]) -> list[float]:
         ordered = sorted(values)
         return [(ordered.index(it) + len(ordered) - 1 - ordered[::-1].index(it)) / 2 for it in values]

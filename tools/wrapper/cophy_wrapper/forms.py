@@ -11,22 +11,35 @@ WORDS = {
     "CASE": "CASE isn't read: name its columns alone, they are what the cost rests on",
     "SELECT": "subqueries aren't read: join their tables, or write a statement of their own",
     "EXISTS": "EXISTS isn't read: join the table in FROM",
-    "LEFT": "outer joins aren't read: write JOIN", "RIGHT": "outer joins aren't read: write JOIN",
-    "FULL": "outer joins aren't read: write JOIN", "OUTER": "outer joins aren't read: write JOIN",
+    "LEFT": "outer joins aren't read: write JOIN",
+    "RIGHT": "outer joins aren't read: write JOIN",
+    "FULL": "outer joins aren't read: write JOIN",
+    "OUTER": "outer joins aren't read: write JOIN",
     "CROSS": "there are no cross products: write JOIN .. ON with an equality of columns",
-    "NATURAL": "write JOIN .. ON a.c = b.c", "USING": "write ON a.c = b.c",
-    "UNION": "write a statement for each side", "INTERSECT": "write a statement for each side",
+    "NATURAL": "write JOIN .. ON a.c = b.c",
+    "USING": "write ON a.c = b.c",
+    "UNION": "write a statement for each side",
+    "INTERSECT": "write a statement for each side",
     "EXCEPT": "write a statement for each side",
-    "OVER": "windows aren't read: name their columns alone", "RETURNING": "leave RETURNING out: it costs nothing",
+    "OVER": "windows aren't read: name their columns alone",
+    "RETURNING": "leave RETURNING out: it costs nothing",
     "WITH": "WITH isn't read: write its queries as statements of their own",
-    "ILIKE": "write LIKE: it costs the same", "SIMILAR": "write LIKE: it costs the same",
+    "ILIKE": "write LIKE: it costs the same",
+    "SIMILAR": "write LIKE: it costs the same",
     "INTERVAL": "arithmetic of values isn't read: write the value, or ?",
-    "FOR": "leave FOR UPDATE out: locks cost nothing", "FETCH": "write LIMIT n", "NULLS": "leave NULLS FIRST and LAST out",
-    "FILTER": "leave FILTER out and name its columns", "LATERAL": "join the tables, or write a statement of their own",
-    "COLLATE": "leave COLLATE out", "TABLESAMPLE": "leave TABLESAMPLE out", "WINDOW": "leave WINDOW out",
+    "FOR": "leave FOR UPDATE out: locks cost nothing",
+    "FETCH": "write LIMIT n",
+    "NULLS": "leave NULLS FIRST and LAST out",
+    "FILTER": "leave FILTER out and name its columns",
+    "LATERAL": "join the tables, or write a statement of their own",
+    "COLLATE": "leave COLLATE out",
+    "TABLESAMPLE": "leave TABLESAMPLE out",
+    "WINDOW": "leave WINDOW out",
 }
-OPENS = frozenset("BEGIN COMMIT ROLLBACK SET SHOW EXPLAIN ANALYZE VACUUM CREATE DROP ALTER COPY TRUNCATE START PREPARE "
-                  "EXECUTE DECLARE FETCH CLOSE LOCK GRANT CALL DO MERGE VALUES TABLE SAVEPOINT RELEASE".split())
+OPENS = frozenset(
+    "BEGIN COMMIT ROLLBACK SET SHOW EXPLAIN ANALYZE VACUUM CREATE DROP ALTER COPY TRUNCATE START PREPARE "
+    "EXECUTE DECLARE FETCH CLOSE LOCK GRANT CALL DO MERGE VALUES TABLE SAVEPOINT RELEASE".split()
+)
 COMPARES = (b"=", b"<>", b"!=", b"<", b"<=", b">", b">=")
 _CLOSES = {"WHERE", "ON", "AND"}
 
@@ -45,10 +58,16 @@ def byte_hint(text: bytes, at: int) -> str | None:
     if re.match(rb"[eE]", rest) and re.search(rb"[0-9]\Z", text[: at - 1]):
         return "there are no exponents: write the number out"
     return {
-        b"`": 'names are quoted with "', b"[": "arrays aren't read: write c IN (.., ..)", b"#": "comments begin with --",
-        b"\\": "commands of psql aren't read", b"@": "this operator isn't read: keep the column needed by c IS NOT NULL",
-        b"~": "patterns aren't read but by LIKE, which costs the same", b"!": "write <> or LIKE", b"|": "the operator is ||",
-        b"$": "a numbered parameter is $1, a text stands in '..'", b'"': 'a quoted name has at least one byte',
+        b"`": 'names are quoted with "',
+        b"[": "arrays aren't read: write c IN (.., ..)",
+        b"#": "comments begin with --",
+        b"\\": "commands of psql aren't read",
+        b"@": "this operator isn't read: keep the column needed by c IS NOT NULL",
+        b"~": "patterns aren't read but by LIKE, which costs the same",
+        b"!": "write <> or LIKE",
+        b"|": "the operator is ||",
+        b"$": "a numbered parameter is $1, a text stands in '..'",
+        b'"': "a quoted name has at least one byte",
         b"&": "this operator isn't read: keep the column needed by c IS NOT NULL",
     }.get(rest[:1])
 
@@ -87,7 +106,21 @@ def token_hint(here: list[Token], index: int, token: Token | None) -> str | None
 
 def _clause(before: list[Token]) -> str:
     """The last word that opens a clause of the statement."""
-    opens = ("FROM", "JOIN", "INTO", "UPDATE", "WHERE", "ON", "AND", "GROUP", "ORDER", "HAVING", "LIMIT", "SELECT", "SET")
+    opens = (
+        "FROM",
+        "JOIN",
+        "INTO",
+        "UPDATE",
+        "WHERE",
+        "ON",
+        "AND",
+        "GROUP",
+        "ORDER",
+        "HAVING",
+        "LIMIT",
+        "SELECT",
+        "SET",
+    )
     for token in reversed(before):
         if token.text == b";":
             return ""

@@ -19,18 +19,24 @@ from cophy_wrapper.forms import byte_hint, token_hint
 
 ROLES = ("catalogue", "workload", "third file")
 FORMS = {
-    "cost": "cophy cost CAT LOAD", "explain": "cophy explain CAT LOAD CONF N", "whatif": "cophy whatif CAT LOAD CONF",
-    "candidates": "cophy candidates CAT LOAD", "check": "cophy check CAT LOAD CERT",
+    "cost": "cophy cost CAT LOAD",
+    "explain": "cophy explain CAT LOAD CONF N",
+    "whatif": "cophy whatif CAT LOAD CONF",
+    "candidates": "cophy candidates CAT LOAD",
+    "check": "cophy check CAT LOAD CERT",
     "advise": "cophy advise CAT LOAD BUDGET [--nodes N] [--cert FILE]",
     "bench": "cophy bench SEED TABLES STATEMENTS BUDGET",
 }
 NUMBERS = {
-    "explain": "N is from 1 to 1000", "advise": "BUDGET is pages from 0 to 10^12, and --nodes from 1 to 10^6",
+    "explain": "N is from 1 to 1000",
+    "advise": "BUDGET is pages from 0 to 10^12, and --nodes from 1 to 10^6",
     "bench": "SEED is below 2^64, TABLES from 2 to 20, STATEMENTS from 1 to 500, BUDGET up to 10^12",
 }
 _PLACED = re.compile(r"refused: (.+) at (\d+)\Z")
 _PATH = re.compile(r"refused: (missing|wrong kind|out of range|name twice|unknown name) ([a-z_.\[\]0-9]+)\Z")
-_OPENS_SQL = re.compile(rb"\s*(--[^\n]*\n\s*|/\*.*?\*/\s*)*(select|insert|update|delete|with)\b", re.IGNORECASE | re.DOTALL)
+_OPENS_SQL = re.compile(
+    rb"\s*(--[^\n]*\n\s*|/\*.*?\*/\s*)*(select|insert|update|delete|with)\b", re.IGNORECASE | re.DOTALL
+)
 
 
 class Call:
@@ -122,7 +128,11 @@ def _placed(call: Call, fault: str, at: int) -> Iterator[str]:
     index = next((it for it, token in enumerate(here) if token.place >= at), len(here))
     token = here[index] if index < len(here) and here[index].place == at else None
     if fault in ("bad byte", "open text"):
-        hint = byte_hint(text, at) if fault == "bad byte" else "what opens here is never closed: a ' within a text is written ''"
+        hint = (
+            byte_hint(text, at)
+            if fault == "bad byte"
+            else "what opens here is never closed: a ' within a text is written ''"
+        )
     elif fault in ("syntax", "unsupported"):
         hint = token_hint(here, index, token)
     else:
@@ -170,7 +180,9 @@ def _path(call: Call, fault: str, path: str) -> Iterator[str]:
     key = walked[-1][0]
     yield f"{call.files[0]}: {fault} {path}" + (f", in {', '.join(named)}" if named else "")
     if fault == "missing" and isinstance(element, dict):
-        near = keys.nearest(key, [it for it in element if it not in keys.KNOWN.get(walked[-2][0] if len(walked) > 1 else "", ())])
+        near = keys.nearest(
+            key, [it for it in element if it not in keys.KNOWN.get(walked[-2][0] if len(walked) > 1 else "", ())]
+        )
         if near:
             yield f"the key {near} means nothing; did you mean {key}?"
     if key in keys.RANGES and fault in ("missing", "wrong kind", "out of range"):
@@ -185,7 +197,7 @@ def _refused(call: Call, text: str) -> Iterator[str]:
     elif text.startswith("too long "):
         yield "a catalogue, a workload and a configuration have at most 16777216 bytes each"
     elif text.startswith("configuration line "):
-        yield "each line of a configuration is the number of a candidate, greater than the one before it, and ends with a line feed"
+        yield "each line is the number of a candidate, greater than the one before it, and ends with a line feed"
         yield "/dev/null is the empty configuration; cophy candidates lists the candidates"
     elif text.startswith("no statement "):
         yield "statements count from 1; empty ones between two ; don't count"
@@ -230,7 +242,10 @@ def main() -> int:
     if status not in (0, 2, 3, 5) or (status == 0 and words[:1] == ["bench"]):
         return 0
     call = Call(status, words, "")
-    if any(os.path.exists(it) and not os.path.isfile(it) and not os.path.isdir(it) and it != os.devnull for it in call.files):
+    if any(
+        os.path.exists(it) and not os.path.isfile(it) and not os.path.isdir(it) and it != os.devnull
+        for it in call.files
+    ):
         return 0
     if status:
         again, call.text = text_again(program, words)

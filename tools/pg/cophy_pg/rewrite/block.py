@@ -103,7 +103,11 @@ class Block:
         """All columns that the written statement mentions, apart from the needed ones."""
         for it in self.conditions:
             yield from it.columns()
-        for term in [*self.items, *(it for it, _ in self.order), *(side for it in self.having for side in (it[0], it[2]))]:
+        for term in [
+            *self.items,
+            *(it for it, _ in self.order),
+            *(side for it in self.having for side in (it[0], it[2])),
+        ]:
             yield from columns(term)
         yield from self.group or []
 
@@ -182,7 +186,7 @@ def where_text(block: Block, printer: Printer) -> list[str]:
 
 
 def _items(block: Block, printer: Printer) -> list[str]:
-    if [*map(type, block.items)] == [Rows] * len(block.slots) and [it.slot for it in block.items] == block.slots:  # type: ignore[union-attr]
+    if block.items == [*map(Rows, block.slots)]:
         return ["*"]
     listed = []
     for it in block.items:

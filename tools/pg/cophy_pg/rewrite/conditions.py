@@ -361,5 +361,3 @@ def fitted(col: Col, value: Value) -> Value:
         text = value.known.strip()
         return Value(str(int(text)), int(text)) if re.fullmatch(r"[+-]?\d{1,18}", text) else ANY
     return value
-
-

@@ -12,8 +12,26 @@ from pglast.enums import A_Expr_Kind, MinMaxOp, SubLinkType
 
 from cophy_pg.rewrite.scope import SYSTEM, NoSuchColumn, Scope
 from cophy_pg.rewrite.terms import (
-    AGGREGATES, ANY, DEEPEST, Call, Col, Infix, Interval, Mix, Rows, Term, Unknown, Value, columns, day_of,
-    depth, has_unknown, is_value, literal_of_day, mixed, shifted,
+    AGGREGATES,
+    ANY,
+    DEEPEST,
+    Call,
+    Col,
+    Infix,
+    Interval,
+    Mix,
+    Rows,
+    Term,
+    Unknown,
+    Value,
+    columns,
+    day_of,
+    depth,
+    has_unknown,
+    is_value,
+    literal_of_day,
+    mixed,
+    shifted,
 )
 
 if TYPE_CHECKING:
@@ -150,7 +168,11 @@ class Expressions:
         self.note("value")
         if isinstance(inner, Value) and isinstance(inner.known, date) and target in DATES:
             return inner
-        plain = isinstance(inner, Value) and isinstance(inner.known, (int, str, Decimal)) and not isinstance(inner.known, date)
+        plain = (
+            isinstance(inner, Value)
+            and isinstance(inner.known, (int, str, Decimal))
+            and not isinstance(inner.known, date)
+        )
         return inner if plain and target not in DATES else ANY
 
     def _interval(self, text: str, type_name: Any) -> Term:
@@ -251,7 +273,10 @@ class Expressions:
 
     def window(self, node: Any, scope: Scope) -> list[Term]:
         """The columns of a window."""
-        return [*self.terms(node.partitionClause, scope), *self.terms([it.node for it in node.orderClause or ()], scope)]
+        return [
+            *self.terms(node.partitionClause, scope),
+            *self.terms([it.node for it in node.orderClause or ()], scope),
+        ]
 
     def _CoalesceExpr(self, node: Any, scope: Scope) -> Term:
         return self._call("coalesce", node, scope)

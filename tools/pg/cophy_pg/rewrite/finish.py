@@ -43,7 +43,12 @@ def join_bounds(block: Block, note: Note) -> None:
         if len(lows) == 1 and len(highs) == 1:
             _join_pair(block, lows[0], highs[0], note)
     for at, it in enumerate(block.conditions):
-        if isinstance(it, Test) and it.form == "BETWEEN" and is_wide(it.col.column) and all(map(is_parameter, it.values)):
+        if (
+            isinstance(it, Test)
+            and it.form == "BETWEEN"
+            and is_wide(it.col.column)
+            and all(map(is_parameter, it.values))
+        ):
             note("parameter range")
             block.conditions[at] = Test(it.col, "BETWEEN", _narrow(it.col.column))
 
@@ -78,8 +83,13 @@ def part_of(test: Condition, rows: int) -> float:
     numbers = [number_of(column, it) for it in test.values]
     if column.has_range() and numbers and all(it is not None for it in numbers):
         assert column.low is not None and column.high is not None
-        ends = (max(numbers[0], column.low), numbers[1]) if test.form == "BETWEEN" else (  # type: ignore[type-var]
-            (column.low, numbers[0]) if test.form in ("<", "<=") else (numbers[0], column.high))
+        ends = (
+            (max(numbers[0], column.low), numbers[1])
+            if test.form == "BETWEEN"
+            else (  # type: ignore[type-var]
+                (column.low, numbers[0]) if test.form in ("<", "<=") else (numbers[0], column.high)
+            )
+        )
         if test.form in ("BETWEEN", "<", "<=", ">", ">="):
             share = (min(ends[1], column.high) - ends[0]) / (column.high - column.low)  # type: ignore[type-var, operator]
             return min(1.0, max(1e-9, share))
@@ -100,7 +110,9 @@ def add_look_ups(block: Block, note: Note) -> None:
     for tie in [*block.ties()]:
         for one, other in ((tie.left, tie.right), (tie.right, tie.left)):
             few, many = slot_rows(block, one.slot), slot_rows(block, other.slot)
-            is_tested = any(isinstance(it, Test) and it.col == other and it.form in ("=", "IN") for it in block.conditions)
+            is_tested = any(
+                isinstance(it, Test) and it.col == other and it.form in ("=", "IN") for it in block.conditions
+            )
             if few <= MOST_LOOKED_UP and few * 10 <= many and not is_tested:
                 note("looked up")
                 block.conditions.append(Test(other, "IN", (Value("?", None, False),) * round(few)))

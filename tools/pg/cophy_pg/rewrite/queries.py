@@ -11,7 +11,17 @@ from cophy_pg.rewrite.conditions import Conditions
 from cophy_pg.rewrite.expressions import OTHER_AGGREGATES, name_of, named_tables, nodes_of
 from cophy_pg.rewrite.scope import Common, Entry, Scope, entry_of
 from cophy_pg.rewrite.terms import (
-    AGGREGATES, ANY, Call, Col, Term, Unknown, aggregates, columns, has_unknown, is_value, mixed,
+    AGGREGATES,
+    ANY,
+    Call,
+    Col,
+    Term,
+    Unknown,
+    aggregates,
+    columns,
+    has_unknown,
+    is_value,
+    mixed,
 )
 
 if TYPE_CHECKING:
@@ -160,8 +170,11 @@ class Queries:
             scope.entries.append(Entry(alias, dict(listed)).renamed(names))
             return
         self.rewriter.own_statement(tree, scope)
-        scope.entries.append(Entry(alias, self._outputs(tree, names), is_open=True) if tree.valuesLists is None
-                             else Entry(alias, {it: Unknown() for it in names}, is_open=True))
+        scope.entries.append(
+            Entry(alias, self._outputs(tree, names), is_open=True)
+            if tree.valuesLists is None
+            else Entry(alias, {it: Unknown() for it in names}, is_open=True)
+        )
 
     def outputs(self, tree: Any, scope: Scope) -> list[tuple[str, Term]]:
         """The columns that a query gives, with their names."""
@@ -274,7 +287,12 @@ class Queries:
             for it in node.args:
                 self._having(it, block, scope)
             return
-        if isinstance(node, ast.A_Expr) and name_of(node.name) in SIGNS and int(node.kind) == 0 and node.lexpr is not None:
+        if (
+            isinstance(node, ast.A_Expr)
+            and name_of(node.name) in SIGNS
+            and int(node.kind) == 0
+            and node.lexpr is not None
+        ):
             left, right = self._term(node.lexpr, scope), self._term(node.rexpr, scope)
             if not has_unknown(left) and not has_unknown(right):
                 block.having.append((left, SIGNS[name_of(node.name)], right))

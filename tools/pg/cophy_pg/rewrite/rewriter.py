@@ -20,11 +20,25 @@ from cophy_pg.schema import Schema
 
 INNER = {ast.DeclareCursorStmt: "query", ast.PrepareStmt: "query", ast.CreateTableAsStmt: "query"}
 WORDS = {
-    ast.TransactionStmt: "a command of transactions", ast.VariableSetStmt: "SET", ast.VariableShowStmt: "SHOW",
-    ast.ExplainStmt: "EXPLAIN", ast.CopyStmt: "COPY", ast.VacuumStmt: "VACUUM or ANALYZE", ast.CallStmt: "CALL",
-    ast.FetchStmt: "FETCH of a cursor", ast.ClosePortalStmt: "CLOSE", ast.ExecuteStmt: "EXECUTE", ast.DoStmt: "DO",
-    ast.DeallocateStmt: "DEALLOCATE", ast.LockStmt: "LOCK", ast.TruncateStmt: "TRUNCATE", ast.MergeStmt: "MERGE",
-    ast.CheckPointStmt: "CHECKPOINT", ast.ListenStmt: "LISTEN", ast.NotifyStmt: "NOTIFY", ast.DiscardStmt: "DISCARD",
+    ast.TransactionStmt: "a command of transactions",
+    ast.VariableSetStmt: "SET",
+    ast.VariableShowStmt: "SHOW",
+    ast.ExplainStmt: "EXPLAIN",
+    ast.CopyStmt: "COPY",
+    ast.VacuumStmt: "VACUUM or ANALYZE",
+    ast.CallStmt: "CALL",
+    ast.FetchStmt: "FETCH of a cursor",
+    ast.ClosePortalStmt: "CLOSE",
+    ast.ExecuteStmt: "EXECUTE",
+    ast.DoStmt: "DO",
+    ast.DeallocateStmt: "DEALLOCATE",
+    ast.LockStmt: "LOCK",
+    ast.TruncateStmt: "TRUNCATE",
+    ast.MergeStmt: "MERGE",
+    ast.CheckPointStmt: "CHECKPOINT",
+    ast.ListenStmt: "LISTEN",
+    ast.NotifyStmt: "NOTIFY",
+    ast.DiscardStmt: "DISCARD",
 }
 DEEPEST_PARSE = 20000
 
@@ -86,7 +100,9 @@ class Rewriter:
             trees = parse_sql(text)
         except ParseError as fault:
             place = fault.args[1] if len(fault.args) > 1 else None
-            raise Skip("PostgreSQL's parser doesn't take it" + (f", at character {place + 1}" if place else "")) from None
+            raise Skip(
+                "PostgreSQL's parser doesn't take it" + (f", at character {place + 1}" if place else "")
+            ) from None
         if len(trees) != 1:
             raise Skip("it holds no statement" if not trees else "it holds several statements")
         self.named = named_tables(trees)
