@@ -70,30 +70,31 @@ def _narrow(column: Column) -> tuple[Value, Value]:
     return tuple(Value(text_of_number(column, it)) for it in (column.low, column.low + width))  # type: ignore[return-value]
 
 
-def part_of(test: Condition, rows: int) -> float:
+def part_of(test: Condition) -> float:
     """The part of a table's rows that a test keeps, as the cost model takes it."""
     if isinstance(test, Tie):
         return 1.0
-    column = test.col.column
-    equal = 1 / column.distinct if column.distinct else 0.1
-    if test.form == "=":
-        return equal
-    if test.form == "IN":
-        return min(0.5, equal * len(test.values))
-    numbers = [number_of(column, it) for it in test.values]
-    if column.has_range() and numbers and all(it is not None for it in numbers):
-        assert column.low is not None and column.high is not None
-        ends = (
-            (max(numbers[0], column.low), numbers[1])
-            if test.form == "BETWEEN"
-            else (  # type: ignore[type-var]
-                (column.low, numbers[0]) if test.form in ("<", "<=") else (numbers[0], column.high)
-            )
-        )
-        if test.form in ("BETWEEN", "<", "<=", ">", ">="):
-            share = (min(ends[1], column.high) - ends[0]) / (column.high - column.low)  # type: ignore[type-var, operator]
-            return min(1.0, max(1e-9, share))
+    distinct = test.col.column.distinct
+    equal = 1 / distinct if distinct else 0.1
+    if test.form in ("=", "IN"):
+        return min(0.5 if test.form == "IN" else 1.0, equal * len(test.values))
+    share = _share_of_range(test)
+    if share is not None:
+        return share
     return {"<>": 1 - equal, "IS NOT NULL": 1.0, "BETWEEN": 0.25, "LIKE": 0.1, "IS NULL": 0.1}.get(test.form, 1 / 3)
+
+
+def _share_of_range(test: Test) -> float | None:
+    """The share of a column's range that a test keeps; nothing where an end isn't known."""
+    column = test.col.column
+    known = [it for it in (number_of(column, value) for value in test.values) if it is not None]
+    if column.low is None or column.high is None or column.low >= column.high or len(known) < len(test.values):
+        return None
+    ends = {"BETWEEN": known, ">": [*known, column.high], "<": [column.low, *known]}.get(test.form.rstrip("="))
+    if ends is None or len(ends) != 2:
+        return None
+    share = (min(ends[1], column.high) - max(ends[0], column.low)) / (column.high - column.low)
+    return min(1.0, max(1e-9, share))
 
 
 def slot_rows(block: Block, slot: Slot) -> float:
@@ -101,7 +102,7 @@ def slot_rows(block: Block, slot: Slot) -> float:
     rows = float(max(1, slot.table.rows))
     for it in block.conditions:
         if isinstance(it, Test) and it.col.slot is slot:
-            rows *= part_of(it, slot.table.rows)
+            rows *= part_of(it)
     return max(1.0, rows)
 
 
