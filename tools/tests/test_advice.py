@@ -3,8 +3,10 @@ from __future__ import annotations
 
 import importlib.util
 import json
+import re
 import subprocess
 import tempfile
+import tomllib
 import unittest
 from pathlib import Path
 
@@ -195,6 +197,30 @@ class OnServer(unittest.TestCase):
         self.assertEqual(
             self.server.value("SELECT count(*) FROM pg_indexes WHERE indexname LIKE '%city%'", "shop"), "0"
         )
+
+    def test_odd_names_are_quoted_in_what_is_sent_back(self) -> None:
+        self.server.psql("CREATE DATABASE quoted")
+        self.server.psql("CREATE TABLE keep (a int); CREATE EXTENSION hypopg", "quoted")
+        self.server.psql(
+            'CREATE SCHEMA "s.""x"; CREATE TABLE "s.""x"."t""; DROP TABLE keep; --" ("a"") ; DROP TABLE keep; --" int)',
+            "quoted",
+        )
+        sql = self.folder / "q.sql"
+        sql.write_text('SELECT * FROM "s.""x"."t""; DROP TABLE keep; --"')
+        ran = called(self.server, "export", *self.files[:2], "--sql", str(sql), database="quoted")
+        self.assertEqual(ran.returncode, 0, ran.stderr)
+        table = tomllib.loads(Path(self.files[0]).read_text())["table"][-1]
+        pick = f"pick 1 {table['name']}({table['column'][0]['name']}) 3 pages\n"
+        (self.folder / "advice").write_text(re.sub("pick 1 .*\n", pick, TWO).replace("pick 2 a(y) 4 pages\n", ""))
+        text = called(self.server, "ddl", self.files[0], self.files[2], database="quoted")
+        self.assertEqual(text.returncode, 0, text.stderr)
+        self.server.psql(text.stdout, "quoted")
+        self.assertEqual(self.server.value("SELECT count(*) FROM pg_indexes WHERE schemaname = 's.\"x'", "quoted"), "1")
+        ran = called(
+            self.server, "verify", *self.files, "--sql", str(sql), "--program", "/bin/false", database="quoted"
+        )
+        self.assertEqual(ran.returncode, 0, ran.stderr)
+        self.assertEqual(self.server.value("SELECT count(*) FROM pg_tables WHERE tablename = 'keep'", "quoted"), "1")
 
     def test_verify_without_hypopg_says_so(self) -> None:
         self.server.psql("CREATE DATABASE bare")

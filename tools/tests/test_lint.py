@@ -42,6 +42,10 @@ class Lint(unittest.TestCase):
                 HEAD + COLUMN + '[[index]]\nname = "i"\nkeys = ["c"]\n',
                 "c: index: means nothing and is passed over: write [[table.index]]",
             ),
+            (
+                HEAD + 'postgres = ["public", "t", "never analysed"]\n' + COLUMN,
+                "'t' was never analysed when it was exported",
+            ),
             (HEAD.replace("100", "0") + COLUMN, "'t' has no rows and counts as one row on one page"),
             (HEAD.replace("pages = 2", "pages = 0") + COLUMN, "has rows but no pages"),
             (HEAD + COLUMN.replace("50", "500"), "more distinct values than its table has rows"),

@@ -42,7 +42,9 @@ RANGES = {
     **{it: "a whole number from 0 to 1000000" for it in RATES},
 }
 OURS = "postgres"
-"""A key under which the export keeps what PostgreSQL calls a table, a column or an index; `cophy` passes it over."""
+"""A key under which the export keeps what PostgreSQL calls a table or a column; `cophy` passes it over. A table's has its
+schema, its name, and words of these two."""
+PARTITIONED, NOT_ANALYSED = "partitioned", "never analysed"
 
 _STEP = re.compile(r"([a-z_]+)(?:\[(\d+)\])?")
 

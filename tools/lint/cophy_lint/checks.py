@@ -47,7 +47,10 @@ def _listed(parent: dict[str, Any], part: str) -> list[dict[str, Any]]:
 
 def _table(path: str, table: dict[str, Any]) -> Iterator[Warning]:
     name = str(table.get("name"))
-    if table.get("rows") == 0:
+    notes = table.get(keys.OURS)
+    if isinstance(notes, list) and keys.NOT_ANALYSED in notes[2:]:
+        yield Warning(path, f"{name!a} was never analysed when it was exported: its numbers are guesses")
+    elif table.get("rows") == 0:
         yield Warning(path, f"{name!a} has no rows and counts as one row on one page: was it analysed?")
     elif table.get("pages") == 0:
         yield Warning(path, f"{name!a} has rows but no pages, and counts as one page")

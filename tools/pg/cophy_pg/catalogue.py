@@ -30,12 +30,10 @@ def catalogue_text(schema: Schema, rates: dict[str, int], head: list[str]) -> st
     lines += [f"{name} = {rate}" for name, rate in rates.items()]
     for table in schema.tables.values():
         lines += ["", *(f"# {it}" for it in table.remarks), "[[table]]", f'name = "{table.shown}"']
-        if not table.is_analysed:
-            lines.append("# Never analysed: these numbers are guesses.")
         lines += [f"rows = {table.rows}", f"pages = {table.pages}"]
-        if (table.schema, table.name) != ("public", table.shown) or table.is_partitioned:
-            real = [table.schema, table.name, *["partitioned"] * table.is_partitioned]
-            lines.append(f"{keys.OURS} = [{', '.join(map(toml_text, real))}]")
+        notes = [keys.PARTITIONED] * table.is_partitioned + [keys.NOT_ANALYSED] * (not table.is_analysed)
+        if notes or (table.schema, table.name) != ("public", table.shown):
+            lines.append(f"{keys.OURS} = [{', '.join(map(toml_text, (table.schema, table.name, *notes)))}]")
         for column in table.columns.values():
             lines += ["", *_column(column)]
         for index in table.indexes:
@@ -78,10 +76,9 @@ def read_schema(content: bytes) -> Schema:
 
 
 def _read_table(element: dict[str, Any]) -> Table:
-    schema, name, *rest = element.get(keys.OURS, ("public", element["name"]))
-    table = Table(
-        schema, name, element["name"], element["rows"], element["pages"], is_partitioned="partitioned" in rest
-    )
+    schema, name, *notes = element.get(keys.OURS, ("public", element["name"]))
+    table = Table(schema, name, element["name"], element["rows"], element["pages"])
+    table.is_partitioned, table.is_analysed = keys.PARTITIONED in notes, keys.NOT_ANALYSED not in notes
     by_shown: dict[str, str] = {}
     for it in element["column"]:
         column = Column(it.get(keys.OURS, it["name"]), it["name"], it["kind"], it["width"], it.get("distinct"))

@@ -36,7 +36,7 @@ def is_wide(column: Column) -> bool:
 def join_bounds(block: Block, note: Note) -> None:
     """Writes a lower and an upper bound of a column as BETWEEN, and ranges of parameters as literal ones."""
     for col in dict.fromkeys(it.col for it in block.conditions if isinstance(it, Test)):
-        if not is_wide(col.column):
+        if not col.column.has_range():
             continue
         lows = [it for it in block.conditions if isinstance(it, Test) and it.col == col and it.form in (">", ">=")]
         highs = [it for it in block.conditions if isinstance(it, Test) and it.col == col and it.form in ("<", "<=")]
@@ -56,7 +56,7 @@ def join_bounds(block: Block, note: Note) -> None:
 def _join_pair(block: Block, low: Test, high: Test, note: Note) -> None:
     values = (low.values[0], high.values[0])
     known = [number_of(low.col.column, it) is not None for it in values]
-    if all(known) or all(map(is_parameter, values)):
+    if all(known) or (all(map(is_parameter, values)) and is_wide(low.col.column)):
         if all(known):
             note("bounds")
         at = block.conditions.index(low)
