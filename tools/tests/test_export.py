@@ -320,5 +320,49 @@ class Export(unittest.TestCase):
         )
 
 
+@unittest.skipIf(MISSING, MISSING)
+class Limits(unittest.TestCase):
+    """A database beyond the limits of a catalogue, and more statements than a workload may have."""
+
+    MAKE = """
+DO $$ BEGIN
+    FOR i IN 1..210 LOOP
+        EXECUTE format('CREATE TABLE t%s (a int, b int, c text, d int, e int)', i);
+        EXECUTE format('INSERT INTO t%s SELECT g, g, ''x'', g, g FROM generate_series(1, %s) g', i, i);
+        EXECUTE format('CREATE INDEX ON t%s (a)', i) || format('; CREATE INDEX ON t%s (b)', i)
+            || format('; CREATE INDEX ON t%s (c)', i) || format('; CREATE INDEX ON t%s (d)', i)
+            || format('; CREATE INDEX ON t%s (e)', i) || format('; CREATE INDEX ON t%s (a, b)', i);
+    END LOOP;
+    EXECUTE 'CREATE TABLE wide (' || (SELECT string_agg('c' || g || ' int', ', ') FROM generate_series(1, 250) g) || ')';
+END $$;
+ANALYZE"""
+
+    def test_what_is_beyond_a_limit_is_left_out_and_told(self) -> None:
+        server = shop()
+        server.psql("CREATE DATABASE big")
+        server.psql(self.MAKE, "big")
+        with tempfile.TemporaryDirectory() as name:
+            files = [Path(name) / it for it in ("catalogue.toml", "workload.sql", "report.txt", "given.sql")]
+            given = [f"-- weight {it}\nSELECT a FROM t1 WHERE b = {it};" for it in range(1, 1101)]
+            given.append("-- weight 2000000\nSELECT c250 FROM wide, t1 WHERE c249 = a;")
+            files[3].write_text("\n".join(given))
+            words = map(str, (*files[:2], "--sql", files[3], "--report", files[2]))
+            ran = called(server, "export", *words, database="big")
+            self.assertEqual(ran.returncode, 0, ran.stderr)
+            tables = tomllib.loads(files[0].read_text())["table"]
+            text, report = files[1].read_text(), files[2].read_text()
+        self.assertEqual((len(tables), sum(len(it.get("index", ())) for it in tables)), (200, 1000))
+        wide = next(it for it in tables if it["name"] == "wide")
+        self.assertEqual(len(wide["column"]), 200)
+        self.assertLessEqual({"c249", "c250", "c1"}, {it["name"] for it in wide["column"]})
+        self.assertIn("t1", {it["name"] for it in tables})
+        self.assertIn("wide: 50 columns over 200 are left out", ran.stderr)
+        weights = [int(it) for it in re.findall(r"^-- weight (\d+)$", text, re.MULTILINE)]
+        self.assertEqual((len(weights), max(weights)), (1000, 1000000))
+        self.assertIn("calls were divided by 2.0", report)
+        self.assertEqual(report.count("skipped (calls"), 101)
+        self.assertIn("1 skipped (calls 1): beyond 1000 statements or 2000 sources: others cost more", report)
+
+
 if __name__ == "__main__":
     unittest.main()
