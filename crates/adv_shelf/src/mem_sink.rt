@@ -37,15 +37,12 @@ impl MemSink {
     pub fn with_capacity(alloc: Global, capacity: usize) -> Result<MemSink, NoMemory>
         ensures { IfOk result (λ sink. sink ≡ new_sink capacity) }
     {
-        match Vec::with_capacity(alloc, capacity) {
-            Ok(bytes) => Ok(MemSink {
-                capacity,
-                bytes,
-                failing: Vec::new(alloc),
-                faults: 0,
-            }),
-            Err(_) => Err(NoMemory),
-        }
+        Ok(MemSink {
+            capacity,
+            bytes: Vec::with_capacity(alloc, capacity)?,
+            failing: Vec::new(alloc),
+            faults: 0,
+        })
     }
 
     /// The bytes that were written.
@@ -60,10 +57,8 @@ impl MemSink {
         ensures ok { OnOk result (self.new ≡ record self.old { failing = self.old.failing ++ call ∷ [] }) }
         ensures err { OnErr result (self.new ≡ self.old) }
     {
-        match self.failing.push(call) {
-            Ok(()) => Ok(()),
-            Err(_) => Err(NoMemory),
-        }
+        self.failing.push(call)?;
+        Ok(())
     }
 }
 
