@@ -150,7 +150,7 @@ class Rewriting(unittest.TestCase):
                     "subquery",
                 ),
                 (
-                    "select a.id from a where id in (select a_id from b where v > 1)",
+                    "select a.id from a where id in (select distinct a_id from b where v > 1)",
                     ["SELECT a.id FROM a, b WHERE b.v > 1 AND a.id = b.a_id"],
                     "subquery",
                 ),
