@@ -1,11 +1,13 @@
 //! The orders of a slot, and how many choices of them there are.
-ghost use Rattle.std.specs.Prelude.{◌≡◌, ◌<◌, ◌≤◌, ◌^◌, ◌++◌, ◌∷◌, [], length, IfOk, fold};
+ghost use Rattle.std.specs.Prelude.{◌≡◌, ◌+◌, ◌<◌, ◌≤◌, ◌^◌, ◌++◌, ◌∷◌, [], length, IfOk, fold};
 ghost use Rattle.std.specs.Result.{OnOk};
+ghost use Rattle.adv_base.specs.declared.limits.TheConstants.{MOST_COLUMNS};
 ghost use Rattle.plan_model.specs.Limits.Tasks.{AreNumbered};
 ghost use Rattle.plan_model.specs.Orders as interesting;
 ghost use Rattle.interesting_orders.specs.inner.Marks.{add_order, AreMarks, IsEdge};
 
 use crate::columns::{column_at, is_new_list, mark_column, mark_count};
+use adv_base::limits::MOST_COLUMNS;
 use adv_base::{Item, List, NoMemory};
 use plan_model::{Task, TaskEdge};
 use std::alloc::Global;
@@ -30,7 +32,7 @@ fn push_column(
     alloc: Global,
     edge: &TaskEdge,
     slot: u8,
-    seen: &mut [bool; 200],
+    seen: &mut [bool; MOST_COLUMNS],
     orders: &mut Vec<List<Item>>,
 ) -> Result<(), NoMemory>
     requires edge { IsEdge edge.now }
@@ -54,7 +56,7 @@ fn push_list(
     alloc: Global,
     list: &[Item],
     slot: u8,
-    seen: &[bool; 200],
+    seen: &[bool; MOST_COLUMNS],
     orders: &mut Vec<List<Item>>,
 ) -> Result<(), NoMemory>
     requires numbered { AreNumbered list.now }
@@ -77,7 +79,7 @@ pub fn slot_orders(alloc: Global, task: &Task, slot: u8) -> Result<List<List<Ite
 {
     let mut orders = Vec::new(alloc);
     push_order(&mut orders, List::new(alloc))?;
-    let mut seen = [false; 200];
+    let mut seen = [false; MOST_COLUMNS];
     let edges = task.edges.as_slice();
     for edge in edges {
         push_column(alloc, edge, slot, &mut seen, &mut orders)?;
@@ -86,12 +88,12 @@ pub fn slot_orders(alloc: Global, task: &Task, slot: u8) -> Result<List<List<Ite
     Ok(List { items: orders })
 }
 
-/// How many orders a slot has, of which there are at most 203.
+/// How many orders a slot has, of which there are at most three more than columns.
 fn order_count(task: &Task, slot: u8) -> u64
     ensures exact { result ≡ length (interesting.interesting_orders task.now slot) }
-    ensures few { result ≤ 203 }
+    ensures few { result ≤ MOST_COLUMNS + 3 }
 {
-    let mut seen = [false; 200];
+    let mut seen = [false; MOST_COLUMNS];
     let edges = task.edges.as_slice();
     for edge in edges {
         mark_column(edge, slot, &mut seen);

@@ -51,7 +51,7 @@ least-never-rises task old new before after limits better a b =
     let made = better-plan task old new a.plan.whole limits better a.plan.valid in
     omega (arith, made.less, a.plan.costs, b.none_less made.plan.whole made.plan.valid, made.plan.costs)
 
-serves-same : (task : Task) (slot : ℕ) (o r : Order) → r ≡ o → ServesLike task slot o r
+pub serves-same : (task : Task) (slot : ℕ) (o r : Order) → r ≡ o → ServesLike task slot o r
 serves-same task slot o r same = subst (ServesLike task slot o) (sym same) (λ k d within begins. begins)
 
 offers-better : (task : Task) (old new : OfferTable) → HasOffersOf task old new → NoDearer task old new

@@ -9,3 +9,4 @@ pub mod Comparing
 pub mod Unique
 pub mod Listing
 pub mod TotalBound
+pub mod Renting

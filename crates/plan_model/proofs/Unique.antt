@@ -1,5 +1,6 @@
 -- A block has one task, and each cost is one number.
-use Rattle.std.proofs.Common.{◌≡◌, ℕ, suc, ◌+◌, ◌*◌, ◌≤◌, List, [], ◌∷◌, Option, ℤ, pos, negsuc, refl, sym, ap, ◌∙◌, subst, arith}
+use Rattle.std.proofs.Common.{◌≡◌, ◌↔◌, ℕ, suc, ◌+◌, ◌*◌, ◌≤◌, List, [], ◌∷◌, Option, ℤ, pos, negsuc, refl, sym, ap, ◌∙◌, subst, arith}
+use Rattle.std.proofs.Math.Path.{fun_ext}
 use denote.Struct.Props.{props}
 use mathlib.Core.HLevel.{is_prop→PathP}
 use Rattle.adv_base.specs.declared.catalogue.Catalogue.{Catalogue}
@@ -11,9 +12,10 @@ use Rattle.adv_base.specs.declared.workload.Work.TheVariants.{Select, Update, De
 use Rattle.adv_base.specs.declared.workload.block.Block.{Block}
 use Rattle.adv_base.specs.declared.workload.parts.Item.{Item}
 use Rattle.adv_base.specs.Nodes.{Node, available}
-use Rattle.adv_base.specs.Offers.{offers, charged_offers}
+use Rattle.adv_base.specs.Offers.{OfferTable, offers, charged_offers}
 use Rattle.adv_base.specs.Settings.{TheSetting}
 use Rattle.plan_model.specs.declared.edge.TaskEdge.{TaskEdge}
+use Rattle.adv_base.proofs.OfferLaws.{uncharged}
 use Rattle.plan_model.specs.declared.task.Task.{Task}
 use Rattle.plan_model.specs.Limits.Tasks.{TaskLimits}
 use Rattle.plan_model.specs.Least.{Least}
@@ -112,3 +114,14 @@ one-lagrangian setting budget node multipliers first second a b =
 -- that cost 2^33 / 65536 each, rents of 39321 and 47662 leave 677204.
 worked-value : IsRoundedUp (65536 * (10 * 52321 + 11 * 61662)) (0 + 8589934592 * 4) (pos 677204)
 worked-value = (omega arith, omega arith)
+
+-- ## No rents
+
+unrented-table : (setting : TheSetting) (config : Config) (block : Block) → charged_offers (λ slot candidate. 0) setting.cat block setting.shapes config ≡ offers setting.cat block setting.shapes config
+unrented-table setting config block = fun_ext (uncharged setting.cat block setting.shapes config)
+
+pub unrented-plain : (setting : TheSetting) (config : Config) (block : Block) (cost : ℕ) → IsRentedCost setting config (λ slot candidate. 0) block cost ↔ IsBlockCost setting.cat setting.shapes config block cost
+unrented-plain setting config block cost = (
+  λ a. record { task = a.task; task_is = a.task_is; least = subst (λ (table : OfferTable). Least a.task table cost) (unrented-table setting config block) a.least },
+  λ b. record { task = b.task; task_is = b.task_is; least = subst (λ (table : OfferTable). Least b.task table cost) (sym (unrented-table setting config block)) b.least },
+)

@@ -1,6 +1,6 @@
 -- The Lagrangian value of a node of a search for a configuration, after CoPhy. A plan may use a candidate that isn't
 -- chosen, at a rent; and pages of the budget have a price. Both are multipliers.
-use Rattle.std.specs.Prelude.{◌≡◌, ℕ, zero, suc, ◌+◌, ◌-◌, ◌*◌, ◌<◌, ◌≤◌, ◌==◌, if◌then◌else◌, List, [], ◌∷◌, sum_by, ℤ, pos, negsuc}
+use Rattle.std.specs.Prelude.{◌↔◌, ◌≡◌, true, ℕ, zero, suc, ◌+◌, ◌-◌, ◌*◌, ◌<◌, ◌≤◌, ◌==◌, if◌then◌else◌, List, [], ◌∷◌, length, slice_get, sum_by, ℤ, pos, negsuc}
 use Rattle.std.specs.Option.{option_map_or}
 use Rattle.adv_base.specs.declared.catalogue.index.IndexShape.{IndexShape}
 use Rattle.adv_base.specs.declared.setting.Config.{Config}
@@ -11,14 +11,16 @@ use Rattle.adv_base.specs.declared.workload.block.Block.{Block}
 use Rattle.adv_base.specs.declared.workload.parts.Slot.{Slot}
 use Rattle.adv_base.specs.Configs.{has_candidate}
 use Rattle.adv_base.specs.Nodes.{Node, is_open, available}
-use Rattle.adv_base.specs.Offers.{charged_offers}
+use Rattle.adv_base.specs.Offers.{offers, charged_offers, numbered_on}
+use Rattle.adv_base.specs.OfferTables.{OfferTableLimits}
 use Rattle.adv_base.specs.Settings.{TheSetting}
 use Rattle.adv_base.specs.Sizes.{shape_pages}
 use Rattle.adv_base.specs.Upkeep.{upkeep, kept_upkeep}
 use Rattle.plan_model.specs.declared.task.Task.{Task}
 use Rattle.plan_model.specs.BlockTask.{IsTaskOf}
 use Rattle.plan_model.specs.Least.{Least}
-use Rattle.plan_model.specs.Totals.{block_of, weighted_sum}
+use Rattle.plan_model.specs.Exchange.{sum_below}
+use Rattle.plan_model.specs.Totals.{block_of, IsBlockCost, weighted_sum}
 
 -- For each statement, from 1, slot, from 0, and candidate, from 1, the rent of one use; and the price of a page, in parts
 -- of 65536.
@@ -33,6 +35,34 @@ pub record IsRentedCost (setting : TheSetting) (config : Config) (rent : ℕ →
   pub task : Task
   pub task_is : IsTaskOf setting.cat block task
   pub least : Least task (charged_offers rent setting.cat block setting.shapes config) cost
+
+-- without rents it is the block's cost
+abbrev pub UnrentedIsPlain : Type 0
+UnrentedIsPlain =
+    (setting : TheSetting) (config : Config) (block : Block) (cost : ℕ) →
+    IsRentedCost setting config (λ slot candidate. 0) block cost ↔ IsBlockCost setting.cat setting.shapes config block cost
+
+-- the rents of numbered candidates
+abbrev pub sum_rents : (ℕ → ℕ) → List (ℕ × IndexShape) → ℕ
+sum_rents rent [] = 0
+sum_rents rent (numbered ∷ rest) = rent numbered.0 + sum_rents rent rest
+
+-- the rents at slot s of a configuration's candidates on its table
+abbrev pub rents_at : TheSetting → Config → (ℕ → ℕ → ℕ) → Block → ℕ → ℕ
+rents_at setting config rent block s =
+    option_map_or (λ slot. sum_rents (rent s) (numbered_on setting.shapes config slot.table)) (slice_get block.slots s) 0
+
+-- a configuration has all candidates of another
+abbrev pub IsWithin : Config → Config → Type 0
+IsWithin smaller larger = (a : ℕ) → has_candidate smaller a ≡ true → has_candidate larger a ≡ true
+
+-- Over more candidates a least cost with rents is at most a block's cost and the rents of the candidates that it may use.
+abbrev pub RentsBound : Type 0
+RentsBound =
+    (setting : TheSetting) (smaller larger : Config) (rent : ℕ → ℕ → ℕ) (block : Block) (cost rented : ℕ) →
+    IsWithin smaller larger → OfferTableLimits (offers setting.cat block setting.shapes smaller) →
+    IsBlockCost setting.cat setting.shapes smaller block cost → IsRentedCost setting larger rent block rented →
+    rented ≤ cost + sum_below (rents_at setting smaller rent block) (length block.slots)
 
 -- an INSERT has no plan
 abbrev pub IsRentedPlan : TheSetting → Config → (ℕ → ℕ → ℕ) → Work → ℕ → Type 0

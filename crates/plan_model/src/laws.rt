@@ -2,6 +2,7 @@
 //! System R's interesting orders, INUM's plans with exchanged leaves, and the cost that a cache of such plans gives.
 ghost use Rattle.plan_model.specs.Combinations.{EnoughDecompose, EachDecompose, KeptListDecompose, CacheDecomposes, KeptDecompose};
 ghost use Rattle.plan_model.specs.Comparisons.{LeastIsOne, LeastNeverRises, AddedNeverRaises, RaisedLiesBetween, BestIsEnough};
+ghost use Rattle.plan_model.specs.Lagrangian.{UnrentedIsPlain, RentsBound};
 ghost use Rattle.plan_model.specs.Totals.{TotalStaysBelow};
 ghost use Rattle.plan_model.specs.Uniqueness.{TaskIsOne, BlockCostIsOne, CostIsOne, TotalIsOne, LagrangianIsOne};
 ghost use Rattle.plan_model.specs.Exchange.{CostSplits, WholeCostSplits, LeavesExchange, WholeLeavesExchange};
@@ -65,6 +66,13 @@ pub fn costs_are_one()
     ensures statement { CostIsOne }
     ensures total { TotalIsOne }
     ensures lagrangian { LagrangianIsOne }
+{}
+
+/// A least cost with rents on candidates is a block's cost where they are 0. Over more candidates it is at most a block's
+/// cost and the rents of the candidates that the block may use.
+pub fn rents_bound()
+    ensures none { UnrentedIsPlain }
+    ensures more { RentsBound }
 {}
 
 /// The total of a workload within the limits is less than 10^31.

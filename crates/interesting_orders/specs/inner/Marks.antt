@@ -2,6 +2,7 @@
 use Rattle.std.specs.Prelude.{◌≡◌, ℕ, ◌+◌, ◌<◌, ◌≤◌, Bool, false, if◌then◌else◌, List, [], ◌∷◌, ◌++◌, length, All, Option, Some, None, count_by, slice_index_or}
 use Rattle.std.specs.List.{list_any}
 use Rattle.adv_base.specs.declared.workload.parts.Item.TheVariants.{Up, Down, Made}
+use Rattle.adv_base.specs.declared.limits.TheConstants.{MOST_COLUMNS}
 use Rattle.adv_base.specs.Items.{Order, is_same_order}
 use Rattle.plan_model.specs.declared.edge.TaskEdge.{TaskEdge}
 use Rattle.plan_model.specs.Limits.Tasks.{EdgeLimits}
@@ -29,7 +30,7 @@ is_marked seen (Made number ∷ ys) = false
 
 -- The orders are the empty one and those of the slot's columns that are marked.
 pub record AreMarks (slot : ℕ) (seen : List Bool) (orders : List Order) : Type 0 where
-  pub size : length seen ≡ 200
+  pub size : length seen ≡ MOST_COLUMNS
   pub short : All (λ order. length order ≤ 1) orders
-  pub marks : (column : ℕ) → column < 200 → slice_index_or seen column false ≡ list_any (is_same_order (Up slot column ∷ [])) orders
+  pub marks : (column : ℕ) → column < MOST_COLUMNS → slice_index_or seen column false ≡ list_any (is_same_order (Up slot column ∷ [])) orders
   pub counted : length orders ≡ 1 + count_by (λ mark. mark) seen
