@@ -6,7 +6,7 @@ use Rattle.std.proofs.lemmas.Bool.{le-leb}
 use Rattle.sql_tokens.specs.declared.token.Token.{Token}
 use Rattle.sql_tokens.specs.declared.lexeme.Form.{Form}
 use Rattle.sql_tokens.specs.declared.lexeme.Form.TheVariants as form
-use Rattle.sql_tokens.specs.Cut.{AreTokens, IsCut, Part, tokens_of, tokens_of_piece, weight_token}
+use Rattle.sql_tokens.specs.Cut.{AreTokens, IsCut, Part, tokens_of, tokens_of_lexeme, weight_token}
 use Rattle.sql_tokens.specs.Weight.{weight_length}
 use Rattle.sql_tokens.specs.Span.{LiesIn}
 use Rattle.sql_tokens.proofs.Exact.{form_some}
@@ -86,7 +86,7 @@ one_weight : (at : ℕ) (o : Option ℕ) → length (weight_token at o) ≤ 1
 one_weight at None = omega arith
 one_weight at (Some n) = omega arith
 
-one_token : (at : ℕ) (f : Form) (bytes : List ℕ) → length (tokens_of_piece at f bytes) ≤ 1
+one_token : (at : ℕ) (f : Form) (bytes : List ℕ) → length (tokens_of_lexeme at f bytes) ≤ 1
 one_token at form.Blank bytes = omega arith
 one_token at form.LineComment bytes = one_weight at (weight_length bytes)
 one_token at form.BlockComment bytes = omega arith
@@ -97,7 +97,7 @@ few_tokens at [] text rest cut = omega arith
 few_tokens at (p ∷ ps) text rest (behind, split, stands, cut) =
     omega (
       arith,
-      length-append (tokens_of_piece at p.form p.bytes) (tokens_of (at + length p.bytes) ps),
+      length-append (tokens_of_lexeme at p.form p.bytes) (tokens_of (at + length p.bytes) ps),
       one_token at p.form p.bytes,
       form_some p.form p.bytes stands.is_form,
       few_tokens (at + length p.bytes) ps behind rest cut,
