@@ -25,7 +25,10 @@ MISSING = missing()
 @functools.cache
 def shop() -> PrivateServer:
     """A server with the database `shop`, on which pgbench and all forms have run."""
-    server = PrivateServer()
+    try:
+        server = PrivateServer()
+    except (OSError, RuntimeError, subprocess.CalledProcessError) as fault:
+        raise unittest.SkipTest(f"PostgreSQL doesn't start here: {type(fault).__name__}") from None
     atexit.register(server.stop)
     server.psql("CREATE DATABASE shop")
     server.psql((DATA / "shop.sql").read_text(), "shop")

@@ -72,7 +72,7 @@ class Rewriting(unittest.TestCase):
                 (
                     "select x || 'it''s', n * (1 - k) - 2, -k from a where d = date '2001-02-03' and y like 'q%' and x is null",
                     [
-                        "SELECT x || 'it''s', n * (1 - k) - 2, 0 - k FROM a WHERE d = DATE '2001-02-03' AND y LIKE 'q%' AND x IS NULL"
+                        "SELECT x || 'it''s', n * (1 - k) - 2, -k FROM a WHERE d = DATE '2001-02-03' AND y LIKE 'q%' AND x IS NULL"
                     ],
                     "",
                 ),
@@ -150,7 +150,7 @@ class Rewriting(unittest.TestCase):
                     "subquery",
                 ),
                 (
-                    "select a.id from a where id in (select a_id from b where v > 1)",
+                    "select a.id from a where id in (select distinct a_id from b where v > 1)",
                     ["SELECT a.id FROM a, b WHERE b.v > 1 AND a.id = b.a_id"],
                     "subquery",
                 ),

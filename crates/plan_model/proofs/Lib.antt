@@ -10,3 +10,5 @@ pub mod Unique
 pub mod Listing
 pub mod TotalBound
 pub mod Renting
+pub mod Sums
+pub mod Duality

@@ -128,7 +128,7 @@ chosen-more (false ∷ few) [] (y ∷ ys) x on h = chosen-more few [] ys x (λ i
 chosen-more (false ∷ few) (true ∷ many) (y ∷ ys) x on h = inr (chosen-more few many ys x (λ i e. on (suc i) e) h)
 chosen-more (false ∷ few) (false ∷ many) (y ∷ ys) x on h = chosen-more few many ys x (λ i e. on (suc i) e) h
 
-flag-of : (config : Config) (i : ℕ) → has_candidate config (suc i) ≡ slice_index_or config.on i false
+pub flag-of : (config : Config) (i : ℕ) → has_candidate config (suc i) ≡ slice_index_or config.on i false
 flag-of config i =
     let same : suc i - 1 ≡ i = omega arith in
     let some : (suc i == 0) ≡ false =

@@ -3,14 +3,15 @@
 use Rattle.std.specs.Prelude.{◌↔◌, ◌≡◌, true, ℕ, zero, suc, ◌+◌, ◌-◌, ◌*◌, ◌<◌, ◌≤◌, ◌==◌, if◌then◌else◌, List, [], ◌∷◌, length, slice_get, sum_by, ℤ, pos, negsuc}
 use Rattle.std.specs.Option.{option_map_or}
 use Rattle.adv_base.specs.declared.catalogue.index.IndexShape.{IndexShape}
+use Rattle.adv_base.specs.declared.limits.TheConstants.{MOST_CANDIDATES}
 use Rattle.adv_base.specs.declared.setting.Config.{Config}
 use Rattle.adv_base.specs.declared.workload.Statement.{Statement}
 use Rattle.adv_base.specs.declared.workload.Work.{Work}
 use Rattle.adv_base.specs.declared.workload.Work.TheVariants.{Select, Update, Delete, Insert}
 use Rattle.adv_base.specs.declared.workload.block.Block.{Block}
 use Rattle.adv_base.specs.declared.workload.parts.Slot.{Slot}
-use Rattle.adv_base.specs.Configs.{has_candidate}
-use Rattle.adv_base.specs.Nodes.{Node, is_open, available}
+use Rattle.adv_base.specs.Configs.{has_candidate, IsConfigOf, Fits}
+use Rattle.adv_base.specs.Nodes.{Node, IsBelow, is_open, available}
 use Rattle.adv_base.specs.Offers.{offers, charged_offers, numbered_on}
 use Rattle.adv_base.specs.OfferTables.{OfferTableLimits}
 use Rattle.adv_base.specs.Settings.{TheSetting}
@@ -20,7 +21,7 @@ use Rattle.plan_model.specs.declared.task.Task.{Task}
 use Rattle.plan_model.specs.BlockTask.{IsTaskOf}
 use Rattle.plan_model.specs.Least.{Least}
 use Rattle.plan_model.specs.Exchange.{sum_below}
-use Rattle.plan_model.specs.Totals.{block_of, IsBlockCost, weighted_sum}
+use Rattle.plan_model.specs.Totals.{block_of, IsBlockCost, IsTotal, OffersKeepLimits, weighted_sum}
 
 -- For each statement, from 1, slot, from 0, and candidate, from 1, the rent of one use; and the price of a page, in parts
 -- of 65536.
@@ -142,3 +143,17 @@ pub record IsLagrangian (setting : TheSetting) (budget : ℕ) (node : Node) (mul
       (65536 * (weighted_sum setting.statements costs + weighted_kept setting) + costs_inside setting multipliers node 1 setting.shapes)
       (earnings setting multipliers budget node 1 setting.shapes + multipliers.page * budget)
       value
+
+-- a whole number is at most a count
+abbrev pub IsAtMost : ℤ → ℕ → Type 0
+IsAtMost (pos n) count = n ≤ count
+IsAtMost (negsuc n) count = Unit {0}
+
+-- Weak duality: whatever the multipliers, each fitting configuration below a node costs at least the Lagrangian value.
+abbrev pub WeakDuality : Type 0
+WeakDuality =
+    (setting : TheSetting) (budget : ℕ) (node : Node) (multipliers : TheMultipliers) (value : ℤ) (config : Config) (total : ℕ) →
+    OffersKeepLimits setting.cat setting.shapes config setting.statements → Fits setting.cat setting.shapes config budget →
+    IsConfigOf setting.shapes config → length setting.shapes ≤ MOST_CANDIDATES → IsBelow node config →
+    IsLagrangian setting budget node multipliers value →
+    IsTotal setting.cat setting.shapes config setting.statements total → IsAtMost value total

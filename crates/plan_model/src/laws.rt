@@ -2,7 +2,7 @@
 //! System R's interesting orders, INUM's plans with exchanged leaves, and the cost that a cache of such plans gives.
 ghost use Rattle.plan_model.specs.Combinations.{EnoughDecompose, EachDecompose, KeptListDecompose, CacheDecomposes, KeptDecompose};
 ghost use Rattle.plan_model.specs.Comparisons.{LeastIsOne, LeastNeverRises, AddedNeverRaises, RaisedLiesBetween, BestIsEnough};
-ghost use Rattle.plan_model.specs.Lagrangian.{UnrentedIsPlain, RentsBound};
+ghost use Rattle.plan_model.specs.Lagrangian.{UnrentedIsPlain, RentsBound, WeakDuality};
 ghost use Rattle.plan_model.specs.Totals.{TotalStaysBelow};
 ghost use Rattle.plan_model.specs.Uniqueness.{TaskIsOne, BlockCostIsOne, CostIsOne, TotalIsOne, LagrangianIsOne};
 ghost use Rattle.plan_model.specs.Exchange.{CostSplits, WholeCostSplits, LeavesExchange, WholeLeavesExchange};
@@ -78,4 +78,10 @@ pub fn rents_bound()
 /// The total of a workload within the limits is less than 10^31.
 pub fn total_stays_below()
     ensures { TotalStaysBelow }
+{}
+
+/// Weak duality, CoPhy's bound: whatever the multipliers, a fitting configuration below a node costs at least the node's
+/// Lagrangian value.
+pub fn weak_duality()
+    ensures { WeakDuality }
 {}

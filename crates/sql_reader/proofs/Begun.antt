@@ -1,5 +1,5 @@
 -- The statements of a workload begin at the words that begin one, and nowhere else.
-use Rattle.std.proofs.Common.{◌≡◌, ℕ, zero, suc, Bool, true, false, ◌&&◌, List, [], ◌∷◌, ◌++◌, map, sym, refl, ap, ◌∙◌, subst, inl, inr, append_assoc, append-nil, if◌then◌else◌}
+use Rattle.std.proofs.Common.{◌≡◌, ℕ, zero, suc, Bool, true, false, ◌&&◌, List, [], ◌∷◌, ◌++◌, sym, refl, ap, ◌∙◌, inl, inr, append_assoc, append-nil, if◌then◌else◌}
 use Rattle.std.proofs.lemmas.Bool.{and_parts}
 use Rattle.sql_reader.specs.declared.kind.PieceKind.{PieceKind}
 use Rattle.sql_reader.specs.declared.kind.PieceKind.TheVariants as kinds
@@ -120,27 +120,41 @@ module _ (d : (x : Nesting) → Meaning (State x) (State x)) (inside : Inside d)
       ap starts_in split ∙ starts-append front back ∙ ap (λ (l : List ℕ). l ++ starts_in back) (ap starts_in one ∙ begun_if true p [] (begin p.kind among)) ∙ ap (λ (l : List ℕ). place_of p ∷ l) nothing in
       ap (λ (y : Progress). places_of y.statements) is_made ∙ places-append a.statements (s ∷ []) ∙ ap (λ (l : List ℕ). places_of a.statements ++ l) (sym begun)
 
-  either_begins : {ks : List PieceKind} {r s : Rule Progress Progress} → Begins (IsOver d r) → Begins (IsOver d s) → Begins (IsOver d (Either ks r s))
-  either_begins f g a ps b (inl h) = f a ps b h
-  either_begins f g a ps b (inr h) = g a ps b h
+  either_begins : (r s : Rule Progress Progress) → Begins (IsOver d r) → Begins (IsOver d s) → Begins (IsOver d (Either [] r s))
+  either_begins r s f g a ps b (inl h) = f a ps b h
+  either_begins r s f g a ps b (inr h) = g a ps b h
+
+  select_begins : Begins (IsOver d printed.select)
+  unfolding printed.select
+  select_begins = one_begins kinds.Select printed.select_rest bodies.Select (λ k among. in_wider (kinds.Select ∷ []) starts k refl among) select_avoids
+
+  insert_begins : Begins (IsOver d printed.insert)
+  unfolding printed.insert
+  insert_begins = one_begins kinds.Insert printed.insert_rest insert_body (λ k among. in_wider (kinds.Insert ∷ []) starts k refl among) insert_avoids
+
+  update_begins : Begins (IsOver d printed.update)
+  unfolding printed.update
+  update_begins = one_begins kinds.Update printed.update_rest update_body (λ k among. in_wider (kinds.Update ∷ []) starts k refl among) update_avoids
+
+  delete_begins : Begins (IsOver d printed.delete)
+  unfolding printed.delete
+  delete_begins = one_begins kinds.Delete printed.delete_rest (λ x. x) (λ k among. in_wider (kinds.Delete ∷ []) starts k refl among) delete_avoids
 
   statement_begins : Begins (IsOver d printed.statement)
-  unfolding printed.statement printed.select printed.insert printed.update printed.delete
+  unfolding printed.statement
   statement_begins =
-      either_begins (one_begins kinds.Select printed.select_rest bodies.Select (λ k among. in_wider (kinds.Select ∷ []) starts k refl among) select_avoids)
-      (either_begins (one_begins kinds.Insert printed.insert_rest insert_body (λ k among. in_wider (kinds.Insert ∷ []) starts k refl among) insert_avoids)
-      (either_begins (one_begins kinds.Update printed.update_rest update_body (λ k among. in_wider (kinds.Update ∷ []) starts k refl among) update_avoids)
-      (one_begins kinds.Delete printed.delete_rest (λ x. x) (λ k among. in_wider (kinds.Delete ∷ []) starts k refl among) delete_avoids)))
+      either_begins printed.select (Either [] printed.insert (Either [] printed.update printed.delete)) select_begins
+      (either_begins printed.insert (Either [] printed.update printed.delete) insert_begins (either_begins printed.update printed.delete update_begins delete_begins))
 
   nothing_begins : Begins (IsOver d (Give (λ progress. progress)))
   nothing_begins a ps b (nil, same) =
       ap (λ (x : Progress). places_of x.statements) same ∙ sym (append-nil (places_of a.statements)) ∙ ap (λ (l : List ℕ). places_of a.statements ++ l) (sym (ap starts_in nil))
 
   maybe_begins : Begins (IsOver d (printed.maybe printed.statement))
-  maybe_begins = either_begins statement_begins nothing_begins
+  maybe_begins = either_begins printed.statement (Give (λ progress. progress)) statement_begins nothing_begins
 
-  then_begins : {r s : Rule Progress Progress} → Begins (IsOver d r) → Begins (IsOver d s) → Begins (IsOver d (Then r s))
-  then_begins f g a ps b (front, back, m, split, h, t) =
+  then_begins : (r s : Rule Progress Progress) → Begins (IsOver d r) → Begins (IsOver d s) → Begins (IsOver d (Then r s))
+  then_begins r s f g a ps b (front, back, m, split, h, t) =
       begins_behind (places_of a.statements) (places_of m.statements) (places_of b.statements) (starts_in front) (starts_in back) (f a front m h) (g m back b t)
       ∙ ap (λ (l : List ℕ). places_of a.statements ++ l) (sym (ap starts_in split ∙ starts-append front back))
 
@@ -149,9 +163,15 @@ module _ (d : (x : Nesting) → Meaning (State x) (State x)) (inside : Inside d)
       ap (λ (x : Progress). places_of x.statements) same ∙ sym (append-nil (places_of a.statements))
       ∙ ap (λ (l : List ℕ). places_of a.statements ++ l) (sym (ap starts_in one ∙ begun_if false p [] (not_in_other (kinds.Semicolon ∷ []) starts p.kind refl among)))
 
+  another_begins : Begins (IsOver d (Then (printed.word kinds.Semicolon) (printed.maybe printed.statement)))
+  another_begins = then_begins (printed.word kinds.Semicolon) (printed.maybe printed.statement) semicolon_begins maybe_begins
+
+  more_begin : Begins (IsOver d (Many [] (Then (printed.word kinds.Semicolon) (printed.maybe printed.statement))))
+  more_begin a ps b (n, turns) = turns_begin (IsOver d (Then (printed.word kinds.Semicolon) (printed.maybe printed.statement))) another_begins n a ps b turns
+
   workload_begins : Begins (IsOver d printed.workload)
   unfolding printed.workload
-  workload_begins = then_begins maybe_begins (λ a ps b h. turns_begin _ (then_begins semicolon_begins maybe_begins) h.0 a ps b h.1)
+  workload_begins = then_begins (printed.maybe printed.statement) (Many [] (Then (printed.word kinds.Semicolon) (printed.maybe printed.statement))) maybe_begins more_begin
 
 -- the statements of a workload begin at its words that begin one, in order
 pub begin_at_starts : (pieces : List Piece) (progress : Progress) → MeansStatements no_statements pieces progress → places_of progress.statements ≡ starts_in pieces

@@ -1,30 +1,24 @@
 -- What the names, values, expressions and conditions of a text of n bytes keep.
-use Rattle.std.proofs.Common.{◌≡◌, ℕ, zero, suc, ◌+◌, ◌^◌, ◌<◌, ◌≤◌, Bool, true, false, ◌&&◌, ◌==◌, List, [], ◌∷◌, ◌++◌, length, Option, Some, None, nat_le, nat_lt, nat_abs, ℤ, sym, refl, ap, ◌∙◌, subst, arith, rules, tests, length-append, if◌then◌else◌}
+use Rattle.std.proofs.Common.{◌≡◌, ℕ, ◌+◌, ◌^◌, ◌<◌, ◌≤◌, Bool, true, false, ◌&&◌, List, [], ◌∷◌, ◌++◌, length, Option, Some, None, nat_le, nat_lt, nat_abs, ℤ, refl, ◌∙◌, arith, rules, tests, length-append, if◌then◌else◌}
 use Rattle.std.specs.List.{list_all}
 use Rattle.std.proofs.lemmas.List.Folds.{list_all-append}
 use Rattle.std.proofs.lemmas.Bool.{le-leb}
-use Rattle.sql_tokens.specs.declared.token.Span.{Span}
 use Rattle.sql_reader.specs.declared.kind.PieceKind.{PieceKind}
 use Rattle.sql_reader.specs.declared.kind.PieceKind.TheVariants as kinds
 use Rattle.sql_reader.specs.declared.piece.Piece.{Piece}
-use Rattle.sql_reader.specs.declared.seen.ExprForm.{ExprForm}
 use Rattle.sql_reader.specs.declared.seen.ExprForm.TheVariants as forms
 use Rattle.sql_reader.specs.declared.seen.Seen.{Seen}
-use Rattle.sql_reader.specs.declared.parsed.NameUse.{NameUse}
-use Rattle.sql_reader.specs.declared.parsed.Expr.{Expr}
-use Rattle.sql_reader.specs.declared.parsed.Source.{Source}
 use Rattle.sql_reader.specs.declared.parsed.Literal.{Literal}
 use Rattle.sql_reader.specs.declared.parsed.Literal.TheVariants as literals
 use Rattle.sql_reader.specs.declared.parsed.Condition.{Condition}
-use Rattle.sql_reader.specs.Kinds.{has}
-use Rattle.sql_reader.specs.Rule.{Nesting, State, Rule, Give, Take, Then, Use, Either, Many, Nest, Conditions, Parenthesis, Call, Signed, Meaning}
-use Rattle.sql_reader.specs.Values.{not_alone, is_column, literal_form, number_form, literal_of, literal_of_kind, whole_literal, negative, signed, expr_of}
+use Rattle.sql_reader.specs.Rule.{Nesting, State, Rule, Nest, Conditions, Parenthesis, Call, Signed, Meaning}
+use Rattle.sql_reader.specs.Values.{not_alone, is_column, literal_form, literal_of, literal_of_kind, whole_literal, negative, signed, expr_of}
 use Rattle.sql_reader.specs.Valid.{span_in, option_in, name_in, source_in, literal_in, condition_in, are_few, one_if_plain, expr_in}
 use Rattle.sql_reader.specs.Pieces.{is_good_weight}
 use Rattle.sql_reader.specs.Grammar.{after_name, column, null_test}
 use Rattle.sql_reader.specs.Printed as printed
 use Rattle.sql_reader.proofs.KindSets.{not_both}
-use Rattle.sql_reader.proofs.Keeps.{Known, Free, Scale, Keeps, give_keeps, take_keeps, then_keeps, use_keeps, part_keeps, either_keeps, many_keeps, known_keeps, free_keeps}
+use Rattle.sql_reader.proofs.Keeps.{Known, Free, Scale, Keeps, give_keeps, take_keeps, then_keeps, use_keeps, either_keeps, many_keeps, known_keeps, free_keeps}
 
 -- a piece lies in the text, and its weight was judged
 abbrev pub InText : ℕ → Piece → Type 0

@@ -1,9 +1,8 @@
 -- What the statements of a text of n bytes keep.
-use Rattle.std.proofs.Common.{◌≡◌, ℕ, zero, suc, ◌+◌, ◌^◌, ◌<◌, ◌≤◌, Bool, true, false, ◌&&◌, List, [], ◌∷◌, ◌++◌, length, Option, nat_le, nat_lt, refl, ◌∙◌, arith, length-append, if◌then◌else◌}
+use Rattle.std.proofs.Common.{◌≡◌, ℕ, zero, suc, ◌+◌, ◌^◌, ◌<◌, ◌≤◌, Bool, true, false, ◌&&◌, List, [], ◌∷◌, ◌++◌, length, nat_le, nat_lt, refl, ◌∙◌, arith, length-append, if◌then◌else◌}
 use Rattle.std.specs.List.{list_all}
 use Rattle.std.proofs.lemmas.List.Folds.{list_all-append}
 use Rattle.std.proofs.lemmas.Bool.{le-leb}
-use Rattle.sql_tokens.specs.declared.token.Span.{Span}
 use Rattle.sql_reader.specs.declared.piece.Piece.{Piece}
 use Rattle.sql_reader.specs.declared.seen.Seen.{Seen}
 use Rattle.sql_reader.specs.declared.parsed.NameUse.{NameUse}
@@ -12,20 +11,19 @@ use Rattle.sql_reader.specs.declared.parsed.Condition.{Condition}
 use Rattle.sql_reader.specs.declared.parsed.ParsedItem.{ParsedItem}
 use Rattle.sql_reader.specs.declared.parsed.ParsedOrder.{ParsedOrder}
 use Rattle.sql_reader.specs.declared.parsed.ParsedSelect.{ParsedSelect}
-use Rattle.sql_reader.specs.declared.parsed.Source.{Source}
 use Rattle.sql_reader.specs.declared.parsed.Body.{Body}
 use Rattle.sql_reader.specs.declared.parsed.Body.TheVariants as bodies
 use Rattle.sql_reader.specs.declared.parts.InsertParts.{InsertParts}
 use Rattle.sql_reader.specs.declared.parts.UpdateParts.{UpdateParts}
 use Rattle.sql_reader.specs.declared.parts.Progress.{Progress}
-use Rattle.sql_reader.specs.Rule.{Nesting, State, Rule, Take, Use, Nest, Conditions, Parenthesis, Call, Signed, Meaning, IsNested}
-use Rattle.sql_reader.specs.Values.{beside, conditions_of, with_conditions, expr_of, with_source, nothing_found, plain_column, weight_of, with_statement, insert_body, update_body}
+use Rattle.sql_reader.specs.Rule.{Nesting, State, Rule, Take, Use, Meaning, IsNested}
+use Rattle.sql_reader.specs.Values.{beside, conditions_of, with_conditions, expr_of, with_source, plain_column, weight_of, with_statement, insert_body, update_body}
 use Rattle.sql_reader.specs.Valid.{span_in, option_in, name_in, source_in, condition_in, item_in, order_item_in, select_in, rows_in, are_few, body_in, statement_in, expr_in, items_in, sources_in, conditions_in, names_in, order_in}
 use Rattle.sql_reader.specs.Pieces.{is_good_weight}
-use Rattle.sql_reader.specs.Grammar.{quantifier, group_part, column_list, one_column, more_columns, another_column, direction, limit_part, insert_table, insert_columns, name_list, name_as_column, more_names, another_name, set_column}
+use Rattle.sql_reader.specs.Grammar.{quantifier, group_part, column_list, one_column, more_columns, another_column, direction, insert_table, insert_columns, name_list, name_as_column, more_names, another_name, set_column}
 use Rattle.sql_reader.specs.Printed as printed
-use Rattle.sql_reader.proofs.Keeps.{Known, Free, Scale, Keeps, give_keeps, take_keeps, then_keeps, use_keeps, part_keeps, either_keeps, many_keeps, known_keeps, free_keeps}
-use Rattle.sql_reader.proofs.KeptExpressions.{InText, text_scale, Few, Passes, both, some, few_none, few_more, few_later, few_in, nat_lt_true, Loose, Taken, At, Alone, expr_known, NestedKeep, column_keeps, alias_keeps, source_keeps, word_keeps, maybe_keeps, commas_keeps, behind_keeps, expr_keeps, loose_expr, loose_later, exprs_keeps, call_keeps, parenthesis_keeps, signed_keeps, few_conditions_later, conds_keeps, nested_conds_keeps, where_keeps}
+use Rattle.sql_reader.proofs.Keeps.{Free, Scale, Keeps, give_keeps, take_keeps, then_keeps, use_keeps, part_keeps, either_keeps, many_keeps, known_keeps, free_keeps}
+use Rattle.sql_reader.proofs.KeptExpressions.{text_scale, Few, Passes, both, some, few_none, few_more, few_later, few_in, nat_lt_true, Loose, At, Alone, expr_known, NestedKeep, column_keeps, alias_keeps, source_keeps, word_keeps, maybe_keeps, commas_keeps, behind_keeps, expr_keeps, loose_expr, loose_later, exprs_keeps, call_keeps, parenthesis_keeps, signed_keeps, conds_keeps, nested_conds_keeps, where_keeps}
 
 -- a SELECT so far
 pub record SelectSoFar (n k : ℕ) (s : ParsedSelect) : Type 0 where

@@ -1,17 +1,16 @@
 -- The statements of a text keep the limits.
-use Rattle.std.proofs.Common.{◌≡◌, ℕ, zero, suc, ◌+◌, ◌^◌, ◌<◌, ◌≤◌, Bool, true, false, ◌&&◌, not, List, [], ◌∷◌, ◌++◌, length, Option, Some, None, option_map, nat_le, nat_lt, All, sym, refl, ap, ◌∙◌, subst, arith, length-append, if◌then◌else◌}
+use Rattle.std.proofs.Common.{◌≡◌, ℕ, zero, suc, ◌+◌, ◌^◌, ◌<◌, ◌≤◌, Bool, true, false, ◌&&◌, not, List, [], ◌∷◌, ◌++◌, length, Option, Some, None, nat_le, All, sym, refl, ap, subst, arith, length-append, if◌then◌else◌}
 use Rattle.std.specs.List.{list_all}
 use Rattle.std.proofs.lemmas.List.Elements.{All-head, All-tail}
 use Rattle.std.proofs.lemmas.Bool.{le-leb}
 use Rattle.sql_tokens.specs.declared.token.Token.{Token}
 use Rattle.sql_tokens.specs.declared.lexeme.Form.{Form}
 use Rattle.sql_tokens.specs.declared.lexeme.Form.TheVariants as form
-use Rattle.sql_tokens.specs.Cut.{AreTokens, IsCut, Part, tokens_of, tokens_of_piece, weight_token}
+use Rattle.sql_tokens.specs.Cut.{AreTokens, IsCut, Part, tokens_of, tokens_of_lexeme, weight_token}
 use Rattle.sql_tokens.specs.Weight.{weight_length}
 use Rattle.sql_tokens.specs.Span.{LiesIn}
 use Rattle.sql_tokens.proofs.Exact.{form_some}
 use Rattle.sql_tokens.proofs.Places.{lies-cut}
-use Rattle.sql_reader.specs.declared.kind.PieceKind.{PieceKind}
 use Rattle.sql_reader.specs.declared.kind.PieceKind.TheVariants as kinds
 use Rattle.sql_reader.specs.declared.piece.Piece.{Piece}
 use Rattle.sql_reader.specs.declared.piece.Mark.{Mark}
@@ -20,16 +19,16 @@ use Rattle.sql_reader.specs.declared.parsed.Body.TheVariants as bodies
 use Rattle.sql_reader.specs.declared.parsed.ParsedStatement.{ParsedStatement}
 use Rattle.sql_reader.specs.declared.parts.Progress.{Progress}
 use Rattle.sql_reader.specs.Kinds.{has}
-use Rattle.sql_reader.specs.Rule.{Nesting, State, Rule, Take, Meaning, IsNested}
+use Rattle.sql_reader.specs.Rule.{Nesting, State, Meaning, IsNested}
 use Rattle.sql_reader.specs.Exact.{IsRead}
 use Rattle.sql_reader.specs.Grammar.{starts, levels}
 use Rattle.sql_reader.specs.Printed as printed
-use Rattle.sql_reader.specs.Values.{beside, place_of, weight_of, with_statement, no_statements, insert_body, update_body}
+use Rattle.sql_reader.specs.Values.{place_of, weight_of, with_statement, no_statements, insert_body, update_body}
 use Rattle.sql_reader.specs.Valid.{span_in, statement_in, statements_in}
 use Rattle.sql_reader.specs.Pieces.{bytes_of, ArePieces, WithToken, IsPiece, no_mark, mark_of, is_weight, is_good_weight, is_bad_weight, bad_weight, start_behind}
 use Rattle.sql_reader.specs.Words.{weight_number}
 use Rattle.sql_reader.proofs.KindSets.{in_wider}
-use Rattle.sql_reader.proofs.Keeps.{Known, Free, Scale, Keeps, AllGood, give_keeps, take_keeps, then_keeps, use_keeps, either_keeps, many_keeps, free_keeps}
+use Rattle.sql_reader.proofs.Keeps.{Free, Scale, Keeps, AllGood, give_keeps, take_keeps, then_keeps, use_keeps, either_keeps, many_keeps, free_keeps}
 use Rattle.sql_reader.proofs.Keeps as keeps
 use Rattle.sql_reader.proofs.KeptExpressions.{InText, text_scale, both}
 use Rattle.sql_reader.proofs.KeptStatements.{workload_keeps, all_nested}
@@ -86,7 +85,7 @@ one_weight : (at : ℕ) (o : Option ℕ) → length (weight_token at o) ≤ 1
 one_weight at None = omega arith
 one_weight at (Some n) = omega arith
 
-one_token : (at : ℕ) (f : Form) (bytes : List ℕ) → length (tokens_of_piece at f bytes) ≤ 1
+one_token : (at : ℕ) (f : Form) (bytes : List ℕ) → length (tokens_of_lexeme at f bytes) ≤ 1
 one_token at form.Blank bytes = omega arith
 one_token at form.LineComment bytes = one_weight at (weight_length bytes)
 one_token at form.BlockComment bytes = omega arith
@@ -97,7 +96,7 @@ few_tokens at [] text rest cut = omega arith
 few_tokens at (p ∷ ps) text rest (behind, split, stands, cut) =
     omega (
       arith,
-      length-append (tokens_of_piece at p.form p.bytes) (tokens_of (at + length p.bytes) ps),
+      length-append (tokens_of_lexeme at p.form p.bytes) (tokens_of (at + length p.bytes) ps),
       one_token at p.form p.bytes,
       form_some p.form p.bytes stands.is_form,
       few_tokens (at + length p.bytes) ps behind rest cut,

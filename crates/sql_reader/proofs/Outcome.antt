@@ -9,11 +9,11 @@ use Rattle.sql_reader.specs.declared.cursor.Unread.TheVariants.{Memory, Here}
 use Rattle.sql_reader.specs.inner.Reads.{StopsAt}
 use Rattle.sql_reader.specs.Kinds.{has}
 use Rattle.sql_reader.specs.Rule.{Meaning, Reading, Read, Stuck}
-use Rattle.sql_reader.specs.Exact.{GoesOn, NoneGoesOn, FailsAt, IsExact, IsRead, reads}
+use Rattle.sql_reader.specs.Exact.{NoneGoesOn, FailsAt, IsExact, IsRead, reads}
 use Rattle.sql_reader.specs.Grammar.{grammar, borders, levels, workload}
 use Rattle.sql_reader.specs.Values.{place_of, no_statements}
 use Rattle.sql_reader.specs.Pieces.{bad_weight, start_behind}
-use Rattle.sql_reader.specs.Workload.{MeansStatements, left_out, grammar_fault, fault_behind, GrammarSays, place_of_fault, earlier, first_fault, Says, IsFirstFault, HasSqlFault}
+use Rattle.sql_reader.specs.Workload.{MeansStatements, left_out, grammar_fault, fault_behind, GrammarSays, place_of_fault, earlier, IsFirstFault, HasSqlFault}
 use Rattle.sql_reader.proofs.AsPrinted.{is_as_printed}
 use Rattle.sql_reader.proofs.Exactly.{reads_exactly}
 use Rattle.sql_reader.proofs.Good.{good_workload, closes_workload, good_grammar}

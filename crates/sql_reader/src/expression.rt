@@ -300,9 +300,10 @@ impl GrammarReader {
     fn maybe_distinct(self, cursor: &mut Cursor<'_>, found: &Seen) -> Result<(), Unread>
         ensures { AddsBy rule.maybe_distinct found.now self cursor.old result found.now cursor.new }
     {
-        if cursor.begins(&[PieceKind::Distinct]) {
-            cursor.take(&[PieceKind::Distinct])?;
+        if !cursor.begins(&[PieceKind::Distinct]) {
+            return Ok(());
         }
+        cursor.take(&[PieceKind::Distinct])?;
         Ok(())
     }
 

@@ -39,10 +39,11 @@ impl GrammarReader {
             cursor.take(&[PieceKind::All])?;
             return Ok(());
         }
-        if cursor.begins(&[PieceKind::Distinct]) {
-            cursor.take(&[PieceKind::Distinct])?;
-            select.distinct = true;
+        if !cursor.begins(&[PieceKind::Distinct]) {
+            return Ok(());
         }
+        cursor.take(&[PieceKind::Distinct])?;
+        select.distinct = true;
         Ok(())
     }
 

@@ -12,7 +12,7 @@ from pglast import parser
 from pglast.parser import ParseError, parse_sql
 
 from cophy_text.tokens import tokens
-from cophy_pg.server import Server, quoted_name
+from cophy_pg.server import Row, Server, ServerFault, quoted_name
 
 _BACKSLASH = re.compile(r"^[ \t]*\\[^\n]*$", re.MULTILINE)
 _VARIABLE = re.compile(
@@ -54,16 +54,24 @@ def from_server(server: Server) -> list[Input]:
         )
     }
     time = "total_exec_time" if "total_exec_time" in names else "total_time"
-    rows = server.rows(
+    rows = _rows_of(
+        server,
         f"SELECT query, sum(calls)::int8, sum({time})::float8 / 1000, sum(rows)::float8 FROM {view} "
         "WHERE dbid = (SELECT oid FROM pg_catalog.pg_database WHERE datname = current_database()) "
-        "GROUP BY query ORDER BY 3 DESC, 1"
+        "GROUP BY query ORDER BY 3 DESC, 1",
     )
     return [
         Input(str(text), max(1, int(calls)), float(seconds), float(count) / max(1, int(calls)))
         for text, calls, seconds, count in rows
         if text is not None
     ]
+
+
+def _rows_of(server: Server, query: str) -> list[Row]:
+    try:
+        return server.rows(query)
+    except ServerFault as fault:
+        raise NoInput(f"pg_stat_statements can't be read: is it in shared_preload_libraries? ({fault})") from None
 
 
 class NoInput(Exception):

@@ -4,7 +4,7 @@ from __future__ import annotations
 from collections.abc import Iterable, Iterator
 from dataclasses import dataclass, field
 
-from cophy_pg.rewrite.terms import Call, Col, Printer, Rows, Slot, Term, Value, aggregates, columns, has_unknown, mixed
+from cophy_pg.rewrite.terms import Call, Col, Printer, Rows, Slot, Term, Value, aggregates, columns, mixed
 from cophy_pg.schema import Table, cleaned, quoted
 
 MOST_SLOTS = 8
@@ -192,6 +192,6 @@ def _items(block: Block, printer: Printer) -> list[str]:
     for it in block.items:
         if isinstance(it, Rows):
             listed.append(f"{quoted(it.slot.name)}.*")
-        elif not has_unknown(it):
+        else:
             listed.append(printer.term(it))
     return list(dict.fromkeys(listed)) or ["1"]

@@ -46,7 +46,10 @@ class Conditions:
         return as_value(term)
 
     def _test(self, col: Col, form: str, *values: Value) -> None:
-        self.block.conditions.append(Test(col, form, tuple(fitted(col, it) for it in values)))
+        fits = tuple(fitted(col, it) for it in values)
+        if any(one == ANY != other for one, other in zip(fits, values)):
+            self.note("value")
+        self.block.conditions.append(Test(col, form, fits))
 
     def _need(self, change: str, *terms: Term) -> None:
         """Keeps the columns of terms needed."""

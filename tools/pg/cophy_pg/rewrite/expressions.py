@@ -15,6 +15,7 @@ from cophy_pg.rewrite.terms import (
     AGGREGATES,
     ANY,
     DEEPEST,
+    NOTHING,
     Call,
     Col,
     Infix,
@@ -27,8 +28,8 @@ from cophy_pg.rewrite.terms import (
     columns,
     day_of,
     depth,
-    has_unknown,
     is_value,
+    known,
     literal_of_day,
     mixed,
     shifted,
@@ -214,7 +215,7 @@ class Expressions:
             if isinstance(inner.known, (int, Decimal)) and operator == "-":
                 return number(-Decimal(inner.known))
             return inner if operator == "+" else ANY
-        return inner if operator == "+" or isinstance(inner, (Mix, Unknown)) else Infix(operator, Value("0", 0), inner)
+        return inner if operator == "+" or isinstance(inner, (Mix, Unknown)) else Infix(operator, NOTHING, inner)
 
     def _folded(self, left: Term, operator: str, right: Term) -> Term | None:
         """Constants taken together where they can be: days with intervals, whole numbers."""
@@ -257,7 +258,7 @@ class Expressions:
             self.note("filter")
         if name not in AGGREGATES:
             self.note("aggregate")
-        args = [it for it in [*args, *more] if not has_unknown(it)]
+        args = [it for it in map(known, [*args, *more]) if it is not None]
         named = name if name in AGGREGATES else "count"
         return Call(named, tuple(args), bool(node.agg_distinct) and bool(args), star=not args)
 

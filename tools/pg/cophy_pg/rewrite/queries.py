@@ -21,6 +21,7 @@ from cophy_pg.rewrite.terms import (
     columns,
     has_unknown,
     is_value,
+    known,
     mixed,
 )
 
@@ -240,7 +241,9 @@ class Queries:
             else:
                 term = self._term(it.val, scope)
                 named.append((_output_name(it), term))
-                block.items.append(_shown(term))
+                shown = known(_shown(term))
+                if shown is not None:
+                    block.items.append(shown)
         for it in node.windowClause or ():
             self.note("window")
             block.items.append(mixed(*self.rewriter.expressions.window(it, scope)))
@@ -311,6 +314,7 @@ class Queries:
             term = self._named(it.node, items, scope, True)
             if is_value(term) or has_unknown(term):
                 self.note("constant condition" if is_value(term) else "own statement")
+                block.need(columns(term))
                 continue
             block.order.append((term, it.sortby_dir == SortByDir.SORTBY_DESC))
 

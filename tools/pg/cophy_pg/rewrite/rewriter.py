@@ -154,7 +154,8 @@ class Rewriter:
     def join_subquery(self, block: Block, tree: Any, scope: Scope, compared: Any) -> bool:
         """Joins a query of EXISTS, or of IN with what is compared, where it is a plain join that ties; else changes
         nothing."""
-        if self.no_joins or not (is_simple(tree) or (compared is None and is_simple_but_limit(tree))):
+        dropped = ["distinctClause"] if compared is not None else ["distinctClause", "limitCount", "limitOffset"]
+        if self.no_joins or not is_simple_without(tree, dropped):
             return False
         mark, changes, before = block.mark(), [*self.found.changes], [*self.found.statements]
         old = set(map(id, block.slots))
@@ -204,10 +205,12 @@ class Rewriter:
             block.distinct = False
 
 
-def is_simple_but_limit(tree: Any) -> bool:
-    """Whether a query is a plain join but for LIMIT and DISTINCT, which mean nothing to EXISTS."""
+def is_simple_without(tree: Any, dropped: list[str]) -> bool:
+    """Whether a query is a plain join but for some clauses: DISTINCT means nothing to IN and EXISTS, LIMIT nothing to
+    EXISTS."""
     if not isinstance(tree, ast.SelectStmt):
         return False
     plain = ast.SelectStmt(**{it: getattr(tree, it) for it in tree})
-    plain.limitCount = plain.limitOffset = plain.distinctClause = None
+    for it in dropped:
+        setattr(plain, it, None)
     return is_simple(plain)

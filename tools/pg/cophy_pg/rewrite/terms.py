@@ -97,6 +97,8 @@ class Mix:
 
 Term = Col | Value | Unknown | Rows | Call | Infix | Mix
 ANY = Value("?", None, False)
+NOTHING = Value("", None, False)
+"""The left side of a sign."""
 
 
 def day_of(text: str) -> date | None:
@@ -138,6 +140,18 @@ def aggregates(term: Term) -> Iterator[Call]:
     else:
         for it in children(term):
             yield from aggregates(it)
+
+
+def known(term: Term) -> Term | None:
+    """What a term says of the sources that are here; nothing where that is no column."""
+    if not has_unknown(term):
+        return term
+    if isinstance(term, Call) and term.is_aggregate():
+        args = tuple(it for it in map(known, term.args) if it is not None)
+        return Call(term.name, args, term.distinct and bool(args), star=not args)
+    parts = tuple(dict.fromkeys(it for part in children(term) if (it := known(part)) is not None))
+    parts = tuple(it for it in parts if not is_value(it))
+    return Mix(parts) if parts else None
 
 
 def is_value(term: Term) -> bool:
@@ -221,6 +235,8 @@ class Printer:
             return f"{quoted(it.name)}({'DISTINCT ' * it.distinct}{args})"
         if isinstance(it, Infix):
             left, right = self.term(it.left), self.term(it.right)
+            if it.left == NOTHING:
+                return f"{it.operator}({right})" if isinstance(it.right, Infix) else it.operator + right
             if isinstance(it.left, Infix) and it.left.operator in "+-" and it.operator not in "+-":
                 left = f"({left})"
             return f"{left} {it.operator} " + (f"({right})" if isinstance(it.right, Infix) else right)

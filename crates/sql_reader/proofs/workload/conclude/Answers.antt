@@ -1,4 +1,4 @@
-use Rattle.std.proofs.Common.{◌≡◌, ◌+◌, List, length, Option, None, refl, sym, inr, subst}
+use Rattle.std.proofs.Common.{◌+◌, length, Option, refl, inr, subst}
 use Rattle.sql_reader.proofs.Limits.{limits}
 use Rattle.sql_reader.proofs.Unique.{no_grammar_fault, no_bad_weight, no_start}
 use Rattle.sql_reader.specs.declared.parsed.SqlFault.{SqlFault}
