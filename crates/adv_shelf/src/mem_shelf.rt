@@ -61,8 +61,10 @@ impl MemShelf {
         ensures ok { OnOk result (self.new ≡ record self.old { failing = self.old.failing ++ call ∷ [] }) }
         ensures err { OnErr result (self.new ≡ self.old) }
     {
-        self.failing.push(call)?;
-        Ok(())
+        match self.failing.push(call) {
+            Ok(()) => Ok(()),
+            Err(_) => Err(NoMemory),
+        }
     }
 }
 

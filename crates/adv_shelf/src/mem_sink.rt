@@ -37,12 +37,15 @@ impl MemSink {
     pub fn with_capacity(alloc: Global, capacity: usize) -> Result<MemSink, NoMemory>
         ensures { IfOk result (λ sink. sink ≡ new_sink capacity) }
     {
-        Ok(MemSink {
-            capacity,
-            bytes: Vec::with_capacity(alloc, capacity)?,
-            failing: Vec::new(alloc),
-            faults: 0,
-        })
+        match Vec::with_capacity(alloc, capacity) {
+            Ok(bytes) => Ok(MemSink {
+                capacity,
+                bytes,
+                failing: Vec::new(alloc),
+                faults: 0,
+            }),
+            Err(_) => Err(NoMemory),
+        }
     }
 
     /// The bytes that were written.
@@ -57,8 +60,10 @@ impl MemSink {
         ensures ok { OnOk result (self.new ≡ record self.old { failing = self.old.failing ++ call ∷ [] }) }
         ensures err { OnErr result (self.new ≡ self.old) }
     {
-        self.failing.push(call)?;
-        Ok(())
+        match self.failing.push(call) {
+            Ok(()) => Ok(()),
+            Err(_) => Err(NoMemory),
+        }
     }
 }
 
