@@ -1,10 +1,5 @@
 pub mod Begins
-pub mod Lower
 pub mod Steps
 pub mod Reading
-pub mod Table
 pub mod Growing
-pub mod Building
-pub mod Exists
-pub mod Wholes
-pub mod Finding
+pub mod Cutting
