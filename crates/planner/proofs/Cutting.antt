@@ -94,10 +94,10 @@ adds_nothing task links covered set m n cuts merges none =
 
 -- a cut that may not be made
 pub adds_none : (task : Task) (links : List Link) (covered : List Bool) (set a : ℕ) (cuts : List Cut) (merges : List Merge) → may_cut covered set a ≡ false → AddsCuts task links covered set a (a + 1) cuts merges cuts merges
-adds_none task links covered set a cuts merges no =
+adds_none task links covered set a cuts merges refused =
     adds_nothing task links covered set a (a + 1) cuts merges (λ b from to yes some.
       let same : b ≡ a = omega arith in
-      absurd (false≢true (sym no ∙ ap (may_cut covered set) (sym same) ∙ yes)))
+      absurd (false≢true (sym refused ∙ ap (may_cut covered set) (sym same) ∙ yes)))
 
 -- a cut that no link crosses
 pub adds_uncrossed : (task : Task) (links : List Link) (covered : List Bool) (set a : ℕ) (cuts : List Cut) (merges new : List Merge) → new ≡ merges ++ merges_of links a (set - a) → length merges ≡ length new → AddsCuts task links covered set a (a + 1) cuts merges cuts new
@@ -261,17 +261,17 @@ module _ (task : Task) (links : List Link) (n : ℕ) (cuts new_cuts : List Cut) 
               | inl less ↦ covered_stays covered flag s (omega (arith, old.covered_count)) ∙ old.slots s one less within is
               | inr past ↦ let same : s ≡ n = omega arith in ap (is_covered (covered ++ flag ∷ [])) same ∙ flag_last ∙ slot one within (is ∙ same)
             ];
-        joined = λ s h no.
+        joined = λ s h off.
             elim (cases_lt s n) [
               | inl less ↦
-                  start_stays s (omega arith) ∙ old.joined s less (sym (covered_stays covered flag s (omega (arith, old.covered_count))) ∙ no) ∙ sym (start_stays (s + 1) (omega arith))
+                  start_stays s (omega arith) ∙ old.joined s less (sym (covered_stays covered flag s (omega (arith, old.covered_count))) ∙ off) ∙ sym (start_stays (s + 1) (omega arith))
               | inr past ↦
                   let same : s ≡ n = omega arith in
-                  let off : flag ≡ false = sym flag_last ∙ ap (is_covered (covered ++ flag ∷ [])) (sym same) ∙ no in
+                  let unset : flag ≡ false = sym flag_last ∙ ap (is_covered (covered ++ flag ∷ [])) (sym same) ∙ off in
                   let a : slice_index (starts ++ length new_cuts ∷ []) s ≡ length cuts = ap (slice_index (starts ++ length new_cuts ∷ [])) same ∙ start_stays n (omega arith) ∙ old.ends in
                   let b : slice_index (starts ++ length new_cuts ∷ []) (s + 1) ≡ length new_cuts = ap (λ t. slice_index (starts ++ length new_cuts ∷ []) (t + 1)) same ∙ start_last in
                   elim (cases_lt (length cuts) (length new_cuts)) [
-                    | inl more ↦ absurd (false≢true (sym off ∙ some more))
+                    | inl more ↦ absurd (false≢true (sym unset ∙ some more))
                     | inr not_more ↦ omega (arith, longer)
                   ]
             ];
@@ -286,5 +286,5 @@ cuts_none task links =
       rising = λ s h. absurd (omega arith);
       sets = λ s h. absurd (omega arith);
       slots = λ s one h within is. absurd (omega arith);
-      joined = λ s h no. absurd (omega arith);
+      joined = λ s h off. absurd (omega arith);
     }

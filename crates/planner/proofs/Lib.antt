@@ -3,3 +3,13 @@ pub mod Steps
 pub mod Reading
 pub mod Growing
 pub mod Cutting
+pub mod Merging
+pub mod Fronting
+pub mod Lower
+pub mod Building
+pub mod Upper
+pub mod Tabling
+pub mod Exists
+pub mod Wholes
+pub mod Finding
+pub mod Choosing

@@ -5,6 +5,7 @@ use Rattle.adv_base.specs.Offers.{OfferTable}
 use Rattle.plan_model.specs.declared.plan.Plan.{Plan}
 use Rattle.plan_model.specs.declared.plan.Plan.TheVariants.{Leaf, Sort', Merge', Hash'}
 use Rattle.plan_model.specs.declared.task.Task.{Task}
+use Rattle.plan_model.specs.OfferTables.{price_at, order_at}
 use Rattle.plan_model.specs.Plans.{IsValid, covers, delivers}
 use Rattle.plan_model.specs.Costs.{plan_cost}
 use Rattle.planner.specs.declared.front.Front.{Front}
@@ -74,3 +75,9 @@ pub record IsJoinChoice (ways : Ways) (rows : ℕ → List Cell) (cuts : List Cu
   pub number : ℕ
   pub within : number < length cuts
   pub joins : IsCutChoice ways rows (cut_at cuts number) f cost choice
+
+-- an offer of the slot delivers what is asked at that cost
+pub record GivesOffer (table : OfferTable) (slot : ℕ) (order : Order) (cost offer : ℕ) : Type 0 where
+  pub within : offer < length (table slot)
+  pub begins : BeginsWith (order_at table slot offer) order
+  pub costs : cost ≡ price_at table slot offer

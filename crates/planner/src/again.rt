@@ -1,15 +1,14 @@
 //! What made a cell's cost, found again.
-ghost use Rattle.std.specs.Prelude.{◌≡◌, ℕ, ◌+◌, ◌*◌, ◌<◌, ◌≤◌, length, None, Some};
+ghost use Rattle.std.specs.Prelude.{◌≡◌, ℕ, ◌+◌, ◌*◌, ◌<◌, ◌≤◌, ◌^◌, ◌==◌, ◌&&◌, IsTrue, length, None, Some};
 ghost use Rattle.std.specs.Option.{ForSome};
-ghost use Rattle.adv_base.specs.Items.{BeginsWith};
 ghost use Rattle.plan_model.specs.OfferTables.{price_at, order_at};
 ghost use Rattle.planner.specs.declared.cell.TheConstants.{IMPOSSIBLE as NO_COST};
-ghost use Rattle.planner.specs.Fronts.{front_order, head_at, listed as list_of, longer_front};
+ghost use Rattle.planner.specs.Fronts.{begins_test, front_order, head_at, listed as list_of, longer_front};
 ghost use Rattle.planner.specs.Cells.{cost_at, any_at, row_of};
 ghost use Rattle.planner.specs.Cuts.{cut_at, merge_at};
 ghost use Rattle.planner.specs.Choices.{IsMerged, IsMergedBy, IsOffered, IsRead};
 ghost use Rattle.planner.specs.Rows.{width, sets_of, order_of, cuts_of as set_cuts, merges_in, AreRows, IsCapped, IsCutBy, IsJoined};
-ghost use Rattle.planner.specs.Built.{IsChosen, IsCutChoice, IsJoinChoice};
+ghost use Rattle.planner.specs.Built.{GivesOffer, IsChosen, IsCutChoice, IsJoinChoice};
 
 use crate::cell::{Cell, Choice, any_of, cost_of};
 use crate::cut::{Cut, Merge};
@@ -19,7 +18,22 @@ use crate::ways::Ways;
 use adv_base::Item;
 use plan_model::Offers;
 
-/// An offer of a slot that serves a front at that cost; `list` is what `Listed` stands for.
+/// Whether an offer serves a front at that cost; `list` is what `Listed` stands for.
+fn offer_gives<O: Offers>(
+    offers: &O,
+    slot: u8,
+    offer: u32,
+    front: Front,
+    list: &[Item],
+    cost: u128,
+) -> bool
+    requires { offer < length (O.table offers.now slot) }
+    ensures { result ≡ (price_at (O.table offers.now) slot offer == cost) && begins_test (order_at (O.table offers.now) slot offer) (front_order list.now front) }
+{
+    offers.price(slot, offer) as u128 == cost && serves(offers.order(slot, offer), front, list)
+}
+
+/// An offer of a slot that serves a front at that cost.
 fn find_offer<O: Offers>(
     offers: &O,
     slot: u8,
@@ -27,18 +41,45 @@ fn find_offer<O: Offers>(
     list: &[Item],
     cost: u128,
 ) -> Option<u32>
-    ensures within { ForSome result (λ k. k < length (O.table offers.now slot)) }
-    ensures serves { ForSome result (λ k. BeginsWith (order_at (O.table offers.now) slot k) (front_order list.now front)) }
-    ensures costs { ForSome result (λ k. cost ≡ price_at (O.table offers.now) slot k) }
-    ensures none { result ≡ None → (k : ℕ) → k < length (O.table offers.now slot) → BeginsWith (order_at (O.table offers.now) slot k) (front_order list.now front) → ¬ (cost ≡ price_at (O.table offers.now) slot k) }
+    ensures found { ForSome result (λ k. GivesOffer (O.table offers.now) slot (front_order list.now front) cost k) }
+    ensures none { result ≡ None → (k : ℕ) → ¬ (GivesOffer (O.table offers.now) slot (front_order list.now front) cost k) }
 {
     for offer in 0..offers.count(slot) {
-        let price = offers.price(slot, offer) as u128;
-        if price == cost && serves(offers.order(slot, offer), front, list) {
+        if offer_gives(offers, slot, offer, front, list, cost) {
             return Some(offer);
         }
     }
     None
+}
+
+/// Whether the set is a slot alone.
+fn is_slot_set(set: usize, slot: u8) -> bool
+    requires { slot < 64 }
+    ensures yes { IsTrue result → 2 ^ slot ≡ set }
+    ensures no { 2 ^ slot ≡ set → IsTrue result }
+{
+    1 << slot == set
+}
+
+/// The same, where the slot is the set's only one.
+fn find_in_slot<O: Offers>(
+    ways: &Ways,
+    offers: &O,
+    set: usize,
+    slot: u8,
+    f: usize,
+    cost: u128,
+) -> Option<u32>
+    requires front_in { f < width ways.now }
+    requires slot_in { slot < ways.now.task.now.slots }
+    ensures found { ForSome result (λ k. IsRead ways.now.task.now (O.table offers.now) (order_of ways.now f) set cost slot k) }
+    ensures none { result ≡ None → (k : ℕ) → ¬ (IsRead ways.now.task.now (O.table offers.now) (order_of ways.now f) set cost slot k) }
+{
+    if !is_slot_set(set, slot) {
+        return None;
+    }
+    let fronts = ways.fronts.as_slice();
+    find_offer(offers, slot, fronts[f], listed(ways.task), cost)
 }
 
 /// An offer of the set's one slot that serves a front at that cost.
@@ -53,12 +94,9 @@ fn find_read<O: Offers>(
     ensures found { ForSome result (λ r. IsRead ways.now.task.now (O.table offers.now) (order_of ways.now f) set cost r.0 r.1) }
     ensures none { result ≡ None → ¬ (IsOffered ways.now.task.now (O.table offers.now) (order_of ways.now f) set cost) }
 {
-    let list = listed(ways.task);
     for slot in 0..ways.task.slots {
-        if 1 << slot == set {
-            if let Some(offer) = find_offer(offers, slot, ways.fronts[f], list, cost) {
-                return Some((slot, offer));
-            }
+        if let Some(offer) = find_in_slot(ways, offers, set, slot, f, cost) {
+            return Some((slot, offer));
         }
     }
     None
@@ -124,6 +162,31 @@ fn find_merge(
     None
 }
 
+/// Whether a hash join of that cost gives the cost to a front.
+fn hash_gives(heads: &[Option<Item>], f: usize, hash: u128, cost: u128) -> bool
+    requires { f < length heads.now }
+    ensures yes { IsTrue result → (head_at heads.now f ≡ None) × (cost ≡ hash) }
+    ensures no { head_at heads.now f ≡ None → cost ≡ hash → IsTrue result }
+{
+    match heads[f] {
+        None => cost == hash,
+        Some(_) => false,
+    }
+}
+
+/// A merge of the list, as a choice.
+fn choose(merges: &[Merge], left: usize, j: usize, left_front: usize) -> Choice
+    requires { j < length merges.now }
+    ensures { result ≡ Choice.MergeOf (merge_at merges.now j).edge left left_front (merge_at merges.now j).right_front }
+{
+    Choice::MergeOf {
+        edge: merges[j].edge,
+        left,
+        left_front,
+        right_front: merges[j].right_front,
+    }
+}
+
 /// A join of a cut's parts that gives that cost.
 fn find_in_cut(
     ways: &Ways,
@@ -147,17 +210,14 @@ fn find_in_cut(
     let right = row_in(ways, cells, cut.right);
     let heads = ways.heads.as_slice();
     let hash = cost_of(left, 0) + cost_of(right, 0) + cut.hash_price;
-    if hash == cost && heads[f].is_none() {
+    if hash_gives(heads, f, hash, cost) {
         return Some(Choice::HashOf { left: cut.left });
     }
     let merges = merges_at(ways, cut);
-    let (j, left_front) = find_merge(heads, left, right, cut.merge_price, merges, f, cost)?;
-    Some(Choice::MergeOf {
-        edge: merges[j].edge,
-        left: cut.left,
-        left_front,
-        right_front: merges[j].right_front,
-    })
+    match find_merge(heads, left, right, cut.merge_price, merges, f, cost) {
+        None => None,
+        Some((j, front)) => Some(choose(merges, cut.left, j, front)),
+    }
 }
 
 /// A join of parts of a set that gives that cost.

@@ -4,7 +4,7 @@ ghost use Rattle.planner.specs.declared.cell.TheConstants.{IMPOSSIBLE as NO_COST
 ghost use Rattle.planner.specs.declared.front.Front.TheVariants.{Any as ANY};
 ghost use Rattle.planner.specs.Fronts.{front_order};
 ghost use Rattle.planner.specs.Cells.{cell_at, row_of};
-ghost use Rattle.planner.specs.Rows.{width, sets_of, order_of, AreRows};
+ghost use Rattle.planner.specs.Rows.{width, sets_of, order_of, AreRows, IsTable};
 ghost use Rattle.planner.specs.Built.{front_cost, is_sorted as sorted_top, IsPlanFor, IsSortOf, IsMergeOf, IsHashOf};
 
 use crate::again::choice_of;
@@ -92,7 +92,7 @@ pub(crate) fn build<O: Offers>(
     front: usize,
     sorts: bool,
 ) -> Result<Plan, AllocError>
-    requires whole { length cells.now ≡ sets_of ways.now * width ways.now }
+    requires table { IsTable ways.now cells.now }
     requires done { AreRows ways.now (O.table offers.now) (row_of (width ways.now) cells.now) (sets_of ways.now) }
     requires set_in { set < sets_of ways.now }
     requires front_in { front < width ways.now }

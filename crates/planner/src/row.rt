@@ -30,6 +30,13 @@ pub(crate) fn row_at(cells: &[Cell], width: usize, sets: usize, set: usize) -> &
     &cells[from..from + width]
 }
 
+/// How many cells a row has.
+pub(crate) fn width_of(ways: &Ways) -> usize
+    ensures { result ≡ width ways.now }
+{
+    ways.fronts.len()
+}
+
 /// The row of a set in the table of all sets.
 pub(crate) fn row_in<'a>(ways: &Ways, cells: &'a [Cell], set: usize) -> &'a [Cell]
     requires whole { length cells.now ≡ sets_of ways.now * width ways.now }
@@ -37,7 +44,7 @@ pub(crate) fn row_in<'a>(ways: &Ways, cells: &'a [Cell], set: usize) -> &'a [Cel
     ensures row { result.now ≡ row_of (width ways.now) cells.now set }
     ensures width { length result.now ≡ width ways.now }
 {
-    row_at(cells, ways.fronts.len(), ways.task.rows.len(), set)
+    row_at(cells, width_of(ways), ways.task.rows.len(), set)
 }
 
 /// The cuts of a set.

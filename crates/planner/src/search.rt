@@ -1,13 +1,13 @@
 //! The search of least plans, made once a task.
-ghost use Rattle.std.specs.Prelude.{◌≡◌, ℕ, ◌<◌, ◌≤◌, IfOk, length};
-ghost use Rattle.adv_base.specs.Offers.{OfferTable};
+ghost use Rattle.std.specs.Prelude.{◌≡◌, ◌≤◌, IfOk, length};
 ghost use Rattle.plan_model.specs.OfferTables.{HasOffers};
 ghost use Rattle.plan_model.specs.Least.{Least};
 ghost use Rattle.planner.specs.Rows.{IsTable, width};
 
-use crate::cell::{Cell, blank};
-use crate::fill::fill;
+use crate::cell::Cell;
+use crate::fill::{blank_row, blank_rows, fill};
 use crate::make::ways_of;
+use crate::row::width_of;
 use crate::ways::Ways;
 use crate::whole::least_shape;
 use adv_base::NoMemory;
@@ -26,16 +26,16 @@ pub struct Search<'a> {
 }
 
 impl<'a> Search<'a> {
-    ghost use Rattle.planner.specs.Tables.{Holds, task_of};
+    ghost use Rattle.planner.specs.Tables.{Holds, HoldsBelow, task_of};
 
     /// The search, or the want of memory as the allocator gives it.
     pub(crate) fn made(alloc: Global, task: &'a Task) -> Result<Search<'a>, AllocError>
         ensures { IfOk result (λ search. task_of search ≡ task.now) }
     {
         let ways = ways_of(alloc, task)?;
-        let width = ways.fronts.len();
-        let cells = vec![in alloc; blank(); ways.task.rows.len() * width]?;
-        let row = vec![in alloc; blank(); width]?;
+        let width = width_of(&ways);
+        let row = blank_row(alloc, width)?;
+        let cells = blank_rows(alloc, row.as_slice(), ways.task.rows.len())?;
         Ok(Search { ways, cells, row })
     }
 
@@ -78,11 +78,9 @@ impl<'a> Search<'a> {
     /// The same, where the search holds the costs over offers from which these differ only at slots from this one on: the
     /// rows of sets of lower slots stay.
     pub fn cost_from<O: Offers>(&mut self, offers: &O, slot: u8) -> u128
-        ghost before: { OfferTable }
         requires offers { HasOffers (task_of self.old).slots (O.table offers.now) }
         requires slot_in { slot ≤ (task_of self.old).slots }
-        requires held { Holds self.old before }
-        requires alike { (s : ℕ) → s < slot → O.table offers.now s ≡ before s }
+        requires held { HoldsBelow self.old (O.table offers.now) slot }
         ensures same { task_of self.new ≡ task_of self.old }
         ensures least { Least (task_of self.old) (O.table offers.now) result }
         ensures holds { Holds self.new (O.table offers.now) }
