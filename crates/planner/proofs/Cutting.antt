@@ -96,8 +96,8 @@ adds_nothing task links covered set m n cuts merges none =
 pub adds_none : (task : Task) (links : List Link) (covered : List Bool) (set a : ℕ) (cuts : List Cut) (merges : List Merge) → may_cut covered set a ≡ false → AddsCuts task links covered set a (a + 1) cuts merges cuts merges
 adds_none task links covered set a cuts merges refused =
     adds_nothing task links covered set a (a + 1) cuts merges (λ b from to yes some.
-      let same : b ≡ a = omega arith in
-      absurd (false≢true (sym refused ∙ ap (may_cut covered set) (sym same) ∙ yes)))
+    let same : b ≡ a = omega arith in
+    absurd (false≢true (sym refused ∙ ap (may_cut covered set) (sym same) ∙ yes)))
 
 -- a cut that no link crosses
 pub adds_uncrossed : (task : Task) (links : List Link) (covered : List Bool) (set a : ℕ) (cuts : List Cut) (merges new : List Merge) → new ≡ merges ++ merges_of links a (set - a) → length merges ≡ length new → AddsCuts task links covered set a (a + 1) cuts merges cuts new

@@ -97,13 +97,13 @@ module _ (ways : Ways) (table : OfferTable) (rows : ℕ → List Cell) (closed :
                 | inr off ↦ omega (arith, uncovered b right (omega arith) off right_low right_valid refl, capped)
                 | inl on_right ↦
                     at_cut set a f within front_in some_left (omega arith) (subst (λ t. bit_and a t ≡ 0) (sym rest) apart) on_left (ap (is_covered ways.covered.items) rest ∙ on_right) (subst (λ t. 0 < length (merges_of ways.links.items a t)) (sym rest) crossed) (x + y + merge_price ways.task.now a b) (λ k inside is.
-                      let facts = cut_facts set k within inside in
-                      let cut = cut_at (cuts_of ways set) k in
-                      let other : cut.right ≡ b = facts.rest ∙ ap (λ t. set - t) is ∙ rest in
-                      let bound = (((closed.each set within).joins k inside f front_in).merges) in
-                      let price : cut.merge_price ≡ merge_price ways.task.now a b = facts.merge ∙ ap (λ t. merge_price ways.task.now t cut.right) is ∙ ap (merge_price ways.task.now a) other in
-                      let crossings : merges_in ways cut ≡ merges_of ways.links.items a b = facts.crossings ∙ ap (λ t. merges_of ways.links.items t cut.right) is ∙ ap (merges_of ways.links.items a) other in
-                      merge_low ways.task.now (listed ways.task.now) ways.fronts.items ways.heads.items ways.links.items (rows cut.left) (rows cut.right) a b f (cost_at (rows set) f) cut.merge_price edge (merges_in ways cut) (delivers table left) (delivers table right) x y ways.known.needs.first ways.known.needs.linked front_in price crossings bound m begins (λ g g_in starts. subst (λ t. any_at (rows t) g ≤ x) (sym is) ((left_low.least_any g g_in).each left left_valid refl starts)) (λ h h_in starts. subst (λ t. any_at (rows t) h ≤ y) (sym other) ((right_low.least_any h h_in).each right right_valid refl starts)))
+                    let facts = cut_facts set k within inside in
+                    let cut = cut_at (cuts_of ways set) k in
+                    let other : cut.right ≡ b = facts.rest ∙ ap (λ t. set - t) is ∙ rest in
+                    let bound = (((closed.each set within).joins k inside f front_in).merges) in
+                    let price : cut.merge_price ≡ merge_price ways.task.now a b = facts.merge ∙ ap (λ t. merge_price ways.task.now t cut.right) is ∙ ap (merge_price ways.task.now a) other in
+                    let crossings : merges_in ways cut ≡ merges_of ways.links.items a b = facts.crossings ∙ ap (λ t. merges_of ways.links.items t cut.right) is ∙ ap (merges_of ways.links.items a) other in
+                    merge_low ways.task.now (listed ways.task.now) ways.fronts.items ways.heads.items ways.links.items (rows cut.left) (rows cut.right) a b f (cost_at (rows set) f) cut.merge_price edge (merges_in ways cut) (delivers table left) (delivers table right) x y ways.known.needs.first ways.known.needs.linked front_in price crossings bound m begins (λ g g_in starts. subst (λ t. any_at (rows t) g ≤ x) (sym is) ((left_low.least_any g g_in).each left left_valid refl starts)) (λ h h_in starts. subst (λ t. any_at (rows t) h ≤ y) (sym other) ((right_low.least_any h h_in).each right right_valid refl starts)))
               ]
         ]
 
@@ -133,15 +133,15 @@ module _ (ways : Ways) (table : OfferTable) (rows : ℕ → List Cell) (closed :
                 | inr off ↦ omega (arith, uncovered b right (omega arith) off right_low (unsorted right right_valid) refl, capped)
                 | inl on_right ↦
                     at_cut set a f within front_in some_left (omega arith) (subst (λ t. bit_and a t ≡ 0) (sym rest) apart) on_left (ap (is_covered ways.covered.items) rest ∙ on_right) (subst (λ t. 0 < length (merges_of ways.links.items a t)) (sym rest) crossed) (x + y + hash_price ways.task.now a b) (λ k inside is.
-                      let facts = cut_facts set k within inside in
-                      let cut = cut_at (cuts_of ways set) k in
-                      let other : cut.right ≡ b = facts.rest ∙ ap (λ t. set - t) is ∙ rest in
-                      let head = ways.known.needs.first.each f front_in ∙ ap first_item asks in
-                      let bound = (((closed.each set within).joins k inside f front_in).hash).bound head in
-                      let price : cut.hash_price ≡ hash_price ways.task.now a b = facts.hash ∙ ap (λ t. hash_price ways.task.now t cut.right) is ∙ ap (hash_price ways.task.now a) other in
-                      let of_left : cost_at (rows cut.left) 0 ≤ x = subst (λ t. cost_at (rows t) 0 ≤ x) (sym is) ((left_low.least 0 zero_in).each left left_valid refl (subst (BeginsWith (delivers table left)) (sym nothing) refl)) in
-                      let of_right : cost_at (rows cut.right) 0 ≤ y = subst (λ t. cost_at (rows t) 0 ≤ y) (sym other) ((right_low.least 0 zero_in).each right right_valid refl (subst (BeginsWith (delivers table right)) (sym nothing) refl)) in
-                      omega (arith, bound, of_left, of_right, price))
+                    let facts = cut_facts set k within inside in
+                    let cut = cut_at (cuts_of ways set) k in
+                    let other : cut.right ≡ b = facts.rest ∙ ap (λ t. set - t) is ∙ rest in
+                    let head = ways.known.needs.first.each f front_in ∙ ap first_item asks in
+                    let bound = (((closed.each set within).joins k inside f front_in).hash).bound head in
+                    let price : cut.hash_price ≡ hash_price ways.task.now a b = facts.hash ∙ ap (λ t. hash_price ways.task.now t cut.right) is ∙ ap (hash_price ways.task.now a) other in
+                    let of_left : cost_at (rows cut.left) 0 ≤ x = subst (λ t. cost_at (rows t) 0 ≤ x) (sym is) ((left_low.least 0 zero_in).each left left_valid refl (subst (BeginsWith (delivers table left)) (sym nothing) refl)) in
+                    let of_right : cost_at (rows cut.right) 0 ≤ y = subst (λ t. cost_at (rows t) 0 ≤ y) (sym other) ((right_low.least 0 zero_in).each right right_valid refl (subst (BeginsWith (delivers table right)) (sym nothing) refl)) in
+                    omega (arith, bound, of_left, of_right, price))
               ]
         ]
 

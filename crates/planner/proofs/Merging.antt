@@ -147,32 +147,32 @@ linked_crossing list fronts edge links a b crossing w =
 pub some_merge : (task : Task) (list : Order) (fronts : List Front) (links : List Link) (a b number : ℕ) (edge : TaskEdge) → AreLinks list fronts task.edges links (length task.edges) → slice_get task.edges number ≡ Some edge → crosses a b edge ≡ true → 0 < length (merges_of links a b)
 some_merge task list fronts links a b number edge linked found crossing =
     ∥∥₁_elim (linked.all number edge (slice_get_within task.edges number edge found) found) le_prop (λ w.
-      let j = linked_crossing list fronts edge links a b crossing w in
-      omega (arith, j.1))
+    let j = linked_crossing list fronts edge links a b crossing w in
+    omega (arith, j.1))
 
 -- what bounds the cells that serve a merge bounds its cost
 pub merge_low : (task : Task) (list : Order) (fronts : List Front) (heads : List (Option Item)) (links : List Link) (left right : List Cell) (a b f cost price number : ℕ) (merges : List Merge) (o r : Order) (x y : ℕ) → AreHeads list fronts heads → AreLinks list fronts task.edges links (length task.edges) → f < length fronts → price ≡ merge_price task a b → merges ≡ merges_of links a b → MergesBound heads left right price merges f cost → Merges task number a b o r → BeginsWith o (asked list fronts f) → ((g : ℕ) → g < length fronts → BeginsWith o (asked list fronts g) → any_at left g ≤ x) → ((h : ℕ) → h < length fronts → BeginsWith r (asked list fronts h) → any_at right h ≤ y) → cost ≤ x + y + merge_price task a b
 merge_low task list fronts heads links left right a b f cost price number merges o r x y first linked within price_is is bound m begins left_low right_low =
     ∥∥₁_elim (linked.all number m.edge (slice_get_within task.edges number m.edge m.found) m.found) le_prop (λ w.
-      let link : Link = link_at links w.link in
-      let j = linked_crossing list fronts m.edge links a b m.crossing w in
-      let merge : Merge = merge_at merges j.0 in
-      let here : merge ≡ merge_of link a b = ap (λ ms. merge_at ms j.0) is ∙ j.2 in
-      let left_asks = side_asks list fronts m.edge link a w.ties in
-      let right_asks = side_asks list fronts m.edge link b w.ties in
-      let need : merge.left_need ≡ side_front link a = ap (λ (t : Merge). t.left_need) here in
-      let other : merge.right_front ≡ side_front link b = ap (λ (t : Merge). t.right_front) here in
-      let need_in : merge.left_need < length fronts = subst (λ t. t < length fronts) (sym need) left_asks.0 in
-      let o_need : BeginsWith o (asked list fronts merge.left_need) = subst (BeginsWith o) (sym (ap (asked list fronts) need ∙ left_asks.1)) m.left_begins in
-      let g = longer_serves (asked list fronts) o merge.left_need f o_need begins in
-      let serves : longer_front (head_at heads merge.left_need) (head_at heads f) merge.left_need f ≡ Some g.0 = ap (λ t. longer_front t (head_at heads f) merge.left_need f) (first.each merge.left_need need_in) ∙ ap (λ t. longer_front (first_item (asked list fronts merge.left_need)) t merge.left_need f) (first.each f within) ∙ g.1 in
-      let inside : j.0 < length merges = subst (λ ms. j.0 < length ms) (sym is) j.1 in
-      let most = (bound.each j.0 inside).each g.0 serves in
-      let front_in = longer_in (length fronts) merge.left_need f g.0 (first_item (asked list fronts merge.left_need)) (first_item (asked list fronts f)) need_in within g.1 in
-      let from_left = left_low g.0 front_in g.2 in
-      let right_in : side_front link b < length fronts = right_asks.0 in
-      let from_right : any_at right merge.right_front ≤ y = subst (λ t. any_at right t ≤ y) (sym other) (right_low (side_front link b) right_in (subst (BeginsWith r) (sym right_asks.1) m.right_begins)) in
-      omega (arith, most, from_left, from_right, price_is))
+    let link : Link = link_at links w.link in
+    let j = linked_crossing list fronts m.edge links a b m.crossing w in
+    let merge : Merge = merge_at merges j.0 in
+    let here : merge ≡ merge_of link a b = ap (λ ms. merge_at ms j.0) is ∙ j.2 in
+    let left_asks = side_asks list fronts m.edge link a w.ties in
+    let right_asks = side_asks list fronts m.edge link b w.ties in
+    let need : merge.left_need ≡ side_front link a = ap (λ (t : Merge). t.left_need) here in
+    let other : merge.right_front ≡ side_front link b = ap (λ (t : Merge). t.right_front) here in
+    let need_in : merge.left_need < length fronts = subst (λ t. t < length fronts) (sym need) left_asks.0 in
+    let o_need : BeginsWith o (asked list fronts merge.left_need) = subst (BeginsWith o) (sym (ap (asked list fronts) need ∙ left_asks.1)) m.left_begins in
+    let g = longer_serves (asked list fronts) o merge.left_need f o_need begins in
+    let serves : longer_front (head_at heads merge.left_need) (head_at heads f) merge.left_need f ≡ Some g.0 = ap (λ t. longer_front t (head_at heads f) merge.left_need f) (first.each merge.left_need need_in) ∙ ap (λ t. longer_front (first_item (asked list fronts merge.left_need)) t merge.left_need f) (first.each f within) ∙ g.1 in
+    let inside : j.0 < length merges = subst (λ ms. j.0 < length ms) (sym is) j.1 in
+    let most = (bound.each j.0 inside).each g.0 serves in
+    let front_in = longer_in (length fronts) merge.left_need f g.0 (first_item (asked list fronts merge.left_need)) (first_item (asked list fronts f)) need_in within g.1 in
+    let from_left = left_low g.0 front_in g.2 in
+    let right_in : side_front link b < length fronts = right_asks.0 in
+    let from_right : any_at right merge.right_front ≤ y = subst (λ t. any_at right t ≤ y) (sym other) (right_low (side_front link b) right_in (subst (BeginsWith r) (sym right_asks.1) m.right_begins)) in
+    omega (arith, most, from_left, from_right, price_is))
 
 -- an edge of the list that has an end in each of two sets
 pub record Crossing (edges : List TaskEdge) (a b : ℕ) : Type 0 where

@@ -33,12 +33,7 @@ fn add_merge(merges: &mut Vec<Merge>, link: &Link, a: usize, b: usize) -> Result
 }
 
 /// Adds the merges of two sets.
-fn add_merges(
-    merges: &mut Vec<Merge>,
-    links: &[Link],
-    a: usize,
-    b: usize,
-) -> Result<(), AllocError>
+fn add_merges(merges: &mut Vec<Merge>, links: &[Link], a: usize, b: usize) -> Result<(), AllocError>
     ensures { IfOk result (λ _. merges.new.items ≡ merges.old.items ++ merges_of links.now a b) }
 {
     for link in links {

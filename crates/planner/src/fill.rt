@@ -51,13 +51,7 @@ fn is_covered(ways: &Ways, set: usize) -> bool
 }
 
 /// Fills the row of a set, unless no plan covers it.
-fn fill_set<O: Offers>(
-    cells: &mut [Cell],
-    row: &mut [Cell],
-    ways: &Ways,
-    offers: &O,
-    set: usize,
-)
+fn fill_set<O: Offers>(cells: &mut [Cell], row: &mut [Cell], ways: &Ways, offers: &O, set: usize)
     requires row_each { length row.old ≡ width ways.now }
     requires table { IsTable ways.now cells.old }
     requires set_in { set < sets_of ways.now }

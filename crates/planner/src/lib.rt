@@ -26,6 +26,3 @@ mod whole;
 
 pub use found::{Found, least};
 pub use search::Search;
-
-#[cfg(test)]
-mod tests;

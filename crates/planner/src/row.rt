@@ -80,7 +80,14 @@ fn join_cut(row: &mut [Cell], cells: &[Cell], ways: &Ways, set: usize, k: usize,
     let heads = ways.heads.as_slice();
     let cost = cost_of(left, 0) + cost_of(right, 0) + cut.hash_price;
     hash_row(row, heads, cost);
-    merge_rows(row, heads, left, right, cut.merge_price, merges_at(ways, cut));
+    merge_rows(
+        row,
+        heads,
+        left,
+        right,
+        cut.merge_price,
+        merges_at(ways, cut),
+    );
 }
 
 /// Offers each cell of a set's row all joins of its parts.

@@ -1,5 +1,5 @@
 //! The search of least plans, made once a task.
-ghost use Rattle.std.specs.Prelude.{◌≡◌, ◌≤◌, IfOk, length};
+ghost use Rattle.std.specs.Prelude.{◌≡◌, ◌≤◌, ◌^◌, IfOk, length};
 ghost use Rattle.plan_model.specs.OfferTables.{HasOffers};
 ghost use Rattle.plan_model.specs.Least.{Least};
 ghost use Rattle.planner.specs.Rows.{IsTable, width};
@@ -23,6 +23,14 @@ pub struct Search<'a> {
     pub(crate) row: Vec<Cell>,
     pub ghost table: { IsTable ways cells.items },
     pub ghost row_each: { length row.items ≡ width ways },
+}
+
+/// The first set that has a slot.
+fn first_set(slot: u8) -> usize
+    requires { slot ≤ 8 }
+    ensures { result ≡ 2 ^ slot }
+{
+    1 << slot
 }
 
 impl<'a> Search<'a> {
@@ -91,7 +99,7 @@ impl<'a> Search<'a> {
             self.row.as_mut_slice(),
             &self.ways,
             offers,
-            1 << slot,
+            first_set(slot),
         );
         least_shape(&self.ways, self.cells.as_slice()).cost
     }

@@ -1,7 +1,7 @@
 //! What stands in plans.
-use planner::Found;
 use adv_base::Item;
 use plan_model::{GroupStep, Plan};
+use planner::Found;
 
 /// How often each operator stands in some plans; of the sorts also how many are by more than one item, and how many by a
 /// column downwards.

@@ -43,7 +43,6 @@ find_merge-requires-clause-fronts_in c =
     let m = merges_mean c.args.ways.now c.args.set c.args.k c.args.cut.now c.requires.set_in c.requires.number c.requires.cut_is c.merges_at-merges.result.now c.merges_at-merges.ensures j h in
     omega (arith, m.1, ap length c.as_slice-heads.ensures.value, c.args.ways.now.known.needs.first.count)
 
-
 pub choose-requires : goal.choose-requires
 choose-requires c = (c.in-Some.ensures.found (c.in-Some.j, c.in-Some.front) refl).within
 

@@ -5,6 +5,6 @@ use Rattle.planner.proofs.fill.blank_rows.Given as goal
 abbrev pub invariant-loop-set : goal.invariant-loop-set
 invariant-loop-set l =
     record {
-      count : length l.cells.items ≡ l.set * length l.row;
+      count : length l.cells.items ≡ l._set * length l.row;
       blanks : All (λ cell. cell ≡ blank) l.cells.items;
     }

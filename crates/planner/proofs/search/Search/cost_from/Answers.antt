@@ -18,14 +18,15 @@ few_sets ways slot h =
     omega (arith, more, ways.task.now.limits.rows_each)
 
 pub fill-requires-clause-from_in : goal.fill-requires-clause-from_in
-fill-requires-clause-from_in g c = omega (arith, few_sets c.args.self.now.ways c.args.slot c.requires.slot_in)
+fill-requires-clause-from_in g c = omega (arith, c.first_set.ensures, few_sets c.args.self.now.ways c.args.slot c.requires.slot_in)
 
 pub fill-requires-clause-done : goal.fill-requires-clause-done
 fill-requires-clause-done g c =
     let ways = c.args.self.now.ways in
     let held = c.requires.held in
     let rows = rows_stay ways held.before (g.O.Offers.table c.args.offers.now) c.args.slot held.alike (row_of (width ways) c.args.self.now.cells.items) (sets_of ways) held.holds.rows (few_sets ways c.args.slot c.requires.slot_in) in
-    subst (λ (cells : List Cell). AreRows ways (g.O.Offers.table c.args.offers.now) (row_of (width ways) cells) (2 ^ c.args.slot)) (sym c.as_mut_slice.ensures.value) rows
+    let from = subst (λ n. AreRows ways (g.O.Offers.table c.args.offers.now) (row_of (width ways) c.args.self.now.cells.items) n) (sym c.first_set.ensures) rows in
+    subst (λ (cells : List Cell). AreRows ways (g.O.Offers.table c.args.offers.now) (row_of (width ways) cells) c.first_set.result) (sym c.as_mut_slice.ensures.value) from
 
 pub least_shape-requires-clause-capped : goal.least_shape-requires-clause-capped
 least_shape-requires-clause-capped g c =
