@@ -1,5 +1,5 @@
 -- What is found again.
-use Rattle.std.proofs.Common.{◌≡◌, ℕ, ◌+◌, ◌<◌, ◌⊎◌, inl, inr, true, false, ◌==◌, ◌&&◌, List, length, Option, Some, None, sym, ap, ◌∙◌, subst, arith}
+use Rattle.std.proofs.Common.{◌≡◌, ℕ, ◌<◌, true, ◌==◌, ◌&&◌, List, length, Option, sym, subst}
 use Rattle.std.proofs.lemmas.Bool.{and_parts, and_from, eqb-true, eq-eqb}
 use Rattle.adv_base.specs.Items.{Order}
 use Rattle.adv_base.specs.Offers.{OfferTable}
@@ -13,11 +13,11 @@ use Rattle.planner.specs.declared.cut.Merge.{Merge}
 use Rattle.planner.specs.declared.ways.Ways.{Ways}
 use Rattle.planner.specs.Fronts.{begins_test, listed}
 use Rattle.planner.specs.Cuts.{cut_at, merge_at}
-use Rattle.planner.specs.Choices.{IsHashed, IsMerged, IsMergedBy}
-use Rattle.planner.specs.Rows.{width, sets_of, cuts_of, merges_in, IsCutBy}
+use Rattle.planner.specs.Choices.{IsMerged, IsMergedBy}
+use Rattle.planner.specs.Rows.{width, sets_of, cuts_of, merges_in}
 use Rattle.planner.specs.Built.{GivesOffer, IsChosen, IsCutChoice, IsJoinChoice}
 use Rattle.planner.proofs.Reading.{begins_from_test, test_from_begins}
-use Rattle.planner.proofs.Upper.{facts, merge_choice, hash_choice}
+use Rattle.planner.proofs.Upper.{merge_choice, hash_choice}
 
 pub offer_from_test : (table : OfferTable) (slot : ℕ) (order : Order) (cost k : ℕ) → k < length (table slot) → ((price_at table slot k == cost) && begins_test (order_at table slot k) order) ≡ true → GivesOffer table slot order cost k
 offer_from_test table slot order cost k within h =

@@ -1,15 +1,14 @@
 -- The list of cuts, as it is made.
 use Rattle.std.proofs.Common.{◌≡◌, ℕ, ◌+◌, ◌-◌, ◌^◌, ◌<◌, ◌≤◌, inl, inr, Bool, true, false, cond, List, [], ◌∷◌, ◌++◌, length, take, drop, bit_and, ◌==◌, ◌&&◌, slice_index, slice_index_or, refl, sym, ap, ◌∙◌, subst, append_assoc, arith}
-use Rattle.std.proofs.Math.Logic.{∥∥₁_map}
 use Rattle.std.specs.List.{slice_range}
-use Rattle.std.proofs.lemmas.Bool.{false≢true, cases_lt, cases_Bool, and_parts, eqb-true}
+use Rattle.std.proofs.lemmas.Bool.{false≢true, cases_lt, and_parts, eqb-true}
 use Rattle.std.proofs.lemmas.List.{get_or_append_left, get_or-append_right, get_or_push, length_push, take-append-le, drop-append-le, drop_at, take_all, length-append, length-drop, append-nil, drop_more, drop_all}
 use Rattle.plan_model.specs.declared.task.Task.{Task}
 use Rattle.planner.specs.declared.front.Link.{Link}
 use Rattle.planner.specs.declared.cut.Cut.{Cut}
 use Rattle.planner.specs.declared.cut.Merge.{Merge}
-use Rattle.planner.specs.Fronts.{crosses_link, no_link, link_at}
-use Rattle.planner.specs.Cuts.{merge_of, merges_of, merges_at, no_cut, cut_at, cuts_at, is_covered, may_cut, hash_price, merge_price, IsCut, IsCutOf, IsListed, AddsCuts, AreCutsOf, AreCuts}
+use Rattle.planner.specs.Fronts.{crosses_link}
+use Rattle.planner.specs.Cuts.{merge_of, merges_of, no_cut, cut_at, cuts_at, is_covered, may_cut, hash_price, merge_price, IsCutOf, IsListed, AddsCuts, AreCutsOf, AreCuts}
 
 -- the merges of one link, then those of the rest
 pub merges_more : (link : Link) (links : List Link) (a b : ℕ) → merges_of (link ∷ links) a b ≡ merges_of (link ∷ []) a b ++ merges_of links a b

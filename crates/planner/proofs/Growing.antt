@@ -13,7 +13,7 @@ use Rattle.plan_model.specs.Orders.{is_same_item, need_order}
 use Rattle.planner.specs.declared.front.Front.{Front}
 use Rattle.planner.specs.declared.front.Front.TheVariants.{Any, Listed, Need}
 use Rattle.planner.specs.declared.front.Link.{Link}
-use Rattle.planner.specs.Fronts.{asked, front_order, first_item, longer_front, need_front, is_need, needs_item, no_link, link_at, is_alike, listed, Ties, IsLink, IsTied, IsGrowing, AreFronts, AreHeadsApart, AreHeads, AreLinks, AreNeeded, AreNeeds, IsAdded, IsKeeping}
+use Rattle.planner.specs.Fronts.{asked, front_order, first_item, longer_front, need_front, is_need, needs_item, no_link, link_at, is_alike, listed, Ties, IsLink, IsGrowing, AreFronts, AreHeadsApart, AreHeads, AreLinks, AreNeeded, AreNeeds, IsAdded, IsKeeping}
 use Rattle.planner.proofs.Begins.{same_item, item_same}
 
 pub growing_none : (fronts : List Front) → IsGrowing fronts fronts

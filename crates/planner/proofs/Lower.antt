@@ -1,5 +1,5 @@
 -- No plan costs less than its cell.
-use Rattle.std.proofs.Common.{◌≡◌, ℕ, zero, suc, ◌+◌, ◌-◌, ◌<◌, ◌≤◌, ◌==◌, ◌&&◌, inl, inr, true, false, List, [], ◌∷◌, length, All, bit_and, Bool, refl, sym, ap, ◌∙◌, subst, arith}
+use Rattle.std.proofs.Common.{◌≡◌, ℕ, zero, suc, ◌+◌, ◌-◌, ◌<◌, ◌≤◌, inl, inr, true, false, List, [], ◌∷◌, length, All, bit_and, refl, sym, ap, ◌∙◌, subst, arith}
 use Rattle.std.specs.List.{list_any}
 use Rattle.std.specs.Coded.{le_prop}
 use Rattle.std.proofs.Math.Logic.{∥∥₁_elim}
@@ -11,7 +11,6 @@ use Rattle.adv_base.specs.Offers.{OfferTable}
 use Rattle.plan_model.specs.declared.plan.Plan.{Plan}
 use Rattle.plan_model.specs.declared.plan.Plan.TheVariants.{Leaf, Sort', Merge', Hash'}
 use Rattle.plan_model.specs.declared.task.Task.{Task}
-use Rattle.plan_model.specs.declared.edge.TaskEdge.{TaskEdge}
 use Rattle.plan_model.specs.Plans.{IsValid, Merges, covers, crosses, delivers, is_column_of}
 use Rattle.plan_model.specs.Costs.{plan_cost, rows_in, sort_cost}
 use Rattle.planner.specs.declared.front.Front.{Front}
@@ -20,8 +19,8 @@ use Rattle.planner.specs.declared.cell.TheConstants.{IMPOSSIBLE}
 use Rattle.planner.specs.declared.ways.Ways.{Ways}
 use Rattle.planner.specs.Fronts.{asked, listed, first_item}
 use Rattle.planner.specs.Cells.{blank, cell_at, cost_at, any_at}
-use Rattle.planner.specs.Cuts.{cut_at, is_covered, may_cut, merges_of, IsCut, IsCutOf, IsListed, merge_price, hash_price}
-use Rattle.planner.specs.Rows.{width, order_of, cuts_of, merges_in, sets_of, NoneLess, CutBound, IsRow, AreRows}
+use Rattle.planner.specs.Cuts.{cut_at, is_covered, may_cut, merges_of, IsCutOf, merge_price, hash_price}
+use Rattle.planner.specs.Rows.{width, cuts_of, merges_in, sets_of, NoneLess, AreRows}
 use Rattle.planner.proofs.Merging.{merge_low, some_merge, crossing_of}
 use Rattle.planner.proofs.Fronting.{nothing_asked}
 

@@ -16,7 +16,7 @@ use Rattle.planner.specs.declared.front.Front.{Front}
 use Rattle.planner.specs.declared.front.Link.{Link}
 use Rattle.planner.specs.declared.cell.Cell.{Cell}
 use Rattle.planner.specs.declared.cut.Merge.{Merge}
-use Rattle.planner.specs.Fronts.{asked, first_item, longer_front, listed, side_front, crosses_link, link_at, head_at, Ties, IsTied, AreHeads, AreLinks}
+use Rattle.planner.specs.Fronts.{asked, first_item, longer_front, side_front, crosses_link, link_at, head_at, Ties, IsTied, AreHeads, AreLinks}
 use Rattle.planner.specs.Cells.{any_at}
 use Rattle.planner.specs.Cuts.{merge_of, merges_of, merge_at, merge_price}
 use Rattle.planner.specs.Choices.{IsMerge, IsMergedBy, MergesBound}

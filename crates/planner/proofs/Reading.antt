@@ -1,5 +1,5 @@
 -- What offering the offers of a slot to the cells of a row gives.
-use Rattle.std.proofs.Common.{◌≡◌, ℕ, ◌+◌, ◌^◌, ◌<◌, ◌≤◌, ◌⊎◌, inl, inr, Bool, true, false, ◌&&◌, List, [], ◌∷◌, length, take, drop, get_or, refl, sym, ap, ◌∙◌, subst, arith}
+use Rattle.std.proofs.Common.{◌≡◌, ℕ, ◌+◌, ◌^◌, ◌<◌, ◌≤◌, inl, inr, Bool, true, false, ◌&&◌, List, [], ◌∷◌, length, take, drop, get_or, refl, sym, ap, ◌∙◌, subst, arith}
 use Rattle.std.proofs.lemmas.Bool.{false≢true, and_parts, and_from}
 use Rattle.std.proofs.lemmas.List.{drop_all, drop_more}
 use Rattle.adv_base.specs.declared.workload.parts.Item.{Item}
@@ -11,10 +11,8 @@ use Rattle.plan_model.specs.Orders.{is_same_item}
 use Rattle.plan_model.specs.OfferTables.{price_at, order_at}
 use Rattle.planner.specs.declared.front.Front.{Front}
 use Rattle.planner.specs.declared.cell.Cell.{Cell}
-use Rattle.planner.specs.declared.cell.TheConstants.{IMPOSSIBLE}
 use Rattle.planner.specs.Fronts.{asked, begins_test}
 use Rattle.planner.specs.Cells.{cell_at, cost_at, offered, better}
-use Rattle.planner.specs.Choices.{IsOffered}
 use Rattle.planner.specs.Rows.{AreOffers, OfferMade, SlotBound}
 use Rattle.planner.proofs.Begins.{same_item, same_from}
 use Rattle.planner.proofs.Steps.{better_cases, better_lower}

@@ -14,7 +14,7 @@ use Rattle.adv_base.specs.Items.{Order, BeginsWith}
 use Rattle.adv_base.specs.Offers.{Offer, OfferTable}
 use Rattle.adv_base.specs.declared.workload.parts.Item.{Item}
 use Rattle.plan_model.specs.declared.task.Task.{Task}
-use Rattle.plan_model.specs.OfferTables.{price_at, order_at}
+use Rattle.plan_model.specs.OfferTables.{price_at}
 use Rattle.plan_model.specs.Plans.{is_column_of}
 use Rattle.plan_model.specs.Costs.{rows_in, sort_cost}
 use Rattle.planner.specs.declared.front.Front.{Front}
@@ -22,11 +22,11 @@ use Rattle.planner.specs.declared.cell.Cell.{Cell}
 use Rattle.planner.specs.declared.cell.TheConstants.{IMPOSSIBLE}
 use Rattle.planner.specs.declared.cut.Cut.{Cut}
 use Rattle.planner.specs.declared.ways.Ways.{Ways}
-use Rattle.planner.specs.Fronts.{asked, listed}
+use Rattle.planner.specs.Fronts.{listed}
 use Rattle.planner.specs.Cells.{blank, cell_at, cost_at, any_at, row_of, finished}
 use Rattle.planner.specs.declared.cut.Merge.{Merge}
 use Rattle.planner.specs.Cuts.{cut_at, merge_at, is_covered, IsCutOf}
-use Rattle.planner.specs.Choices.{IsSorting, IsStep, IsRead, IsOffered, IsHashed, IsMerged, HashBound, MergesBound}
+use Rattle.planner.specs.Choices.{IsSorting, IsStep, IsOffered, IsHashed, IsMerged, HashBound, MergesBound}
 use Rattle.planner.specs.Rows.{width, order_of, cuts_of, merges_in, sets_of, OffersBound, AreOffers, CutBound, IsCapped, IsCutBy, IsJoined, IsMade, IsRow, IsTable, AreRows}
 use Rattle.planner.proofs.Lower.{AreBlank}
 use Rattle.planner.proofs.Steps.{hash_falls, merges_fall, step_then, step_wider}

@@ -1,10 +1,10 @@
 -- Each cost of a closed table below that of no plan is the cost of a plan.
-use Rattle.std.proofs.Common.{Box, Global, ◌≡◌, ℕ, zero, suc, ◌+◌, ◌-◌, ◌<◌, ◌≤◌, ◌⊎◌, inl, inr, Bool, true, false, List, [], length, drop, refl, sym, ap, ◌∙◌, subst, arith}
+use Rattle.std.proofs.Common.{Box, Global, ◌≡◌, ℕ, zero, suc, ◌-◌, ◌<◌, ◌≤◌, inl, inr, Bool, true, false, List, length, drop, refl, sym, ◌∙◌, subst, arith}
 use denote.RawPtr.{null_ptr}
 use Rattle.std.specs.List.{list_any, slice_range}
 use Rattle.std.proofs.lemmas.List.{length-take, length-drop}
 use Rattle.std.proofs.lemmas.Bool.{cases_eq}
-use Rattle.adv_base.specs.Items.{Order, BeginsWith}
+use Rattle.adv_base.specs.Items.{Order}
 use Rattle.adv_base.specs.Offers.{OfferTable}
 use Rattle.plan_model.specs.declared.plan.Plan.{Plan}
 use Rattle.plan_model.specs.declared.plan.Plan.TheVariants.{Leaf, Sort', Merge', Hash'}
@@ -14,11 +14,11 @@ use Rattle.planner.specs.declared.cell.Cell.{Cell}
 use Rattle.planner.specs.declared.cell.TheConstants.{IMPOSSIBLE}
 use Rattle.planner.specs.declared.cut.Cut.{Cut}
 use Rattle.planner.specs.declared.ways.Ways.{Ways}
-use Rattle.planner.specs.Fronts.{asked, listed, first_item}
+use Rattle.planner.specs.Fronts.{asked, listed}
 use Rattle.planner.specs.Cells.{cost_at, any_at}
-use Rattle.planner.specs.Cuts.{cut_at, merge_at, merges_of, hash_price, IsCut, IsCutOf}
-use Rattle.planner.specs.Choices.{IsRead, IsMerge, IsHash, IsHashed, IsMergedBy, IsSorting}
-use Rattle.planner.specs.Rows.{width, order_of, cuts_of, merges_in, sets_of, IsRow, AreRows, IsCutBy, IsJoined}
+use Rattle.planner.specs.Cuts.{cut_at, merge_at, IsCut, IsCutOf}
+use Rattle.planner.specs.Choices.{IsMerge, IsHash, IsHashed, IsMergedBy}
+use Rattle.planner.specs.Rows.{width, order_of, cuts_of, merges_in, sets_of, AreRows, IsCutBy}
 use Rattle.planner.specs.Built.{front_cost, IsPlanFor}
 use Rattle.planner.proofs.Begins.{nil_from_first}
 use Rattle.planner.proofs.Merging.{MergeMeans, merge_means, merge_gives, any_crossing}

@@ -1,10 +1,9 @@
-use Rattle.std.proofs.Common.{◌≡◌, ℕ, ◌<◌, length, slice_index_or, sym, ap, subst, ◌∙◌, arith}
+use Rattle.std.proofs.Common.{◌<◌, length, slice_index_or, sym, ap, subst, ◌∙◌, arith}
 use Rattle.std.proofs.lemmas.List.{get_or_default}
 use Rattle.adv_base.specs.Items.{Order}
 use Rattle.planner.specs.declared.front.Front.{Front}
 use Rattle.planner.specs.declared.front.Front.TheVariants.{Any}
 use Rattle.planner.specs.Fronts.{front_order, listed}
-use Rattle.planner.specs.Rows.{order_of}
 use Rattle.planner.specs.Built.{GivesOffer}
 use Rattle.planner.proofs.again.find_in_slot.Goals as goal
 

@@ -1,4 +1,4 @@
-use Rattle.std.proofs.Common.{ℕ, below_more, true, false, sym, subst, ◌∙◌, arith}
+use Rattle.std.proofs.Common.{ℕ, below_more, sym, subst, ◌∙◌, arith}
 use Rattle.std.proofs.lemmas.Bool.{false≢true}
 use Rattle.std.proofs.lemmas.Option.{same_Some}
 use Rattle.planner.specs.Fronts.{front_order}

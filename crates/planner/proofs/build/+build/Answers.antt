@@ -2,7 +2,7 @@ use Rattle.std.proofs.Common.{◌-◌, Bool, length, sym, subst, ◌∙◌, arit
 use Rattle.planner.specs.Fronts.{asked, listed}
 use Rattle.planner.specs.Cells.{cost_at, any_at, row_of}
 use Rattle.planner.specs.Built.{IsPlanFor, front_cost}
-use Rattle.planner.proofs.Building.{asked_sort, read_built, sort_built, merge_built, hash_built, plain_cost, sorted_top, top_differs, sort_wanted}
+use Rattle.planner.proofs.Building.{asked_sort, sort_built, merge_built, hash_built, plain_cost, sorted_top, top_differs, sort_wanted}
 use Rattle.planner.proofs.Lower.{AreBlank, rows_low}
 use Rattle.planner.proofs.build.+build.Goals as goal
 

@@ -1,4 +1,4 @@
-use Rattle.std.proofs.Common.{◌≡◌, ◌-◌, length, sym, ◌∙◌, arith}
+use Rattle.std.proofs.Common.{◌≡◌, length, sym, ◌∙◌, arith}
 use Rattle.planner.proofs.Cutting.{adds_none, adds_uncrossed, adds_cut}
 use Rattle.planner.proofs.cuts.add_cut.Goals as goal
 

@@ -1,5 +1,5 @@
-use Rattle.std.proofs.Common.{◌≡◌, [], ◌∷◌, ◌++◌, sym, ap, ◌∙◌}
-use Rattle.planner.proofs.Cutting.{merges_skip, merges_take}
+use Rattle.std.proofs.Common.{sym, ◌∙◌}
+use Rattle.planner.proofs.Cutting.{merges_skip}
 use Rattle.planner.proofs.cuts.add_merge.Goals as goal
 
 pub returns-then-not-crosses : goal.returns-then-not-crosses

@@ -1,4 +1,3 @@
-use Rattle.std.proofs.Common.{◌≡◌, length}
 use Rattle.planner.specs.Cells.{row_of}
 use Rattle.planner.specs.Rows.{width, AreRows, IsTable}
 use Rattle.planner.proofs.fill.fill.Given as goal

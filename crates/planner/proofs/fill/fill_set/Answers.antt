@@ -1,8 +1,5 @@
-use Rattle.std.proofs.Common.{◌≡◌, ℕ, ◌*◌, ◌+◌, ◌≤◌, List, length, ap, sym, subst, ◌∙◌, arith}
-use Rattle.std.proofs.lemmas.Nat.{row_fits}
-use Rattle.planner.specs.declared.cell.Cell.{Cell}
+use Rattle.std.proofs.Common.{◌≡◌, ℕ, sym, subst, ◌∙◌}
 use Rattle.planner.specs.Cells.{row_of}
-use Rattle.planner.specs.Rows.{sets_of, width}
 use Rattle.planner.proofs.Tabling.{rows_skip, rows_put, table_put}
 use Rattle.planner.proofs.fill.fill_set.Goals as goal
 

@@ -1,4 +1,4 @@
-use Rattle.std.proofs.Common.{◌≡◌, ◌-◌, ◌<◌, Bool, List, length, refl, sym, ap, subst, ◌∙◌, arith}
+use Rattle.std.proofs.Common.{◌-◌, ◌<◌, Bool, List, refl, sym, ap, subst, ◌∙◌}
 use Rattle.adv_base.specs.Sets.{all_slots}
 use Rattle.plan_model.specs.Costs.{rows_in}
 use Rattle.planner.specs.declared.cell.Cell.{Cell}

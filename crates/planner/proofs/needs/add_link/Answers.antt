@@ -1,4 +1,4 @@
-use Rattle.std.proofs.Common.{◌+◌, None, slice_index_or}
+use Rattle.std.proofs.Common.{None, slice_index_or}
 use Rattle.plan_model.specs.declared.edge.TaskEdge.{TaskEdge}
 use Rattle.planner.specs.Fronts.{listed}
 use Rattle.planner.proofs.Growing.{links_more, needed_more, edge_found}

@@ -1,7 +1,5 @@
-use Rattle.std.proofs.Common.{◌≡◌, ℕ, ◌+◌, ◌<◌, ◌≤◌, length, List, None, sym, ap, subst, ◌∙◌, arith}
-use Rattle.planner.specs.declared.cell.Cell.{Cell}
-use Rattle.planner.specs.Fronts.{head_at}
-use Rattle.planner.specs.Cells.{cell_at, cost_at, hashed, row_of}
+use Rattle.std.proofs.Common.{◌≡◌, ℕ, ◌+◌, length, sym, subst, ◌∙◌, arith}
+use Rattle.planner.specs.Cells.{cost_at, row_of}
 use Rattle.planner.specs.Choices.{IsHashed, IsMerged, IsStep}
 use Rattle.planner.specs.Rows.{width, IsCapped}
 use Rattle.planner.proofs.Steps.{hash_step, hash_bound}

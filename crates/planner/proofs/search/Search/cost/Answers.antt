@@ -1,10 +1,10 @@
-use Rattle.std.proofs.Common.{◌≡◌, ◌<◌, ◌-◌, List, length, refl, sym, ap, subst, ◌∙◌, arith}
+use Rattle.std.proofs.Common.{◌≡◌, List, sym, ap, subst, ◌∙◌}
 use Rattle.std.proofs.lemmas.List.{take_at}
 use Rattle.adv_base.specs.Sets.{all_slots}
 use Rattle.plan_model.specs.Costs.{rows_in}
 use Rattle.planner.specs.declared.cell.Cell.{Cell}
 use Rattle.planner.specs.Cells.{row_of}
-use Rattle.planner.specs.Rows.{width, sets_of, IsCapped}
+use Rattle.planner.specs.Rows.{width, IsCapped}
 use Rattle.planner.specs.Shapes.{least_shape}
 use Rattle.planner.proofs.Finding.{cost_is, full_in}
 use Rattle.planner.proofs.Tabling.{table_blanks}

@@ -1,4 +1,4 @@
-use Rattle.std.proofs.Common.{◌≡◌, ◌*◌, length, ap, ◌∙◌}
+use Rattle.std.proofs.Common.{◌*◌, length, ap, ◌∙◌}
 use Rattle.planner.proofs.Tabling.{blank_table}
 use Rattle.planner.proofs.search.Search.made.Goals as goal
 
