@@ -1,2 +1,10 @@
 pub mod SumLemmas
 pub mod DayLemmas
+pub mod Digits
+pub mod LineLaws
+pub mod RowBounds
+pub mod ItemLaws
+pub mod Begins
+pub mod ConfigLaws
+pub mod OfferLaws
+pub mod UpkeepBounds

@@ -8,6 +8,7 @@ use Rattle.adv_base.specs.declared.workload.block.Block.{Block}
 use Rattle.adv_base.specs.declared.workload.parts.Item.TheVariants.{Up}
 use Rattle.adv_base.specs.declared.workload.parts.Slot.{Slot}
 use Rattle.adv_base.specs.declared.workload.predicate.Pred.{Pred}
+use Rattle.adv_base.specs.declared.limits.TheConstants.{WHOLE}
 use Rattle.adv_base.specs.Items.{Order}
 use Rattle.adv_base.specs.Sums.{times_part}
 use Rattle.adv_base.specs.Parts.{pred_part}
@@ -31,7 +32,7 @@ matched_preds block s keys =
 
 -- the part of its entries that an index matches
 unfoldable pub matched_part : Catalogue → Block → ℕ → List ℕ → ℕ
-matched_part cat block s keys = fold times_part 1000000000 (map (pred_part cat block) (matched_preds block s keys))
+matched_part cat block s keys = fold times_part WHOLE (map (pred_part cat block) (matched_preds block s keys))
 
 -- each key is bound, and no two rows agree on all
 abbrev pub finds_one_row : Block → ℕ → IndexShape → Bool

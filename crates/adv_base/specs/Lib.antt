@@ -12,4 +12,9 @@ pub mod Configs
 pub mod Upkeep
 pub mod Access
 pub mod Offers
+pub mod OfferTables
+pub mod Settings
+pub mod Nodes
+pub mod Numbers
+pub mod Defaults
 pub mod Days

@@ -11,26 +11,26 @@ use Rattle.adv_base.specs.declared.workload.predicate.Test.{Test}
 use Rattle.adv_base.specs.declared.workload.predicate.Test.TheVariants.{Equal, NotEqual, Below, Above, Between, OneOf, Like, IsNull, NotNull, Same}
 use Rattle.adv_base.specs.declared.workload.predicate.Value.{Value}
 use Rattle.adv_base.specs.declared.workload.predicate.Value.TheVariants.{Number, Plain}
+use Rattle.adv_base.specs.declared.limits.TheConstants.{WHOLE}
 use Rattle.adv_base.specs.Sums.{clamped_part, height}
 use Rattle.adv_base.specs.Lookups.{table_distinct, slot_distinct, slot_table}
 
 -- `c = value`: one of the distinct values, or a tenth where their number is unknown
 abbrev pub equal_part : Option ℕ → ℕ
-equal_part (Some distinct) = clamped_part 1000000000 distinct
+equal_part (Some distinct) = clamped_part WHOLE distinct
 equal_part None = 100000000
 
 -- `c1 = c2`: by the greater number of distinct values that is known
 abbrev pub tied_part : Option ℕ → Option ℕ → ℕ
 tied_part (Some left) (Some right) = equal_part (Some (max left right))
-tied_part (Some left) None = equal_part (Some left)
+tied_part left None = equal_part left
 tied_part None right = equal_part right
 
 -- the share of a range that a length is, where both ends are given and the low one is below the high one
 abbrev pub range_part : Option ℤ → Option ℤ → (ℤ → ℤ → ℕ) → ℕ → ℕ
 range_part (Some low) (Some high) share unknown =
-    if nat_lt 0 (height high low) then clamped_part (1000000000 * share low high) (height high low) else unknown
-range_part (Some low) None share unknown = unknown
-range_part None high share unknown = unknown
+    if nat_lt 0 (height high low) then clamped_part (WHOLE * share low high) (height high low) else unknown
+range_part low high share unknown = unknown
 
 -- `c > v`, `c >= v`: the share of the range above v; a third where that isn't known
 abbrev pub above_part : Column → Value → ℕ
@@ -46,13 +46,12 @@ below_part column Plain = 333333334
 abbrev pub between_part : Column → Value → Value → ℕ
 between_part column (Number v) (Number w) =
     range_part column.low column.high (λ low high. height (int_min w high) (int_max v low)) 250000000
-between_part column (Number v) Plain = 250000000
-between_part column Plain w = 250000000
+between_part column v w = 250000000
 
 -- each kind of test, on a column of a table
 abbrev pub test_part : Table → Column → Test → ℕ
 test_part table column Equal = equal_part column.distinct
-test_part table column NotEqual = max 1 (1000000000 - equal_part column.distinct)
+test_part table column NotEqual = max 1 (WHOLE - equal_part column.distinct)
 test_part table column (Below v) = below_part column v
 test_part table column (Above v) = above_part column v
 test_part table column (Between v w) = between_part column v w
@@ -60,16 +59,16 @@ test_part table column (Between v w) = between_part column v w
 test_part table column (OneOf items) = min 500000000 (items * equal_part column.distinct)
 test_part table column Like = 100000000
 test_part table column IsNull = 100000000
-test_part table column NotNull = 1000000000
+test_part table column NotNull = WHOLE
 test_part table column (Same other) = tied_part column.distinct (table_distinct table other)
 
 abbrev pub column_test_part : Table → Option Column → Test → ℕ
 column_test_part table (Some column) test = test_part table column test
-column_test_part table None test = 1000000000
+column_test_part table None test = WHOLE
 
 abbrev pub table_pred_part : Option Table → Pred → ℕ
 table_pred_part (Some table) pred = column_test_part table (slice_get table.columns pred.column) pred.test
-table_pred_part None pred = 1000000000
+table_pred_part None pred = WHOLE
 
 -- the part of a predicate of the block; one that names no column keeps all rows
 unfoldable pub pred_part : Catalogue → Block → Pred → ℕ

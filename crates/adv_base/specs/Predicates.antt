@@ -5,46 +5,25 @@ use Rattle.adv_base.specs.declared.workload.parts.Item.{Item}
 use Rattle.adv_base.specs.declared.workload.parts.Item.TheVariants.{Up, Down, Made}
 use Rattle.adv_base.specs.declared.workload.predicate.Pred.{Pred}
 use Rattle.adv_base.specs.declared.workload.predicate.Test.{Test}
-use Rattle.adv_base.specs.declared.workload.predicate.Test.TheVariants.{Equal, NotEqual, Below, Above, Between, OneOf, Like, IsNull, NotNull, Same}
+use Rattle.adv_base.specs.declared.workload.predicate.Test.TheVariants.{Equal, Below, Above, Between, OneOf}
 
 -- `column = literal`
 abbrev pub is_equality : Test → Bool
 is_equality Equal = true
-is_equality NotEqual = false
-is_equality (Below v) = false
-is_equality (Above v) = false
-is_equality (Between v w) = false
-is_equality (OneOf items) = false
-is_equality Like = false
-is_equality IsNull = false
-is_equality NotNull = false
-is_equality (Same other) = false
+is_equality other = false
 
 -- `column = literal` or IN
 abbrev pub is_point : Test → Bool
 is_point Equal = true
-is_point NotEqual = false
-is_point (Below v) = false
-is_point (Above v) = false
-is_point (Between v w) = false
 is_point (OneOf items) = true
-is_point Like = false
-is_point IsNull = false
-is_point NotNull = false
-is_point (Same other) = false
+is_point other = false
 
 -- `<`, `<=`, `>`, `>=` or BETWEEN
 abbrev pub is_range : Test → Bool
-is_range Equal = false
-is_range NotEqual = false
 is_range (Below v) = true
 is_range (Above v) = true
 is_range (Between v w) = true
-is_range (OneOf items) = false
-is_range Like = false
-is_range IsNull = false
-is_range NotNull = false
-is_range (Same other) = false
+is_range other = false
 
 -- a predicate on a column of a slot, with a test of the kind
 abbrev pub is_pred_on : (Test → Bool) → ℕ → ℕ → Pred → Bool

@@ -1,5 +1,5 @@
 -- Numbers of rows, each from 1 to 10^12.
-use Rattle.std.specs.Prelude.{ℕ, zero, suc, ◌*◌, ◌==◌, min, max, nat_lt, Bool, ◌&&◌, ◌||◌, if◌then◌else◌, List, length, filter, map, fold, Option, None, unwrap_or}
+use Rattle.std.specs.Prelude.{ℕ, zero, suc, ◌*◌, ◌≤◌, ◌==◌, min, max, nat_lt, Bool, ◌&&◌, ◌||◌, if◌then◌else◌, List, length, filter, map, fold, Option, None, unwrap_or}
 use Rattle.std.specs.Option.{option_map_or}
 use Rattle.adv_base.specs.declared.catalogue.Catalogue.{Catalogue}
 use Rattle.adv_base.specs.declared.catalogue.table.Table.{Table}
@@ -8,10 +8,16 @@ use Rattle.adv_base.specs.declared.workload.parts.Edge.{Edge}
 use Rattle.adv_base.specs.declared.workload.parts.Item.{Item}
 use Rattle.adv_base.specs.declared.workload.parts.Item.TheVariants.{Up, Down, Made}
 use Rattle.adv_base.specs.declared.workload.predicate.Pred.{Pred}
+use Rattle.adv_base.specs.declared.limits.TheConstants.{MOST_ROWS}
 use Rattle.adv_base.specs.Sums.{times_part, capped}
 use Rattle.adv_base.specs.Sets.{all_slots, has_slot}
 use Rattle.adv_base.specs.Lookups.{slot_table, slot_distinct}
 use Rattle.adv_base.specs.Parts.{pred_part, edge_part}
+
+-- a number of rows
+pub record AreRows (rows : ℕ) : Type 0 where
+  pub least : 1 ≤ rows
+  pub most : rows ≤ MOST_ROWS
 
 -- an empty table is priced like one of a single row and page
 abbrev pub table_rows : Table → ℕ

@@ -1,18 +1,19 @@
 -- The sums of the cost model.
 use Rattle.std.specs.Prelude.{ℕ, zero, suc, ◌*◌, ◌^◌, min, max, nat_lt, if◌then◌else◌, ℤ, pos, negsuc, ◌-ℤ◌}
 use Rattle.std.specs.Int.{div_ceil}
+use Rattle.adv_base.specs.declared.limits.TheConstants.{MOST_ROWS, WHOLE}
 
 -- a number taken through a part of 10^9, rounded up
 unfoldable pub times_part : ℕ → ℕ → ℕ
-times_part n part = div_ceil (n * part) 1000000000
+times_part n part = div_ceil (n * part) WHOLE
 
 -- a quotient as a part of 10^9, rounded up and then kept between 1 and 10^9
 unfoldable pub clamped_part : ℕ → ℕ → ℕ
-clamped_part n d = max 1 (min 1000000000 (div_ceil n d))
+clamped_part n d = max 1 (min WHOLE (div_ceil n d))
 
 -- at most 10^12
 abbrev pub capped : ℕ → ℕ
-capped n = min 1000000000000 n
+capped n = min MOST_ROWS n
 
 -- the binary digits of a number below 2 ^ k: the least number of digits that hold it
 unfoldable pub digits_within : ℕ → ℕ → ℕ

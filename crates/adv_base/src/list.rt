@@ -1,6 +1,7 @@
 //! Thin types over a vector, which contracts see as plain lists.
-ghost use Rattle.std.specs.Prelude.{◌≡◌, ◌↔◌, [], IsTrue, length};
+ghost use Rattle.std.specs.Prelude.{◌≡◌, ◌↔◌, [], IsTrue, IfOk, length};
 
+use crate::memory::NoMemory;
 use std::alloc::Global;
 use std::marker::Model;
 
@@ -93,5 +94,13 @@ impl Name {
         ensures { result.now ≡ self.now }
     {
         self.items.as_slice()
+    }
+    /// A copy of the name.
+    pub fn copied(&self, alloc: Global) -> Result<Name, NoMemory>
+        ensures { IfOk result (λ name. name ≡ self.now) }
+    {
+        Ok(Name {
+            items: Vec::from_slice(alloc, self.items.as_slice())?,
+        })
     }
 }

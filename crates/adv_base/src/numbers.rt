@@ -1,22 +1,21 @@
 //! The two sums of the cost model.
-ghost use Rattle.std.specs.Prelude.{◌≡◌, ◌≤◌, ◌<◌, ◌^◌, ◌-◌};
+ghost use Rattle.std.specs.Prelude.{◌≡◌, ◌≤◌, ◌<◌, ◌^◌, ◌-◌, ◌*◌};
+ghost use Rattle.adv_base.specs.declared.limits.TheConstants.{MOST_ROWS, WHOLE};
 ghost use Rattle.adv_base.specs.Sums.{times_part as part_of_number, binary_digits as digits_of};
 
-/// Memory ran out.
-#[derive(Clone, Copy, Debug, PartialEq, Eq)]
-pub struct NoMemory;
+use crate::limits::WHOLE;
 
 /// A number taken through a selectivity: `n * part / 10^9`, rounded up. Parts are of 10^9, from 1 to 10^9.
 pub fn times_part(n: u64, part: u64) -> u64
     requires some { 1 ≤ n }
-    requires most { n ≤ 10000000000000 }
+    requires most { n ≤ 10 * MOST_ROWS }
     requires part_some { 1 ≤ part }
-    requires part_most { part ≤ 1000000000 }
+    requires part_most { part ≤ WHOLE }
     ensures exact { result ≡ part_of_number n part }
     ensures least { 1 ≤ result }
     ensures shrinks { result ≤ n }
 {
-    (n as u128 * part as u128).div_ceil(1000000000) as u64
+    (n as u128 * part as u128).div_ceil(WHOLE as u128) as u64
 }
 
 /// The number of binary digits, which is 0 for 0.

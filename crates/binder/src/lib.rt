@@ -25,8 +25,6 @@ mod sort_keys;
 mod sources;
 mod statements;
 mod terms;
-#[cfg(test)]
-mod tests;
 mod tests_so_far;
 mod values;
 mod visible;

@@ -15,9 +15,9 @@ mod keys;
 mod names;
 mod paths;
 mod rates;
+mod spread;
+mod statistics;
 mod tables;
-#[cfg(test)]
-mod tests;
 mod values;
 
 pub use document::read_catalogue;

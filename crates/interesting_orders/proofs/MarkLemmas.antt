@@ -10,12 +10,11 @@ use Rattle.std.proofs.lemmas.List.Folds.{list_any-append, sum_by-replicate}
 use Rattle.std.proofs.lemmas.List.Sums.{sum_by-set, fold-append}
 use Rattle.adv_base.specs.declared.workload.parts.Item.{Item}
 use Rattle.adv_base.specs.declared.workload.parts.Item.TheVariants.{Up, Down, Made}
-use Rattle.adv_base.specs.Items.{Order}
+use Rattle.adv_base.specs.Items.{Order, is_up_of, is_same_order, is_own_list}
 use Rattle.plan_model.specs.declared.task.Task.{Task}
 use Rattle.plan_model.specs.Limits.Tasks.{is_numbered, AreNumbered}
-use Rattle.plan_model.specs.OfferTables.{is_up_of}
-use Rattle.plan_model.specs.Orders.{is_same_order, edge_orders, own_list, is_own_list, list_orders, without_repeats, interesting_orders}
-use Rattle.interesting_orders.specs.Marks.{add_order, wanted_list, is_marked, AreMarks}
+use Rattle.plan_model.specs.Orders.{edge_orders, own_list, wanted_list, without_repeats, interesting_orders}
+use Rattle.interesting_orders.specs.inner.Marks.{add_order, is_marked, AreMarks}
 
 pub add_order-known : (orders : List Order) (order : Order) → list_any (is_same_order order) orders ≡ true → add_order orders order ≡ orders
 add_order-known orders order h = rw h
@@ -34,16 +33,12 @@ without_repeats-fold before (x ∷ xs) =
           (sym (append_assoc before (x ∷ []) (without_repeats (before ++ x ∷ []) xs)) ∙ without_repeats-fold (before ++ x ∷ []) xs)
     ]
 
-pub list_orders-wanted : (slot : ℕ) (group : Option Order) (order : Order) → list_orders slot group order ≡ own_list slot (wanted_list group order)
-list_orders-wanted slot None order = refl
-list_orders-wanted slot (Some group) order = refl
-
 -- the orders of a slot, gathered edge by edge and then from the list
 pub interesting_orders-fold : (task : Task) (slot : ℕ) → interesting_orders task slot ≡ fold add_order (fold add_order ([] ∷ []) (flat_map (edge_orders slot) task.edges)) (own_list slot (wanted_list task.group task.order))
 unfolding interesting_orders
 interesting_orders-fold task slot =
-    without_repeats-fold [] ([] ∷ (flat_map (edge_orders slot) task.edges ++ list_orders slot task.group task.order))
-    ∙ (rw (list_orders-wanted slot task.group task.order) (fold-append add_order ([] ∷ []) (flat_map (edge_orders slot) task.edges) (own_list slot (wanted_list task.group task.order))))
+    without_repeats-fold [] ([] ∷ (flat_map (edge_orders slot) task.edges ++ own_list slot (wanted_list task.group task.order)))
+    ∙ fold-append add_order ([] ∷ []) (flat_map (edge_orders slot) task.edges) (own_list slot (wanted_list task.group task.order))
 
 -- no column is marked, and there is the empty order alone
 pub AreMarks-start : (slot : ℕ) → AreMarks slot (replicate 200 false) ([] ∷ [])

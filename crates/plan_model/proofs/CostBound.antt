@@ -1,26 +1,24 @@
 -- A valid whole plan costs less than 10^21.
-use Rattle.std.proofs.Common.{◌≡◌, inl, inr, ℕ, zero, suc, ◌+◌, ◌*◌, ◌^◌, ◌<◌, ◌≤◌, Bool, true, false, if◌then◌else◌, Option, Some, None, bit_and, min, max, refl, sym, ap, ◌∙◌, arith}
+use Rattle.std.proofs.Common.{◌≡◌, inl, inr, ℕ, zero, suc, ◌+◌, ◌*◌, ◌^◌, ◌<◌, ◌≤◌, Bool, true, false, if◌then◌else◌, Option, Some, None, bit_and, refl, sym, ap, ◌∙◌, arith}
 use Rattle.std.proofs.Math.Nat.{mul-le-mul}
-use Rattle.std.proofs.Math.Pow.{pow_mono}
 use Rattle.std.proofs.lemmas.Bool.{cases_lt, false≢true}
-use Rattle.std.proofs.lemmas.Bool.Decides.{nat_tests}
-use Rattle.std.proofs.lemmas.Nat.{or_disjoint}
-use Rattle.std.proofs.lemmas.Nat.Bits.{bit_at_and, bit_at_or, bit_at-lt, bit_at-zero, bit_at-pow_same, bit_at-pow_other}
+use Rattle.std.proofs.lemmas.Nat.Bits.{bit_at-lt, bit_at-pow_same, bit_at-pow_other}
 use Rattle.std.specs.Int.{bit_at}
 use Rattle.adv_base.specs.declared.catalogue.rates.Rates.{Rates}
 use Rattle.adv_base.specs.Items.{Order}
 use Rattle.adv_base.specs.Offers.{OfferTable}
-use Rattle.adv_base.specs.Sums.{digits_within, binary_digits}
 use Rattle.plan_model.specs.declared.plan.GroupStep.{GroupStep}
 use Rattle.plan_model.specs.declared.plan.GroupStep.TheVariants.{Nothing, Sorted, Hashed}
 use Rattle.plan_model.specs.declared.plan.Plan.{Plan}
 use Rattle.plan_model.specs.declared.plan.Plan.TheVariants.{Leaf, Sort', Merge', Hash'}
 use Rattle.plan_model.specs.declared.plan.Whole.{Whole}
 use Rattle.plan_model.specs.declared.task.Task.{Task}
-use Rattle.plan_model.specs.OfferTables.{OfferTableLimits}
+use Rattle.adv_base.specs.OfferTables.{OfferTableLimits}
 use Rattle.plan_model.specs.Plans.{covers, IsValid, IsWhole, body_sorts}
-use Rattle.plan_model.specs.Costs.{rows_in, sort_cost, plan_cost, group_cost, final_rows, whole_cost}
-use Rattle.plan_model.proofs.Bounds.{rows_in-most, price_at-most, merge_cost-most, hash_cost-most, digits_within-most}
+use Rattle.plan_model.specs.Costs.{rows_in, sort_cost, merge_of, hash_of, plan_cost, group_cost, final_rows, whole_cost}
+use Rattle.plan_model.specs.inner.Judging.{plan_judged, IsKept}
+use Rattle.plan_model.proofs.Bounds.{valid-covers, rows_in-most, price_at-most, sort_cost-most, merge_cost-most, hash_cost-most}
+use Rattle.plan_model.proofs.SetLaws.{bit-sum}
 
 -- ## How many leaves a valid plan has
 
@@ -39,12 +37,6 @@ members-most : (n set : ℕ) → members n set ≤ n
 unfolding members
 members-most zero set = omega arith
 members-most (suc n) set = omega (arith, members-most n set, bit_at-lt set n)
-
-bit-sum : (a b i : ℕ) → bit_and a b ≡ 0 → bit_at (a + b) i ≡ bit_at a i + bit_at b i
-bit-sum a b i apart =
-    let both : min (bit_at a i) (bit_at b i) ≡ 0 = sym (bit_at_and a b i) ∙ (ap (λ n. bit_at n i) apart ∙ bit_at-zero i) in
-    let union : bit_at (a + b) i ≡ max (bit_at a i) (bit_at b i) = ap (λ n. bit_at n i) (sym (or_disjoint a b apart)) ∙ bit_at_or a b i in
-    omega (arith, both, union)
 
 members-sum : (n a b : ℕ) → bit_and a b ≡ 0 → members n (a + b) ≡ members n a + members n b
 unfolding members
@@ -83,28 +75,6 @@ leaves-most : (sorts : Bool) (task : Task) (table : OfferTable) (plan : Plan) �
 leaves-most sorts task table plan v =
     omega (arith, leaves-members sorts task table plan v, members-most task.slots (covers plan), task.limits.slots_most)
 
--- ## What sorting costs at most
-
-digits_within-few : (k n : ℕ) → n < 2 ^ 40 → digits_within k n ≤ 40
-unfolding digits_within
-digits_within-few zero n small = omega arith
-digits_within-few (suc k) n small =
-    elim (cases_lt k 40) [
-      | inl less ↦ omega (arith, digits_within-most (suc k) n)
-      | inr more ↦
-          let large : 2 ^ 40 ≤ 2 ^ k = pow_mono more in
-          let rest = digits_within-few k n small in
-          grind (arith, nat_tests)
-    ]
-
-sorting-most : (rates : Rates) (rows : ℕ) → rows ≤ 1000000000000 → sort_cost rates rows ≤ 40000000000000000000
-unfolding sort_cost binary_digits
-sorting-most rates rows most =
-    let digits = digits_within-few 64 rows (omega arith) in
-    let whole : rows * digits_within 64 rows ≤ 1000000000000 * 40 = mul-le-mul most digits in
-    let all : rates.sort_cpu * (rows * digits_within 64 rows) ≤ 1000000 * (1000000000000 * 40) = mul-le-mul rates.limits.sort_cpu_most whole in
-    omega arith
-
 -- ## What a plan costs at most
 
 -- what is left of a bound for a sort, or for a join above two sorts
@@ -122,7 +92,7 @@ unfolding spare leaves
 plan_cost-most sorts task table (Leaf slot offer) limits v = omega (arith, price_at-most table slot offer limits, spare-most sorts)
 plan_cost-most false task table (Sort' order p input) limits v = absurd (false≢true v.0)
 plan_cost-most true task table (Sort' order p input) limits v =
-    omega (arith, plan_cost-most false task table input limits v.1, sorting-most task.rates (rows_in task (covers input)) (rows_in-most task (covers input)))
+    omega (arith, plan_cost-most false task table input limits v.1, sort_cost-most task.rates (rows_in task (covers input)) (rows_in-most task (covers input)))
 plan_cost-most sorts task table (Merge' edge p left q right) limits v =
     omega (arith, plan_cost-most true task table left limits v.0, plan_cost-most true task table right limits v.1, spare-most sorts, merge_cost-most task.rates (rows_in task (covers left)) (rows_in task (covers right)) (rows_in task (covers left + covers right)) (rows_in-most task (covers left)) (rows_in-most task (covers right)) (rows_in-most task (covers left + covers right)))
 plan_cost-most sorts task table (Hash' p left q right) limits v =
@@ -142,8 +112,18 @@ final_rows-most task None rows most = most
 final_rows-most task (Some group) rows most = task.limits.group_rows_limits.most
 
 final-most : (task : Task) (last : Bool) (rows : ℕ) → rows ≤ 1000000000000 → (if last then sort_cost task.rates (final_rows task task.group rows) else 0) ≤ 40000000000000000000
-final-most task true rows most = sorting-most task.rates (final_rows task task.group rows) (final_rows-most task task.group rows most)
+final-most task true rows most = sort_cost-most task.rates (final_rows task task.group rows) (final_rows-most task task.group rows most)
 final-most task false rows most = omega arith
+
+-- eight leaves, and what stands above them
+pub valid-most : (sorts : Bool) (task : Task) (table : OfferTable) (plan : Plan) → OfferTableLimits table → IsValid sorts task table plan → plan_cost task table plan ≤ 800000000000000000000
+valid-most sorts task table plan limits v =
+    omega (arith, plan_cost-most sorts task table plan limits v, leaves-most sorts task table plan v)
+
+-- what is found of a valid plan keeps its limits
+pub valid-kept : (sorts : Bool) (task : Task) (table : OfferTable) (plan : Plan) → OfferTableLimits table → IsValid sorts task table plan → IsKept task (plan_judged task table plan)
+valid-kept sorts task table plan limits v =
+    record { within = valid-covers sorts task table plan v; most = omega (arith, valid-most sorts task table plan limits v) }
 
 -- a valid whole plan costs less than 10^21
 pub whole_cost-most : (task : Task) (table : OfferTable) (whole : Whole) → OfferTableLimits table → IsWhole task table whole → whole_cost task table whole < 1000000000000000000000

@@ -1,2 +1,14 @@
+pub mod SetLaws
+pub mod OrderLaws
 pub mod Bounds
 pub mod CostBound
+pub mod Exchanging
+pub mod Decomposing
+pub mod Caching
+pub mod Comparing
+pub mod Unique
+pub mod Listing
+pub mod TotalBound
+pub mod Renting
+pub mod Sums
+pub mod Duality

@@ -10,7 +10,7 @@ use Rattle.plan_model.specs.declared.plan.Plan.{Plan}
 use Rattle.plan_model.specs.declared.plan.Plan.TheVariants.{Leaf, Sort', Merge', Hash'}
 use Rattle.plan_model.specs.declared.plan.Whole.{Whole}
 use Rattle.plan_model.specs.declared.task.Task.{Task}
-use Rattle.plan_model.specs.OfferTables.{price_at}
+use Rattle.adv_base.specs.OfferTables.{price_at}
 use Rattle.plan_model.specs.Plans.{covers}
 
 -- the rows of a set of slots
@@ -29,16 +29,22 @@ merge_cost rates left right joined = rates.merge_cpu * (left + right) + rates.ro
 unfoldable pub hash_cost : Rates → ℕ → ℕ → ℕ → ℕ
 hash_cost rates left right joined = rates.hash_cpu * (left + 2 * right) + rates.row_cpu * joined
 
+-- merging two sets of slots
+abbrev pub merge_of : Task → ℕ → ℕ → ℕ
+merge_of task left right = merge_cost task.rates (rows_in task left) (rows_in task right) (rows_in task (left + right))
+
+-- hashing the right set of slots and looking up the left one
+abbrev pub hash_of : Task → ℕ → ℕ → ℕ
+hash_of task left right = hash_cost task.rates (rows_in task left) (rows_in task right) (rows_in task (left + right))
+
 -- the cost of a plan and all below it
 abbrev pub plan_cost : Task → OfferTable → Plan → ℕ
 plan_cost task table (Leaf slot offer) = price_at table slot offer
 plan_cost task table (Sort' order p input) = plan_cost task table input + sort_cost task.rates (rows_in task (covers input))
 plan_cost task table (Merge' edge p left q right) =
-    plan_cost task table left + plan_cost task table right
-    + merge_cost task.rates (rows_in task (covers left)) (rows_in task (covers right)) (rows_in task (covers left + covers right))
+    plan_cost task table left + plan_cost task table right + merge_of task (covers left) (covers right)
 plan_cost task table (Hash' p left q right) =
-    plan_cost task table left + plan_cost task table right
-    + hash_cost task.rates (rows_in task (covers left)) (rows_in task (covers right)) (rows_in task (covers left + covers right))
+    plan_cost task table left + plan_cost task table right + hash_of task (covers left) (covers right)
 
 -- grouping rows
 abbrev pub group_cost : Rates → GroupStep → ℕ → ℕ

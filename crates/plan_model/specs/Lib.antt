@@ -3,8 +3,14 @@ pub mod OfferTables
 pub mod Orders
 pub mod Plans
 pub mod Costs
-pub mod Judging
+pub mod inner
 pub mod PlanTexts
 pub mod Least
+pub mod Exchange
+pub mod Combinations
+pub mod Comparisons
 pub mod BlockTask
 pub mod Totals
+pub mod Lagrangian
+pub mod Useful
+pub mod Uniqueness

@@ -2,12 +2,12 @@
 ghost use Rattle.std.specs.Prelude.{◌≡◌, ◌+◌, ◌<◌, ◌^◌, bit_and, All, IsTrue, true, length};
 ghost use Rattle.std.specs.List.{list_any};
 ghost use Rattle.std.specs.Option.{SomeIff};
-ghost use Rattle.plan_model.specs.OfferTables.{OfferTableLimits};
-ghost use Rattle.plan_model.specs.Plans.{Merges, IsValid, crosses as edge_crosses, is_column_of as is_column};
-ghost use Rattle.plan_model.specs.Judging.{leaf_judged, sort_judged, merge_judged, hash_judged, plan_judged, IsKept};
+ghost use Rattle.adv_base.specs.OfferTables.{OfferTableLimits};
+ghost use Rattle.plan_model.specs.Plans as plans;
+ghost use Rattle.plan_model.specs.inner.Judging as judging;
 
 use crate::offers::Offers;
-use crate::order::{crosses, delivered, is_column_of, serves};
+use crate::order::{are_joined, crosses, delivered, is_column_of, serves};
 use crate::plan::Plan;
 use crate::price::{hash_price, merge_price, rows_of, sort_price};
 use crate::task::Task;
@@ -16,12 +16,12 @@ use adv_base::Item;
 /// What a valid plan covers, as a number, and what it costs.
 #[derive(Clone, Copy)]
 pub(crate) struct Judged {
-    pub covers: u16,
+    pub covers: usize,
     pub cost: u128,
 }
 
 fn judge_leaf<O: Offers>(task: &Task, offers: &O, slot: u8, offer: u32) -> Option<Judged>
-    ensures { SomeIff result ((slot < task.now.slots) × (offer < length (O.table offers.now slot))) (leaf_judged (O.table offers.now) slot offer) }
+    ensures { SomeIff result ((slot < task.now.slots) × (offer < length (O.table offers.now slot))) (judging.leaf_judged (O.table offers.now) slot offer) }
 {
     if slot >= task.slots || offer >= offers.count(slot) {
         return None;
@@ -33,8 +33,8 @@ fn judge_leaf<O: Offers>(task: &Task, offers: &O, slot: u8, offer: u32) -> Optio
 }
 
 fn judge_sort(task: &Task, order: &[Item], input: Judged) -> Option<Judged>
-    requires { IsKept task.now input }
-    ensures { SomeIff result (All (λ item. is_column input.covers item ≡ true) order.now) (sort_judged task.now input) }
+    requires { judging.IsKept task.now input }
+    ensures { SomeIff result (All (λ item. plans.is_column_of input.covers item ≡ true) order.now) (judging.sort_judged task.now input) }
 {
     if !order.iter().all(|item| is_column_of(input.covers, item)) {
         return None;
@@ -49,15 +49,13 @@ fn judge_sort(task: &Task, order: &[Item], input: Judged) -> Option<Judged>
 fn merges(
     task: &Task,
     number: u32,
-    left: u16,
-    right: u16,
+    left: usize,
+    right: usize,
     left_order: &[Item],
     right_order: &[Item],
 ) -> bool
-    requires left_set { left < 256 }
-    requires right_set { right < 256 }
-    ensures yes { IsTrue result → Merges task.now number left right left_order.now right_order.now }
-    ensures no { Merges task.now number left right left_order.now right_order.now → IsTrue result }
+    ensures yes { IsTrue result → plans.Merges task.now number left right left_order.now right_order.now }
+    ensures no { plans.Merges task.now number left right left_order.now right_order.now → IsTrue result }
 {
     let edges = task.edges.as_slice();
     match edges.get(number as usize) {
@@ -76,9 +74,9 @@ fn judge_merge(
     left_order: &[Item],
     right_order: &[Item],
 ) -> Option<Judged>
-    requires left { IsKept task.now left }
-    requires right { IsKept task.now right }
-    ensures { SomeIff result ((bit_and left.covers right.covers ≡ 0) × Merges task.now number left.covers right.covers left_order.now right_order.now) (merge_judged task.now left right) }
+    requires left { judging.IsKept task.now left }
+    requires right { judging.IsKept task.now right }
+    ensures { SomeIff result ((bit_and left.covers right.covers ≡ 0) × plans.Merges task.now number left.covers right.covers left_order.now right_order.now) (judging.merge_judged task.now left right) }
 {
     if left.covers & right.covers != 0 {
         return None;
@@ -93,49 +91,27 @@ fn judge_merge(
     ) {
         return None;
     }
-    let covers = left.covers | right.covers;
-    let price = merge_price(
-        task,
-        rows_of(task, left.covers),
-        rows_of(task, right.covers),
-        rows_of(task, covers),
-    );
+    let covers = left.covers + right.covers;
+    let price = merge_price(task, left.covers, right.covers);
     Some(Judged {
         covers,
         cost: left.cost + right.cost + price,
     })
 }
 
-/// Whether some edge has one end in each of two sets.
-fn are_tied(task: &Task, left: u16, right: u16) -> bool
-    requires left_set { left < 256 }
-    requires right_set { right < 256 }
-    ensures { result ≡ list_any (edge_crosses left right) task.now.edges }
-{
-    task.edges
-        .as_slice()
-        .iter()
-        .any(|edge| crosses(left, right, edge))
-}
-
 fn judge_hash(task: &Task, left: Judged, right: Judged) -> Option<Judged>
-    requires left { IsKept task.now left }
-    requires right { IsKept task.now right }
-    ensures { SomeIff result ((bit_and left.covers right.covers ≡ 0) × (list_any (edge_crosses left.covers right.covers) task.now.edges ≡ true)) (hash_judged task.now left right) }
+    requires left { judging.IsKept task.now left }
+    requires right { judging.IsKept task.now right }
+    ensures { SomeIff result ((bit_and left.covers right.covers ≡ 0) × (list_any (plans.crosses left.covers right.covers) task.now.edges ≡ true)) (judging.hash_judged task.now left right) }
 {
     if left.covers & right.covers != 0 {
         return None;
     }
-    if !are_tied(task, left.covers, right.covers) {
+    if !are_joined(task.edges.as_slice(), left.covers, right.covers) {
         return None;
     }
-    let covers = left.covers | right.covers;
-    let price = hash_price(
-        task,
-        rows_of(task, left.covers),
-        rows_of(task, right.covers),
-        rows_of(task, covers),
-    );
+    let covers = left.covers + right.covers;
+    let price = hash_price(task, left.covers, right.covers);
     Some(Judged {
         covers,
         cost: left.cost + right.cost + price,
@@ -145,7 +121,7 @@ fn judge_hash(task: &Task, left: Judged, right: Judged) -> Option<Judged>
 /// What a plan covers and costs, where it is valid; `sorts` says that a sort may stand at its top.
 pub(crate) fn judge<O: Offers>(task: &Task, offers: &O, plan: &Plan, sorts: bool) -> Option<Judged>
     requires { OfferTableLimits (O.table offers.now) }
-    ensures exact { SomeIff result (IsValid sorts task.now (O.table offers.now) plan.now) (plan_judged task.now (O.table offers.now) plan.now) }
+    ensures exact { SomeIff result (plans.IsValid sorts task.now (O.table offers.now) plan.now) (judging.plan_judged task.now (O.table offers.now) plan.now) }
 {
     match plan {
         Plan::Leaf { slot, offer } => judge_leaf(task, offers, *slot, *offer),

@@ -1,6 +1,7 @@
 -- Limits of blocks.
 use Rattle.std.specs.Prelude.{◌≡◌, ℕ, ◌<◌, ◌≤◌, ◌^◌, false, List, length, All, map, Option}
 use Rattle.std.specs.Option.{ForSome}
+use Rattle.adv_base.specs.declared.limits.TheConstants.{MOST_SLOTS}
 use Rattle.adv_base.specs.declared.workload.parts.Edge.{Edge}
 use Rattle.adv_base.specs.declared.workload.parts.Item.{Item}
 use Rattle.adv_base.specs.declared.workload.parts.Slot.{Slot}
@@ -30,7 +31,7 @@ pub record GroupLimits (slots : ℕ) (items : List Item) : Type 0 where
 -- 1 to 8 slots that fewer than 2^32 edges connect; predicates, edges and lists name slots of the block, and the lists no bound column
 pub record BlockLimits (slots : List Slot) (preds : List Pred) (edges : List Edge) (group : Option (List Item)) (order : List Item) : Type 0 where
   pub slots_some : 1 ≤ length slots
-  pub slots_most : length slots ≤ 8
+  pub slots_most : length slots ≤ MOST_SLOTS
   pub pred_slots : All (λ pred. pred.slot < length slots) preds
   pub edge_lefts : All (λ edge. edge.left < length slots) edges
   pub edge_rights : All (λ edge. edge.right < length slots) edges

@@ -1,5 +1,6 @@
 -- Limits of settings.
 use Rattle.std.specs.Prelude.{ℕ, ◌≤◌, List, length, All, sum_by}
+use Rattle.adv_base.specs.declared.limits.TheConstants.{MOST_STATEMENTS, MOST_SLOTS_IN_ALL, MOST_CANDIDATES}
 use Rattle.adv_base.specs.declared.catalogue.Catalogue.{Catalogue}
 use Rattle.adv_base.specs.declared.catalogue.index.IndexShape.{IndexShape}
 use Rattle.adv_base.specs.declared.workload.Statement.{Statement}
@@ -16,8 +17,8 @@ slot_count (Insert table rows) = 0
 
 -- at most 1000 statements with 2000 slots and 256 candidates, all of which name what the catalogue has
 pub record SettingLimits (cat : Catalogue) (statements : List Statement) (shapes : List IndexShape) : Type 0 where
-  pub statements_most : length statements ≤ 1000
-  pub slots_most : sum_by (λ statement. slot_count statement.work) statements ≤ 2000
-  pub shapes_most : length shapes ≤ 256
+  pub statements_most : length statements ≤ MOST_STATEMENTS
+  pub slots_most : sum_by (λ statement. slot_count statement.work) statements ≤ MOST_SLOTS_IN_ALL
+  pub shapes_most : length shapes ≤ MOST_CANDIDATES
   pub statements_named : All (λ statement. NamesWork cat statement.work) statements
   pub shapes_named : All (NamesShape cat) shapes

@@ -20,3 +20,22 @@ pub struct Rates {
     pub group_cpu: u64,
     pub ghost limits: { RatesLimits seq_page rand_page row_cpu sort_cpu merge_cpu hash_cpu group_cpu },
 }
+
+impl Rates {
+    ghost use Rattle.adv_base.specs.Defaults.{AreDefaults};
+
+    /// The rates of a catalogue that names none.
+    pub fn default() -> Rates
+        ensures { AreDefaults result }
+    {
+        Rates {
+            seq_page: 1000,
+            rand_page: 4000,
+            row_cpu: 10,
+            sort_cpu: 5,
+            merge_cpu: 5,
+            hash_cpu: 8,
+            group_cpu: 5,
+        }
+    }
+}

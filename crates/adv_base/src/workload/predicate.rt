@@ -25,6 +25,18 @@ pub enum Test {
     Same(u16),
 }
 
+impl Test {
+    ghost use Rattle.std.specs.Prelude.{◌≡◌};
+    ghost use Rattle.adv_base.specs.Predicates as predicates;
+
+    /// Whether it is equality with a literal, which binds the column.
+    pub fn is_equality(self) -> bool
+        ensures { result ≡ predicates.is_equality self }
+    {
+        matches!(self, Test::Equal)
+    }
+}
+
 /// A test of one column of one slot.
 #[derive(Clone, Copy, Debug)]
 pub struct Pred {

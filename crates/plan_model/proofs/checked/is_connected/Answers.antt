@@ -11,12 +11,12 @@ any-ends : (a b : ℕ) (edges : List TaskEdge) → list_any (is_crossing a b) (m
 any-ends a b [] = refl
 any-ends a b (e ∷ es) = ap (λ t. crosses a b e || t) (any-ends a b es)
 
-pub returns-then-not-is_crossed : goal.returns-then-not-is_crossed
-returns-then-not-is_crossed c =
+pub returns-then-not-are_joined : goal.returns-then-not-are_joined
+returns-then-not-are_joined c =
     let part = c.loop-part.part in
     let all = c.all_slots-all.result in
     let is : all ≡ 2 ^ c.args.slots - 1 = c.all_slots-all.ensures.exact in
-    let none = sym c.is_crossed.ensures ∙ c.if-not-is_crossed.true in (
+    let none = sym c.are_joined.ensures ∙ c.if-not-are_joined.true in (
       λ yes. absurd (false≢true yes),
       λ connected.
           absurd (false≢true (sym none ∙ (sym (any-ends part (all - part) c.args.edges.now) ∙ connected part (all - part) (omega arith) (omega arith) (omega arith) c.if-part-all-eq0.true))),

@@ -1,5 +1,5 @@
 use Rattle.std.proofs.Common.{true, false}
-use Rattle.plan_model.proofs.Bounds.{valid-kept}
+use Rattle.plan_model.proofs.CostBound.{valid-kept}
 use Rattle.plan_model.proofs.judge.+judge.Goals as goal
 
 pub judge_sort-requires : goal.judge_sort-requires

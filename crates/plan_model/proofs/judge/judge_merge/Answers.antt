@@ -1,14 +1,13 @@
-use Rattle.std.proofs.Common.{refl, arith, rules}
-use Rattle.plan_model.proofs.Bounds.{union-within}
+use Rattle.std.proofs.Common.{arith}
+use Rattle.plan_model.proofs.Bounds.{set-small, union-within}
 use Rattle.plan_model.proofs.judge.judge_merge.Goals as goal
 
-pub rows_of-requires-3 : goal.rows_of-requires-3
-rows_of-requires-3 c =
-    let union = union-within c.args.left.covers c.args.right.covers c.args.task.now.slots c.requires.left.within c.requires.right.within c.if-left-right-ne0.false in
-    omega (arith, union.1, c.args.task.now.limits.rows_each)
+pub overflow_add-covers : goal.overflow_add-covers
+overflow_add-covers c =
+    let slots = c.args.task.now.slots in
+    let few = c.args.task.now.limits.slots_most in
+    omega (arith, set-small c.args.left.covers slots c.requires.left.within few, set-small c.args.right.covers slots c.requires.right.within few)
 
-pub returns : goal.returns
-returns c =
-    let union = union-within c.args.left.covers c.args.right.covers c.args.task.now.slots c.requires.left.within c.requires.right.within c.if-left-right-ne0.false in
-    rw (union.0, c.merge_price-price.ensures.exact, c.rows_of.ensures.exact, c.rows_of-2.ensures.exact, c.rows_of-3.ensures.exact, union.0)
-    ((c.if-left-right-ne0.false, search rules), refl)
+pub merge_price-price-requires : goal.merge_price-price-requires
+merge_price-price-requires c =
+    omega (arith, union-within c.args.left.covers c.args.right.covers c.args.task.now.slots c.requires.left.within c.requires.right.within c.if-left-right-ne0.false, c.args.task.now.limits.rows_each)

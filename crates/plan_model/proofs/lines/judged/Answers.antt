@@ -1,4 +1,4 @@
-use Rattle.plan_model.proofs.Bounds.{valid-kept}
+use Rattle.plan_model.proofs.CostBound.{valid-kept}
 use Rattle.plan_model.proofs.lines.judged.Goals as goal
 
 pub returns-clause-kept : goal.returns-clause-kept

@@ -1,0 +1,52 @@
+-- Nodes of a search for a configuration: each candidate is in, out or free. Candidates are numbered from 1.
+use Rattle.std.specs.Prelude.{◌≡◌, ℕ, zero, suc, ◌+◌, ◌-◌, nat_le, Bool, true, false, not, ◌&&◌, ◌||◌, List, [], ◌∷◌, slice_get}
+use Rattle.std.specs.Option.{option_map_or}
+use Rattle.adv_base.specs.declared.catalogue.Catalogue.{Catalogue}
+use Rattle.adv_base.specs.declared.catalogue.index.IndexShape.{IndexShape}
+use Rattle.adv_base.specs.declared.limits.TheConstants.{MOST_CANDIDATES}
+use Rattle.adv_base.specs.declared.setting.Config.{Config}
+use Rattle.adv_base.specs.Configs.{has_candidate, config_pages}
+use Rattle.adv_base.specs.Sizes.{shape_pages}
+
+-- the candidates that are in, and those that are out
+pub record Node : Type 0 where
+  pub inside : Config
+  pub outside : Config
+
+-- no candidate is both
+abbrev pub IsNode : Node → Type 0
+IsNode node = (a : ℕ) → has_candidate node.inside a ≡ true → has_candidate node.outside a ≡ false
+
+abbrev pub is_free : Node → ℕ → Bool
+is_free node a = not (has_candidate node.inside a) && not (has_candidate node.outside a)
+
+-- the pages of one candidate
+abbrev pub candidate_pages : Catalogue → List IndexShape → ℕ → ℕ
+candidate_pages cat shapes a = option_map_or (shape_pages cat) (slice_get shapes (a - 1)) 0
+
+-- a free candidate is open where it fits the budget together with those that are in
+abbrev pub is_open : Catalogue → List IndexShape → ℕ → Node → ℕ → Bool
+is_open cat shapes budget node a =
+    is_free node a && nat_le (config_pages cat shapes node.inside + candidate_pages cat shapes a) budget
+
+-- a candidate is available where it is in or open
+abbrev pub is_available : Catalogue → List IndexShape → ℕ → Node → ℕ → Bool
+is_available cat shapes budget node a = has_candidate node.inside a || is_open cat shapes budget node a
+
+-- the flags of n candidates from a on
+unfoldable pub flags_from : (ℕ → Bool) → ℕ → ℕ → List Bool
+flags_from has a zero = []
+flags_from has a (suc n) = has a ∷ flags_from has (suc a) n
+
+-- the configuration of the candidates that pass a test
+unfoldable pub config_of : (ℕ → Bool) → Config
+config_of has = record { on = flags_from has 1 MOST_CANDIDATES }
+
+-- the configuration of all candidates that are available at a node
+abbrev pub available : Catalogue → List IndexShape → ℕ → Node → Config
+available cat shapes budget node = config_of (is_available cat shapes budget node)
+
+-- a configuration is below a node where it holds what is in, and nothing that is out
+pub record IsBelow (node : Node) (config : Config) : Type 0 where
+  pub holds : (a : ℕ) → has_candidate node.inside a ≡ true → has_candidate config a ≡ true
+  pub lacks : (a : ℕ) → has_candidate node.outside a ≡ true → has_candidate config a ≡ false

@@ -1,0 +1,37 @@
+//! The limits that types keep, each stated once; contracts and definitions cite these names.
+
+/// Rows and pages of a table, distinct values of a column, rows of a join and pages of a space budget: at most 10^12.
+pub const MOST_ROWS: u64 = 1_000_000_000_000;
+/// The whole that selectivities are parts of: 10^9.
+pub const WHOLE: u64 = 1_000_000_000;
+/// A rate, in thousandths of a sequential page read.
+pub const MOST_RATE: u64 = 1_000_000;
+/// The price of reading a slot in one way, in thousandths of a page read: at most 10^19.
+pub const MOST_PRICE: u64 = 10_000_000_000_000_000_000;
+/// How often a statement counts.
+pub const MOST_WEIGHT: u32 = 1_000_000;
+/// An end of a column's values is at most so far from 0: 10^18.
+pub const MOST_END: i64 = 1_000_000_000_000_000_000;
+/// The bytes of a column's values.
+pub const MOST_WIDTH: u16 = 1000;
+/// The tables of a catalogue.
+pub const MOST_TABLES: usize = 200;
+/// The columns of a table.
+pub const MOST_COLUMNS: usize = 200;
+/// The indexes of a catalogue, those of all tables together.
+pub const MOST_INDEXES: usize = 1000;
+/// The keys of an index.
+pub const MOST_KEYS: usize = 8;
+/// The pages of one index.
+pub const MOST_INDEX_PAGES: u64 = 2_000_000_000_000;
+/// The upkeep of one index by one statement, in thousandths of a page read: two writes of 10^12 rows, each down two
+/// levels.
+pub const MOST_UPKEEP: u64 = 6_000_000_000_000_000_000;
+/// The statements of a workload.
+pub const MOST_STATEMENTS: usize = 1000;
+/// The slots of a block.
+pub const MOST_SLOTS: usize = 8;
+/// The slots of all statements together.
+pub const MOST_SLOTS_IN_ALL: usize = 2000;
+/// The candidates, and with them the flags of a configuration.
+pub const MOST_CANDIDATES: usize = 256;

@@ -1,0 +1,4 @@
+pub mod Draws
+pub mod Tables
+pub mod Statements
+pub mod Texts
