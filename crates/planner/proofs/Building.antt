@@ -1,9 +1,10 @@
--- Plans that are built from the choices.
-use Rattle.std.proofs.Common.{◌≡◌, ℕ, ◌+◌, ◌-◌, ◌<◌, ◌⊎◌, inl, inr, Bool, true, false, not, ◌==◌, List, [], length, bit_and, All, Option, slice_index_or, refl, sym, ap, ◌∙◌, subst, arith}
+-- Plans that are built of what made the costs.
+use Rattle.std.proofs.Common.{◌≡◌, ℕ, suc, ◌+◌, ◌-◌, ◌<◌, ◌⊎◌, inl, inr, Bool, true, false, not, ◌==◌, List, [], ◌∷◌, length, bit_and, All, Option, Some, None, slice_index_or, refl, sym, ap, ◌∙◌, subst, arith}
 use Rattle.std.specs.List.{list_any}
-use Rattle.std.proofs.lemmas.Bool.{cases_lt, eqb-true, eqb-false, not-true, not-false, false≢true}
+use Rattle.std.proofs.lemmas.Bool.{cases_lt, eqb-true, eqb-false, not-true, not-false, false≢true, or_cases}
 use Rattle.adv_base.specs.Items.{Order, BeginsWith}
 use Rattle.adv_base.specs.Offers.{OfferTable}
+use Rattle.plan_model.specs.declared.edge.TaskEdge.{TaskEdge}
 use Rattle.plan_model.specs.declared.plan.Plan.{Plan}
 use Rattle.plan_model.specs.declared.plan.Plan.TheVariants.{Leaf, Sort', Merge', Hash'}
 use Rattle.plan_model.specs.declared.task.Task.{Task}
@@ -11,53 +12,17 @@ use Rattle.plan_model.specs.Plans.{IsValid, Merges, covers, crosses, delivers, i
 use Rattle.plan_model.specs.Costs.{rows_in, sort_cost}
 use Rattle.adv_base.specs.declared.workload.parts.Item.{Item}
 use Rattle.planner.specs.declared.front.Front.{Front}
-use Rattle.planner.specs.declared.front.Tie.{Tie}
 use Rattle.planner.specs.declared.front.Front.TheVariants.{Any, Listed, Need}
 use Rattle.planner.specs.declared.cell.Cell.{Cell}
-use Rattle.planner.specs.declared.cell.Choice.{Choice}
-use Rattle.planner.specs.declared.cell.Choice.TheVariants.{Unknown, Read, MergeOf, HashOf}
-use Rattle.planner.specs.declared.cell.TheConstants.{IMPOSSIBLE}
-use Rattle.planner.specs.Sorts.{IsWantedList}
-use Rattle.planner.specs.Fronts.{asked, first_item, front_order, listed, AreNeeded, AreWays}
+use Rattle.planner.specs.declared.ways.Ways.{Ways}
+use Rattle.planner.specs.Sorts.{IsNeeded, IsWantedList}
+use Rattle.planner.specs.Fronts.{asked, first_item, front_order, is_need, listed, needs_item, AreNeeded}
 use Rattle.planner.specs.Cells.{cell_at, cost_at, any_at}
-use Rattle.planner.specs.Choices.{IsCut, IsRead, IsMerge, IsHash, IsJoinOf, IsJoin, IsOffer, IsSorting, merge_price, hash_price}
-use Rattle.planner.specs.Built.{IsPlanFor, IsSortOf, IsMergeOf, IsHashOf, IsChosen, is_sorted, front_cost}
-use Rattle.planner.specs.Rows.{IsRow}
-use Rattle.planner.proofs.Begins.{begins_self, begins_trans}
-
--- what a choice says
-module _ (task : Task) (table : OfferTable) (list : Order) (fronts : List Front) (rows : ℕ → List Cell) (set f cost : ℕ) (choice : Choice) (chosen : IsOffer task table (asked list fronts f) set cost choice ⊎ IsJoin task list fronts rows set f cost choice) where
-  pub chosen_unknown : choice ≡ Unknown → cost ≡ IMPOSSIBLE
-  chosen_unknown e =
-      elim chosen [
-        | inl offer ↦ subst (IsOffer task table (asked list fronts f) set cost) e offer
-        | inr join ↦ absurd (subst (IsJoinOf task list fronts (rows join.a) (rows (set - join.a)) join.a (set - join.a) f cost) e join.join)
-      ]
-
-  pub chosen_read : (slot offer : ℕ) → choice ≡ Read slot offer → IsRead task table (asked list fronts f) set cost slot offer
-  chosen_read slot offer e =
-      elim chosen [
-        | inl o ↦ subst (IsOffer task table (asked list fronts f) set cost) e o
-        | inr join ↦ absurd (subst (IsJoinOf task list fronts (rows join.a) (rows (set - join.a)) join.a (set - join.a) f cost) e join.join)
-      ]
-
-  pub chosen_merge : (edge a g h : ℕ) → choice ≡ MergeOf edge a g h → IsCut set a × IsMerge task list fronts (rows a) (rows (set - a)) a (set - a) f cost edge g h
-  chosen_merge edge a g h e =
-      elim chosen [
-        | inl o ↦ absurd (subst (IsOffer task table (asked list fronts f) set cost) e o)
-        | inr join ↦
-            let w = subst (IsJoinOf task list fronts (rows join.a) (rows (set - join.a)) join.a (set - join.a) f cost) e join.join in
-            subst (λ x. IsCut set x × IsMerge task list fronts (rows x) (rows (set - x)) x (set - x) f cost edge g h) (sym w.0) (join.cut, w.1)
-      ]
-
-  pub chosen_hash : (a : ℕ) → choice ≡ HashOf a → IsCut set a × IsHash task list fronts (rows a) (rows (set - a)) a (set - a) f cost
-  chosen_hash a e =
-      elim chosen [
-        | inl o ↦ absurd (subst (IsOffer task table (asked list fronts f) set cost) e o)
-        | inr join ↦
-            let w = subst (IsJoinOf task list fronts (rows join.a) (rows (set - join.a)) join.a (set - join.a) f cost) e join.join in
-            subst (λ x. IsCut set x × IsHash task list fronts (rows x) (rows (set - x)) x (set - x) f cost) (sym w.0) (join.cut, w.1)
-      ]
+use Rattle.planner.specs.Cuts.{IsCut, merge_price, hash_price}
+use Rattle.planner.specs.Choices.{IsRead, IsMerge, IsHash, IsSorting}
+use Rattle.planner.specs.Built.{IsPlanFor, IsSortOf, IsMergeOf, IsHashOf, is_sorted, front_cost}
+use Rattle.planner.specs.Rows.{NoneLess}
+use Rattle.planner.proofs.Begins.{begins_self, begins_trans, same_item}
 
 pub read_built : (sorts : Bool) (task : Task) (table : OfferTable) (order : Order) (set cost slot offer : ℕ) → IsRead task table order set cost slot offer → IsPlanFor sorts task table order set cost (Leaf slot offer)
 read_built sorts task table order set cost slot offer h =
@@ -127,20 +92,6 @@ hash_built sorts task table list fronts left right set a f cost l r (Hash' p x q
     } in
     subst (λ s. IsPlanFor sorts task table (asked list fronts f) set cost (Hash' p s q y)) (sym is.0) (subst (λ t. IsPlanFor sorts task table (asked list fronts f) set cost (Hash' p l q t)) (sym is.1) whole)
 
-chosen_cases : (task : Task) (table : OfferTable) (list : Order) (fronts : List Front) (rows : ℕ → List Cell) (set f cost : ℕ) (choice : Choice) → IsOffer task table (asked list fronts f) set cost choice ⊎ IsJoin task list fronts rows set f cost choice → cost < IMPOSSIBLE → IsChosen task table list fronts rows set f cost choice
-chosen_cases task table list fronts rows set f cost Unknown chosen possible =
-    let none = chosen_unknown task table list fronts rows set f cost Unknown chosen refl in absurd (omega arith)
-chosen_cases task table list fronts rows set f cost (Read slot offer) chosen possible =
-    chosen_read task table list fronts rows set f cost (Read slot offer) chosen slot offer refl
-chosen_cases task table list fronts rows set f cost (MergeOf edge a g h) chosen possible =
-    chosen_merge task table list fronts rows set f cost (MergeOf edge a g h) chosen edge a g h refl
-chosen_cases task table list fronts rows set f cost (HashOf a) chosen possible =
-    chosen_hash task table list fronts rows set f cost (HashOf a) chosen a refl
-
-pub chosen_of : (task : Task) (table : OfferTable) (list : Order) (fronts : List Front) (rows : ℕ → List Cell) (set f : ℕ) (row : List Cell) (cell : Cell) → IsRow task table list fronts rows set row → f < length fronts → cost_at row f < IMPOSSIBLE → cell ≡ cell_at row f → IsChosen task table list fronts rows set f (cost_at row f) cell.choice
-chosen_of task table list fronts rows set f row cell h within possible is =
-    subst (λ (x : Cell). IsChosen task table list fronts rows set f (cost_at row f) x.choice) (sym is) (chosen_cases task table list fronts rows set f (cost_at row f) (cell_at row f).choice (h.chosen f within) possible)
-
 -- where no sort is on top, the cost is the one without
 pub plain_cost : (row : List Cell) (f : ℕ) (sorts : Bool) (cell : Cell) → cell ≡ cell_at row f → is_sorted cell sorts ≡ false → front_cost sorts row f ≡ cost_at row f
 plain_cost row f false cell is e = refl
@@ -149,12 +100,12 @@ plain_cost row f true cell is e =
     same
 
 -- where a sort is on top, the costs with and without it differ
-top_differs : (row : List Cell) (f : ℕ) (sorts : Bool) (cell : Cell) → cell ≡ cell_at row f → is_sorted cell sorts ≡ true → ¬ (any_at row f ≡ cost_at row f)
+pub top_differs : (row : List Cell) (f : ℕ) (sorts : Bool) (cell : Cell) → cell ≡ cell_at row f → is_sorted cell sorts ≡ true → ¬ (any_at row f ≡ cost_at row f)
 top_differs row f false cell is e = absurd (false≢true e)
 top_differs row f true cell is e =
     eqb-false (cell_at row f).any (cell_at row f).cost (not-true ((cell_at row f).any == (cell_at row f).cost) (subst (λ (x : Cell). not (x.any == x.cost) ≡ true) is e))
 
--- and it made the cost
+-- and a sort made the cost
 pub sorted_top : (task : Task) (list : Order) (fronts : List Front) (row : List Cell) (set f : ℕ) (sorts : Bool) (cell : Cell) → cell ≡ cell_at row f → is_sorted cell sorts ≡ true → (any_at row f ≡ cost_at row f) ⊎ IsSorting task list fronts row set f (any_at row f) → (sorts ≡ true) × IsSorting task list fronts row set f (any_at row f)
 sorted_top task list fronts row set f false cell is e h = absurd (false≢true e)
 sorted_top task list fronts row set f true cell is e (inr h) = (refl, h)
@@ -162,41 +113,61 @@ sorted_top task list fronts row set f true cell is e (inl h) =
     absurd (top_differs row f true cell is e h)
 
 -- a plan without a sort at its top may stand where a sort may
-valid_sorting : (task : Task) (table : OfferTable) (plan : Plan) → IsValid false task table plan → IsValid true task table plan
+pub valid_sorting : (task : Task) (table : OfferTable) (plan : Plan) → IsValid false task table plan → IsValid true task table plan
 valid_sorting task table (Leaf slot offer) h = h
 valid_sorting task table (Sort' o p i) h = absurd (false≢true h.0)
 valid_sorting task table (Merge' e p l q r) h = h
 valid_sorting task table (Hash' p l q r) h = h
 
+needed_edge : (item : Item) (need : Option Item) → is_need item need ≡ true → need ≡ Some item
+needed_edge item None h = absurd (false≢true h)
+needed_edge item (Some other) h = ap (λ t. Some t) (same_item other item h)
+
+needed_of : (item : Item) (edges : List TaskEdge) → list_any (needs_item item) edges ≡ true → IsNeeded edges item
+needed_of item [] h = absurd (false≢true h)
+needed_of item (x ∷ xs) h =
+    elim (or_cases (needs_item item x) (list_any (needs_item item) xs) h) [
+      | inl here ↦ record {
+        number = 0;
+        edge = x;
+        found = refl;
+        needs = elim (or_cases (is_need item x.left_need) (is_need item x.right_need) here) [
+          | inl left ↦ inl (needed_edge item x.left_need left)
+          | inr right ↦ inr (needed_edge item x.right_need right)
+        ];
+      }
+      | inr later ↦ let w = needed_of item xs later in record { number = suc w.number; edge = w.edge; found = w.found; needs = w.needs }
+    ]
+
 front_wanted : (task : Task) (fronts : List Front) (f : ℕ) (x : Front) → slice_index_or fronts f Any ≡ x → f < length fronts → AreNeeded task.edges fronts → ¬ (x ≡ Any) → IsWantedList task (front_order (listed task) x)
 front_wanted task fronts f Any is within needed some = absurd (some refl)
 front_wanted task fronts f Listed is within needed some = inl refl
-front_wanted task fronts f (Need item) is within needed some = inr (item, refl, needed.each f item within is)
+front_wanted task fronts f (Need item) is within needed some = inr (item, refl, needed_of item task.edges (needed.each f item within is))
 
 -- A sort stands on top only by a wanted list: one for a front that asks nothing would cost no more than its input.
-pub sort_wanted : (task : Task) (table : OfferTable) (fronts : List Front) (heads : List (Option Item)) (ties : List Tie) (rows : ℕ → List Cell) (set f : ℕ) (row : List Cell) (sorts : Bool) (cell : Cell) (input : Plan) → AreWays task fronts heads ties → IsRow task table (listed task) fronts rows set row → f < length fronts → cell ≡ cell_at row f → is_sorted cell sorts ≡ true → IsSorting task (listed task) fronts row set f (any_at row f) → IsPlanFor false task table (asked (listed task) fronts 0) set (cost_at row 0) input → IsWantedList task (asked (listed task) fronts f)
-sort_wanted task table fronts heads ties rows set f row sorts cell input ways h within is e sorting inner =
-    let count = ways.first.count in
-    let any_is : ¬ (slice_index_or fronts f Any ≡ Any) = λ any.
-    let asks_none : asked (listed task) fronts f ≡ [] = ap (front_order (listed task)) any in
+pub sort_wanted : (ways : Ways) (table : OfferTable) (set f : ℕ) (row : List Cell) (input : Plan) → f < length ways.fronts.items → ¬ (any_at row f ≡ cost_at row f) → NoneLess true ways.task.now table (asked (listed ways.task.now) ways.fronts.items f) set (any_at row f) → IsSorting ways.task.now (listed ways.task.now) ways.fronts.items row set f (any_at row f) → IsPlanFor false ways.task.now table (asked (listed ways.task.now) ways.fronts.items 0) set (cost_at row 0) input → IsWantedList ways.task.now (asked (listed ways.task.now) ways.fronts.items f)
+sort_wanted ways table set f row input within differs least sorting inner =
+    let count = ways.known.needs.first.count in
+    let any_is : ¬ (slice_index_or ways.fronts.items f Any ≡ Any) = λ any.
+    let asks_none : asked (listed ways.task.now) ways.fronts.items f ≡ [] = ap (front_order (listed ways.task.now)) any in
     elim (cases_lt f 2) [
       | inl less ↦
           elim (cases_lt f 1) [
             | inl first ↦
                 let zeroth : f ≡ 0 = omega arith in
-                let bound = (h.least_any f within).each input (valid_sorting task table input inner.valid) inner.covers_set (subst (BeginsWith (delivers table input)) (sym asks_none) refl) in
+                let bound = least.each input (valid_sorting ways.task.now table input inner.valid) inner.covers_set (subst (BeginsWith (delivers table input)) (sym asks_none) refl) in
                 let costs = inner.costs in
                 let sum = sorting.costs in
                 let same : cost_at row f ≡ cost_at row 0 = ap (cost_at row) zeroth in
-                top_differs row f sorts cell is e (omega arith)
+                differs (omega arith)
             | inr second ↦
                 let one : f ≡ 1 = omega arith in
-                let listed_is : slice_index_or fronts f Any ≡ Listed = ap (λ k. slice_index_or fronts k Any) one ∙ ways.all in
+                let listed_is : slice_index_or ways.fronts.items f Any ≡ Listed = ap (λ k. slice_index_or ways.fronts.items k Any) one ∙ ways.known.needs.all in
                 cc
           ]
-      | inr past ↦ ways.apart.asks f (omega arith) (omega arith) (ways.first.each f within ∙ ap first_item asks_none)
+      | inr past ↦ ways.known.needs.apart.asks f (omega arith) (omega arith) (ways.known.needs.first.each f within ∙ ap first_item asks_none)
     ] in
-    front_wanted task fronts f (slice_index_or fronts f Any) refl within ways.needed any_is
+    front_wanted ways.task.now ways.fronts.items f (slice_index_or ways.fronts.items f Any) refl within ways.known.needs.needed any_is
 
 pub asked_sort : (l list : Order) (x : Front) (fronts : List Front) (f : ℕ) (input plan : Plan) → l ≡ list → x ≡ slice_index_or fronts f Any → IsSortOf (front_order l x) input plan → IsSortOf (asked list fronts f) input plan
 asked_sort l list x fronts f input plan same is h =

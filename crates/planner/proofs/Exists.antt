@@ -22,7 +22,7 @@ use Rattle.plan_model.specs.declared.task.Task.{Task}
 use Rattle.plan_model.specs.Limits.Tasks.{ends, EdgeLimits, RowLimits}
 use Rattle.plan_model.specs.OfferTables.{price_at, OfferLimits, OfferTableLimits, HasOffers}
 use Rattle.plan_model.specs.Plans.{IsValid, covers, crosses}
-use Rattle.plan_model.specs.Costs.{plan_cost, rows_in, hash_cost}
+use Rattle.plan_model.specs.Costs.{plan_cost, rows_in, hash_cost, merge_cost}
 use Rattle.planner.proofs.Lower.{covers_some}
 
 -- a set below 2 ^ n and the rest of all slots are apart
@@ -108,13 +108,23 @@ rows_most rows s limits =
       | inr past ↦ omega (arith, get_or_past rows s 0 past)
     ]
 
-hash_most : (task : Task) (l r j : ℕ) → l ≤ 1000000000000 → r ≤ 1000000000000 → j ≤ 1000000000000 → hash_cost task.rates l r j ≤ 4000000000000000000
+pub hash_most : (task : Task) (l r j : ℕ) → l ≤ 1000000000000 → r ≤ 1000000000000 → j ≤ 1000000000000 → hash_cost task.rates l r j ≤ 4000000000000000000
 unfolding hash_cost
 hash_most task l r j hl hr hj =
     let sides : l + 2 * r ≤ 3000000000000 = omega arith in
     let rate : task.rates.hash_cpu ≤ 1000000 = task.rates.limits.hash_cpu_most in
     let out : task.rates.row_cpu ≤ 1000000 = task.rates.limits.row_cpu_most in
     let x : task.rates.hash_cpu * (l + 2 * r) ≤ 1000000 * 3000000000000 = mul-le-mul rate sides in
+    let y : task.rates.row_cpu * j ≤ 1000000 * 1000000000000 = mul-le-mul out hj in
+    omega arith
+
+pub merge_most : (task : Task) (l r j : ℕ) → l ≤ 1000000000000 → r ≤ 1000000000000 → j ≤ 1000000000000 → merge_cost task.rates l r j ≤ 4000000000000000000
+unfolding merge_cost
+merge_most task l r j hl hr hj =
+    let sides : l + r ≤ 2000000000000 = omega arith in
+    let rate : task.rates.merge_cpu ≤ 1000000 = task.rates.limits.merge_cpu_most in
+    let out : task.rates.row_cpu ≤ 1000000 = task.rates.limits.row_cpu_most in
+    let x : task.rates.merge_cpu * (l + r) ≤ 1000000 * 2000000000000 = mul-le-mul rate sides in
     let y : task.rates.row_cpu * j ≤ 1000000 * 1000000000000 = mul-le-mul out hj in
     omega arith
 

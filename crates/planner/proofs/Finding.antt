@@ -1,11 +1,10 @@
 -- The least plan, from the table of all sets.
-use Rattle.std.proofs.Common.{Global, ◌≡◌, ℕ, ◌-◌, ◌^◌, ◌<◌, ◌≤◌, cond, List, length, Option, refl, sym, ap, ◌∙◌, subst, arith}
+use Rattle.std.proofs.Common.{Global, ◌≡◌, ℕ, ◌-◌, ◌^◌, ◌<◌, ◌≤◌, cond, List, length, refl, sym, ap, ◌∙◌, subst, arith}
 use Rattle.std.proofs.Math.Nat.{one-le-pow}
 use Rattle.std.proofs.Math.Pow.{pow_mono}
 use Rattle.adv_base.specs.Items.{BeginsWith}
 use Rattle.adv_base.specs.Offers.{OfferTable}
 use Rattle.adv_base.specs.Sets.{all_slots}
-use Rattle.adv_base.specs.declared.workload.parts.Item.{Item}
 use Rattle.plan_model.specs.declared.plan.Plan.{Plan}
 use Rattle.plan_model.specs.declared.plan.Whole.{Whole}
 use Rattle.plan_model.specs.declared.task.Task.{Task}
@@ -14,17 +13,18 @@ use Rattle.plan_model.specs.Plans.{IsWhole, covers, delivers, body_sorts}
 use Rattle.plan_model.specs.Costs.{whole_cost, rows_in, sort_cost, group_cost, final_rows}
 use Rattle.plan_model.specs.Least.{Least}
 use Rattle.planner.specs.declared.front.Front.{Front}
-use Rattle.planner.specs.declared.front.Tie.{Tie}
 use Rattle.planner.specs.declared.cell.Cell.{Cell}
 use Rattle.planner.specs.declared.cell.TheConstants.{IMPOSSIBLE}
+use Rattle.planner.specs.declared.ways.Ways.{Ways}
 use Rattle.planner.specs.declared.whole.Shape.{Shape}
-use Rattle.planner.specs.Fronts.{asked, listed, AreWays}
-use Rattle.planner.specs.Cells.{cost_at, row_of}
-use Rattle.planner.specs.Rows.{IsTable}
+use Rattle.planner.specs.Fronts.{asked, listed}
+use Rattle.planner.specs.Cells.{cost_at}
+use Rattle.planner.specs.Rows.{sets_of, AreRows}
 use Rattle.planner.specs.Built.{front_cost, IsPlanFor}
 use Rattle.planner.specs.Shapes.{least_shape}
-use Rattle.planner.proofs.Lower.{IsLow}
-use Rattle.planner.proofs.Table.{row_low, nothing_asked, all_asked}
+use Rattle.planner.proofs.Fronting.{nothing_asked, all_asked}
+use Rattle.planner.proofs.Lower.{AreBlank, rows_low}
+use Rattle.planner.proofs.Upper.{plans}
 use Rattle.planner.proofs.Exists.{joined, rows_most}
 use Rattle.planner.proofs.Wholes.{IsLeastShape, shape_is}
 
@@ -34,25 +34,26 @@ full_is task full is =
     let some : 1 ≤ 2 ^ task.slots = one-le-pow task.slots 2 (omega arith) in
     (omega arith, omega arith)
 
-shape_at_all : (alloc : Global) (task : Task) (table : OfferTable) (fronts : List Front) (heads : List (Option Item)) (ties : List Tie) (row : List Cell) (shape : Shape) → OfferTableLimits table → HasOffers task.slots table → AreWays task fronts heads ties → IsLow task table (listed task) fronts (all_slots task.slots) row → shape ≡ least_shape task.group task row (rows_in task (all_slots task.slots)) → IsLeastShape task table (listed task) fronts row shape
-shape_at_all alloc task table fronts heads ties row shape limits has ways low is =
-    let some = ways.some in
-    let nothing = nothing_asked task fronts heads ties ways in
+pub full_in : (ways : Ways) → all_slots ways.task.now.slots < sets_of ways
+full_in ways =
+    let last = full_is ways.task.now (length ways.task.now.rows - 1) refl in omega (arith, last.0, last.1)
+
+pub shape_at : (alloc : Global) (ways : Ways) (table : OfferTable) (rows : ℕ → List Cell) (shape : Shape) → OfferTableLimits table → HasOffers ways.task.now.slots table → AreRows ways table rows (sets_of ways) → AreBlank ways rows → shape ≡ least_shape ways.task.now.group ways.task.now (rows (all_slots ways.task.now.slots)) (rows_in ways.task.now (all_slots ways.task.now.slots)) → IsLeastShape ways.task.now table (listed ways.task.now) ways.fronts.items (rows (all_slots ways.task.now.slots)) shape
+shape_at alloc ways table rows shape limits has closed blanks is =
+    let task : Task = ways.task.now in
+    let full : ℕ = all_slots task.slots in
+    let within = full_in ways in
+    let low = rows_low ways table rows closed blanks full within in
+    let some = ways.known.needs.some in
+    let nothing = nothing_asked ways in
     let j = joined alloc task table limits has in
     let least = (low.least 0 (omega arith)).each j.plan j.valid j.covers_all (subst (λ t. BeginsWith (delivers table j.plan) t) (sym nothing) refl) in
     let cost = j.cost in
     let most = task.limits.slots_most in
     let eight : 2 ^ task.slots ≤ 2 ^ 8 = pow_mono most in
     let all : all_slots task.slots ≤ 255 = omega arith in
-    let cheap : cost_at row 0 ≤ 10000000000000000000000 = omega arith in
-    shape_is task table fronts row some nothing (all_asked task fronts heads ties ways) low cheap (rows_most task.rows (all_slots task.slots) task.limits.rows_limits) shape is
-
-pub shape_at : (alloc : Global) (task : Task) (table : OfferTable) (fronts : List Front) (heads : List (Option Item)) (ties : List Tie) (cells : List Cell) (full : ℕ) (row : List Cell) (shape : Shape) → OfferTableLimits table → HasOffers task.slots table → AreWays task fronts heads ties → IsTable task table (listed task) fronts cells (length task.rows) → full ≡ length task.rows - 1 → row ≡ row_of (length fronts) cells full → shape ≡ least_shape task.group task row (rows_in task full) → IsLeastShape task table (listed task) fronts (row_of (length fronts) cells full) shape
-shape_at alloc task table fronts heads ties cells full row shape limits has ways t full_last row_is is =
-    let f = full_is task full full_last in
-    let low : IsLow task table (listed task) fronts full (row_of (length fronts) cells full) = row_low task table (listed task) fronts (row_of (length fronts) cells) full (row_of (length fronts) cells full) (t.rows full f.1) in
-    let here : shape ≡ least_shape task.group task (row_of (length fronts) cells full) (rows_in task (all_slots task.slots)) = is ∙ ap (λ r. least_shape task.group task r (rows_in task full)) row_is ∙ ap (λ s. least_shape task.group task (row_of (length fronts) cells full) (rows_in task s)) f.0 in
-    shape_at_all alloc task table fronts heads ties (row_of (length fronts) cells full) shape limits has ways (subst (λ s. IsLow task table (listed task) fronts s (row_of (length fronts) cells full)) f.0 low) here
+    let cheap : cost_at (rows full) 0 ≤ 10000000000000000000000 = omega arith in
+    shape_is task table ways.fronts.items (rows full) some nothing (all_asked ways) low cheap (rows_most task.rows (all_slots task.slots) task.limits.rows_limits) shape is
 
 -- what the shape makes of a body
 module _ (task : Task) (table : OfferTable) (fronts : List Front) (row : List Cell) (shape : Shape) (s : IsLeastShape task table (listed task) fronts row shape) where
@@ -91,3 +92,13 @@ module _ (task : Task) (table : OfferTable) (fronts : List Front) (row : List Ce
           plan = record { whole = record { body = body; group = shape.group; final_sort = shape.final_sort }; valid = whole_valid; costs = whole_costs };
           none_less = s.least;
         }
+
+-- the shape's cost is that of a least plan
+pub cost_is : (alloc : Global) (ways : Ways) (table : OfferTable) (rows : ℕ → List Cell) (shape : Shape) → OfferTableLimits table → HasOffers ways.task.now.slots table → AreRows ways table rows (sets_of ways) → AreBlank ways rows → shape ≡ least_shape ways.task.now.group ways.task.now (rows (all_slots ways.task.now.slots)) (rows_in ways.task.now (all_slots ways.task.now.slots)) → Least ways.task.now table shape.cost
+cost_is alloc ways table rows shape limits has closed blanks is =
+    let task : Task = ways.task.now in
+    let full : ℕ = all_slots task.slots in
+    let within = full_in ways in
+    let s = shape_at alloc ways table rows shape limits has closed blanks is in
+    let body = plans alloc ways table rows closed blanks full within (body_sorts shape.group) shape.front (shape_front task table ways.fronts.items (rows full) shape s) (shape_possible task table ways.fronts.items (rows full) shape s) in
+    whole_least task table ways.fronts.items (rows full) shape s full refl body.plan body.is

@@ -1,6 +1,8 @@
 -- Fronts that grow.
 use Rattle.std.proofs.Common.{◌≡◌, ℕ, zero, suc, ◌+◌, ◌<◌, inl, inr, Bool, true, false, cond, List, [], ◌∷◌, ◌++◌, length, Option, Some, None, slice_get, slice_index_or, refl, sym, ap, ◌∙◌, subst, arith}
-use Rattle.std.proofs.lemmas.Bool.{cases_lt}
+use Rattle.std.proofs.Math.Logic.{∥∥₁_map}
+use Rattle.std.specs.List.{list_any}
+use Rattle.std.proofs.lemmas.Bool.{cases_lt, or_left, or_right, or_cases, and_parts, and_from, eqb-true, eq-eqb, false≢true}
 use Rattle.std.proofs.lemmas.List.{get_or_append_left, get_or_push, length_push}
 use Rattle.std.proofs.lemmas.Option.{slice_get_within, same_Some, slice_get-get_or}
 use Rattle.adv_base.specs.Items.{Order}
@@ -8,12 +10,11 @@ use Rattle.adv_base.specs.declared.workload.parts.Item.{Item}
 use Rattle.plan_model.specs.declared.edge.TaskEdge.{TaskEdge}
 use Rattle.plan_model.specs.declared.task.Task.{Task}
 use Rattle.plan_model.specs.Orders.{is_same_item, need_order}
-use Rattle.planner.specs.Sorts.{IsNeeded}
 use Rattle.planner.specs.declared.front.Front.{Front}
 use Rattle.planner.specs.declared.front.Front.TheVariants.{Any, Listed, Need}
-use Rattle.planner.specs.declared.front.Tie.{Tie}
-use Rattle.planner.specs.Fronts.{front_order, first_item, longer_front, need_front, no_tie, listed, IsTie, IsGrowing, AreFronts, AreHeadsApart, AreHeads, AreTiesBelow, AreNeeded, AreWays, IsAdded}
-use Rattle.planner.proofs.Begins.{same_item}
+use Rattle.planner.specs.declared.front.Link.{Link}
+use Rattle.planner.specs.Fronts.{asked, front_order, first_item, longer_front, need_front, is_need, needs_item, no_link, link_at, is_alike, listed, Ties, IsLink, IsGrowing, AreFronts, AreHeadsApart, AreHeads, AreLinks, AreNeeded, AreNeeds, IsAdded, IsKeeping}
+use Rattle.planner.proofs.Begins.{same_item, item_same}
 
 pub growing_none : (fronts : List Front) → IsGrowing fronts fronts
 growing_none fronts = record { longer = omega arith; keeps = λ k h. refl }
@@ -69,7 +70,7 @@ need_is : (need : Option Item) (item : Item) → need_front need ≡ Need item �
 need_is None item is = absurd (cc)
 need_is (Some other) item is = cc
 
-needed_step : (edges : List TaskEdge) (x y : List Front) (need : Option Item) → IsGrowing x y → IsAdded x y (need_front need) → ((item : Item) → need ≡ Some item → IsNeeded edges item) → AreNeeded edges x → AreNeeded edges y
+needed_step : (edges : List TaskEdge) (x y : List Front) (need : Option Item) → IsGrowing x y → IsAdded x y (need_front need) → ((item : Item) → need ≡ Some item → list_any (needs_item item) edges ≡ true) → AreNeeded edges x → AreNeeded edges y
 needed_step edges x y need g a needs n =
     record {
       each = λ f item within is.
@@ -79,11 +80,20 @@ needed_step edges x y need g a needs n =
           ];
     }
 
+any_edge : (p : TaskEdge → Bool) (edges : List TaskEdge) (k : ℕ) (edge : TaskEdge) → slice_get edges k ≡ Some edge → p edge ≡ true → list_any p edges ≡ true
+any_edge p [] k edge found passes = cc
+any_edge p (x ∷ xs) zero edge found passes =
+    let e : x ≡ edge = cc in or_left (p x) (list_any p xs) (ap p e ∙ passes)
+any_edge p (x ∷ xs) (suc k) edge found passes = or_right (p x) (list_any p xs) (any_edge p xs k edge found passes)
+
+need_passes : (need : Option Item) (item : Item) → need ≡ Some item → is_need item need ≡ true
+need_passes need item is = ap (is_need item) is ∙ item_same item
+
 -- after the fronts of an edge's needs
 pub needed_more : (edges : List TaskEdge) (x y z : List Front) (k : ℕ) (edge : TaskEdge) → slice_get edges k ≡ Some edge → IsGrowing x y → IsGrowing y z → IsAdded x y (need_front edge.left_need) → IsAdded y z (need_front edge.right_need) → AreNeeded edges x → AreNeeded edges z
 needed_more edges x y z k edge found g h a b n =
-    let left : AreNeeded edges y = needed_step edges x y edge.left_need g a (λ item is. record { number = k; edge = edge; found = found; needs = inl is }) n in
-    needed_step edges y z edge.right_need h b (λ item is. record { number = k; edge = edge; found = found; needs = inr is }) left
+    let left : AreNeeded edges y = needed_step edges x y edge.left_need g a (λ item is. any_edge (needs_item item) edges k edge found (or_left (is_need item edge.left_need) (is_need item edge.right_need) (need_passes edge.left_need item is))) n in
+    needed_step edges y z edge.right_need h b (λ item is. any_edge (needs_item item) edges k edge found (or_right (is_need item edge.left_need) (is_need item edge.right_need) (need_passes edge.right_need item is))) left
 
 start_needs : (f : ℕ) (item : Item) → f < 2 → ¬ (slice_index_or (Any ∷ Listed ∷ []) f Any ≡ Need item)
 start_needs zero item within is = cc
@@ -94,47 +104,125 @@ start_needs (suc (suc f)) item within is = absurd (omega arith)
 pub needed_start : (edges : List TaskEdge) → AreNeeded edges (Any ∷ Listed ∷ [])
 needed_start edges = record { each = λ f item within is. absurd (start_needs f item within is) }
 
-pub tie_grows : (list : Order) (x y : List Front) (edge : TaskEdge) (tie : Tie) → IsGrowing x y → IsTie list x edge tie → IsTie list y edge tie
-tie_grows list x y edge tie g t =
+ties_grow : (list : Order) (x y : List Front) (edge : TaskEdge) (link : Link) → IsGrowing x y → Ties list x edge link → Ties list y edge link
+ties_grow list x y edge link g t =
     let longer = g.longer in
     let left = t.left_in in
     let right = t.right_in in
     record {
+      left_slot = t.left_slot;
+      right_slot = t.right_slot;
       left_in = omega arith;
       right_in = omega arith;
-      left_asks = ap (front_order list) (g.keeps tie.left left) ∙ t.left_asks;
-      right_asks = ap (front_order list) (g.keeps tie.right right) ∙ t.right_asks;
+      left_asks = ap (front_order list) (g.keeps link.left_front left) ∙ t.left_asks;
+      right_asks = ap (front_order list) (g.keeps link.right_front right) ∙ t.right_asks;
     }
 
--- one more edge, whose needs have these fronts
-pub ties_more : (list : Order) (x y z : List Front) (edges : List TaskEdge) (ties : List Tie) (n : ℕ) (edge : TaskEdge) (tie : Tie) → slice_get edges n ≡ Some edge → IsGrowing x y → IsGrowing y z → tie.left < length y → slice_index_or y tie.left Any ≡ need_front edge.left_need → tie.right < length z → slice_index_or z tie.right Any ≡ need_front edge.right_need → AreTiesBelow list x edges ties n → AreTiesBelow list z edges (ties ++ tie ∷ []) (n + 1)
-ties_more list x y z edges ties n edge tie found g h left_in left_is right_in right_is t =
+link_grows : (list : Order) (x y : List Front) (edges : List TaskEdge) (link : Link) → IsGrowing x y → IsLink list x edges link → IsLink list y edges link
+link_grows list x y edges link g l =
+    record { number = l.number; tied = λ edge found. ties_grow list x y edge link g (l.tied edge found) }
+
+-- links alike tie the same edges
+alike_ties : (list : Order) (fronts : List Front) (edge : TaskEdge) (x y : Link) → is_alike x y ≡ true → Ties list fronts edge x → Ties list fronts edge y
+alike_ties list fronts edge x y h t =
+    let p = and_parts _ _ h in
+    let q = and_parts _ _ p.0 in
+    let r = and_parts _ _ q.0 in
+    let left : x.left ≡ y.left = eqb-true x.left y.left r.0 in
+    let right : x.right ≡ y.right = eqb-true x.right y.right r.1 in
+    let left_front : x.left_front ≡ y.left_front = eqb-true x.left_front y.left_front q.1 in
+    let right_front : x.right_front ≡ y.right_front = eqb-true x.right_front y.right_front p.1 in
+    record {
+      left_slot = t.left_slot ∙ left;
+      right_slot = t.right_slot ∙ right;
+      left_in = subst (λ f. f < length fronts) left_front t.left_in;
+      right_in = subst (λ f. f < length fronts) right_front t.right_in;
+      left_asks = ap (asked list fronts) (sym left_front) ∙ t.left_asks;
+      right_asks = ap (asked list fronts) (sym right_front) ∙ t.right_asks;
+    }
+
+alike_self : (x : Link) → is_alike x x ≡ true
+alike_self x =
+    and_from _ _ (and_from _ _ (and_from _ _ (eq-eqb x.left x.left refl) (eq-eqb x.right x.right refl)) (eq-eqb x.left_front x.left_front refl)) (eq-eqb x.right_front x.right_front refl)
+
+alike_place : (x : Link) (links : List Link) → list_any (is_alike x) links ≡ true → (i : ℕ) × (i < length links) × (is_alike x (link_at links i) ≡ true)
+alike_place x [] h = absurd (false≢true h)
+alike_place x (y ∷ ys) h =
+    elim (or_cases (is_alike x y) (list_any (is_alike x) ys) h) [
+      | inl here ↦ (0, omega arith, here)
+      | inr later ↦ let w = alike_place x ys later in (suc w.0, omega (arith, w.1), w.2)
+    ]
+
+pub keeping_none : (links : List Link) (link : Link) → list_any (is_alike link) links ≡ true → IsKeeping links links link
+keeping_none links link h =
+    let w = alike_place link links h in
+    record {
+      longer = omega arith;
+      keeps = λ i within. refl;
+      added = λ i past within. absurd (omega arith);
+      place = w.0;
+      place_in = w.1;
+      alike = w.2;
+    }
+
+pub keeping_push : (links : List Link) (link : Link) → IsKeeping links (links ++ link ∷ []) link
+keeping_push links link =
+    let more : length (links ++ link ∷ []) ≡ length links + 1 = length_push links link in
+    let last : link_at (links ++ link ∷ []) (length links) ≡ link = get_or_push links link no_link (length links) refl in
+    record {
+      longer = omega arith;
+      keeps = λ i within. get_or_append_left links (link ∷ []) no_link i within;
+      added = λ i past within. get_or_push links link no_link i (omega arith);
+      place = length links;
+      place_in = omega arith;
+      alike = ap (is_alike link) last ∙ alike_self link;
+    }
+
+-- one more edge, whose link has these fronts
+pub links_more : (list : Order) (x y z : List Front) (edges : List TaskEdge) (old new : List Link) (k : ℕ) (edge : TaskEdge) (left right : ℕ) → slice_get edges k ≡ Some edge → IsGrowing x y → IsGrowing y z → left < length y → slice_index_or y left Any ≡ need_front edge.left_need → right < length z → slice_index_or z right Any ≡ need_front edge.right_need → IsKeeping old new (record { edge = k; left = edge.left; right = edge.right; left_front = left; right_front = right }) → AreLinks list x edges old k → AreLinks list z edges new (k + 1)
+links_more list x y z edges old new k edge left right found g h left_in left_is right_in right_is kept t =
+    let link : Link = record { edge = k; left = edge.left; right = edge.right; left_front = left; right_front = right } in
     let grown = growing_then x y z g h in
-    let longer = h.longer in
-    let count = t.count in
-    let here : IsTie list z edge tie = record {
+    let more = h.longer in
+    let here : Ties list z edge link = record {
+      left_slot = refl;
+      right_slot = refl;
       left_in = omega arith;
       right_in = right_in;
-      left_asks = ap (front_order list) (h.keeps tie.left left_in ∙ left_is) ∙ need_asks list edge.left_need;
+      left_asks = ap (front_order list) (h.keeps left left_in ∙ left_is) ∙ need_asks list edge.left_need;
       right_asks = ap (front_order list) right_is ∙ need_asks list edge.right_need;
     } in
+    let longer = kept.longer in
     record {
-      count = omega (arith, length_push ties tie);
-      each = λ k e within at.
-          elim (cases_lt k n) [
-            | inl less ↦
-                let is : slice_index_or (ties ++ tie ∷ []) k no_tie ≡ slice_index_or ties k no_tie = get_or_append_left ties (tie ∷ []) no_tie k (omega arith) in
-                subst (IsTie list z e) (sym is) (tie_grows list x z e (slice_index_or ties k no_tie) grown (t.each k e less at))
+      each = λ i within.
+          elim (cases_lt i (length old)) [
+            | inl less ↦ subst (IsLink list z edges) (sym (kept.keeps i less)) (link_grows list x z edges (link_at old i) grown (t.each i less))
+            | inr past ↦ subst (IsLink list z edges) (sym (kept.added i past within)) (record {
+              number = slice_get_within edges k edge found;
+              tied = λ e at. subst (λ d. Ties list z d link) (same_Some edge e (sym found ∙ at)) here;
+            })
+          ];
+      all = λ j e within at.
+          elim (cases_lt j k) [
+            | inl less ↦ ∥∥₁_map (t.all j e less at) (λ w. record {
+              link = w.link;
+              link_in = (let inside = w.link_in in omega arith);
+              ties = subst (Ties list z e) (sym (kept.keeps w.link w.link_in)) (ties_grow list x z e (link_at old w.link) grown w.ties);
+            })
             | inr past ↦
-                let same : n ≡ k = omega arith in
-                let is : slice_index_or (ties ++ tie ∷ []) k no_tie ≡ tie = get_or_push ties tie no_tie k (omega arith) in
-                let edges_same : edge ≡ e = same_Some edge e (sym found ∙ subst (λ j. slice_get edges j ≡ Some e) (sym same) at) in
-                subst (IsTie list z e) (sym is) (subst (λ d. IsTie list z d tie) edges_same here)
+                let same : k ≡ j = omega arith in
+                let edges_same : edge ≡ e = same_Some edge e (sym found ∙ subst (λ n. slice_get edges n ≡ Some e) (sym same) at) in
+                ∣ record {
+                  link = kept.place;
+                  link_in = kept.place_in;
+                  ties = subst (λ d. Ties list z d (link_at new kept.place)) edges_same (alike_ties list z edge link (link_at new kept.place) kept.alike here);
+                } ∣₁
           ];
     }
 
-pub ties_none : (list : Order) (fronts : List Front) (edges : List TaskEdge) → AreTiesBelow list fronts edges [] 0
-ties_none list fronts edges = record { count = refl; each = λ k e h at. absurd (omega arith) }
+pub links_none : (list : Order) (fronts : List Front) (edges : List TaskEdge) → AreLinks list fronts edges [] 0
+links_none list fronts edges =
+    record { each = λ i within. absurd (omega arith); all = λ k edge within found. absurd (omega arith) }
 
 -- needs of two items have no order in common
 longer_none : (y z : Item) (x f : ℕ) (b : Bool) → is_same_item y z ≡ b → ¬ (y ≡ z) → cond b (Some f) None ≡ None
@@ -166,8 +254,8 @@ apart_from list fronts heads f h =
           ap (λ t. longer_front t (slice_index_or heads k None) x k) (head x n.0 (omega arith) n.1) ∙ ap (λ t. longer_front (Some n.0) t x k) (head k m.0 (omega arith) m.1) ∙ longer_none n.0 m.0 x k (is_same_item n.0 m.0) refl differ;
     }
 
-pub ways_from : (task : Task) (fronts : List Front) (heads : List (Option Item)) (ties : List Tie) → AreFronts fronts → AreNeeded task.edges fronts → AreHeads (listed task) fronts heads → AreTiesBelow (listed task) fronts task.edges ties (length task.edges) → AreWays task fronts heads ties
-ways_from task fronts heads ties f n h t =
+pub needs_from : (task : Task) (fronts : List Front) (heads : List (Option Item)) (links : List Link) → AreFronts fronts → AreNeeded task.edges fronts → AreHeads (listed task) fronts heads → AreLinks (listed task) fronts task.edges links (length task.edges) → AreNeeds task fronts heads links
+needs_from task fronts heads links f n h l =
     record {
       some = f.some;
       nothing = f.nothing;
@@ -175,7 +263,7 @@ ways_from task fronts heads ties f n h t =
       first = h;
       apart = apart_from (listed task) fronts heads f h;
       needed = n;
-      tied = record { count = t.count; each = λ k e at. t.each k e (slice_get_within task.edges k e at) at };
+      linked = l;
     }
 
 pub edge_found : (xs edges : List TaskEdge) (k : ℕ) (d : TaskEdge) → xs ≡ edges → k < length edges → slice_get edges k ≡ Some (slice_index_or xs k d)

@@ -1,10 +1,15 @@
 pub mod Begins
-pub mod Lower
 pub mod Steps
 pub mod Reading
-pub mod Table
 pub mod Growing
+pub mod Cutting
+pub mod Merging
+pub mod Fronting
+pub mod Lower
 pub mod Building
+pub mod Upper
+pub mod Tabling
 pub mod Exists
 pub mod Wholes
 pub mod Finding
+pub mod Choosing

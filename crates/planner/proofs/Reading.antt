@@ -11,11 +11,9 @@ use Rattle.plan_model.specs.Orders.{is_same_item}
 use Rattle.plan_model.specs.OfferTables.{price_at, order_at}
 use Rattle.planner.specs.declared.front.Front.{Front}
 use Rattle.planner.specs.declared.cell.Cell.{Cell}
-use Rattle.planner.specs.declared.cell.Choice.TheVariants.{Read}
 use Rattle.planner.specs.Fronts.{asked, begins_test}
 use Rattle.planner.specs.Cells.{cell_at, cost_at, offered, better}
-use Rattle.planner.specs.Choices.{IsRead, IsOffer}
-use Rattle.planner.specs.Rows.{AreOffers, SlotBound}
+use Rattle.planner.specs.Rows.{AreOffers, OfferMade, SlotBound}
 use Rattle.planner.proofs.Begins.{same_item, same_from}
 use Rattle.planner.proofs.Steps.{better_cases, better_lower}
 
@@ -37,44 +35,46 @@ test_from_begins (x ∷ xs) (y ∷ ys) h =
     let rest : take (length ys) xs ≡ ys = cc in
     and_from (is_same_item x y) (begins_test xs ys) (same_from x y here) (test_from_begins xs ys rest)
 
-offered_lower_at : (cell : Cell) (b : Bool) (price slot offer : ℕ) → (offered cell b price slot offer).cost ≤ cell.cost
-offered_lower_at cell true price slot offer = (better_lower cell price (Read slot offer)).0
-offered_lower_at cell false price slot offer = omega arith
+offered_lower_at : (cell : Cell) (b : Bool) (price : ℕ) → (offered cell b price).cost ≤ cell.cost
+offered_lower_at cell true price = (better_lower cell price).0
+offered_lower_at cell false price = omega arith
 
 -- rows before and after one offer
-module _ (task : Task) (table : OfferTable) (list : Order) (fronts : List Front) (set slot offer : ℕ) (old new : List Cell) (each : (f : ℕ) → f < length fronts → cell_at new f ≡ offered (cell_at old f) (begins_test (order_at table slot offer) (asked list fronts f)) (price_at table slot offer) slot offer) where
+module _ (task : Task) (table : OfferTable) (list : Order) (fronts : List Front) (set slot offer : ℕ) (old new : List Cell) (each : (f : ℕ) → f < length fronts → cell_at new f ≡ offered (cell_at old f) (begins_test (order_at table slot offer) (asked list fronts f)) (price_at table slot offer)) where
   pub offered_lower : (f : ℕ) → f < length fronts → cost_at new f ≤ cost_at old f
   offered_lower f within =
-      subst (λ (x : Cell). x.cost ≤ cost_at old f) (sym (each f within)) (offered_lower_at (cell_at old f) (begins_test (order_at table slot offer) (asked list fronts f)) (price_at table slot offer) slot offer)
+      subst (λ (x : Cell). x.cost ≤ cost_at old f) (sym (each f within)) (offered_lower_at (cell_at old f) (begins_test (order_at table slot offer) (asked list fronts f)) (price_at table slot offer))
 
   pub offered_bound : (f : ℕ) → f < length fronts → BeginsWith (order_at table slot offer) (asked list fronts f) → cost_at new f ≤ price_at table slot offer
   offered_bound f within begins =
       let test = test_from_begins (order_at table slot offer) (asked list fronts f) begins in
-      let is : cell_at new f ≡ better (cell_at old f) (price_at table slot offer) (Read slot offer) = each f within ∙ ap (λ b. offered (cell_at old f) b (price_at table slot offer) slot offer) test in
-      subst (λ (x : Cell). x.cost ≤ price_at table slot offer) (sym is) (better_lower (cell_at old f) (price_at table slot offer) (Read slot offer)).1
+      let is : cell_at new f ≡ better (cell_at old f) (price_at table slot offer) = each f within ∙ ap (λ b. offered (cell_at old f) b (price_at table slot offer)) test in
+      subst (λ (x : Cell). x.cost ≤ price_at table slot offer) (sym is) (better_lower (cell_at old f) (price_at table slot offer)).1
 
-  offer_split : (slot_in : slot < task.slots) (offer_in : offer < length (table slot)) (set_is : 2 ^ slot ≡ set) (before : AreOffers task table list fronts set old) (f : ℕ) → f < length fronts → (b : Bool) → begins_test (order_at table slot offer) (asked list fronts f) ≡ b → cell_at new f ≡ offered (cell_at old f) b (price_at table slot offer) slot offer → IsOffer task table (asked list fronts f) set (cost_at new f) (cell_at new f).choice
-  offer_split slot_in offer_in set_is before f within false test is =
-      subst (λ (x : Cell). IsOffer task table (asked list fronts f) set x.cost x.choice) (sym is) (before.each f within)
-  offer_split slot_in offer_in set_is before f within true test is =
-      elim (better_cases (cell_at old f) (price_at table slot offer) (Read slot offer)) [
-        | inl h ↦ subst (λ (x : Cell). IsOffer task table (asked list fronts f) set x.cost x.choice) (sym (is ∙ h.0)) (before.each f within)
+  offer_split : (slot_in : slot < task.slots) (offer_in : offer < length (table slot)) (set_is : 2 ^ slot ≡ set) (f : ℕ) → f < length fronts → OfferMade task table (asked list fronts f) set (cost_at old f) → (b : Bool) → begins_test (order_at table slot offer) (asked list fronts f) ≡ b → cell_at new f ≡ offered (cell_at old f) b (price_at table slot offer) → OfferMade task table (asked list fronts f) set (cost_at new f)
+  offer_split slot_in offer_in set_is f within before false test is =
+      subst (λ (x : Cell). OfferMade task table (asked list fronts f) set x.cost) (sym is) before
+  offer_split slot_in offer_in set_is f within before true test is =
+      elim (better_cases (cell_at old f) (price_at table slot offer)) [
+        | inl h ↦ subst (λ (x : Cell). OfferMade task table (asked list fronts f) set x.cost) (sym (is ∙ h.0)) before
         | inr h ↦
-            let choice : (cell_at new f).choice ≡ Read slot offer = ap (λ (x : Cell). x.choice) is ∙ h.1 in
             let cost : cost_at new f ≡ price_at table slot offer = ap (λ (x : Cell). x.cost) is ∙ h.0 in
-            let read : IsRead task table (asked list fronts f) set (cost_at new f) slot offer = record {
-              slot_in = slot_in;
-              offer_in = offer_in;
-              set_is = set_is;
-              begins = begins_from_test (order_at table slot offer) (asked list fronts f) test;
-              costs = cost;
-            } in
-            subst (IsOffer task table (asked list fronts f) set (cost_at new f)) (sym choice) read
+            inr (record {
+              slot = slot;
+              offer = offer;
+              read = record {
+                slot_in = slot_in;
+                offer_in = offer_in;
+                set_is = set_is;
+                begins = begins_from_test (order_at table slot offer) (asked list fronts f) test;
+                costs = cost;
+              };
+            })
       ]
 
-  pub offered_offers : slot < task.slots → offer < length (table slot) → 2 ^ slot ≡ set → AreOffers task table list fronts set old → AreOffers task table list fronts set new
-  offered_offers slot_in offer_in set_is before =
-      record { each = λ f within. offer_split slot_in offer_in set_is before f within (begins_test (order_at table slot offer) (asked list fronts f)) refl (each f within) }
+  pub offered_made : slot < task.slots → offer < length (table slot) → 2 ^ slot ≡ set → AreOffers task table list fronts set old → AreOffers task table list fronts set new
+  offered_made slot_in offer_in set_is before =
+      record { each = λ f within. offer_split slot_in offer_in set_is f within (before.each f within) (begins_test (order_at table slot offer) (asked list fronts f)) refl (each f within) }
 
 pub slot_lower : (table : OfferTable) (order : Order) (slot cost less : ℕ) → less ≤ cost → SlotBound table order slot cost → SlotBound table order slot less
 slot_lower table order slot cost less low h =

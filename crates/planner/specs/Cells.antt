@@ -2,14 +2,11 @@
 use Rattle.std.specs.Prelude.{ℕ, ◌+◌, ◌*◌, nat_lt, Bool, ◌&&◌, Option, Some, None, if◌then◌else◌, List, take, drop, slice_index_or}
 use Rattle.adv_base.specs.declared.workload.parts.Item.{Item}
 use Rattle.planner.specs.declared.cell.Cell.{Cell}
-use Rattle.planner.specs.declared.cell.Merge.{Merge}
-use Rattle.planner.specs.declared.cell.Choice.{Choice}
-use Rattle.planner.specs.declared.cell.Choice.TheVariants.{Unknown, Read, MergeOf, HashOf}
 use Rattle.planner.specs.declared.cell.TheConstants.{IMPOSSIBLE}
 
 -- no plan
 abbrev pub blank : Cell
-blank = record { cost = IMPOSSIBLE; any = IMPOSSIBLE; choice = Unknown }
+blank = record { cost = IMPOSSIBLE; any = IMPOSSIBLE }
 
 abbrev pub cell_at : List Cell → ℕ → Cell
 cell_at row f = slice_index_or row f blank
@@ -25,23 +22,22 @@ abbrev pub row_of : ℕ → List Cell → ℕ → List Cell
 row_of width cells set = take width (drop (set * width) cells)
 
 -- the cell, or what is cheaper
-abbrev pub better : Cell → ℕ → Choice → Cell
-better cell cost choice = if nat_lt cost cell.cost then (record cell { cost = cost; choice = choice }) else cell
+abbrev pub better : Cell → ℕ → Cell
+better cell cost = if nat_lt cost cell.cost then (record cell { cost = cost }) else cell
 
 -- the cell after a merge whose left side serves the front g, if any, and else costs `base`
-abbrev pub merged : Cell → Option ℕ → List Cell → Merge → ℕ → Cell
-merged cell None left merge base = cell
-merged cell (Some g) left merge base =
-    better cell (any_at left g + base) (MergeOf merge.edge merge.left g merge.right_front)
+abbrev pub merged : Cell → Option ℕ → List Cell → ℕ → Cell
+merged cell None left base = cell
+merged cell (Some g) left base = better cell (any_at left g + base)
 
 -- the cell after a hash join of that cost, which serves only a front that asks nothing
-abbrev pub hashed : Cell → Option Item → ℕ → ℕ → Cell
-hashed cell None left cost = better cell cost (HashOf left)
-hashed cell (Some head) left cost = cell
+abbrev pub hashed : Cell → Option Item → ℕ → Cell
+hashed cell None cost = better cell cost
+hashed cell (Some head) cost = cell
 
 -- the cell after an offer, which serves the front or not
-abbrev pub offered : Cell → Bool → ℕ → ℕ → ℕ → Cell
-offered cell serves price slot offer = if serves then better cell price (Read slot offer) else cell
+abbrev pub offered : Cell → Bool → ℕ → Cell
+offered cell serves price = if serves then better cell price else cell
 
 -- the cell once it is known what a sort of the set costs, and whether the front's columns can be sorted by
 abbrev pub finished : Cell → Bool → ℕ → Cell

@@ -1,26 +1,19 @@
--- What the choices of cells say.
-use Rattle.std.specs.Prelude.{◌≡◌, ℕ, ◌+◌, ◌-◌, ◌^◌, ◌<◌, bit_and, true, List, [], length, All}
+-- What makes the costs of cells.
+use Rattle.std.specs.Prelude.{◌≡◌, ℕ, ◌+◌, ◌^◌, ◌<◌, ◌≤◌, ◌⊎◌, true, List, [], length, All, Option, Some, None}
 use Rattle.std.specs.List.{list_any}
 use Rattle.adv_base.specs.Items.{Order, BeginsWith}
 use Rattle.adv_base.specs.Offers.{OfferTable}
+use Rattle.adv_base.specs.declared.workload.parts.Item.{Item}
 use Rattle.plan_model.specs.declared.task.Task.{Task}
 use Rattle.plan_model.specs.OfferTables.{price_at, order_at}
 use Rattle.plan_model.specs.Plans.{Merges, crosses, is_column_of}
-use Rattle.plan_model.specs.Costs.{rows_in, sort_cost, merge_cost, hash_cost}
+use Rattle.plan_model.specs.Costs.{rows_in, sort_cost}
 use Rattle.planner.specs.declared.front.Front.{Front}
 use Rattle.planner.specs.declared.cell.Cell.{Cell}
-use Rattle.planner.specs.declared.cell.Choice.{Choice}
-use Rattle.planner.specs.declared.cell.Choice.TheVariants.{Unknown, Read, MergeOf, HashOf}
-use Rattle.planner.specs.declared.cell.TheConstants.{IMPOSSIBLE}
-use Rattle.planner.specs.Fronts.{asked}
+use Rattle.planner.specs.declared.cut.Merge.{Merge}
+use Rattle.planner.specs.Fronts.{asked, head_at, longer_front}
+use Rattle.planner.specs.Cuts.{merge_at, merge_price, hash_price}
 use Rattle.planner.specs.Cells.{cost_at, any_at}
-
--- what merging two sets costs, without the sides
-abbrev pub merge_price : Task → ℕ → ℕ → ℕ
-merge_price task a b = merge_cost task.rates (rows_in task a) (rows_in task b) (rows_in task (a + b))
-
-abbrev pub hash_price : Task → ℕ → ℕ → ℕ
-hash_price task a b = hash_cost task.rates (rows_in task a) (rows_in task b) (rows_in task (a + b))
 
 -- the offer is of the set's one slot, delivers what the front asks, and has that price
 pub record IsRead (task : Task) (table : OfferTable) (order : Order) (set cost slot offer : ℕ) : Type 0 where
@@ -29,12 +22,6 @@ pub record IsRead (task : Task) (table : OfferTable) (order : Order) (set cost s
   pub set_is : 2 ^ slot ≡ set
   pub begins : BeginsWith (order_at table slot offer) order
   pub costs : cost ≡ price_at table slot offer
-
--- a cut of a set in two parts
-pub record IsCut (set a : ℕ) : Type 0 where
-  pub some : 0 < a
-  pub less : a < set
-  pub apart : bit_and a (set - a) ≡ 0
 
 -- a merge of a and b on the edge of that number, whose sides serve the fronts g and h
 pub record IsMerge (task : Task) (list : Order) (fronts : List Front) (left right : List Cell) (a b f cost number g h : ℕ) : Type 0 where
@@ -50,28 +37,48 @@ pub record IsHash (task : Task) (list : Order) (fronts : List Front) (left right
   pub asks_nothing : asked list fronts f ≡ []
   pub costs : cost ≡ cost_at left 0 + cost_at right 0 + hash_price task a b
 
--- a join of a and b made the cell
-abbrev pub IsJoinOf : Task → Order → List Front → List Cell → List Cell → ℕ → ℕ → ℕ → ℕ → Choice → Type 0
-IsJoinOf task list fronts left right a b f cost Unknown = ⊥
-IsJoinOf task list fronts left right a b f cost (Read slot offer) = ⊥
-IsJoinOf task list fronts left right a b f cost (MergeOf edge c g h) =
-    (c ≡ a) × IsMerge task list fronts left right a b f cost edge g h
-IsJoinOf task list fronts left right a b f cost (HashOf c) = (c ≡ a) × IsHash task list fronts left right a b f cost
+-- some offer gives the cost
+pub record IsOffered (task : Task) (table : OfferTable) (order : Order) (set cost : ℕ) : Type 0 where
+  pub slot : ℕ
+  pub offer : ℕ
+  pub read : IsRead task table order set cost slot offer
 
--- a join of two parts of the set made the cell
-pub record IsJoin (task : Task) (list : Order) (fronts : List Front) (rows : ℕ → List Cell) (set f cost : ℕ) (choice : Choice) : Type 0 where
-  pub a : ℕ
-  pub cut : IsCut set a
-  pub join : IsJoinOf task list fronts (rows a) (rows (set - a)) a (set - a) f cost choice
+-- a merge of the list gives the cost, from a left side that serves the front g
+pub record IsMergedBy (heads : List (Option Item)) (left right : List Cell) (price : ℕ) (merges : List Merge) (f cost j g : ℕ) : Type 0 where
+  pub within : j < length merges
+  pub serves : longer_front (head_at heads (merge_at merges j).left_need) (head_at heads f) (merge_at merges j).left_need f ≡ Some g
+  pub costs : cost ≡ any_at left g + (any_at right (merge_at merges j).right_front + price)
 
--- an offer made the cell, or nothing
-abbrev pub IsOffer : Task → OfferTable → Order → ℕ → ℕ → Choice → Type 0
-IsOffer task table order set cost Unknown = cost ≡ IMPOSSIBLE
-IsOffer task table order set cost (Read slot offer) = IsRead task table order set cost slot offer
-IsOffer task table order set cost (MergeOf edge a g h) = ⊥
-IsOffer task table order set cost (HashOf a) = ⊥
+-- some merge does
+pub record IsMerged (heads : List (Option Item)) (left right : List Cell) (price : ℕ) (merges : List Merge) (f cost : ℕ) : Type 0 where
+  pub number : ℕ
+  pub front : ℕ
+  pub by_merge : IsMergedBy heads left right price merges f cost number front
+
+-- a hash join gives the cost, of a front that asks nothing
+pub record IsHashed (heads : List (Option Item)) (left right : List Cell) (price f cost : ℕ) : Type 0 where
+  pub asks_nothing : head_at heads f ≡ None
+  pub costs : cost ≡ cost_at left 0 + cost_at right 0 + price
+
+-- the merge of the list of that number bounds the cost
+pub record MergeBound (heads : List (Option Item)) (left right : List Cell) (price : ℕ) (merge : Merge) (f cost : ℕ) : Type 0 where
+  pub each : (g : ℕ) → longer_front (head_at heads merge.left_need) (head_at heads f) merge.left_need f ≡ Some g → cost ≤ any_at left g + (any_at right merge.right_front + price)
+
+-- all of them do
+pub record MergesBound (heads : List (Option Item)) (left right : List Cell) (price : ℕ) (merges : List Merge) (f cost : ℕ) : Type 0 where
+  pub each : (j : ℕ) → j < length merges → MergeBound heads left right price (merge_at merges j) f cost
+
+-- the hash join bounds the cost
+pub record HashBound (heads : List (Option Item)) (left right : List Cell) (price f cost : ℕ) : Type 0 where
+  pub bound : head_at heads f ≡ None → cost ≤ cost_at left 0 + cost_at right 0 + price
 
 -- the sort of the set by what the front asks made the cost
 pub record IsSorting (task : Task) (list : Order) (fronts : List Front) (row : List Cell) (set f any : ℕ) : Type 0 where
   pub columns : All (λ item. is_column_of set item ≡ true) (asked list fronts f)
   pub costs : any ≡ cost_at row 0 + sort_cost task.rates (rows_in task set)
+
+-- a row after costs were offered to its cells: none costs more, and what changed was made so
+pub record IsStep (width : ℕ) (Makes : ℕ → ℕ → Type 0) (old new : List Cell) : Type 0 where
+  pub count : length new ≡ length old
+  pub lower : (f : ℕ) → cost_at new f ≤ cost_at old f
+  pub made : (f : ℕ) → f < width → (cost_at new f ≡ cost_at old f) ⊎ Makes f (cost_at new f)

@@ -1,14 +1,14 @@
--- The orders that fronts ask for.
-use Rattle.std.specs.Prelude.{ℕ, ◌≡◌, ◌<◌, ◌≤◌, Bool, true, false, ◌&&◌, if◌then◌else◌, List, [], ◌∷◌, length, Option, Some, None, unwrap_or, slice_get, slice_index_or}
+-- The orders that fronts ask for, and the links between slots.
+use Rattle.std.specs.Prelude.{ℕ, ◌≡◌, ◌<◌, ◌≤◌, ◌==◌, Bool, true, false, ◌&&◌, ◌||◌, if◌then◌else◌, List, [], ◌∷◌, length, Option, Some, None, unwrap_or, slice_get, slice_index_or}
+use Rattle.std.specs.List.{list_any}
 use Rattle.adv_base.specs.Items.{Order}
-use Rattle.adv_base.specs.Sets.{has_slot}
+use Rattle.adv_base.specs.Sets.{has_slot, is_crossing}
 use Rattle.plan_model.specs.declared.edge.TaskEdge.{TaskEdge}
 use Rattle.plan_model.specs.declared.task.Task.{Task}
 use Rattle.plan_model.specs.Orders.{is_same_item, need_order}
 use Rattle.adv_base.specs.declared.workload.parts.Item.{Item}
-use Rattle.planner.specs.Sorts.{IsNeeded}
 use Rattle.planner.specs.declared.front.Front.{Front}
-use Rattle.planner.specs.declared.front.Tie.{Tie}
+use Rattle.planner.specs.declared.front.Link.{Link}
 use Rattle.planner.specs.declared.front.Front.TheVariants.{Any, Listed, Need}
 
 abbrev pub front_order : Order → Front → Order
@@ -35,6 +35,10 @@ longer_front None head x f = Some f
 longer_front (Some y) None x f = Some x
 longer_front (Some y) (Some z) x f = if is_same_item y z then Some f else None
 
+-- the first item of what a front asks for
+abbrev pub head_at : List (Option Item) → ℕ → Option Item
+head_at heads f = slice_index_or heads f None
+
 -- the first items of what the fronts ask for
 pub record AreHeads (list : Order) (fronts : List Front) (heads : List (Option Item)) : Type 0 where
   pub count : length heads ≡ length fronts
@@ -45,44 +49,57 @@ pub record AreHeadsApart (heads : List (Option Item)) : Type 0 where
   pub asks : (f : ℕ) → 2 ≤ f → f < length heads → ¬ (slice_index_or heads f None ≡ None)
   pub apart : (x f : ℕ) → 2 ≤ x → x < length heads → 2 ≤ f → f < length heads → ¬ (f ≡ x) → longer_front (slice_index_or heads x None) (slice_index_or heads f None) x f ≡ None
 
--- two fronts that ask for the needs of an edge
-pub record IsTie (list : Order) (fronts : List Front) (edge : TaskEdge) (tie : Tie) : Type 0 where
-  pub left_in : tie.left < length fronts
-  pub right_in : tie.right < length fronts
-  pub left_asks : asked list fronts tie.left ≡ need_order edge.left_need
-  pub right_asks : asked list fronts tie.right ≡ need_order edge.right_need
+-- whether a need is the item
+abbrev pub is_need : Item → Option Item → Bool
+is_need item None = false
+is_need item (Some other) = is_same_item other item
 
-abbrev pub no_tie : Tie
-no_tie = record { left = 0; right = 0 }
-
--- the fronts of each edge
-pub record AreTies (list : Order) (fronts : List Front) (edges : List TaskEdge) (ties : List Tie) : Type 0 where
-  pub count : length ties ≡ length edges
-  pub each : (k : ℕ) (edge : TaskEdge) → slice_get edges k ≡ Some edge → IsTie list fronts edge (slice_index_or ties k no_tie)
+-- whether an edge needs the item on one of its sides
+abbrev pub needs_item : Item → TaskEdge → Bool
+needs_item item edge = is_need item edge.left_need || is_need item edge.right_need
 
 -- each front that asks for an item asks for the need of an edge
 pub record AreNeeded (edges : List TaskEdge) (fronts : List Front) : Type 0 where
-  pub each : (f : ℕ) (item : Item) → f < length fronts → slice_index_or fronts f Any ≡ Need item → IsNeeded edges item
+  pub each : (f : ℕ) (item : Item) → f < length fronts → slice_index_or fronts f Any ≡ Need item → list_any (needs_item item) edges ≡ true
 
--- The first front asks nothing and the second asks for the list; the others are needs of edges, each once. The edges'
--- needs have fronts, and the first items are at hand.
-pub record AreWays (task : Task) (fronts : List Front) (heads : List (Option Item)) (ties : List Tie) : Type 0 where
-  pub some : 2 ≤ length fronts
-  pub nothing : slice_index_or fronts 0 Listed ≡ Any
-  pub all : slice_index_or fronts 1 Any ≡ Listed
-  pub first : AreHeads (listed task) fronts heads
-  pub apart : AreHeadsApart heads
-  pub needed : AreNeeded task.edges fronts
-  pub tied : AreTies (listed task) fronts task.edges ties
+-- a link has the slots of an edge, and its fronts ask for the edge's needs
+pub record Ties (list : Order) (fronts : List Front) (edge : TaskEdge) (link : Link) : Type 0 where
+  pub left_slot : edge.left ≡ link.left
+  pub right_slot : edge.right ≡ link.right
+  pub left_in : link.left_front < length fronts
+  pub right_in : link.right_front < length fronts
+  pub left_asks : asked list fronts link.left_front ≡ need_order edge.left_need
+  pub right_asks : asked list fronts link.right_front ≡ need_order edge.right_need
 
--- the front that serves the side of an edge that has a set
-abbrev pub side_front : TaskEdge → Tie → ℕ → ℕ
-side_front edge tie set = if has_slot set edge.left then tie.left else tie.right
+abbrev pub no_link : Link
+no_link = record { edge = 0; left = 0; right = 0; left_front = 0; right_front = 0 }
 
--- what the ways say of one edge
-pub record IsWay (task : Task) (fronts : List Front) (k : ℕ) (edge : TaskEdge) (tie : Tie) : Type 0 where
-  pub found : slice_get task.edges k ≡ Some edge
-  pub tied : IsTie (listed task) fronts edge tie
+abbrev pub link_at : List Link → ℕ → Link
+link_at links i = slice_index_or links i no_link
+
+-- each link is of the edge whose number it has
+pub record IsLink (list : Order) (fronts : List Front) (edges : List TaskEdge) (link : Link) : Type 0 where
+  pub number : link.edge < length edges
+  pub tied : (edge : TaskEdge) → slice_get edges link.edge ≡ Some edge → Ties list fronts edge link
+
+-- some link has the slots and needs of the edge
+pub record IsTied (list : Order) (fronts : List Front) (edge : TaskEdge) (links : List Link) : Type 0 where
+  pub link : ℕ
+  pub link_in : link < length links
+  pub ties : Ties list fronts edge (link_at links link)
+
+-- links of edges, and one for each of the first n edges
+pub record AreLinks (list : Order) (fronts : List Front) (edges : List TaskEdge) (links : List Link) (n : ℕ) : Type 0 where
+  pub each : (i : ℕ) → i < length links → IsLink list fronts edges (link_at links i)
+  pub all : (k : ℕ) (edge : TaskEdge) → k < n → slice_get edges k ≡ Some edge → ∥ IsTied list fronts edge links ∥₁
+
+-- whether a link has one end in each of two sets
+abbrev pub crosses_link : ℕ → ℕ → Link → Bool
+crosses_link a b link = is_crossing a b (link.left, link.right)
+
+-- the front that a set's side of a merge on a link has to serve
+abbrev pub side_front : Link → ℕ → ℕ
+side_front link set = if has_slot set link.left then link.left_front else link.right_front
 
 -- whether the order o begins with another
 abbrev pub begins_test : Order → Order → Bool
@@ -112,7 +129,27 @@ pub record AreFronts (fronts : List Front) : Type 0 where
   pub needs : (f : ℕ) → 2 ≤ f → f < length fronts → (item : Item) × (slice_index_or fronts f Any ≡ Need item)
   pub once : (x f : ℕ) → 2 ≤ x → x < f → f < length fronts → ¬ (slice_index_or fronts x Any ≡ slice_index_or fronts f Any)
 
--- the fronts of each of the first n edges
-pub record AreTiesBelow (list : Order) (fronts : List Front) (edges : List TaskEdge) (ties : List Tie) (n : ℕ) : Type 0 where
-  pub count : length ties ≡ n
-  pub each : (k : ℕ) (edge : TaskEdge) → k < n → slice_get edges k ≡ Some edge → IsTie list fronts edge (slice_index_or ties k no_tie)
+-- whether links have the same slots and fronts
+abbrev pub is_alike : Link → Link → Bool
+is_alike x y =
+    (x.left == y.left) && (x.right == y.right) && (x.left_front == y.left_front) && (x.right_front == y.right_front)
+
+-- links that begin with others and have one alike; what was added is the link
+pub record IsKeeping (old new : List Link) (link : Link) : Type 0 where
+  pub longer : length old ≤ length new
+  pub keeps : (i : ℕ) → i < length old → link_at new i ≡ link_at old i
+  pub added : (i : ℕ) → length old ≤ i → i < length new → link_at new i ≡ link
+  pub place : ℕ
+  pub place_in : place < length new
+  pub alike : is_alike link (link_at new place) ≡ true
+
+-- The first front asks nothing and the second asks for the list; the others are needs of edges, each once. The edges'
+-- needs have links, and the first items are at hand.
+pub record AreNeeds (task : Task) (fronts : List Front) (heads : List (Option Item)) (links : List Link) : Type 0 where
+  pub some : 2 ≤ length fronts
+  pub nothing : slice_index_or fronts 0 Listed ≡ Any
+  pub all : slice_index_or fronts 1 Any ≡ Listed
+  pub first : AreHeads (listed task) fronts heads
+  pub apart : AreHeadsApart heads
+  pub needed : AreNeeded task.edges fronts
+  pub linked : AreLinks (listed task) fronts task.edges links (length task.edges)

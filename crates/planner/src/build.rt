@@ -1,17 +1,19 @@
-//! Plans from the choices of the table.
+//! Plans of what made the costs of the table.
 ghost use Rattle.std.specs.Prelude.{◌≡◌, ℕ, ◌+◌, ◌*◌, ◌<◌, ◌≤◌, Bool, IfOk, length, slice_index_or};
 ghost use Rattle.planner.specs.declared.cell.TheConstants.{IMPOSSIBLE as NO_COST};
 ghost use Rattle.planner.specs.declared.front.Front.TheVariants.{Any as ANY};
-ghost use Rattle.planner.specs.Fronts.{asked, front_order, listed as list_of, AreWays};
-ghost use Rattle.planner.specs.Cells.{cell_at, cost_at, row_of};
-ghost use Rattle.planner.specs.Rows.{IsTable};
-ghost use Rattle.planner.specs.Built.{front_cost, is_sorted as sorted_top, IsPlanFor, IsSortOf, IsMergeOf, IsHashOf, IsChosen};
+ghost use Rattle.planner.specs.Fronts.{front_order};
+ghost use Rattle.planner.specs.Cells.{cell_at, row_of};
+ghost use Rattle.planner.specs.Rows.{width, sets_of, order_of, AreRows, IsTable};
+ghost use Rattle.planner.specs.Built.{front_cost, is_sorted as sorted_top, IsPlanFor, IsSortOf, IsMergeOf, IsHashOf};
 
+use crate::again::choice_of;
 use crate::cell::{Cell, Choice};
-use crate::front::{Front, Ways, listed};
-use crate::row::{row_at, width_of};
+use crate::front::{Front, listed};
+use crate::row::row_in;
+use crate::ways::Ways;
 use adv_base::{Item, List};
-use plan_model::{Offers, Plan, Task};
+use plan_model::{Offers, Plan};
 use std::alloc::{AllocError, Global};
 
 /// What a front asks for, as a list of its own.
@@ -55,18 +57,18 @@ fn hash_plan(alloc: Global, left: Plan, right: Plan) -> Result<Plan, AllocError>
 }
 
 /// The cell of a front in a set's row.
-fn cell_of(cells: &[Cell], ways: &Ways, sets: usize, set: usize, front: usize) -> Cell
-    requires whole { length cells.now ≡ sets * length ways.now.fronts.items }
-    requires set_in { set < sets }
-    requires front_in { front < length ways.now.fronts.items }
-    ensures { result ≡ cell_at (row_of (length ways.now.fronts.items) cells.now set) front }
+fn cell_of(ways: &Ways, cells: &[Cell], set: usize, front: usize) -> Cell
+    requires whole { length cells.now ≡ sets_of ways.now * width ways.now }
+    requires set_in { set < sets_of ways.now }
+    requires front_in { front < width ways.now }
+    ensures { result ≡ cell_at (row_of (width ways.now) cells.now set) front }
 {
-    row_at(cells, width_of(ways), sets, set)[front]
+    row_in(ways, cells, set)[front]
 }
 
 /// A front by its number.
 fn front_at(ways: &Ways, front: usize) -> Front
-    requires { front < length ways.now.fronts.items }
+    requires { front < width ways.now }
     ensures { result ≡ slice_index_or ways.now.fronts.items front ANY }
 {
     ways.fronts.as_slice()[front]
@@ -79,51 +81,31 @@ fn is_sorted(cell: Cell, sorts: bool) -> bool
     sorts && cell.any != cell.cost
 }
 
-/// How the cheapest plan without a sort at its top is made, where there is one.
-fn choice_of<O: Offers>(
-    task: &Task,
-    offers: &O,
-    ways: &Ways,
-    cells: &[Cell],
-    set: usize,
-    front: usize,
-) -> Choice
-    requires table { IsTable task.now (O.table offers.now) (list_of task.now) ways.now.fronts.items cells.now (length task.now.rows) }
-    requires set_in { set < length task.now.rows }
-    requires front_in { front < length ways.now.fronts.items }
-    requires possible { cost_at (row_of (length ways.now.fronts.items) cells.now set) front < NO_COST }
-    ensures { IsChosen task.now (O.table offers.now) (list_of task.now) ways.now.fronts.items (row_of (length ways.now.fronts.items) cells.now) set front (cost_at (row_of (length ways.now.fronts.items) cells.now set) front) result }
-{
-    cell_of(cells, ways, task.rows.len(), set, front).choice
-}
-
-/// The cheapest plan of a set whose order begins as a front asks, with or without a sort at its top. The offers tell
+/// A cheapest plan of a set whose order begins as a front asks, with or without a sort at its top. The offers tell
 /// what the leaves mean.
 pub(crate) fn build<O: Offers>(
     alloc: Global,
-    task: &Task,
-    offers: &O,
     ways: &Ways,
     cells: &[Cell],
+    offers: &O,
     set: usize,
     front: usize,
     sorts: bool,
 ) -> Result<Plan, AllocError>
-    requires ways { AreWays task.now ways.now.fronts.items ways.now.heads.items ways.now.ties.items }
-    requires table { IsTable task.now (O.table offers.now) (list_of task.now) ways.now.fronts.items cells.now (length task.now.rows) }
-    requires set_in { set < length task.now.rows }
-    requires front_in { front < length ways.now.fronts.items }
-    requires possible { front_cost sorts (row_of (length ways.now.fronts.items) cells.now set) front < NO_COST }
-    ensures { IfOk result (λ plan. IsPlanFor sorts task.now (O.table offers.now) (asked (list_of task.now) ways.now.fronts.items front) set (front_cost sorts (row_of (length ways.now.fronts.items) cells.now set) front) plan) }
+    requires table { IsTable ways.now cells.now }
+    requires done { AreRows ways.now (O.table offers.now) (row_of (width ways.now) cells.now) (sets_of ways.now) }
+    requires set_in { set < sets_of ways.now }
+    requires front_in { front < width ways.now }
+    requires possible { front_cost sorts (row_of (width ways.now) cells.now set) front < NO_COST }
+    ensures { IfOk result (λ plan. IsPlanFor sorts ways.now.task.now (O.table offers.now) (order_of ways.now front) set (front_cost sorts (row_of (width ways.now) cells.now set) front) plan) }
 {
-    let cell = cell_of(cells, ways, task.rows.len(), set, front);
+    let cell = cell_of(ways, cells, set, front);
     if is_sorted(cell, sorts) {
-        let input = build(alloc, task, offers, ways, cells, set, 0, false)?;
-        let plan = sort_plan(alloc, front_at(ways, front), listed(task), input)?;
+        let input = build(alloc, ways, cells, offers, set, 0, false)?;
+        let plan = sort_plan(alloc, front_at(ways, front), listed(ways.task), input)?;
         return Ok(plan);
     }
-    match choice_of(task, offers, ways, cells, set, front) {
-        Choice::Unknown => unreachable!(),
+    match choice_of(ways, cells, offers, set, front) {
         Choice::Read { slot, offer } => Ok(Plan::Leaf { slot, offer }),
         Choice::MergeOf {
             edge,
@@ -131,23 +113,14 @@ pub(crate) fn build<O: Offers>(
             left_front,
             right_front,
         } => {
-            let a = build(alloc, task, offers, ways, cells, left, left_front, true)?;
-            let b = build(
-                alloc,
-                task,
-                offers,
-                ways,
-                cells,
-                set - left,
-                right_front,
-                true,
-            )?;
+            let a = build(alloc, ways, cells, offers, left, left_front, true)?;
+            let b = build(alloc, ways, cells, offers, set - left, right_front, true)?;
             let plan = merge_plan(alloc, edge, a, b)?;
             Ok(plan)
         }
         Choice::HashOf { left } => {
-            let a = build(alloc, task, offers, ways, cells, left, 0, false)?;
-            let b = build(alloc, task, offers, ways, cells, set - left, 0, false)?;
+            let a = build(alloc, ways, cells, offers, left, 0, false)?;
+            let b = build(alloc, ways, cells, offers, set - left, 0, false)?;
             let plan = hash_plan(alloc, a, b)?;
             Ok(plan)
         }

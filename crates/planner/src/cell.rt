@@ -8,11 +8,9 @@ use adv_base::Item;
 /// The cost where there is no plan, above that of every plan.
 pub(crate) const IMPOSSIBLE: u128 = 1_000_000_000_000_000_000_000_000_000_000;
 
-/// How the cheapest plan without a sort at its top is made.
+/// How a plan without a sort at its top is made.
 #[derive(Clone, Copy)]
 pub(crate) enum Choice {
-    /// There is no such plan.
-    Unknown,
     /// An offer of a slot.
     Read {
         slot: u8,
@@ -38,28 +36,17 @@ pub(crate) struct Cell {
     pub cost: u128,
     /// With or without one.
     pub any: u128,
-    /// What made `cost`.
-    pub choice: Choice,
-}
-
-/// A merge on an edge, all but the front of its left side.
-#[derive(Clone, Copy)]
-pub(crate) struct Merge {
-    pub edge: u32,
-    pub left: usize,
-    pub left_need: usize,
-    pub right_front: usize,
 }
 
 /// The cell, or what is cheaper.
-pub(crate) fn better(cell: Cell, cost: u128, choice: Choice) -> Cell
-    ensures { result ≡ better_of cell cost choice }
+#[inline]
+pub(crate) fn better(cell: Cell, cost: u128) -> Cell
+    ensures { result ≡ better_of cell cost }
 {
     if cost < cell.cost {
         Cell {
             cost,
             any: cell.any,
-            choice,
         }
     } else {
         cell
@@ -67,38 +54,24 @@ pub(crate) fn better(cell: Cell, cost: u128, choice: Choice) -> Cell
 }
 
 /// The cell after a merge whose left side serves the front given, if any; `base` is the cost of all else.
-pub(crate) fn merged(
-    cell: Cell,
-    front: Option<usize>,
-    left: &[Cell],
-    merge: Merge,
-    base: u128,
-) -> Cell
+#[inline]
+pub(crate) fn merged(cell: Cell, front: Option<usize>, left: &[Cell], base: u128) -> Cell
     requires within { ForSome front (λ g. g < length left.now) }
     requires fits { ForSome front (λ g. any_at left.now g + base < 2 ^ 128) }
-    ensures { result ≡ merged_of cell front left.now merge base }
+    ensures { result ≡ merged_of cell front left.now base }
 {
     match front {
         None => cell,
-        Some(g) => better(
-            cell,
-            left[g].any + base,
-            Choice::MergeOf {
-                edge: merge.edge,
-                left: merge.left,
-                left_front: g,
-                right_front: merge.right_front,
-            },
-        ),
+        Some(g) => better(cell, left[g].any + base),
     }
 }
 
 /// The cell after a hash join of that cost, which serves only a front that asks nothing.
-pub(crate) fn hashed(cell: Cell, head: Option<Item>, left: usize, cost: u128) -> Cell
-    ensures { result ≡ hashed_of cell head left cost }
+pub(crate) fn hashed(cell: Cell, head: Option<Item>, cost: u128) -> Cell
+    ensures { result ≡ hashed_of cell head cost }
 {
     match head {
-        None => better(cell, cost, Choice::HashOf { left }),
+        None => better(cell, cost),
         Some(_) => cell,
     }
 }
@@ -126,7 +99,6 @@ pub(crate) fn blank() -> Cell
     Cell {
         cost: IMPOSSIBLE,
         any: IMPOSSIBLE,
-        choice: Choice::Unknown,
     }
 }
 
@@ -142,6 +114,5 @@ pub(crate) fn finished(cell: Cell, can_sort: bool, sorted: u128) -> Cell
     Cell {
         cost: cell.cost,
         any,
-        choice: cell.choice,
     }
 }

@@ -1,20 +1,15 @@
 //! The least plan of a task.
-ghost use Rattle.std.specs.Prelude.{◌≡◌, ◌-◌, ◌<◌, IfOk, length};
+ghost use Rattle.std.specs.Prelude.{◌≡◌, IfOk};
 ghost use Rattle.plan_model.specs.OfferTables.{HasOffers};
 ghost use Rattle.plan_model.specs.Plans.{IsWhole};
 ghost use Rattle.plan_model.specs.Costs.{whole_cost};
 ghost use Rattle.plan_model.specs.Least.{Least};
 ghost use Rattle.planner.specs.Sorts.{SortsWanted};
-ghost use Rattle.planner.specs.Fronts.{listed as list_of, AreWays};
-ghost use Rattle.planner.specs.Rows.{IsTable};
+ghost use Rattle.planner.specs.Tables.{Holds, task_of};
 
 use crate::build::build;
-use crate::cell::Cell;
-use crate::front::Ways;
-use crate::price::rows_of;
-use crate::row::{plan_sets, row_at, width_of};
-use crate::ways::ways_of;
-use crate::whole::{shape_of, sorts_body};
+use crate::search::Search;
+use crate::whole::{least_shape, sorts_body};
 use adv_base::NoMemory;
 use plan_model::{Offers, Task, Whole};
 use std::alloc::{AllocError, Global};
@@ -26,37 +21,22 @@ pub struct Found {
     pub plan: Whole,
 }
 
-/// The least plan, from the table of all sets.
-fn whole_of<O: Offers>(
-    alloc: Global,
-    task: &Task,
-    offers: &O,
-    ways: &Ways,
-    cells: &[Cell],
-) -> Result<Found, AllocError>
-    requires offers { HasOffers task.now.slots (O.table offers.now) }
-    requires ways { AreWays task.now ways.now.fronts.items ways.now.heads.items ways.now.ties.items }
-    requires table { IsTable task.now (O.table offers.now) (list_of task.now) ways.now.fronts.items cells.now (length task.now.rows) }
-    ensures valid { IfOk result (λ found. IsWhole task.now (O.table offers.now) found.plan) }
-    ensures costs { IfOk result (λ found. whole_cost task.now (O.table offers.now) found.plan ≡ found.cost) }
-    ensures least { IfOk result (λ found. Least task.now (O.table offers.now) found.cost) }
-    ensures sorts { IfOk result (λ found. SortsWanted task.now found.plan.body) }
+/// The least plan, from the table of a search.
+fn whole_of<O: Offers>(alloc: Global, search: &Search, offers: &O) -> Result<Found, AllocError>
+    requires offers { HasOffers (task_of search.now).slots (O.table offers.now) }
+    requires holds { Holds search.now (O.table offers.now) }
+    ensures valid { IfOk result (λ found. IsWhole (task_of search.now) (O.table offers.now) found.plan) }
+    ensures costs { IfOk result (λ found. whole_cost (task_of search.now) (O.table offers.now) found.plan ≡ found.cost) }
+    ensures least { IfOk result (λ found. Least (task_of search.now) (O.table offers.now) found.cost) }
+    ensures sorts { IfOk result (λ found. SortsWanted (task_of search.now) found.plan.body) }
 {
     offers.limits();
-    let sets = task.rows.len();
-    let full = sets - 1;
-    let row = row_at(cells, width_of(ways), sets, full);
-    let shape = shape_of(task, row, rows_of(task, full));
-    let body = build(
-        alloc,
-        task,
-        offers,
-        ways,
-        cells,
-        full,
-        shape.front,
-        sorts_body(shape.group),
-    )?;
+    let ways = &search.ways;
+    let cells = search.cells.as_slice();
+    let shape = least_shape(ways, cells);
+    let full = ways.task.rows.len() - 1;
+    let sorts = sorts_body(shape.group);
+    let body = build(alloc, ways, cells, offers, full, shape.front, sorts)?;
     Ok(Found {
         cost: shape.cost,
         plan: Whole {
@@ -75,9 +55,9 @@ fn find<O: Offers>(alloc: Global, task: &Task, offers: &O) -> Result<Found, Allo
     ensures least { IfOk result (λ found. Least task.now (O.table offers.now) found.cost) }
     ensures sorts { IfOk result (λ found. SortsWanted task.now found.plan.body) }
 {
-    let ways = ways_of(alloc, task)?;
-    let cells = plan_sets(alloc, task, offers, &ways)?;
-    let found = whole_of(alloc, task, offers, &ways, cells.as_slice())?;
+    let mut search = Search::made(alloc, task)?;
+    let _ = search.cost(offers);
+    let found = whole_of(alloc, &search, offers)?;
     Ok(found)
 }
 

@@ -3,11 +3,11 @@ ghost use Rattle.std.specs.Prelude.{◌≡◌, ◌<◌};
 ghost use Rattle.adv_base.specs.Sets.{has_slot as set_has_slot};
 ghost use Rattle.std.specs.List.{list_all};
 ghost use Rattle.plan_model.specs.Orders.{is_same_item};
-ghost use Rattle.plan_model.specs.Plans.{crosses as edge_crosses, is_column_of};
-ghost use Rattle.planner.specs.Fronts.{longer_front, side_front, front_order, begins_test, listed as list_of};
+ghost use Rattle.plan_model.specs.Plans.{is_column_of};
+ghost use Rattle.planner.specs.Fronts.{longer_front, crosses_link, side_front, front_order, begins_test, listed as list_of};
 
 use adv_base::Item;
-use plan_model::{Task, TaskEdge};
+use plan_model::Task;
 
 /// How an order is to begin.
 #[derive(Clone, Copy, PartialEq, Eq)]
@@ -20,11 +20,15 @@ pub(crate) enum Front {
     Need(Item),
 }
 
-/// The numbers of the fronts that ask for the two needs of an edge.
+/// Two slots that an edge joins, and the numbers of the fronts that ask for its needs. Edges alike in all of these have one
+/// link, with the number of the first of them.
 #[derive(Clone, Copy)]
-pub(crate) struct Tie {
-    pub left: usize,
-    pub right: usize,
+pub(crate) struct Link {
+    pub edge: u32,
+    pub left: u8,
+    pub right: u8,
+    pub left_front: usize,
+    pub right_front: usize,
 }
 
 /// Of a need's front `x` and a front `f`, given by their first items, the one that asks for more; none where no order
@@ -46,31 +50,23 @@ pub(crate) fn has_slot(set: usize, slot: u8) -> bool
     slot < 64 && set & (1 << slot) != 0
 }
 
-/// Whether an edge has one end in each of two sets.
-pub(crate) fn crosses(a: usize, b: usize, edge: &TaskEdge) -> bool
-    ensures { result ≡ edge_crosses a b edge.now }
+/// Whether a link has one end in each of two sets.
+pub(crate) fn crosses(a: usize, b: usize, link: &Link) -> bool
+    ensures { result ≡ crosses_link a b link.now }
 {
-    has_slot(a, edge.left) && has_slot(b, edge.right)
-        || has_slot(a, edge.right) && has_slot(b, edge.left)
+    has_slot(a, link.left) && has_slot(b, link.right)
+        || has_slot(a, link.right) && has_slot(b, link.left)
 }
 
-/// The front that a set's side of a merge on the edge has to serve.
-pub(crate) fn side(edge: &TaskEdge, tie: Tie, set: usize) -> usize
-    ensures { result ≡ side_front edge.now tie set }
+/// The front that a set's side of a merge on the link has to serve.
+pub(crate) fn side(link: &Link, set: usize) -> usize
+    ensures { result ≡ side_front link.now set }
 {
-    if has_slot(set, edge.left) {
-        tie.left
+    if has_slot(set, link.left) {
+        link.left_front
     } else {
-        tie.right
+        link.right_front
     }
-}
-
-/// The fronts of a task, with the first item of what each asks for, and the fronts of each edge's needs.
-#[derive(Drop)]
-pub(crate) struct Ways {
-    pub fronts: Vec<Front>,
-    pub heads: Vec<Option<Item>>,
-    pub ties: Vec<Tie>,
 }
 
 /// Whether two items are the same.

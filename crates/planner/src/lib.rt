@@ -1,22 +1,28 @@
-//! The least plan of a task over a table of offers.
+//! Least plans of a task over tables of offers.
 //!
 //! The search goes bottom up, as System R's does. For each set of slots, and each front of an order that an operator
-//! above can want, it keeps what the cheapest plan of that set costs whose order begins so, with the choice that made
-//! it. Join trees may be bushy. At the end the plan is built from the choices.
+//! above can want, it keeps what the cheapest plan of that set costs whose order begins so. Join trees may be bushy. What
+//! depends on the task alone, as the cuts of each set with what joining their parts costs, is found once, so that costs
+//! over many tables of offers are found fast; a plan is built at the end, from what gives each cost.
 #![tactic(auto)]
 
+mod again;
 mod build;
 mod cell;
+mod cut;
+mod cuts;
+mod fill;
 mod found;
 mod front;
 mod join;
+mod make;
+mod needs;
 mod price;
 mod read;
 mod row;
+mod search;
 mod ways;
 mod whole;
 
 pub use found::{Found, least};
-
-#[cfg(test)]
-mod tests;
+pub use search::Search;

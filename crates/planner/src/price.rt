@@ -1,7 +1,7 @@
 //! What the operators of a plan cost, without what stands below them.
 ghost use Rattle.std.specs.Prelude.{◌≡◌, ◌+◌, ◌<◌, ◌≤◌, ◌^◌, length};
 ghost use Rattle.plan_model.specs.Costs.{rows_in, sort_cost};
-ghost use Rattle.planner.specs.Choices.{merge_price as merging, hash_price as hashing};
+ghost use Rattle.planner.specs.Cuts.{merge_price as merging, hash_price as hashing};
 
 use adv_base::binary_digits;
 use plan_model::Task;

@@ -6,17 +6,17 @@ ghost use Rattle.planner.specs.Fronts.{asked, begins_test, listed as list_of};
 ghost use Rattle.planner.specs.Cells.{cell_at, cost_at, offered as offered_of};
 ghost use Rattle.planner.specs.Rows.{AreOffers, OffersBound, SlotBound};
 
-use crate::cell::{Cell, Choice, better};
+use crate::cell::{Cell, better};
 use crate::front::{Front, listed, serves};
 use adv_base::Item;
 use plan_model::{Offers, Task};
 
 /// The cell after an offer, which serves the cell's front or not.
-fn offered(cell: Cell, fits: bool, price: u64, slot: u8, offer: u32) -> Cell
-    ensures { result ≡ offered_of cell fits price slot offer }
+fn offered(cell: Cell, fits: bool, price: u64) -> Cell
+    ensures { result ≡ offered_of cell fits price }
 {
     if fits {
-        better(cell, price as u128, Choice::Read { slot, offer })
+        better(cell, price as u128)
     } else {
         cell
     }
@@ -33,13 +33,13 @@ fn read_offer<O: Offers>(
 )
     requires row_each { length row.old ≡ length fronts.now }
     requires offer_in { offer < length (O.table offers.now slot) }
-    ensures { (f : ℕ) → f < length fronts.now → cell_at row.new f ≡ offered_of (cell_at row.old f) (begins_test (order_at (O.table offers.now) slot offer) (asked list.now fronts.now f)) (price_at (O.table offers.now) slot offer) slot offer }
+    ensures { (f : ℕ) → f < length fronts.now → cell_at row.new f ≡ offered_of (cell_at row.old f) (begins_test (order_at (O.table offers.now) slot offer) (asked list.now fronts.now f)) (price_at (O.table offers.now) slot offer) }
 {
     let price = offers.price(slot, offer);
     let order = offers.order(slot, offer);
     for f in 0..fronts.len() {
         let fits = serves(order, fronts[f], list);
-        row[f] = offered(row[f], fits, price, slot, offer);
+        row[f] = offered(row[f], fits, price);
     }
 }
 

@@ -1,21 +1,23 @@
-//! The row of a set of slots, and the table of all rows.
-ghost use Rattle.std.specs.Prelude.{◌≡◌, ℕ, ◌+◌, ◌-◌, ◌*◌, ◌<◌, ◌≤◌, ◌^◌, IfOk, bit_and, length};
+//! The row of a set of slots, made from those of smaller sets.
+ghost use Rattle.std.specs.Prelude.{◌≡◌, ℕ, ◌+◌, ◌*◌, ◌<◌, ◌≤◌, length};
 ghost use Rattle.std.specs.List.{list_all};
 ghost use Rattle.plan_model.specs.Plans.{is_column_of};
 ghost use Rattle.plan_model.specs.Costs.{rows_in, sort_cost};
 ghost use Rattle.planner.specs.declared.cell.TheConstants.{IMPOSSIBLE as NO_COST};
-ghost use Rattle.planner.specs.Fronts.{asked, listed as list_of, AreWays};
+ghost use Rattle.planner.specs.Fronts.{asked, listed as list_of};
 ghost use Rattle.planner.specs.Cells.{cell_at, cost_at, row_of, blank as blank_cell, finished as finished_of};
-ghost use Rattle.planner.specs.Choices.{IsCut};
-ghost use Rattle.planner.specs.Rows.{IsCapped, IsGrown, JoinsBound, IsRow, IsTable};
+ghost use Rattle.planner.specs.Cuts.{cut_at};
+ghost use Rattle.planner.specs.Choices.{IsStep};
+ghost use Rattle.planner.specs.Rows.{width, sets_of, cuts_of as set_cuts, merges_in, AreRows, CutBound, IsCapped, IsCutBy, IsJoined, IsRow};
 
 use crate::cell::{Cell, blank, cost_of, finished};
-use crate::front::{Front, Ways, can_sort, listed};
-use crate::join::join_sets;
+use crate::cut::{Cut, Merge};
+use crate::front::{Front, can_sort, listed};
+use crate::join::{hash_row, merge_rows};
 use crate::price::sort_set;
 use crate::read::read_row;
+use crate::ways::Ways;
 use plan_model::{Offers, Task};
-use std::alloc::{AllocError, Global};
 
 /// The row of a set in a table of so many rows.
 pub(crate) fn row_at(cells: &[Cell], width: usize, sets: usize, set: usize) -> &[Cell]
@@ -30,45 +32,76 @@ pub(crate) fn row_at(cells: &[Cell], width: usize, sets: usize, set: usize) -> &
 
 /// How many cells a row has.
 pub(crate) fn width_of(ways: &Ways) -> usize
-    ensures { result ≡ length ways.now.fronts.items }
+    ensures { result ≡ width ways.now }
 {
     ways.fronts.len()
 }
 
-/// Offers each cell of a set's row the joins of two of its parts, where a and the rest are apart.
-fn join_cut(row: &mut [Cell], done: &[Cell], task: &Task, ways: &Ways, set: usize, a: usize)
-    requires ways { AreWays task.now ways.now.fronts.items ways.now.heads.items ways.now.ties.items }
-    requires row_each { length row.old ≡ length ways.now.fronts.items }
-    requires whole { length done.now ≡ set * length ways.now.fronts.items }
-    requires capped { (s : ℕ) → s < set → IsCapped (row_of (length ways.now.fronts.items) done.now s) }
-    requires set_in { set < length task.now.rows }
-    requires some { 0 < a }
-    requires less { a < set }
-    ensures grown { IsGrown task.now (list_of task.now) ways.now.fronts.items (row_of (length ways.now.fronts.items) done.now) set row.old row.new }
-    ensures bounds { IsCut set a → (f : ℕ) → f < length ways.now.fronts.items → JoinsBound task.now (list_of task.now) ways.now.fronts.items (row_of (length ways.now.fronts.items) done.now a) (row_of (length ways.now.fronts.items) done.now (set - a)) a (set - a) f (cost_at row.new f) }
+/// The row of a set in the table of all sets.
+pub(crate) fn row_in<'a>(ways: &Ways, cells: &'a [Cell], set: usize) -> &'a [Cell]
+    requires whole { length cells.now ≡ sets_of ways.now * width ways.now }
+    requires set_in { set < sets_of ways.now }
+    ensures row { result.now ≡ row_of (width ways.now) cells.now set }
+    ensures width { length result.now ≡ width ways.now }
 {
-    let b = set - a;
-    if a & b != 0 {
-        return;
-    }
-    let width = width_of(ways);
-    let left = row_at(done, width, set, a);
-    let right = row_at(done, width, set, b);
-    join_sets(row, task, ways, left, right, a, b);
+    row_at(cells, width_of(ways), ways.task.rows.len(), set)
+}
+
+/// The cuts of a set.
+pub(crate) fn cuts_at<'a>(ways: &'a Ways, set: usize) -> &'a [Cut]
+    requires { set < sets_of ways.now }
+    ensures { result.now ≡ set_cuts ways.now set }
+{
+    &ways.cuts.as_slice()[ways.starts[set]..ways.starts[set + 1]]
+}
+
+/// The merges of a set's cut.
+pub(crate) fn merges_at<'a>(ways: &'a Ways, cut: &Cut) -> &'a [Merge]
+    requires from { cut.now.from ≤ cut.now.to }
+    requires to { cut.now.to ≤ length ways.now.merges.items }
+    ensures { result.now ≡ merges_in ways.now cut.now }
+{
+    &ways.merges.as_slice()[cut.from..cut.to]
+}
+
+/// Offers each cell of a set's row the joins of a cut's parts.
+fn join_cut(row: &mut [Cell], cells: &[Cell], ways: &Ways, set: usize, k: usize, cut: &Cut)
+    requires row_each { length row.old ≡ width ways.now }
+    requires whole { length cells.now ≡ sets_of ways.now * width ways.now }
+    requires done { (s : ℕ) → s < set → IsCapped (row_of (width ways.now) cells.now s) }
+    requires set_in { set < sets_of ways.now }
+    requires number { k < length (set_cuts ways.now set) }
+    requires cut_is { cut.now ≡ cut_at (set_cuts ways.now set) k }
+    ensures step { IsStep (width ways.now) (IsCutBy ways.now (row_of (width ways.now) cells.now) cut.now) row.old row.new }
+    ensures bounds { (f : ℕ) → f < width ways.now → CutBound ways.now (row_of (width ways.now) cells.now) cut.now f (cost_at row.new f) }
+{
+    let left = row_in(ways, cells, cut.left);
+    let right = row_in(ways, cells, cut.right);
+    let heads = ways.heads.as_slice();
+    let cost = cost_of(left, 0) + cost_of(right, 0) + cut.hash_price;
+    hash_row(row, heads, cost);
+    merge_rows(
+        row,
+        heads,
+        left,
+        right,
+        cut.merge_price,
+        merges_at(ways, cut),
+    );
 }
 
 /// Offers each cell of a set's row all joins of its parts.
-fn join_row(row: &mut [Cell], done: &[Cell], task: &Task, ways: &Ways, set: usize)
-    requires ways { AreWays task.now ways.now.fronts.items ways.now.heads.items ways.now.ties.items }
-    requires row_each { length row.old ≡ length ways.now.fronts.items }
-    requires whole { length done.now ≡ set * length ways.now.fronts.items }
-    requires capped { (s : ℕ) → s < set → IsCapped (row_of (length ways.now.fronts.items) done.now s) }
-    requires set_in { set < length task.now.rows }
-    ensures grown { IsGrown task.now (list_of task.now) ways.now.fronts.items (row_of (length ways.now.fronts.items) done.now) set row.old row.new }
-    ensures bounds { (a : ℕ) → IsCut set a → (f : ℕ) → f < length ways.now.fronts.items → JoinsBound task.now (list_of task.now) ways.now.fronts.items (row_of (length ways.now.fronts.items) done.now a) (row_of (length ways.now.fronts.items) done.now (set - a)) a (set - a) f (cost_at row.new f) }
+fn join_row(row: &mut [Cell], cells: &[Cell], ways: &Ways, set: usize)
+    requires row_each { length row.old ≡ width ways.now }
+    requires whole { length cells.now ≡ sets_of ways.now * width ways.now }
+    requires done { (s : ℕ) → s < set → IsCapped (row_of (width ways.now) cells.now s) }
+    requires set_in { set < sets_of ways.now }
+    ensures step { IsStep (width ways.now) (IsJoined ways.now (row_of (width ways.now) cells.now) (set_cuts ways.now set)) row.old row.new }
+    ensures bounds { (k : ℕ) → k < length (set_cuts ways.now set) → (f : ℕ) → f < width ways.now → CutBound ways.now (row_of (width ways.now) cells.now) (cut_at (set_cuts ways.now set) k) f (cost_at row.new f) }
 {
-    for a in 1..set {
-        join_cut(row, done, task, ways, set, a);
+    let cuts = cuts_at(ways, set);
+    for k in 0..cuts.len() {
+        join_cut(row, cells, ways, set, k, &cuts[k]);
     }
 }
 
@@ -98,62 +131,22 @@ fn finish_row(row: &mut [Cell], task: &Task, fronts: &[Front], set: usize)
 }
 
 /// Makes the row of a set, from those of smaller sets.
-fn plan_set<O: Offers>(
+pub(crate) fn plan_row<O: Offers>(
     row: &mut [Cell],
-    done: &[Cell],
-    task: &Task,
-    offers: &O,
+    cells: &[Cell],
     ways: &Ways,
+    offers: &O,
     set: usize,
 )
-    requires ways { AreWays task.now ways.now.fronts.items ways.now.heads.items ways.now.ties.items }
-    requires row_each { length row.old ≡ length ways.now.fronts.items }
-    requires set_in { set < length task.now.rows }
-    requires done { IsTable task.now (O.table offers.now) (list_of task.now) ways.now.fronts.items done.now set }
-    ensures { IsRow task.now (O.table offers.now) (list_of task.now) ways.now.fronts.items (row_of (length ways.now.fronts.items) done.now) set row.new }
+    requires row_each { length row.old ≡ width ways.now }
+    requires whole { length cells.now ≡ sets_of ways.now * width ways.now }
+    requires set_in { set < sets_of ways.now }
+    requires done { AreRows ways.now (O.table offers.now) (row_of (width ways.now) cells.now) set }
+    ensures { IsRow ways.now (O.table offers.now) (row_of (width ways.now) cells.now) set row.new }
 {
     let fronts = ways.fronts.as_slice();
     clear_row(row);
-    read_row(row, task, offers, fronts, set);
-    join_row(row, done, task, ways, set);
-    finish_row(row, task, fronts, set);
-}
-
-/// Adds the row of the next set to a table.
-fn add_set<O: Offers>(
-    cells: &mut Vec<Cell>,
-    row: &mut [Cell],
-    task: &Task,
-    offers: &O,
-    ways: &Ways,
-    set: usize,
-) -> Result<(), AllocError>
-    requires ways { AreWays task.now ways.now.fronts.items ways.now.heads.items ways.now.ties.items }
-    requires row_each { length row.old ≡ length ways.now.fronts.items }
-    requires set_in { set < length task.now.rows }
-    requires done { IsTable task.now (O.table offers.now) (list_of task.now) ways.now.fronts.items cells.old.items set }
-    ensures { IfOk result (λ _. IsTable task.now (O.table offers.now) (list_of task.now) ways.now.fronts.items cells.new.items (set + 1)) }
-{
-    plan_set(row, cells.as_slice(), task, offers, ways, set);
-    cells.extend_from_slice(row)?;
-    Ok(())
-}
-
-/// The table of all sets.
-pub(crate) fn plan_sets<O: Offers>(
-    alloc: Global,
-    task: &Task,
-    offers: &O,
-    ways: &Ways,
-) -> Result<Vec<Cell>, AllocError>
-    requires ways { AreWays task.now ways.now.fronts.items ways.now.heads.items ways.now.ties.items }
-    ensures { IfOk result (λ cells. IsTable task.now (O.table offers.now) (list_of task.now) ways.now.fronts.items cells.items (length task.now.rows)) }
-{
-    let width = width_of(ways);
-    let mut cells = Vec::new(alloc);
-    let mut row = vec![in alloc; blank(); width]?;
-    for set in 0..task.rows.len() {
-        add_set(&mut cells, row.as_mut_slice(), task, offers, ways, set)?;
-    }
-    Ok(cells)
+    read_row(row, ways.task, offers, fronts, set);
+    join_row(row, cells, ways, set);
+    finish_row(row, ways.task, fronts, set);
 }

@@ -1,13 +1,17 @@
 //! What stands above the joins: the group step and the final sort.
 ghost use Rattle.std.specs.Prelude.{◌≡◌, ◌+◌, ◌*◌, ◌<◌, ◌≤◌, length};
 ghost use Rattle.plan_model.specs.Plans.{body_sorts};
-ghost use Rattle.planner.specs.Cells.{cost_at, any_at};
-ghost use Rattle.planner.specs.Rows.{IsCapped};
-ghost use Rattle.planner.specs.Shapes.{is_nil as has_none, cheaper as cheaper_of, final_cost as final_price, ungrouped_shape, sorted_shape, hashed_shape, least_shape};
+ghost use Rattle.adv_base.specs.Sets.{all_slots};
+ghost use Rattle.plan_model.specs.Costs.{rows_in};
+ghost use Rattle.planner.specs.Cells.{cost_at, any_at, row_of};
+ghost use Rattle.planner.specs.Rows.{IsCapped, width, sets_of};
+ghost use Rattle.planner.specs.Shapes.{is_nil as has_none, cheaper as cheaper_of, final_cost as final_price, ungrouped_shape, sorted_shape, hashed_shape, least_shape as shape_over};
 
 use crate::cell::{Cell, any_of, cost_of};
 use crate::front::begins_with;
-use crate::price::sort_price;
+use crate::price::{rows_of, sort_price};
+use crate::row::row_in;
+use crate::ways::Ways;
 use adv_base::Item;
 use plan_model::{GroupStep, Task};
 
@@ -117,7 +121,7 @@ pub(crate) fn shape_of(task: &Task, row: &[Cell], rows: u64) -> Shape
     requires capped { IsCapped row.now }
     requires some { 1 ≤ rows }
     requires most { rows ≤ 1000000000000 }
-    ensures { result ≡ least_shape task.now.group task.now row.now rows }
+    ensures { result ≡ shape_over task.now.group task.now row.now rows }
 {
     match &task.group {
         None => ungrouped(task, row, rows),
@@ -127,6 +131,20 @@ pub(crate) fn shape_of(task: &Task, row: &[Cell], rows: u64) -> Shape
             cheaper(sorted, hashed)
         }
     }
+}
+
+/// The cheapest whole plan over a table of all sets.
+pub(crate) fn least_shape(ways: &Ways, cells: &[Cell]) -> Shape
+    requires whole { length cells.now ≡ sets_of ways.now * width ways.now }
+    requires capped { IsCapped (row_of (width ways.now) cells.now (all_slots ways.now.task.now.slots)) }
+    ensures { result ≡ shape_over ways.now.task.now.group ways.now.task.now (row_of (width ways.now) cells.now (all_slots ways.now.task.now.slots)) (rows_in ways.now.task.now (all_slots ways.now.task.now.slots)) }
+{
+    let full = ways.task.rows.len() - 1;
+    shape_of(
+        ways.task,
+        row_in(ways, cells, full),
+        rows_of(ways.task, full),
+    )
 }
 
 /// Whether a sort may stand at the top of the body.

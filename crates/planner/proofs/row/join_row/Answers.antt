@@ -1,31 +1,34 @@
-use Rattle.std.proofs.Common.{ℕ, ◌-◌, ◌<◌, length, below_more, arith}
-use Rattle.planner.specs.Fronts.{listed}
+use Rattle.std.proofs.Common.{ℕ, ◌<◌, ◌∙◌, length, below_more, ap, subst, arith}
+use Rattle.std.proofs.lemmas.List.{get_or_default}
+use Rattle.planner.specs.declared.cut.Cut.{Cut}
 use Rattle.planner.specs.Cells.{cost_at, row_of}
-use Rattle.planner.specs.Choices.{IsCut}
-use Rattle.planner.specs.Rows.{JoinsBound}
-use Rattle.planner.proofs.Table.{grown_none, grown_then, joins_lower}
+use Rattle.planner.specs.Cuts.{cut_at, no_cut}
+use Rattle.planner.specs.Choices.{IsStep}
+use Rattle.planner.specs.Rows.{width, cuts_of, CutBound, IsCutBy, IsJoined}
+use Rattle.planner.proofs.Steps.{step_then, step_wider}
+use Rattle.planner.proofs.Tabling.{cut_falls}
 use Rattle.planner.proofs.row.join_row.Goals as goal
 
-pub loop-a-init : goal.loop-a-init
-loop-a-init c =
-    record {
-      grown = grown_none c.args.task.now (listed c.args.task.now) c.args.ways.now.fronts.items (row_of (length c.args.ways.now.fronts.items) c.args.done.now) c.args.set c.args.row.now;
-      bounds = λ a less cut. let some = cut.some in absurd (omega arith);
-    }
-
-pub loop-a-preserved : goal.loop-a-preserved
-loop-a-preserved c =
-    let task = c.args.task.now in
-    let fronts = c.args.ways.now.fronts.items in
-    let rows = row_of (length c.args.ways.now.fronts.items) c.args.done.now in
+pub loop-k-preserved : goal.loop-k-preserved
+loop-k-preserved c =
+    let ways = c.args.ways.now in
     let set = c.args.set in
+    let rows = row_of (width ways) c.args.cells.now in
+    let k = c.loop-k.k in
+    let cuts = c.cuts_at-cuts.result.now in
+    let within : k < length cuts = omega (arith, c.loop-k-test.true, c.loop-k.auto.k-end) in
+    let inside : k < length (cuts_of ways set) = omega (arith, within, ap length c.cuts_at-cuts.ensures) in
+    let is = get_or_default cuts k _ no_cut within ∙ ap (λ cs. cut_at cs k) c.cuts_at-cuts.ensures in
+    let old = c.loop-k.row in
     let new = c.join_cut.new.row in
-    let P : ℕ → Type 0 = λ a. IsCut set a → (f : ℕ) → f < length fronts → JoinsBound task (listed task) fronts (rows a) (rows (set - a)) a (set - a) f (cost_at new f) in
+    let step = subst (λ (x : Cut). IsStep (width ways) (IsCutBy ways rows x) old new) is c.join_cut.ensures.step in
+    let bounds = subst (λ (x : Cut). (f : ℕ) → f < width ways → CutBound ways rows x f (cost_at new f)) is c.join_cut.ensures.bounds in
+    let P : ℕ → Type 0 = λ i. (f : ℕ) → f < width ways → CutBound ways rows (cut_at (cuts_of ways set) i) f (cost_at new f) in
     record {
-      grown = grown_then task (listed task) fronts rows set c.args.row.now c.loop-a.row new c.loop-a.invariant.grown c.join_cut.ensures.grown;
-      bounds = below_more P c.loop-a.a (λ a h cut f within. joins_lower task (listed task) fronts (rows a) (rows (set - a)) a (set - a) f (cost_at c.loop-a.row f) (cost_at new f) (c.join_cut.ensures.grown.lower f) (c.loop-a.invariant.bounds a h cut f within)) c.join_cut.ensures.bounds;
+      step = step_then (width ways) (IsJoined ways rows (cuts_of ways set)) c.args.row.now old new c.loop-k.invariant.step (step_wider (width ways) (IsCutBy ways rows (cut_at (cuts_of ways set) k)) (IsJoined ways rows (cuts_of ways set)) old new (λ f cost h. record { number = k; within = inside; joins = h }) step);
+      bounds = below_more P k (λ i h f front_in. cut_falls ways rows (cut_at (cuts_of ways set) i) f (cost_at old f) (cost_at new f) (step.lower f) (c.loop-k.invariant.bounds i h f front_in)) bounds;
     }
 
 pub returns-clause-bounds : goal.returns-clause-bounds
 returns-clause-bounds c =
-    λ a cut. let less = cut.less in c.loop-a.invariant.bounds a (omega arith) cut
+    λ k inside. c.loop-k.invariant.bounds k (omega (arith, inside, ap length c.cuts_at-cuts.ensures, c.loop-k-test.false, c.loop-k.auto.k-end))

@@ -1,0 +1,45 @@
+use Rattle.std.proofs.Common.{◌≡◌, ℕ, ◌≤◌, ◌^◌, List, sym, ap, subst, ◌∙◌, arith}
+use Rattle.std.proofs.lemmas.List.{take_at}
+use Rattle.std.proofs.Math.Pow.{pow_mono}
+use Rattle.planner.specs.declared.ways.Ways.{Ways}
+use Rattle.adv_base.specs.Sets.{all_slots}
+use Rattle.plan_model.specs.Costs.{rows_in}
+use Rattle.planner.specs.declared.cell.Cell.{Cell}
+use Rattle.planner.specs.Cells.{row_of}
+use Rattle.planner.specs.Rows.{width, sets_of, AreRows, IsCapped}
+use Rattle.planner.specs.Shapes.{least_shape}
+use Rattle.planner.proofs.Finding.{cost_is, full_in}
+use Rattle.planner.proofs.Tabling.{rows_stay, table_blanks}
+use Rattle.planner.proofs.search.Search.cost_from.Goals as goal
+
+few_sets : (ways : Ways) (slot : ℕ) → slot ≤ ways.task.now.slots → 2 ^ slot ≤ sets_of ways
+few_sets ways slot h =
+    let more : 2 ^ slot ≤ 2 ^ ways.task.now.slots = pow_mono h in
+    omega (arith, more, ways.task.now.limits.rows_each)
+
+pub fill-requires-clause-from_in : goal.fill-requires-clause-from_in
+fill-requires-clause-from_in g c = omega (arith, c.first_set.ensures, few_sets c.args.self.now.ways c.args.slot c.requires.slot_in)
+
+pub fill-requires-clause-done : goal.fill-requires-clause-done
+fill-requires-clause-done g c =
+    let ways = c.args.self.now.ways in
+    let held = c.requires.held in
+    let rows = rows_stay ways held.before (g.O.Offers.table c.args.offers.now) c.args.slot held.alike (row_of (width ways) c.args.self.now.cells.items) (sets_of ways) held.holds.rows (few_sets ways c.args.slot c.requires.slot_in) in
+    let from = subst (λ n. AreRows ways (g.O.Offers.table c.args.offers.now) (row_of (width ways) c.args.self.now.cells.items) n) (sym c.first_set.ensures) rows in
+    subst (λ (cells : List Cell). AreRows ways (g.O.Offers.table c.args.offers.now) (row_of (width ways) cells) c.first_set.result) (sym c.as_mut_slice.ensures.value) from
+
+pub least_shape-requires-clause-capped : goal.least_shape-requires-clause-capped
+least_shape-requires-clause-capped g c =
+    let ways = c.args.self.now.ways in
+    let full = all_slots c.args.self.now.ways.task.now.slots in
+    let filled : c.as_slice.result.now ≡ c.fill.new.cells = c.as_slice.ensures.value ∙ take_at c.fill.new.cells _ _ (c.fill.auto.cells ∙ c.as_mut_slice.ensures.len) in
+    subst (λ (cells : List Cell). IsCapped (row_of (width ways) cells full)) (sym filled) (c.fill.ensures.done.each full (full_in ways)).capped
+
+pub returns-clause-least : goal.returns-clause-least
+returns-clause-least g c =
+    let ways = c.args.self.now.ways in
+    let task = c.args.self.now.ways.task.now in
+    let full = all_slots c.args.self.now.ways.task.now.slots in
+    let filled : c.as_slice.result.now ≡ c.fill.new.cells = c.as_slice.ensures.value ∙ take_at c.fill.new.cells _ _ (c.fill.auto.cells ∙ c.as_mut_slice.ensures.len) in
+    let is = c.least_shape.ensures ∙ ap (λ (cells : List Cell). least_shape task.group task (row_of (width ways) cells full) (rows_in task full)) filled in
+    cost_is c.args.self.now.cells.alloc ways (g.O.Offers.table c.args.offers.now) (row_of (width ways) c.fill.new.cells) c.least_shape.result c.limits.ensures c.requires.offers c.fill.ensures.done (table_blanks ways c.fill.new.cells c.fill.ensures.table) is

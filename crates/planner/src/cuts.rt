@@ -1,0 +1,163 @@
+//! The cuts of the sets of a task's slots, found once.
+ghost use Rattle.std.specs.Prelude.{◌≡◌, ℕ, [], ◌∷◌, ◌++◌, ◌+◌, ◌^◌, ◌<◌, ◌≤◌, IfOk, IsTrue, length};
+ghost use Rattle.planner.specs.Cuts.{merges_of, may_cut as may_be_cut, AddsCuts, AreCuts};
+
+use crate::cut::{Cut, Merge};
+use crate::front::{Link, crosses, side};
+use crate::price::{hash_price, merge_price};
+use plan_model::Task;
+use std::alloc::{AllocError, Global};
+
+/// The cuts of all sets, as they are found.
+#[derive(Drop)]
+pub(crate) struct Cuts {
+    pub cuts: Vec<Cut>,
+    pub merges: Vec<Merge>,
+    pub starts: Vec<usize>,
+    pub covered: Vec<bool>,
+}
+
+/// Adds a merge of two sets, where the link has an end in each.
+fn add_merge(merges: &mut Vec<Merge>, link: &Link, a: usize, b: usize) -> Result<(), AllocError>
+    ensures { IfOk result (λ _. merges.new.items ≡ merges.old.items ++ merges_of (link.now ∷ []) a b) }
+{
+    if !crosses(a, b, link) {
+        return Ok(());
+    }
+    merges.push(Merge {
+        edge: link.edge,
+        left_need: side(link, a),
+        right_front: side(link, b),
+    })?;
+    Ok(())
+}
+
+/// Adds the merges of two sets.
+fn add_merges(merges: &mut Vec<Merge>, links: &[Link], a: usize, b: usize) -> Result<(), AllocError>
+    ensures { IfOk result (λ _. merges.new.items ≡ merges.old.items ++ merges_of links.now a b) }
+{
+    for link in links {
+        add_merge(merges, link, a, b)?;
+    }
+    Ok(())
+}
+
+/// Whether a set may be cut into a and the rest: these are apart, and both can be covered.
+fn may_cut(covered: &[bool], set: usize, a: usize) -> bool
+    requires done { length covered.now ≡ set }
+    requires some { 0 < a }
+    requires less { a < set }
+    ensures { result ≡ may_be_cut covered.now set a }
+{
+    a & (set - a) == 0 && covered[a] && covered[set - a]
+}
+
+/// Adds the cut of a set into a and the rest, where these are apart, both can be covered, and some link crosses it.
+fn add_cut(
+    cuts: &mut Vec<Cut>,
+    merges: &mut Vec<Merge>,
+    covered: &[bool],
+    task: &Task,
+    links: &[Link],
+    set: usize,
+    a: usize,
+) -> Result<(), AllocError>
+    requires set_in { set < length task.now.rows }
+    requires done { length covered.now ≡ set }
+    requires some { 0 < a }
+    requires less { a < set }
+    ensures { IfOk result (λ _. AddsCuts task.now links.now covered.now set a (a + 1) cuts.old.items merges.old.items cuts.new.items merges.new.items) }
+{
+    if !may_cut(covered, set, a) {
+        return Ok(());
+    }
+    let b = set - a;
+    let from = merges.len();
+    add_merges(merges, links, a, b)?;
+    let to = merges.len();
+    if from == to {
+        return Ok(());
+    }
+    cuts.push(Cut {
+        left: a,
+        right: b,
+        hash_price: hash_price(task, a, b),
+        merge_price: merge_price(task, a, b),
+        from,
+        to,
+    })?;
+    Ok(())
+}
+
+/// Adds all cuts of a set.
+fn add_cuts(
+    cuts: &mut Vec<Cut>,
+    merges: &mut Vec<Merge>,
+    covered: &[bool],
+    task: &Task,
+    links: &[Link],
+    set: usize,
+) -> Result<(), AllocError>
+    requires set_in { set < length task.now.rows }
+    requires done { length covered.now ≡ set }
+    ensures { IfOk result (λ _. AddsCuts task.now links.now covered.now set 1 set cuts.old.items merges.old.items cuts.new.items merges.new.items) }
+{
+    for a in 1..set {
+        add_cut(cuts, merges, covered, task, links, set, a)?;
+    }
+    Ok(())
+}
+
+/// Whether a set is one of so many slots.
+fn is_slot(set: usize, slots: u8) -> bool
+    requires { slots ≤ 8 }
+    ensures { (slot : ℕ) → slot < slots → 2 ^ slot ≡ set → IsTrue result }
+{
+    for slot in 0..slots {
+        if 1 << slot == set {
+            return true;
+        }
+    }
+    false
+}
+
+/// Whether plans can cover a set of so many slots, whose cuts stand from a place to before an end.
+fn can_cover(set: usize, slots: u8, from: usize, end: usize) -> bool
+    requires { slots ≤ 8 }
+    ensures slot { (slot : ℕ) → slot < slots → 2 ^ slot ≡ set → IsTrue result }
+    ensures cuts { from < end → IsTrue result }
+{
+    from < end || is_slot(set, slots)
+}
+
+/// Adds the next set.
+fn add_set(made: &mut Cuts, task: &Task, links: &[Link], set: usize) -> Result<(), AllocError>
+    requires set_in { set < length task.now.rows }
+    requires done { AreCuts task.now links.now made.old.cuts.items made.old.merges.items made.old.starts.items made.old.covered.items set }
+    ensures { IfOk result (λ _. AreCuts task.now links.now made.new.cuts.items made.new.merges.items made.new.starts.items made.new.covered.items (set + 1)) }
+{
+    let before = made.cuts.len();
+    let covered = made.covered.as_slice();
+    add_cuts(&mut made.cuts, &mut made.merges, covered, task, links, set)?;
+    let end = made.cuts.len();
+    made.starts.push(end)?;
+    made.covered.push(can_cover(set, task.slots, before, end))?;
+    Ok(())
+}
+
+/// The cuts of all sets. A set can be covered if it is one slot, or has a cut: one that a link crosses, into two parts that
+/// can be covered.
+pub(crate) fn cuts_of(alloc: Global, task: &Task, links: &[Link]) -> Result<Cuts, AllocError>
+    ensures { IfOk result (λ made. AreCuts task.now links.now made.cuts.items made.merges.items made.starts.items made.covered.items (length task.now.rows)) }
+{
+    let mut made = Cuts {
+        cuts: Vec::new(alloc),
+        merges: Vec::new(alloc),
+        starts: vec![in alloc; 0]?,
+        covered: Vec::new(alloc),
+    };
+    for set in 0..task.rows.len() {
+        add_set(&mut made, task, links, set)?;
+    }
+    Ok(made)
+}
