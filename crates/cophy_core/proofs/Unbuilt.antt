@@ -5,7 +5,7 @@ use Rattle.std.proofs.lemmas.Option.{slice_get_within, get_or_from_slice_get}
 use Rattle.std.proofs.lemmas.List.Elements.{All-nil, All-cons}
 use Rattle.std.specs.Prelude.{All}
 use Rattle.adv_base.specs.declared.workload.Statement.{Statement}
-use Rattle.cophy_core.specs.Prices.{is_select, unbuilt_from}
+use Rattle.cophy_core.specs.Built.{is_select, unbuilt_from}
 
 -- one statement more
 pub unbuilt_from-turn : (n i : ℕ) (statements : List Statement) (statement : Statement) → i < length statements → statement ≡ get_or statements i statement → unbuilt_from n (drop i statements) ≡ cond (is_select statement.work) (unbuilt_from (n + 1) (drop (i + 1) statements)) (Some n)

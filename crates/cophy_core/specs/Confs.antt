@@ -1,43 +1,45 @@
--- A configuration file: a candidate's number a line, strictly increasing.
-use Rattle.std.specs.Prelude.{◌≡◌, ℕ, zero, suc, ◌+◌, ◌-◌, ◌==◌, nat_lt, Bool, true, false, not, if◌then◌else◌, List, length, take, drop, take_while, replicate, slice_set, Option, Some, None, option_and_then, Result, Ok, Err}
+-- A configuration file: numbers of candidates, one a line, strictly rising.
+use Rattle.std.specs.Prelude.{◌≡◌, ◌≢◌, ℕ, ◌+◌, ◌-◌, ◌<◌, ◌≤◌, Bool, true, false, List, [], ◌∷◌, ◌++◌, length, replicate, slice_set, decimal}
+use Rattle.adv_base.specs.declared.limits.TheConstants.{MOST_CANDIDATES}
 use Rattle.adv_base.specs.declared.setting.Config.{Config}
-use Rattle.cophy_core.specs.Numbers.{number_within}
 
--- a byte that is no line feed
-abbrev pub is_line_byte : ℕ → Bool
-is_line_byte byte = not (byte == 10)
+-- the lines of numbers, each ended by a line feed
+abbrev pub lines_of : List ℕ → List ℕ
+lines_of [] = []
+lines_of (n ∷ ns) = decimal n ++ 10 ∷ lines_of ns
 
--- how many bytes stand before the first line feed
-abbrev pub line_length : List ℕ → ℕ
-line_length bytes = length (take_while is_line_byte bytes)
+-- they rise from above the last number to at most the count of candidates
+abbrev pub Rise : ℕ → ℕ → List ℕ → Type 0
+Rise count last [] = Unit {0}
+Rise count last (n ∷ ns) = (last < n) × ((n ≤ count) × Rise count n ns)
 
--- the first line, and what follows its line feed, where it has one
-unfoldable pub line_at : List ℕ → Option (List ℕ × List ℕ)
-line_at bytes =
-    if nat_lt (line_length bytes) (length bytes) then Some (take (line_length bytes) bytes, drop (line_length bytes + 1) bytes) else None
+-- the last of them
+abbrev pub last_of : ℕ → List ℕ → ℕ
+last_of last [] = last
+last_of last (n ∷ ns) = last_of n ns
 
--- the number of the first line, which is above the last one and at most the count, and what follows the line
-unfoldable pub number_line : ℕ → ℕ → List ℕ → Option (ℕ × List ℕ)
-number_line count last bytes =
-    option_and_then (λ line. option_and_then (λ number. Some (number, line.1)) (number_within (last + 1) count line.0)) (line_at bytes)
+-- the flags behind those so far, with those of these candidates on
+abbrev pub flags_with : List Bool → List ℕ → List Bool
+flags_with flags [] = flags
+flags_with flags (n ∷ ns) = flags_with (slice_set flags (n - 1) true) ns
 
-abbrev pub next_lines : (ℕ → List Bool → List ℕ → Result (List Bool) ℕ) → ℕ → List Bool → Option (ℕ × List ℕ) → Result (List Bool) ℕ
-next_lines read line flags None = Err line
-next_lines read line flags (Some (number, rest)) = read number (slice_set flags (number - 1) true) rest
+-- the bytes are the lines of rising numbers, and these candidates and no others are on
+pub record IsConf (count : ℕ) (bytes : List ℕ) (config : Config) : Type 0 where
+  pub numbers : List ℕ
+  pub text : bytes ≡ lines_of numbers
+  pub rise : Rise count 0 numbers
+  pub flags : config.on ≡ flags_with (replicate MOST_CANDIDATES false) numbers
 
--- The flags behind those so far, from a line on, or the first line that breaks a rule. As numbers increase, there are no
--- more lines than candidates before one breaks it.
-unfoldable pub flags_from : ℕ → ℕ → ℕ → ℕ → List Bool → List ℕ → Result (List Bool) ℕ
-flags_from zero count line last flags bytes = Err line
-flags_from (suc n) count line last flags bytes =
-    if length bytes == 0 then Ok flags
-    else next_lines (flags_from n count (line + 1)) line flags (number_line count last bytes)
+-- no line of a number above the last one comes first
+abbrev pub NoLine : ℕ → ℕ → List ℕ → Type 0
+NoLine count last bytes = (n : ℕ) (more : List ℕ) → last < n → n ≤ count → bytes ≢ decimal n ++ 10 ∷ more
 
--- the flags of a configuration file, or its first line that breaks a rule
-unfoldable pub conf_of : ℕ → List ℕ → Result (List Bool) ℕ
-conf_of count bytes = flags_from 257 count 1 0 (replicate 256 false) bytes
-
--- what a function returned is what reading gives
-abbrev pub GivesFlags : Result Config ℕ → Result (List Bool) ℕ → Type 0
-GivesFlags (Ok config) read = read ≡ Ok config.on
-GivesFlags (Err line) read = read ≡ Err line
+-- lines of rising numbers come before the line of that number, which is none that goes on
+pub record IsConfFault (count : ℕ) (bytes : List ℕ) (line : ℕ) : Type 0 where
+  pub numbers : List ℕ
+  pub rest : List ℕ
+  pub text : bytes ≡ lines_of numbers ++ rest
+  pub rise : Rise count 0 numbers
+  pub line_is : line ≡ length numbers + 1
+  pub some : rest ≢ []
+  pub no_line : NoLine count (last_of 0 numbers) rest

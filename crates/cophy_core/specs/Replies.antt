@@ -1,28 +1,48 @@
--- Replies at each step of the work: an answer and its text.
-use Rattle.std.specs.Prelude.{◌≡◌, ℕ, List, Option}
-use Rattle.adv_base.specs.declared.workload.Statement.{Statement}
+-- An answer that may be given to words, and its text.
+use Rattle.std.specs.Prelude.{◌≡◌, ℕ, List, [], Option, Some, None, Result, Ok, Err}
 use Rattle.adv_shelf.specs.Shelf.{Files}
 use Rattle.report.specs.Texts.{done_text}
-use Rattle.cophy_core.specs.declared.question.Wanted.{Wanted}
-use Rattle.cophy_core.specs.declared.reply.Reply.{Reply}
-use Rattle.cophy_core.specs.Answers.{AnswersInputs, AnswersQuestion, AnswersCommand}
-use Rattle.cophy_core.specs.Commands.{PlainCommand}
-use Rattle.cophy_core.specs.Inputs.{Question, ReadCounts, question_of}
+use Rattle.report.specs.declared.done.Done.{Done}
+use Rattle.report.specs.declared.done.Done.TheVariants.{Usage, ReadFault, Memory, Priced}
+use Rattle.report.specs.declared.done.WordFault.{WordFault}
+use Rattle.cophy_core.specs.Answers.{OfSetting, Answers}
+use Rattle.cophy_core.specs.ReadWords.{PlainCommand, command_of}
+use Rattle.cophy_core.specs.Endings.{Put}
+use Rattle.cophy_core.specs.Files.{files_of, ReadCounts, IsReadFault}
 
--- to the bytes of files
-pub record RepliesInputs (words : List (List ℕ)) (wanted : Wanted) (cat load third : List ℕ) (reply : Reply) : Type 0 where
-  pub statements : List Statement
-  pub answers : AnswersInputs wanted cat load third statements reply.done
-  pub text_is : reply.text ≡ done_text words statements reply.done
+-- What may be answered to a command between these counts of faults: a read fault, want of memory, or what the files
+-- answer.
+abbrev pub MayAnswer : PlainCommand → Option Files → ReadCounts → ReadCounts → Done → Type 0
+MayAnswer command files before after (ReadFault role) = IsReadFault files (files_of command) before after role
+MayAnswer command files before after Memory = Unit {0}
+MayAnswer command files before after done = Answers command files done
 
--- to a question over files
-pub record RepliesQuestion (words : List (List ℕ)) (question : Question) (files : Option Files) (before after : ReadCounts) (reply : Reply) : Type 0 where
-  pub statements : List Statement
-  pub answers : AnswersQuestion question files before after statements reply.done
-  pub text_is : reply.text ≡ done_text words statements reply.done
+-- The same to words: to those that are no command, their first fault.
+abbrev pub MayAnswerWords : Result PlainCommand WordFault → Option Files → ReadCounts → ReadCounts → Done → Type 0
+MayAnswerWords (Ok command) files before after done = MayAnswer command files before after done
+MayAnswerWords (Err fault) files before after (Usage told) = told ≡ fault
+MayAnswerWords (Err fault) files before after Memory = Unit {0}
+MayAnswerWords (Err fault) files before after done = ⊥
 
--- to a command
-pub record RepliesCommand (words : List (List ℕ)) (command : PlainCommand) (files : Option Files) (before after : ReadCounts) (reply : Reply) : Type 0 where
-  pub statements : List Statement
-  pub answers : AnswersCommand (question_of command) files before after statements reply.done
-  pub text_is : reply.text ≡ done_text words statements reply.done
+-- the text of an answer to a command: prices are told over the setting of its files
+abbrev pub IsTextOf : PlainCommand → Option Files → List (List ℕ) → Done → List ℕ → Type 0
+IsTextOf command files words (Priced prices) text =
+    OfSetting files command (λ inputs setting. text ≡ done_text words (Some setting) (Priced prices))
+IsTextOf command files words done text = text ≡ done_text words None done
+
+-- the same to words
+abbrev pub IsTextTo : Result PlainCommand WordFault → Option Files → List (List ℕ) → Done → List ℕ → Type 0
+IsTextTo (Ok command) files words done text = IsTextOf command files words done text
+IsTextTo (Err fault) files words done text = text ≡ done_text words None done
+
+-- what a command replies over the files, with what is put and the text
+pub record Replies (command : PlainCommand) (files : Option Files) (words : List (List ℕ)) (done : Done) (puts : List Put) (text : List ℕ) : Type 0 where
+  pub answers : Answers command files done
+  pub no_puts : puts ≡ []
+  pub text_is : IsTextOf command files words done text
+
+-- an answer to the words, what is put for it, and its text
+pub record IsReply (words : List (List ℕ)) (files : Option Files) (before after : ReadCounts) (done : Done) (puts : List Put) (text : List ℕ) : Type 0 where
+  pub answers : MayAnswerWords (command_of words) files before after done
+  pub no_puts : puts ≡ []
+  pub text_is : IsTextTo (command_of words) files words done text

@@ -1,155 +1,119 @@
-//! From the words of the command line to an answer and its text.
-ghost use Rattle.std.specs.Prelude.{◌≡◌, ◌≤◌, ℕ, List, IfOk, IfErr, length};
+//! From words to an answer with its text.
+ghost use Rattle.std.specs.Prelude.{◌≡◌, ◌≤◌, ℕ, List, Some, Ok, IfOk, IfErr};
+ghost use Rattle.report.specs.Settings.{the_setting};
 ghost use Rattle.report.specs.Texts.{HasPrices};
-ghost use Rattle.cophy_core.specs.Answers.{PricesAll, RefusesSetting, AnswersSetting};
-ghost use Rattle.cophy_core.specs.Commands.{texts, plain_command};
-ghost use Rattle.cophy_core.specs.Inputs.{counts, most_bytes};
-ghost use Rattle.cophy_core.specs.Outcomes.{IsReply};
-ghost use Rattle.cophy_core.specs.Replies.{RepliesInputs, RepliesQuestion, RepliesCommand};
-ghost use Rattle.cophy_core.specs.Stops.{IsRefusalStop};
-ghost use Rattle.cophy_core.specs.View.{plain_question};
+ghost use Rattle.cophy_core.specs.Answers.{IsBuilt, RefusesOver, GivesOver};
+ghost use Rattle.cophy_core.specs.Causes.{IsBounded};
+ghost use Rattle.cophy_core.specs.ReadWords.{texts, plain_command, command_of};
+ghost use Rattle.cophy_core.specs.Endings.{plain_puts};
+ghost use Rattle.cophy_core.specs.Files.{counts};
+ghost use Rattle.cophy_core.specs.Reading.{StopsAtFiles};
+ghost use Rattle.cophy_core.specs.Replies.{IsReply, Replies};
+ghost use Rattle.cophy_core.specs.Stops.{StopsAt};
 
-use crate::explain::explain;
-use crate::files::{Inputs, read_inputs};
-use crate::price::{first_unbuilt, prices_of};
-use crate::question::{Question, Wanted};
+use crate::commands::cost::cost;
+use crate::commands::explain::explain;
+use crate::files::{bytes_at, read_files};
 use crate::reply::Reply;
-use crate::setting::{Opened, open};
+use crate::setting::open;
 use crate::stop::Stop;
 use crate::words::{Command, read_words};
-use adv_base::NoMemory;
+use adv_base::{Bytes, List, Setting};
 use adv_shelf::Shelf;
-use report::{Done, Prices, Refusal};
+use report::{Done, text};
 use std::alloc::Global;
 
-/// The prices of all statements, or the first that isn't built.
-fn price(alloc: Global, opened: &Opened, third: &[u8]) -> Result<Prices, Stop>
-    ensures prices { IfOk result (PricesAll opened.now.cat opened.now.statements) }
-    ensures each { IfOk result (λ prices. length prices.costs ≡ length opened.now.statements) }
-    ensures stop { IfErr result (IsRefusalStop (RefusesSetting Wanted.Prices opened.now.statements third.now)) }
-{
-    let statements = opened.statements.as_slice();
-    if let Some(unbuilt) = first_unbuilt(statements) {
-        return Err(Stop::Refused(Refusal::NotBuilt(unbuilt)));
-    }
-    let prices = prices_of(alloc, &opened.cat, statements)?;
-    Ok(prices)
-}
-
-/// What is wanted of a setting and the bytes of the third file.
-fn work(alloc: Global, wanted: Wanted, opened: &Opened, third: &[u8]) -> Result<Done, Stop>
-    ensures done { IfOk result (AnswersSetting wanted opened.now.cat opened.now.statements third.now) }
-    ensures prices { IfOk result (HasPrices (length opened.now.statements)) }
-    ensures stop { IfErr result (IsRefusalStop (RefusesSetting wanted opened.now.statements third.now)) }
-{
-    match wanted {
-        Wanted::Prices => {
-            let prices = price(alloc, opened, third)?;
-            Ok(Done::Priced(prices))
-        }
-        Wanted::Plan(number) => {
-            let explained = explain(alloc, opened, third, number)?;
-            Ok(Done::Explained(explained))
-        }
-    }
-}
-
-/// The answer over a setting.
-fn answer_setting(alloc: Global, wanted: Wanted, opened: &Opened, third: &[u8]) -> Done
-    ensures answers { AnswersSetting wanted opened.now.cat opened.now.statements third.now result }
-    ensures prices { HasPrices (length opened.now.statements) result }
-{
-    match work(alloc, wanted, opened, third) {
-        Ok(done) => done,
-        Err(stop) => stop.done(),
-    }
-}
-
-/// The reply to the bytes of a question's files.
-fn reply_to_inputs(
+/// What a command gives over the bytes of its files and their setting.
+fn work(
     alloc: Global,
-    words: &[String],
-    wanted: Wanted,
-    inputs: &Inputs,
-) -> Result<Reply, NoMemory>
-    requires { length inputs.now.load ≤ most_bytes }
-    ensures { IfOk result (RepliesInputs (texts words.now) wanted inputs.now.cat inputs.now.load inputs.now.third) }
-{
-    match open(alloc, inputs.cat.as_slice(), inputs.load.as_slice()) {
-        Ok(opened) => {
-            let done = answer_setting(alloc, wanted, &opened, inputs.third.as_slice());
-            Reply::new(alloc, words, done, Some(&opened.setting()))
-        }
-        Err(stop) => Reply::new(alloc, words, stop.done(), None),
-    }
-}
-
-/// The reply to a question, whose files are read first.
-fn reply_to_question<S: Shelf>(
-    alloc: Global,
-    words: &[String],
-    shelf: &mut S,
-    question: &Question<'_>,
-) -> Result<Reply, NoMemory>
-    ensures reply { IfOk result (RepliesQuestion (texts words.now) (plain_question question.now) (S.files shelf.old)
-        (counts (S.read_faults shelf.old) (S.read_faults_at shelf.old)) (counts (S.read_faults shelf.new) (S.read_faults_at shelf.new))) }
-
-    ensures files { S.files shelf.new ≡ S.files shelf.old }
-    ensures puts { S.put_faults shelf.new ≡ S.put_faults shelf.old }
-{
-    match read_inputs(alloc, shelf, &question.names) {
-        Ok(inputs) => reply_to_inputs(alloc, words, question.wanted, &inputs),
-        Err(stop) => Reply::new(alloc, words, stop.done(), None),
-    }
-}
-
-/// The reply to a command.
-fn reply_to_command<S: Shelf>(
-    alloc: Global,
-    words: &[String],
-    shelf: &mut S,
     command: &Command<'_>,
-) -> Result<Reply, NoMemory>
-    ensures reply { IfOk result (RepliesCommand (texts words.now) (plain_command command.now) (S.files shelf.old)
+    inputs: &List<Bytes>,
+    setting: &Setting<'_>,
+) -> Result<Done, Stop>
+    requires { IsBuilt (plain_command command.now) }
+    ensures gives { IfOk result (GivesOver (plain_command command.now) inputs.now (the_setting setting.now)) }
+    ensures prices { IfOk result (HasPrices (Some (the_setting setting.now))) }
+    ensures bound { IfOk result IsBounded }
+    ensures stop { IfErr result (StopsAt (RefusesOver (plain_command command.now) inputs.now (the_setting setting.now))) }
+{
+    match *command {
+        Command::Cost { .. } => cost(alloc, setting),
+        Command::Explain { number, .. } => explain(alloc, setting, bytes_at(inputs, 2), number),
+        Command::WhatIf { .. }
+        | Command::Candidates { .. }
+        | Command::Advise { .. }
+        | Command::Check { .. }
+        | Command::Bench { .. } => unreachable!(),
+    }
+}
+
+/// The answer to a command with its text, or why there is none.
+fn answer<'a, S: Shelf>(
+    alloc: Global,
+    words: &[String],
+    shelf: &mut S,
+    command: &Command<'a>,
+) -> Result<Reply<'a>, Stop>
+    ensures reply { IfOk result (λ reply. Replies (plain_command command.now) (S.files shelf.old) (texts words.now) reply.done (plain_puts reply.puts) reply.text) }
+    ensures bound { IfOk result (λ reply. IsBounded reply.done) }
+    ensures stop { IfErr result (StopsAtFiles (plain_command command.now) (S.files shelf.old)
         (counts (S.read_faults shelf.old) (S.read_faults_at shelf.old)) (counts (S.read_faults shelf.new) (S.read_faults_at shelf.new))) }
 
     ensures files { S.files shelf.new ≡ S.files shelf.old }
+    ensures counts { S.read_faults shelf.old ≤ S.read_faults shelf.new }
+    ensures counts_at { (n : List ℕ) → S.read_faults_at shelf.old n ≤ S.read_faults_at shelf.new n }
     ensures puts { S.put_faults shelf.new ≡ S.put_faults shelf.old }
 {
-    match Question::of(command) {
-        Some(question) => reply_to_question(alloc, words, shelf, &question),
-        None => Reply::new(alloc, words, Done::Refused(Refusal::NotBuilt(0)), None),
+    let inputs = read_files(alloc, shelf, command)?;
+    let opened = open(alloc, bytes_at(&inputs, 0), bytes_at(&inputs, 1))?;
+    let setting = opened.setting();
+    let done = work(alloc, command, &inputs, &setting)?;
+    let text = text(alloc, &done, words, Some(&setting))?;
+    Ok(Reply {
+        done,
+        puts: List::new(alloc),
+        text,
+    })
+}
+
+/// The reply to the words of a command.
+fn reply_to<'a, S: Shelf>(
+    alloc: Global,
+    words: &[String],
+    shelf: &mut S,
+    command: &Command<'a>,
+) -> Reply<'a>
+    requires { command_of (texts words.now) ≡ Ok (plain_command command.now) }
+    ensures reply { IsReply (texts words.now) (S.files shelf.old)
+        (counts (S.read_faults shelf.old) (S.read_faults_at shelf.old)) (counts (S.read_faults shelf.new) (S.read_faults_at shelf.new))
+        result.done (plain_puts result.puts) result.text }
+    ensures bound { IsBounded result.done }
+
+    ensures files { S.files shelf.new ≡ S.files shelf.old }
+    ensures counts { S.read_faults shelf.old ≤ S.read_faults shelf.new }
+    ensures counts_at { (n : List ℕ) → S.read_faults_at shelf.old n ≤ S.read_faults_at shelf.new n }
+    ensures puts { S.put_faults shelf.new ≡ S.put_faults shelf.old }
+{
+    match answer(alloc, words, shelf, command) {
+        Ok(reply) => reply,
+        Err(stop) => Reply::plain(alloc, words, stop.done()),
     }
 }
 
 /// The reply to words.
-fn reply_to_words<S: Shelf>(
-    alloc: Global,
-    words: &[String],
-    shelf: &mut S,
-) -> Result<Reply, NoMemory>
-    ensures reply { IfOk result (IsReply (texts words.now) (S.files shelf.old)
-        (counts (S.read_faults shelf.old) (S.read_faults_at shelf.old)) (counts (S.read_faults shelf.new) (S.read_faults_at shelf.new))) }
+pub(crate) fn reply<'a, S: Shelf>(alloc: Global, words: &'a [String], shelf: &mut S) -> Reply<'a>
+    ensures reply { IsReply (texts words.now) (S.files shelf.old)
+        (counts (S.read_faults shelf.old) (S.read_faults_at shelf.old)) (counts (S.read_faults shelf.new) (S.read_faults_at shelf.new))
+        result.done (plain_puts result.puts) result.text }
+    ensures bound { IsBounded result.done }
 
     ensures files { S.files shelf.new ≡ S.files shelf.old }
+    ensures counts { S.read_faults shelf.old ≤ S.read_faults shelf.new }
+    ensures counts_at { (n : List ℕ) → S.read_faults_at shelf.old n ≤ S.read_faults_at shelf.new n }
     ensures puts { S.put_faults shelf.new ≡ S.put_faults shelf.old }
 {
     match read_words(words) {
-        Ok(command) => reply_to_command(alloc, words, shelf, &command),
-        Err(fault) => Reply::new(alloc, words, Done::Usage(fault), None),
-    }
-}
-
-/// The reply to words. Where memory ran out, that is the reply, without a text.
-pub(crate) fn reply<S: Shelf>(alloc: Global, words: &[String], shelf: &mut S) -> Reply
-    ensures reply { IsReply (texts words.now) (S.files shelf.old)
-        (counts (S.read_faults shelf.old) (S.read_faults_at shelf.old)) (counts (S.read_faults shelf.new) (S.read_faults_at shelf.new)) result }
-
-    ensures files { S.files shelf.new ≡ S.files shelf.old }
-    ensures puts { S.put_faults shelf.new ≡ S.put_faults shelf.old }
-{
-    match reply_to_words(alloc, words, shelf) {
-        Ok(reply) => reply,
-        Err(NoMemory) => Reply::no_memory(alloc),
+        Ok(command) => reply_to(alloc, words, shelf, &command),
+        Err(fault) => Reply::plain(alloc, words, Done::Usage(fault)),
     }
 }

@@ -1,80 +1,158 @@
 //! The files of a command.
-ghost use Rattle.std.specs.Prelude.{◌≡◌, ◌≤◌, ℕ, List, IfOk, IfErr, option_map};
-ghost use Rattle.cophy_core.specs.Inputs.{counts, IsInput, IsThirdInput, HasInputs};
-ghost use Rattle.cophy_core.specs.Stops.{IsFileStop, IsStopAt, IsThirdStop};
-ghost use Rattle.cophy_core.specs.View.{plain_names};
+ghost use Rattle.std.specs.Prelude.{◌≡◌, ◌≤◌, ◌<◌, ◌∷◌, [], ◌++◌, ℕ, List, Some, IfOk, IfErr, OnOk, length, slice_get};
+ghost use Rattle.cophy_core.specs.Answers.{IsBuilt};
+ghost use Rattle.cophy_core.specs.ReadWords.{plain_command};
+ghost use Rattle.cophy_core.specs.Files.{counts, input, input_file, plain_uses, files_of, IsInput, AreInputs};
+ghost use Rattle.cophy_core.specs.Reading.{IsUnreadFile, StopsReading, StopsAtFiles};
 
-use crate::question::Names;
+use crate::Command;
 use crate::stop::Stop;
-use adv_base::Bytes;
+use adv_base::{Bytes, List, NoMemory};
 use adv_shelf::{GetFault, Shelf, read_all};
 use report::{Refusal, Role};
 use std::alloc::Global;
 
-/// The longest file that is read, in bytes.
+/// The most bytes of a catalogue, a workload and a configuration.
 const MOST_BYTES: u64 = 16777216;
 
-/// What the files of a command hold. A file that it doesn't read is empty here.
-#[derive(Drop)]
-pub(crate) struct Inputs {
-    pub cat: Bytes,
-    pub load: Bytes,
-    pub third: Bytes,
+/// A file that a command reads: in which role, by what name, and of how many bytes at most.
+#[derive(Clone, Copy)]
+pub struct FileUse<'a> {
+    pub role: Role,
+    pub name: &'a str,
+    pub most: u64,
 }
 
-/// The bytes of the file in a role.
-fn read_input<S: Shelf>(alloc: Global, shelf: &mut S, role: Role, name: &str) -> Result<Bytes, Stop>
-    ensures whole { IfOk result (IsInput (S.files shelf.old) name.now) }
-    ensures stop { IfErr result (IsStopAt (S.files shelf.old) (counts (S.read_faults shelf.old) (S.read_faults_at shelf.old))
-        (counts (S.read_faults shelf.new) (S.read_faults_at shelf.new)) role name.now) }
+/// The bytes of a file.
+fn read_file<S: Shelf>(alloc: Global, shelf: &mut S, file: &FileUse<'_>) -> Result<Bytes, Stop>
+    ensures whole { IfOk result (IsInput (S.files shelf.old) (input_file file.now.role file.now.name.now file.now.most)) }
+    ensures stop { IfErr result (IsUnreadFile (S.files shelf.old) (counts (S.read_faults shelf.old) (S.read_faults_at shelf.old))
+        (counts (S.read_faults shelf.new) (S.read_faults_at shelf.new)) (input_file file.now.role file.now.name.now file.now.most)) }
 
     ensures files { S.files shelf.new ≡ S.files shelf.old }
     ensures counts { S.read_faults shelf.old ≤ S.read_faults shelf.new }
     ensures counts_at { (n : List ℕ) → S.read_faults_at shelf.old n ≤ S.read_faults_at shelf.new n }
     ensures puts { S.put_faults shelf.new ≡ S.put_faults shelf.old }
 {
-    match read_all(alloc, shelf, name, MOST_BYTES) {
+    match read_all(alloc, shelf, file.name, file.most) {
         Ok(bytes) => Ok(bytes),
         Err(GetFault::Memory) => Err(Stop::Memory),
-        Err(GetFault::Failed) => Err(Stop::Failed(role)),
-        Err(GetFault::TooLong) => Err(Stop::Refused(Refusal::TooLong(role))),
+        Err(GetFault::Failed) => Err(Stop::Failed(file.role)),
+        Err(GetFault::TooLong) => Err(Stop::Refused(Refusal::TooLong(file.role))),
     }
 }
 
-/// The bytes of the third file, where a command has one.
-fn read_third<S: Shelf>(alloc: Global, shelf: &mut S, name: Option<&str>) -> Result<Bytes, Stop>
-    ensures whole { IfOk result (IsThirdInput (S.files shelf.old) (option_map (λ n. n.now) name.entry)) }
-    ensures stop { IfErr result (IsThirdStop (S.files shelf.old) (counts (S.read_faults shelf.old) (S.read_faults_at shelf.old))
-        (counts (S.read_faults shelf.new) (S.read_faults_at shelf.new)) (option_map (λ n. n.now) name.entry)) }
-
-    ensures files { S.files shelf.new ≡ S.files shelf.old }
-    ensures counts { S.read_faults shelf.old ≤ S.read_faults shelf.new }
-    ensures puts { S.put_faults shelf.new ≡ S.put_faults shelf.old }
+/// The file of a number, from 0.
+fn file_at<'a>(files: &[FileUse<'a>], at: usize) -> FileUse<'a>
+    requires { at < length files.now }
+    ensures { slice_get files.now at ≡ Some result }
 {
-    match name {
-        None => Ok(Bytes {
-            items: Vec::new(alloc),
-        }),
-        Some(name) => read_input(alloc, shelf, Role::Third, name),
-    }
+    files[at]
 }
 
-/// The bytes of all files of a command, read in the order of their names.
-pub(crate) fn read_inputs<S: Shelf>(
+/// Puts the bytes of the next file at the end.
+fn put(inputs: &mut Vec<Bytes>, bytes: Bytes) -> Result<(), NoMemory>
+    ensures { OnOk result (inputs.new.items ≡ inputs.old.items ++ bytes ∷ []) }
+{
+    inputs.push(bytes).map_err(|_| NoMemory)
+}
+
+/// The bytes of files, read in their order.
+fn read_each<S: Shelf>(
     alloc: Global,
     shelf: &mut S,
-    names: &Names<'_>,
-) -> Result<Inputs, Stop>
-    ensures inputs { IfOk result (λ i. HasInputs (S.files shelf.old) (plain_names names.now) i.cat i.load i.third) }
-    ensures stop { IfErr result (IsFileStop (S.files shelf.old) (plain_names names.now)
+    files: &[FileUse<'_>],
+) -> Result<List<Bytes>, Stop>
+    ensures inputs { IfOk result (AreInputs (S.files shelf.old) (plain_uses files.now)) }
+    ensures stop { IfErr result (StopsReading (S.files shelf.old) (plain_uses files.now)
         (counts (S.read_faults shelf.old) (S.read_faults_at shelf.old)) (counts (S.read_faults shelf.new) (S.read_faults_at shelf.new))) }
 
     ensures files { S.files shelf.new ≡ S.files shelf.old }
     ensures counts { S.read_faults shelf.old ≤ S.read_faults shelf.new }
+    ensures counts_at { (n : List ℕ) → S.read_faults_at shelf.old n ≤ S.read_faults_at shelf.new n }
     ensures puts { S.put_faults shelf.new ≡ S.put_faults shelf.old }
 {
-    let cat = read_input(alloc, shelf, Role::Catalogue, names.cat)?;
-    let load = read_input(alloc, shelf, Role::Workload, names.load)?;
-    let third = read_third(alloc, shelf, names.third)?;
-    Ok(Inputs { cat, load, third })
+    let mut inputs = Vec::new(alloc);
+    'files: for at in 0..files.len() {
+        let file = file_at(files, at);
+        let bytes = read_file(alloc, shelf, &file)?;
+        put(&mut inputs, bytes)?;
+    }
+    Ok(List { items: inputs })
+}
+
+/// The bytes of all files of a command, read in the order in which it names them. A command that isn't built is refused
+/// before any file is read.
+pub(crate) fn read_files<S: Shelf>(
+    alloc: Global,
+    shelf: &mut S,
+    command: &Command<'_>,
+) -> Result<List<Bytes>, Stop>
+    ensures inputs { IfOk result (AreInputs (S.files shelf.old) (files_of (plain_command command.now))) }
+    ensures built { IfOk result (λ _. IsBuilt (plain_command command.now)) }
+    ensures stop { IfErr result (StopsAtFiles (plain_command command.now) (S.files shelf.old)
+        (counts (S.read_faults shelf.old) (S.read_faults_at shelf.old)) (counts (S.read_faults shelf.new) (S.read_faults_at shelf.new))) }
+
+    ensures files { S.files shelf.new ≡ S.files shelf.old }
+    ensures counts { S.read_faults shelf.old ≤ S.read_faults shelf.new }
+    ensures counts_at { (n : List ℕ) → S.read_faults_at shelf.old n ≤ S.read_faults_at shelf.new n }
+    ensures puts { S.put_faults shelf.new ≡ S.put_faults shelf.old }
+{
+    match *command {
+        Command::Cost { cat, load } => {
+            let files = [
+                FileUse {
+                    role: Role::Catalogue,
+                    name: cat,
+                    most: MOST_BYTES,
+                },
+                FileUse {
+                    role: Role::Workload,
+                    name: load,
+                    most: MOST_BYTES,
+                },
+            ];
+            read_each(alloc, shelf, &files)
+        }
+        Command::Explain {
+            cat,
+            load,
+            conf,
+            ..
+        } => {
+            let files = [
+                FileUse {
+                    role: Role::Catalogue,
+                    name: cat,
+                    most: MOST_BYTES,
+                },
+                FileUse {
+                    role: Role::Workload,
+                    name: load,
+                    most: MOST_BYTES,
+                },
+                FileUse {
+                    role: Role::Third,
+                    name: conf,
+                    most: MOST_BYTES,
+                },
+            ];
+            read_each(alloc, shelf, &files)
+        }
+        Command::WhatIf { .. }
+        | Command::Candidates { .. }
+        | Command::Advise { .. }
+        | Command::Check { .. }
+        | Command::Bench { .. } => Err(Stop::Refused(Refusal::NotBuilt(0))),
+    }
+}
+
+/// The bytes of the file of a number, from 0.
+pub(crate) fn bytes_at(inputs: &List<Bytes>, at: usize) -> &[u8]
+    ensures { result.now ≡ input inputs.now at }
+{
+    match inputs.as_slice().get(at) {
+        Some(bytes) => bytes.as_slice(),
+        None => &[],
+    }
 }

@@ -1,23 +1,21 @@
 //! The program: from the words of a command line to an answer, its text and an exit status.
 //!
-//! `run` reads the words, the files that they name, the catalogue and the workload in them, does what the command asks
-//! for, and writes the text of the answer. Costs are in thousandths of a sequential page read. Which plan is least is
-//! found by `planner`, over the offers of `access_paths`; what is read and written goes through a shelf and a sink of
-//! `adv_shelf`.
+//! `run` reads the words, the files that they name, the setting in them, does what the command asks for, and writes the
+//! text of the answer. Costs are in thousandths of a sequential page read. Which plan is least is found by `planner`, over
+//! the offers of `access_paths`; what is read, put and written goes through a shelf and a sink of `adv_shelf`.
 #![tactic(auto)]
 
 mod answer;
+mod commands;
 mod conf;
-mod explain;
 mod files;
 mod number;
-mod price;
-mod question;
+mod opened;
+mod planned;
 mod reply;
 mod setting;
+mod statements;
 mod stop;
-#[cfg(test)]
-mod tests;
 mod top;
 mod words;
 

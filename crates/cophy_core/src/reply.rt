@@ -1,45 +1,90 @@
-//! Answers with their texts.
-ghost use Rattle.std.specs.Prelude.{◌≡◌, IfOk, length};
-ghost use Rattle.report.specs.Texts.{done_text, statements_in, HasPrices};
-ghost use Rattle.cophy_core.specs.Commands.{texts};
+//! Answers with their texts, and how they are given.
+ghost use Rattle.std.specs.Prelude.{◌≡◌, ◌≤◌, ◌⊎◌, ◌++◌, ◌∷◌, ℕ, List, [], None, IfErr, OnOk, OnErr};
+ghost use Rattle.adv_shelf.specs.Faults.{Rose};
+ghost use Rattle.report.specs.Texts.{done_text, HasPrices};
+ghost use Rattle.cophy_core.specs.Causes.{IsBounded};
+ghost use Rattle.cophy_core.specs.ReadWords.{texts};
+ghost use Rattle.cophy_core.specs.Endings.{outside, plain_puts, put_all, Ends, IsUnput};
 
-use adv_base::{Bytes, NoMemory, Setting};
+use adv_base::{Bytes, List};
+use adv_shelf::{PutFault, Shelf, Sink, write_all};
 use report::{Done, text};
 use std::alloc::Global;
 
-/// An answer and its text.
+/// A file to be put, with its bytes.
 #[derive(Drop)]
-pub struct Reply {
+pub struct FilePut<'a> {
+    pub name: &'a str,
+    pub bytes: Bytes,
+}
+
+/// An answer, the files that are put for it, and its text.
+#[derive(Drop)]
+pub(crate) struct Reply<'a> {
     pub done: Done,
+    pub puts: List<FilePut<'a>>,
     pub text: Bytes,
 }
 
-impl Reply {
-    /// An answer to the words with its text, over the setting of which it speaks.
-    pub(crate) fn new(
-        alloc: Global,
-        words: &[String],
-        done: Done,
-        setting: Option<&Setting<'_>>,
-    ) -> Result<Reply, NoMemory>
-        requires { HasPrices (length (statements_in setting)) done }
-        ensures done { IfOk result (λ reply. reply.done ≡ done) }
-        ensures text { IfOk result (λ reply. reply.text ≡ done_text (texts words.now) (statements_in setting.entry) done) }
+impl<'a> Reply<'a> {
+    /// An answer that speaks of no setting; want of memory, where there is none for its text.
+    pub(crate) fn plain(alloc: Global, words: &[String], done: Done) -> Reply<'a>
+        requires prices { HasPrices None done }
+        requires bound { IsBounded done }
+        ensures done { (result.done ≡ done) ⊎ (result.done ≡ Done.Memory) }
+        ensures puts { plain_puts result.puts ≡ [] }
+        ensures text { result.text ≡ done_text (texts words.now) None result.done }
+        ensures bound { IsBounded result.done }
     {
-        let text = text(alloc, &done, words, setting)?;
-        Ok(Reply { done, text })
-    }
-
-    /// Want of memory, which has no text.
-    pub(crate) fn no_memory(alloc: Global) -> Reply
-        ensures done { result.done ≡ Done.Memory }
-        ensures text { length result.text ≡ 0 }
-    {
-        Reply {
-            done: Done::Memory,
-            text: Bytes {
-                items: Vec::new(alloc),
+        match text(alloc, &done, words, None) {
+            Ok(text) => Reply {
+                done,
+                puts: List::new(alloc),
+                text,
+            },
+            Err(_) => Reply {
+                done: Done::Memory,
+                puts: List::new(alloc),
+                text: Bytes {
+                    items: Vec::new(alloc),
+                },
             },
         }
+    }
+}
+
+/// Puts files, one after the other.
+fn put_each<S: Shelf>(shelf: &mut S, puts: &[FilePut<'_>]) -> Result<(), PutFault>
+    ensures ok { OnOk result (S.files shelf.new ≡ put_all (S.files shelf.old) (plain_puts puts.now)) }
+    ensures err { IfErr result (IsUnput (S.files shelf.old) (S.files shelf.new) (S.put_faults shelf.old) (S.put_faults shelf.new) (plain_puts puts.now)) }
+    ensures counts { S.put_faults shelf.old ≤ S.put_faults shelf.new }
+    ensures reads { S.read_faults shelf.new ≡ S.read_faults shelf.old }
+    ensures reads_at { (n : List ℕ) → S.read_faults_at shelf.new n ≡ S.read_faults_at shelf.old n }
+{
+    'puts: for at in 0..puts.len() {
+        let file = &puts[at];
+        shelf.put(file.name, file.bytes.as_slice())?;
+    }
+    Ok(())
+}
+
+/// Puts a reply's files and writes its text, and answers what it answers, or why that could not be done.
+pub(crate) fn give<S: Shelf, O: Sink>(shelf: &mut S, out: &mut O, reply: Reply<'_>) -> Done
+    ensures ends { Ends (outside (S.files shelf.old) (S.put_faults shelf.old) (O.written out.old) (O.faults out.old))
+        (outside (S.files shelf.new) (S.put_faults shelf.new) (O.written out.new) (O.faults out.new))
+        reply.entry.done (plain_puts reply.entry.puts) reply.entry.text result }
+    ensures puts { S.put_faults shelf.old ≤ S.put_faults shelf.new }
+    ensures faults { O.faults out.old ≤ O.faults out.new }
+    ensures reads { S.read_faults shelf.new ≡ S.read_faults shelf.old }
+    ensures reads_at { (n : List ℕ) → S.read_faults_at shelf.new n ≡ S.read_faults_at shelf.old n }
+{
+    match put_each(shelf, reply.puts.as_slice()) {
+        Err(PutFault::Memory) => return Done::Memory,
+        Err(PutFault::Failed) => return Done::WriteFault,
+        Ok(()) => {}
+    }
+    match write_all(out, reply.text.as_slice()) {
+        Ok(()) => reply.done,
+        Err(_) => Done::WriteFault,
     }
 }

@@ -1,6 +1,12 @@
 //! Why no answer was worked out.
-ghost use Rattle.std.specs.Prelude.{◌≡◌, ◌≢◌};
-ghost use Rattle.cophy_core.specs.Stops.{done_of};
+ghost use Rattle.std.specs.Prelude.{◌≡◌, ◌≢◌, None};
+ghost use Rattle.report.specs.Texts.{HasPrices};
+ghost use Rattle.binder.specs.declared.fault.BindFault.TheVariants as bind;
+ghost use Rattle.catalogue.specs.declared.fault.CatFault.TheVariants as cat;
+ghost use Rattle.report.specs.declared.done.Refusal.TheVariants.{Cat as RefusedCat, Sql as RefusedSql, Bind as RefusedBind};
+ghost use Rattle.sql_reader.specs.declared.parsed.SqlFault.TheVariants as sql;
+ghost use Rattle.cophy_core.specs.Causes.{IsBounded};
+ghost use Rattle.cophy_core.specs.Stops.{done_of, IsStopOf};
 ghost use Rattle.cophy_core.specs.declared.stop.Stop.TheVariants.{Memory as OutOfMemory};
 
 use adv_base::NoMemory;
@@ -21,55 +27,57 @@ pub(crate) enum Stop {
 }
 
 impl From<NoMemory> for Stop {
-    ghost from_gives = { λ _ e. e ≡ OutOfMemory };
+    ghost from_gives = { λ _ stop. stop ≡ OutOfMemory };
 
     fn from(_: NoMemory) -> Self {
         Stop::Memory
     }
 }
 
-impl Stop {
-    /// The answer that the stop is.
-    pub(crate) fn done(self) -> Done
-        ensures { result ≡ done_of self }
-    {
-        match self {
-            Stop::Memory => Done::Memory,
-            Stop::Failed(role) => Done::ReadFault(role),
-            Stop::Refused(why) => Done::Refused(why),
-        }
-    }
+impl From<CatFault> for Stop {
+    ghost from_gives = { λ fault stop. IsStopOf cat.Memory RefusedCat fault stop };
 
-    /// The stop at a fault of a catalogue.
-    pub(crate) fn at_catalogue(fault: CatFault) -> Stop
-        ensures memory { fault ≡ CatFault.Memory → result ≡ Stop.Memory }
-        ensures refused { fault ≢ CatFault.Memory → result ≡ Stop.Refused (Refusal.Cat fault) }
-    {
+    fn from(fault: CatFault) -> Self {
         match fault {
             CatFault::Memory => Stop::Memory,
             other => Stop::Refused(Refusal::Cat(other)),
         }
     }
+}
 
-    /// The stop at a fault of a workload's text.
-    pub(crate) fn at_workload(fault: SqlFault) -> Stop
-        ensures memory { fault ≡ SqlFault.Memory → result ≡ Stop.Memory }
-        ensures refused { fault ≢ SqlFault.Memory → result ≡ Stop.Refused (Refusal.Sql fault) }
-    {
+impl From<SqlFault> for Stop {
+    ghost from_gives = { λ fault stop. IsStopOf sql.Memory RefusedSql fault stop };
+
+    fn from(fault: SqlFault) -> Self {
         match fault {
             SqlFault::Memory => Stop::Memory,
             other => Stop::Refused(Refusal::Sql(other)),
         }
     }
+}
 
-    /// The stop at a fault of a workload's names.
-    pub(crate) fn at_names(fault: BindFault) -> Stop
-        ensures memory { fault ≡ BindFault.Memory → result ≡ Stop.Memory }
-        ensures refused { fault ≢ BindFault.Memory → result ≡ Stop.Refused (Refusal.Bind fault) }
-    {
+impl From<BindFault> for Stop {
+    ghost from_gives = { λ fault stop. IsStopOf bind.Memory RefusedBind fault stop };
+
+    fn from(fault: BindFault) -> Self {
         match fault {
             BindFault::Memory => Stop::Memory,
             other => Stop::Refused(Refusal::Bind(other)),
+        }
+    }
+}
+
+impl Stop {
+    /// The answer that the stop is.
+    pub(crate) fn done(self) -> Done
+        ensures done { result ≡ done_of self }
+        ensures no_prices { HasPrices None result }
+        ensures bound { IsBounded result }
+    {
+        match self {
+            Stop::Memory => Done::Memory,
+            Stop::Failed(role) => Done::ReadFault(role),
+            Stop::Refused(why) => Done::Refused(why),
         }
     }
 }

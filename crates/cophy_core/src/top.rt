@@ -1,12 +1,14 @@
 //! The call that the program makes.
-ghost use Rattle.std.specs.Prelude.{◌≡◌};
-ghost use Rattle.cophy_core.specs.Commands.{texts};
-ghost use Rattle.cophy_core.specs.Inputs.{counts};
-ghost use Rattle.cophy_core.specs.Outcomes.{status_of, IsOutcome, IsTold};
+ghost use Rattle.std.specs.Prelude.{◌≡◌, ◌≤◌, ◌⊎◌, ℕ, List, Ok, Err};
+ghost use Rattle.report.specs.declared.done.WordFault.{WordFault};
+ghost use Rattle.cophy_core.specs.Causes.{status_of, IsOrMemory, IsSteady, UsageIsTrue, ReadFaultIsTrue, WriteFaultIsTrue, RefusalIsTrue, MemoryWritesNothing, IsSound, IsWritten, IsBounded};
+ghost use Rattle.cophy_core.specs.Answers.{Answers};
+ghost use Rattle.cophy_core.specs.ReadWords.{texts, PlainCommand, command_of};
+ghost use Rattle.cophy_core.specs.Files.{counts};
 
 use crate::answer::reply;
-use crate::reply::Reply;
-use adv_shelf::{Shelf, Sink, write_all};
+use crate::reply::give;
+use adv_shelf::{Shelf, Sink};
 use report::Done;
 use std::alloc::Global;
 
@@ -22,23 +24,13 @@ fn status(done: &Done) -> u8
     ensures { result ≡ status_of done.now }
 {
     match done {
-        Done::Priced(_) => 0,
-        Done::Explained(_) => 0,
         Done::Usage(_) => 2,
         Done::ReadFault(_) => 3,
         Done::WriteFault => 4,
         Done::Refused(_) => 5,
         Done::Memory => 7,
-    }
-}
-
-/// Writes a reply's text, and answers what it answers, or that it could not be written.
-fn tell<O: Sink>(out: &mut O, reply: Reply) -> Done
-    ensures { IsTold reply (O.faults out.old) (O.faults out.new) (O.written out.old) (O.written out.new) result }
-{
-    match write_all(out, reply.text.as_slice()) {
-        Ok(()) => reply.done,
-        Err(_) => Done::WriteFault,
+        Done::Priced(_) => 0,
+        Done::Explained(_) => 0,
     }
 }
 
@@ -57,14 +49,34 @@ pub fn run<S: Shelf, O: Sink>(
     out: &mut O,
 ) -> Outcome
     ensures status { result.status ≡ status_of result.done }
-    ensures outcome { IsOutcome (texts words.now) (S.files shelf.old)
+    // A faulty command line is told only where the words are none, and always there where no write failed.
+    ensures usage { UsageIsTrue (command_of (texts words.now)) result.done }
+    ensures usage_always { (fault : WordFault) → command_of (texts words.now) ≡ Err fault →
+        IsSteady (O.faults out.old) (O.faults out.new) → IsOrMemory (Done.Usage fault) result.done }
+    ensures read_fault { ReadFaultIsTrue (command_of (texts words.now)) (S.files shelf.old)
+        (counts (S.read_faults shelf.old) (S.read_faults_at shelf.old)) (counts (S.read_faults shelf.new) (S.read_faults_at shelf.new)) result.done }
+    ensures write_fault { WriteFaultIsTrue (O.faults out.old) (O.faults out.new) result.done }
+    ensures refused { RefusalIsTrue (command_of (texts words.now)) (S.files shelf.old) result.done }
+    ensures memory { MemoryWritesNothing (O.written out.old) (O.written out.new) result.done }
+    // Whatever the counts did, what is answered to a command is true of the files.
+    ensures soundness { (command : PlainCommand) → command_of (texts words.now) ≡ Ok command → IsSound command (S.files shelf.old) result.done }
+    // Where no count of faults rose, a command has its answer.
+    ensures completeness { (command : PlainCommand) → command_of (texts words.now) ≡ Ok command →
+        IsSteady (S.read_faults shelf.old) (S.read_faults shelf.new) → IsSteady (O.faults out.old) (O.faults out.new) →
+        Answers command (S.files shelf.old) result.done ⊎ (result.done ≡ Done.Memory) }
+    ensures text { IsWritten (texts words.now) (S.files shelf.old)
         (counts (S.read_faults shelf.old) (S.read_faults_at shelf.old)) (counts (S.read_faults shelf.new) (S.read_faults_at shelf.new))
-        (O.faults out.old) (O.faults out.new) (O.written out.old) (O.written out.new) result.done }
+        (O.written out.old) (O.written out.new) result.done }
+    ensures bound { IsBounded result.done }
+
     ensures files { S.files shelf.new ≡ S.files shelf.old }
-    ensures puts { S.put_faults shelf.new ≡ S.put_faults shelf.old }
+    ensures puts { S.put_faults shelf.old ≤ S.put_faults shelf.new }
+    ensures reads { S.read_faults shelf.old ≤ S.read_faults shelf.new }
+    ensures reads_at { (n : List ℕ) → S.read_faults_at shelf.old n ≤ S.read_faults_at shelf.new n }
+    ensures writes { O.faults out.old ≤ O.faults out.new }
 {
     let reply = reply(alloc, words, shelf);
-    let done = tell(out, reply);
+    let done = give(shelf, out, reply);
     Outcome {
         status: status(&done),
         done,

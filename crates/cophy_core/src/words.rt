@@ -1,6 +1,7 @@
 //! The words of the command line.
-ghost use Rattle.std.specs.Prelude.{◌≡◌, ◌≤◌, ◌<◌, IfOk};
-ghost use Rattle.cophy_core.specs.Commands.{GivesBy, plain_command, plain_options, no_options, texts, word_at as read_word, number_at as read_number, end_at as read_end, nodes_option as read_nodes, cert_option as read_cert, option_at as read_option, options_from, cost_of, what_if_of, explain_of, candidates_of, advise_of, check_of, bench_of, named_command, command_of};
+ghost use Rattle.std.specs.Prelude.{◌≡◌, ◌≤◌, ◌<◌, ◌↔◌, IfOk};
+ghost use Rattle.cophy_core.specs.CommandLines.{IsCommandLine};
+ghost use Rattle.cophy_core.specs.ReadWords.{PlainCommand, GivesBy, plain_command, plain_options, no_options, texts, word_at as read_word, number_at as read_number, end_at as read_end, nodes_option as read_nodes, cert_option as read_cert, option_at as read_option, options_from, cost_of, what_if_of, explain_of, candidates_of, advise_of, check_of, bench_of, named_command, command_of};
 
 use crate::number::number_of;
 use report::WordFault;
@@ -71,7 +72,7 @@ struct Options<'a> {
 }
 
 /// The word of a number, from 1.
-#[tactic(auto, unfolding(crate::specs::Commands::word_at))]
+#[tactic(auto, unfolding(crate::specs::ReadWords::word_at))]
 fn word_at<'a>(words: &'a [String], number: u32) -> Result<&'a str, WordFault>
     requires { 1 ≤ number }
     ensures { GivesBy (λ word. word.now) result (read_word (texts words.now) number) }
@@ -83,7 +84,7 @@ fn word_at<'a>(words: &'a [String], number: u32) -> Result<&'a str, WordFault>
 }
 
 /// The number that a word is.
-#[tactic(auto, unfolding(crate::specs::Commands::number_at))]
+#[tactic(auto, unfolding(crate::specs::ReadWords::number_at))]
 fn number_at(words: &[String], number: u32, least: u64, most: u64) -> Result<u64, WordFault>
     requires { 1 ≤ number }
     ensures exact { result ≡ read_number (texts words.now) number least most }
@@ -97,7 +98,7 @@ fn number_at(words: &[String], number: u32, least: u64, most: u64) -> Result<u64
 }
 
 /// Says that no word stands behind the one of a number.
-#[tactic(auto, unfolding(crate::specs::Commands::end_at))]
+#[tactic(auto, unfolding(crate::specs::ReadWords::end_at))]
 fn end_at(words: &[String], number: u32) -> Result<(), WordFault>
     requires { number < 100 }
     ensures { result ≡ read_end (texts words.now) number }
@@ -148,7 +149,7 @@ fn cert_option<'a>(
 }
 
 /// The option at the word of a number.
-#[tactic(auto, unfolding(crate::specs::Commands::option_at))]
+#[tactic(auto, unfolding(crate::specs::ReadWords::option_at))]
 fn option_at<'a>(
     words: &'a [String],
     number: u32,
@@ -279,7 +280,7 @@ fn bench<'a>(words: &'a [String]) -> Result<Command<'a>, WordFault>
 }
 
 /// The command of a name, with the rest of the words.
-#[tactic(auto, unfolding(crate::specs::Commands::named_command))]
+#[tactic(auto, unfolding(crate::specs::ReadWords::named_command))]
 fn named<'a>(name: &str, words: &'a [String]) -> Result<Command<'a>, WordFault>
     ensures { GivesBy plain_command result (named_command name.now (texts words.now)) }
 {
@@ -308,9 +309,10 @@ fn named<'a>(name: &str, words: &'a [String]) -> Result<Command<'a>, WordFault>
 }
 
 /// The command that the words are, or the first fault from the left. Takes no memory.
-#[tactic(auto, unfolding(crate::specs::Commands::command_of))]
+#[tactic(auto, unfolding(crate::specs::ReadWords::command_of))]
 pub fn read_words<'a>(words: &'a [String]) -> Result<Command<'a>, WordFault>
-    ensures { GivesBy plain_command result (command_of (texts words.now)) }
+    ensures reads { GivesBy plain_command result (command_of (texts words.now)) }
+    ensures grammar { (command : PlainCommand) → (command_of (texts words.now) ≡ Ok command) ↔ IsCommandLine (texts words.now) command }
 {
     match words.first() {
         Some(name) => named(name.as_str(), words),

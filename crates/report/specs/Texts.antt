@@ -1,7 +1,5 @@
 -- The texts that stand for answers. Each line ends with a line feed.
 use Rattle.std.specs.Prelude.{◌≡◌, ℕ, ◌+◌, ◌==◌, if◌then◌else◌, List, [], ◌∷◌, ◌++◌, length, codes, decimal, Option, Some, None, slice_get, unwrap_or}
-use Rattle.std.specs.Borrow.{Bor}
-use Rattle.adv_base.specs.declared.setting.Setting.{Setting}
 use Rattle.adv_base.specs.declared.workload.Statement.{Statement}
 use Rattle.binder.specs.declared.fault.BindFault.{BindFault}
 use Rattle.binder.specs.declared.fault.BindFault.TheVariants as bind
@@ -10,7 +8,7 @@ use Rattle.catalogue.specs.declared.fault.CatFault.TheVariants as cat
 use Rattle.sql_reader.specs.declared.parsed.SqlFault.{SqlFault}
 use Rattle.sql_reader.specs.declared.parsed.SqlFault.TheVariants as sql
 use Rattle.report.specs.declared.done.Done.{Done}
-use Rattle.report.specs.declared.done.Done.TheVariants.{Usage, ReadFault, WriteFault, Refused, Memory, Priced, Explained as ExplainedDone}
+use Rattle.report.specs.declared.done.Done.TheVariants.{Usage, ReadFault, Refused, Priced, Explained as ExplainedDone}
 use Rattle.report.specs.declared.done.Explained.{Explained}
 use Rattle.report.specs.declared.done.Prices.{Prices}
 use Rattle.report.specs.declared.done.Refusal.{Refusal}
@@ -20,6 +18,7 @@ use Rattle.report.specs.declared.done.Role.TheVariants.{Catalogue, Workload, Thi
 use Rattle.report.specs.declared.done.WordFault.{WordFault}
 use Rattle.report.specs.declared.done.WordFault.TheVariants.{NoCommand, UnknownCommand, Missing, Extra, UnknownOption, Twice, BadNumber}
 use Rattle.report.specs.Paths.{path_text}
+use Rattle.adv_base.specs.Settings.{TheSetting}
 
 -- what stands before a number, and the number
 abbrev pub numbered : List ℕ → ℕ → List ℕ
@@ -123,27 +122,21 @@ explained_text explained =
     line (numbered (codes "statement ") explained.number ++ (plan_part explained ++ numbered (codes " upkeep ") explained.upkeep))
     ++ explained.text
 
--- the text of an answer to these words, over these statements
-abbrev pub done_text : List (List ℕ) → List Statement → Done → List ℕ
-done_text words statements (Usage fault) = line (codes "usage: " ++ word_fault fault)
-done_text words statements (ReadFault role) = line (codes "read fault: " ++ file_name words role)
-done_text words statements WriteFault = []
-done_text words statements (Refused r) = line (codes "refused: " ++ refusal words r)
-done_text words statements Memory = []
-done_text words statements (Priced prices) = prices_text statements prices
-done_text words statements (ExplainedDone explained) = explained_text explained
-
 -- the statements of a setting, where there is one
-abbrev pub statements_in : Option (Bor Setting) → List Statement
+abbrev pub statements_in : Option TheSetting → List Statement
 statements_in None = []
-statements_in (Some setting) = setting.now.statements.now
+statements_in (Some setting) = setting.statements
 
--- prices have a cost for each of so many statements
-abbrev pub HasPrices : ℕ → Done → Type 0
-HasPrices count (Usage fault) = Unit {0}
-HasPrices count (ReadFault role) = Unit {0}
-HasPrices count WriteFault = Unit {0}
-HasPrices count (Refused r) = Unit {0}
-HasPrices count Memory = Unit {0}
-HasPrices count (Priced prices) = length prices.costs ≡ count
-HasPrices count (ExplainedDone explained) = Unit {0}
+-- the text of an answer to these words, over the setting of which it speaks
+abbrev pub done_text : List (List ℕ) → Option TheSetting → Done → List ℕ
+done_text words setting (Usage fault) = line (codes "usage: " ++ word_fault fault)
+done_text words setting (ReadFault role) = line (codes "read fault: " ++ file_name words role)
+done_text words setting (Refused why) = line (codes "refused: " ++ refusal words why)
+done_text words setting (Priced prices) = prices_text (statements_in setting) prices
+done_text words setting (ExplainedDone explained) = explained_text explained
+done_text words setting done = []
+
+-- prices have a cost for each statement of their setting
+abbrev pub HasPrices : Option TheSetting → Done → Type 0
+HasPrices setting (Priced prices) = length prices.costs ≡ length (statements_in setting)
+HasPrices setting done = Unit {0}

@@ -9,8 +9,6 @@ mod done;
 mod path;
 mod printed;
 mod refusal;
-#[cfg(test)]
-mod tests;
 mod usage;
 
 pub use done::{Done, Explained, Prices, Refusal, Role, WordFault};

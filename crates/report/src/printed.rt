@@ -1,5 +1,6 @@
 //! The text of an answer.
-ghost use Rattle.std.specs.Prelude.{◌≡◌, ◌++◌, OnOk, IfOk, length, map, codes, string_bytes};
+ghost use Rattle.std.specs.Prelude.{◌≡◌, ◌++◌, OnOk, IfOk, length, map, codes, string_bytes, option_map};
+ghost use Rattle.report.specs.Settings.{the_setting};
 ghost use Rattle.report.specs.Texts.{size_line, cost_line, cost_lines, prices_text, plan_part, explained_text, done_text, line, word_fault, file_name, refusal, statements_in, HasPrices};
 
 use crate::refusal::{push_about_file, push_refusal};
@@ -125,44 +126,52 @@ fn push_refused(
     out.extend_from_slice(b"\n")
 }
 
+/// The statements of a setting, where there is one.
+fn statements_of<'a>(setting: Option<&Setting<'a>>) -> &'a [Statement]
+    ensures { result.now ≡ statements_in (option_map (λ s. the_setting s.now) setting.entry) }
+{
+    match setting {
+        None => &[],
+        Some(setting) => setting.statements,
+    }
+}
+
 /// Adds the text of an answer.
 fn push_done(
     alloc: Global,
     out: &mut Vec<u8>,
     done: &Done,
     words: &[String],
-    statements: &[Statement],
+    setting: Option<&Setting<'_>>,
 ) -> Result<(), AllocError>
-    requires { HasPrices (length statements.now) done.now }
-    ensures { OnOk result (out.new.items ≡ out.old.items ++ done_text (map string_bytes words.now) statements.now done.now) }
+    requires { HasPrices (option_map (λ s. the_setting s.now) setting) done.now }
+    ensures { OnOk result (out.new.items ≡ out.old.items
+        ++ done_text (map string_bytes words.now) (option_map (λ s. the_setting s.now) setting.entry) done.now) }
 {
     match done {
-        Done::WriteFault => Ok(()),
-        Done::Memory => Ok(()),
-        Done::Priced(prices) => push_prices(alloc, out, statements, prices),
-        Done::Explained(explained) => push_explained(alloc, out, explained),
         Done::Usage(fault) => push_usage(alloc, out, *fault),
         Done::ReadFault(role) => push_read_fault(out, words, *role),
         Done::Refused(why) => push_refused(alloc, out, words, *why),
+        Done::Priced(prices) => push_prices(alloc, out, statements_of(setting), prices),
+        Done::Explained(explained) => push_explained(alloc, out, explained),
+        Done::WriteFault => Ok(()),
+        Done::Memory => Ok(()),
     }
 }
 
-/// The text of an answer to the words. Prices want the setting whose statements they price, one price each.
+/// The text of an answer to the words. Prices want the setting whose statements they price, one price each. `NoMemory` is
+/// want of memory.
 pub fn text(
     alloc: Global,
     done: &Done,
     words: &[String],
     setting: Option<&Setting<'_>>,
 ) -> Result<Bytes, NoMemory>
-    requires { HasPrices (length (statements_in setting)) done.now }
-    ensures { IfOk result (λ bytes. bytes ≡ done_text (map string_bytes words.now) (statements_in setting.entry) done.now) }
+    requires { HasPrices (option_map (λ s. the_setting s.now) setting) done.now }
+    ensures { IfOk result (λ bytes. bytes ≡ done_text (map string_bytes words.now) (option_map (λ s. the_setting s.now) setting.entry) done.now) }
 {
     let mut out = Vec::new(alloc);
-    let statements: &[Statement] = match setting {
-        None => &[],
-        Some(setting) => setting.statements,
-    };
-    match push_done(alloc, &mut out, done, words, statements) {
+    match push_done(alloc, &mut out, done, words, setting) {
         Ok(()) => Ok(Bytes { items: out }),
         Err(_) => Err(NoMemory),
     }

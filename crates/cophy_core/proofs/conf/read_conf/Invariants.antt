@@ -1,12 +1,20 @@
-use Rattle.std.proofs.Common.{◌≡◌, ℕ, ◌-◌, ◌<◌, ◌≤◌, true, Some, length, slice_get}
-use Rattle.cophy_core.specs.Confs.{flags_from, conf_of}
+use Rattle.std.proofs.Common.{◌≡◌, ℕ, ◌+◌, ◌<◌, ◌≤◌, Bool, true, false, List, ◌++◌, Some, length, replicate, slice_get}
+use Rattle.cophy_core.specs.Confs.{lines_of, Rise, last_of, flags_with}
 use Rattle.cophy_core.proofs.conf.read_conf.Given as goal
 
--- the lines that are left give, behind the flags so far, what all give; only flags of numbers read so far are on
+-- lines of rising numbers were read, whose flags and no others are on
 abbrev pub invariant-lines : goal.invariant-lines
-invariant-lines l = record {
+invariant-lines l = (numbers : List ℕ) × record {
+  text : l.bytes ≡ lines_of numbers ++ l.rest;
+  rise : Rise l.count 0 numbers;
+  last_is : l.last ≡ last_of 0 numbers;
+  line_is : l.line ≡ length numbers + 1;
+  few : length numbers ≤ l.last;
   within : l.last ≤ l.count;
+  flags : l.on ≡ flags_with (replicate 256 false) numbers;
   size : length l.on ≡ 256;
-  same : flags_from (258 - l.line) l.count l.line l.last l.on l.rest ≡ conf_of l.count l.bytes;
   below : (a : ℕ) → slice_get l.on a ≡ Some true → a < l.last;
 }
+
+abbrev pub decreases-lines : goal.decreases-lines
+decreases-lines l = length l.rest

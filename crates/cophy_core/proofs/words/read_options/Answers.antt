@@ -1,6 +1,6 @@
 use Rattle.std.proofs.Common.{◌≡◌, suc, ◌+◌, ◌-◌, ◌*◌, ◌<◌, ◌≤◌, length, sym, ap, ◌∙◌, arith}
 use Rattle.std.proofs.lemmas.List.{length-map}
-use Rattle.cophy_core.specs.Commands.{◌>>=◌, texts, plain_options, options_from}
+use Rattle.cophy_core.specs.ReadWords.{◌>>=◌, texts, plain_options, options_from}
 use Rattle.cophy_core.proofs.Options.{options_from-end, options_from-next}
 use Rattle.cophy_core.proofs.words.read_options.Goals as goal
 

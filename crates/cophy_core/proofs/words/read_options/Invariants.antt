@@ -1,5 +1,5 @@
 use Rattle.std.proofs.Common.{◌≡◌, ◌+◌, ◌-◌, ◌*◌}
-use Rattle.cophy_core.specs.Commands.{texts, plain_options, no_options, options_from}
+use Rattle.cophy_core.specs.ReadWords.{texts, plain_options, no_options, options_from}
 use Rattle.cophy_core.proofs.words.read_options.Given as goal
 
 -- the options that are left give, behind those so far, what all give

@@ -1,0 +1,125 @@
+-- What is answered over a command's files is an answer to the command.
+use Rattle.std.proofs.Common.{◌≡◌, ℕ, ◌≤◌, List, [], ◌∷◌, length, Option, Some}
+use Rattle.adv_shelf.specs.Shelf.{Files}
+use Rattle.adv_base.specs.Settings.{TheSetting}
+use Rattle.report.specs.Texts.{done_text}
+use Rattle.report.specs.declared.done.Done.{Done}
+use Rattle.report.specs.declared.done.Done.TheVariants as answers
+use Rattle.report.specs.declared.done.Refusal.{Refusal}
+use Rattle.report.specs.declared.done.Refusal.TheVariants.{TooLong, Cat, Sql, Bind}
+use Rattle.cophy_core.specs.declared.stop.Stop.{Stop}
+use Rattle.cophy_core.specs.declared.stop.Stop.TheVariants.{Memory, Failed, Refused}
+use Rattle.cophy_core.specs.Answers.{RefusesOver, GivesOver, OfSetting, AnswersOver, Answers, IsBuilt}
+use Rattle.cophy_core.specs.ReadWords.{PlainCommand, Cost, Explain}
+use Rattle.cophy_core.specs.Files.{files_of, AreInputs, input, most_bytes, ReadCounts}
+use Rattle.cophy_core.specs.Reading.{StopsReading, StopsAtFiles}
+use Rattle.cophy_core.specs.Settings.{IsSetting, IsSettingRefusal}
+use Rattle.cophy_core.specs.Replies.{IsTextOf}
+use Rattle.cophy_core.specs.Stops.{StopsAt}
+
+-- a refusal that is neither of the files nor of the setting
+abbrev IsOwn : Refusal → Type 0
+IsOwn (TooLong role) = ⊥
+IsOwn (Cat fault) = ⊥
+IsOwn (Sql fault) = ⊥
+IsOwn (Bind fault) = ⊥
+IsOwn why = Unit {0}
+
+-- an answer that a command gives
+abbrev IsGiven : Done → Type 0
+IsGiven (answers.Priced prices) = Unit {0}
+IsGiven (answers.Explained explained) = Unit {0}
+IsGiven done = ⊥
+
+-- a built command answers so
+over : (command : PlainCommand) (files : Option Files) (done : Done) → IsBuilt command → AnswersOver command files done → Answers command files done
+over (Cost cat load) files done built h = h
+over (Explain cat load conf number) files done built h = h
+over command files done built h = absurd built
+
+-- the second file of a built command is within the limit of a workload
+pub second_short : (command : PlainCommand) (files : Option Files) (inputs : List (List ℕ)) → IsBuilt command → AreInputs files (files_of command) inputs → length (input inputs 1) ≤ most_bytes
+second_short (Cost cat load) files [] built are = absurd are
+second_short (Cost cat load) files (a ∷ []) built are = absurd are.1
+second_short (Cost cat load) files (a ∷ b ∷ more) built are = are.1.0.short
+second_short (Explain cat load conf number) files [] built are = absurd are
+second_short (Explain cat load conf number) files (a ∷ []) built are = absurd are.1
+second_short (Explain cat load conf number) files (a ∷ b ∷ more) built are = are.1.0.short
+second_short command files inputs built are = absurd built
+
+-- the files of a built command could not be read
+pub reading_stops : (command : PlainCommand) (files : Option Files) (before after : ReadCounts) (stop : Stop) → IsBuilt command → StopsReading files (files_of command) before after stop → StopsAtFiles command files before after stop
+reading_stops command files before after Memory built h = tt
+reading_stops command files before after (Failed role) built h = h
+reading_stops command files before after (Refused (TooLong role)) built h = over command files (answers.Refused (TooLong role)) built h
+reading_stops command files before after (Refused why) built h = absurd h
+
+-- the setting was refused
+pub setting_stops : (command : PlainCommand) (files : Option Files) (before after : ReadCounts) (inputs : List (List ℕ)) (stop : Stop) → IsBuilt command → AreInputs files (files_of command) inputs → StopsAt (IsSettingRefusal (input inputs 0) (input inputs 1)) stop → StopsAtFiles command files before after stop
+setting_stops command files before after inputs Memory built are h = tt
+setting_stops command files before after inputs (Failed role) built are h = absurd h
+setting_stops command files before after inputs (Refused (Cat fault)) built are h =
+    over command files (answers.Refused (Cat fault)) built (record { inputs = inputs; inputs_are = are; holds = h })
+setting_stops command files before after inputs (Refused (Sql fault)) built are h =
+    over command files (answers.Refused (Sql fault)) built (record { inputs = inputs; inputs_are = are; holds = h })
+setting_stops command files before after inputs (Refused (Bind fault)) built are h =
+    over command files (answers.Refused (Bind fault)) built (record { inputs = inputs; inputs_are = are; holds = h })
+setting_stops command files before after inputs (Refused why) built are h = absurd h
+
+-- what a command refuses by itself is no refusal of the files or of the setting
+own : (command : PlainCommand) (inputs : List (List ℕ)) (setting : TheSetting) (why : Refusal) → RefusesOver command inputs setting why → IsOwn why
+own (Cost cat load) inputs setting (TooLong role) h = h
+own (Cost cat load) inputs setting (Cat fault) h = h
+own (Cost cat load) inputs setting (Sql fault) h = h
+own (Cost cat load) inputs setting (Bind fault) h = h
+own (Cost cat load) inputs setting why h = tt
+own (Explain cat load conf number) inputs setting (TooLong role) h = h
+own (Explain cat load conf number) inputs setting (Cat fault) h = h
+own (Explain cat load conf number) inputs setting (Sql fault) h = h
+own (Explain cat load conf number) inputs setting (Bind fault) h = h
+own (Explain cat load conf number) inputs setting why h = tt
+own command inputs setting why h = absurd h
+
+-- such a refusal is the first of the files
+refused_over : (command : PlainCommand) (files : Option Files) (why : Refusal) → IsOwn why → OfSetting files command (λ inputs setting. RefusesOver command inputs setting why) → AnswersOver command files (answers.Refused why)
+refused_over command files (TooLong role) is_own h = absurd is_own
+refused_over command files (Cat fault) is_own h = absurd is_own
+refused_over command files (Sql fault) is_own h = absurd is_own
+refused_over command files (Bind fault) is_own h = absurd is_own
+refused_over command files why is_own h = h
+
+-- a command stopped over its setting
+pub work_stops : (command : PlainCommand) (files : Option Files) (before after : ReadCounts) (inputs : List (List ℕ)) (setting : TheSetting) (left_over : ℕ) (stop : Stop) → IsBuilt command → AreInputs files (files_of command) inputs → IsSetting (input inputs 0) (input inputs 1) setting left_over → StopsAt (RefusesOver command inputs setting) stop → StopsAtFiles command files before after stop
+work_stops command files before after inputs setting left_over Memory built are is h = tt
+work_stops command files before after inputs setting left_over (Failed role) built are is h = absurd h
+work_stops command files before after inputs setting left_over (Refused why) built are is h =
+    over command files (answers.Refused why) built
+    (refused_over command files why (own command inputs setting why h)
+    (record { inputs = inputs; setting = setting; left_over = left_over; inputs_are = are; setting_is = is; holds = h }))
+
+-- what a command gives is prices or an explained plan
+given : (command : PlainCommand) (inputs : List (List ℕ)) (setting : TheSetting) (done : Done) → GivesOver command inputs setting done → IsGiven done
+given (Cost cat load) inputs setting (answers.Priced prices) h = tt
+given (Cost cat load) inputs setting done h = absurd h
+given (Explain cat load conf number) inputs setting (answers.Explained explained) h = tt
+given (Explain cat load conf number) inputs setting done h = absurd h
+given command inputs setting done h = absurd h
+
+given_over : (command : PlainCommand) (files : Option Files) (done : Done) → IsGiven done → OfSetting files command (λ inputs setting. GivesOver command inputs setting done) → AnswersOver command files done
+given_over command files (answers.Priced prices) is_given h = h
+given_over command files (answers.Explained explained) is_given h = h
+given_over command files done is_given h = absurd is_given
+
+-- a command gave its answer over its setting
+pub work_gives : (command : PlainCommand) (files : Option Files) (inputs : List (List ℕ)) (setting : TheSetting) (left_over : ℕ) (done : Done) → IsBuilt command → AreInputs files (files_of command) inputs → IsSetting (input inputs 0) (input inputs 1) setting left_over → GivesOver command inputs setting done → Answers command files done
+work_gives command files inputs setting left_over done built are is h =
+    over command files done built
+    (given_over command files done (given command inputs setting done h)
+    (record { inputs = inputs; setting = setting; left_over = left_over; inputs_are = are; setting_is = is; holds = h }))
+
+-- its text is told over that setting
+pub work_told : (command : PlainCommand) (files : Option Files) (words : List (List ℕ)) (inputs : List (List ℕ)) (setting : TheSetting) (left_over : ℕ) (done : Done) (text : List ℕ) → AreInputs files (files_of command) inputs → IsSetting (input inputs 0) (input inputs 1) setting left_over → GivesOver command inputs setting done → text ≡ done_text words (Some setting) done → IsTextOf command files words done text
+work_told command files words inputs setting left_over (answers.Priced prices) text are is h e =
+    record { inputs = inputs; setting = setting; left_over = left_over; inputs_are = are; setting_is = is; holds = e }
+work_told command files words inputs setting left_over (answers.Explained explained) text are is h e = e
+work_told command files words inputs setting left_over done text are is h e = e

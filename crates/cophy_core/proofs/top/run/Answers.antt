@@ -1,0 +1,42 @@
+use Rattle.std.proofs.Common.{◌∙◌}
+use Rattle.cophy_core.proofs.CauseLemmas as cause
+use Rattle.cophy_core.proofs.top.run.Goals as goal
+
+pub returns-clause-usage : goal.returns-clause-usage
+returns-clause-usage g c = cause.usage _ _ _ _ _ _ _ _ _ _ c.reply-reply.ensures.reply c.give-done.ensures.ends
+
+pub returns-clause-usage_always : goal.returns-clause-usage_always
+returns-clause-usage_always g c = cause.usage_always _ _ _ _ _ _ _ _ _ _ c.reply-reply.ensures.reply c.give-done.ensures.ends
+
+pub returns-clause-read_fault : goal.returns-clause-read_fault
+returns-clause-read_fault g c =
+    let r = cause.moved _ _ _ _ _ _ _ _ _ _ c.give-done.ensures.reads c.give-done.ensures.reads_at c.reply-reply.ensures.reply in
+    cause.read_fault _ _ _ _ _ _ _ _ _ _ r c.give-done.ensures.ends
+
+pub returns-clause-write_fault : goal.returns-clause-write_fault
+returns-clause-write_fault g c = cause.write_fault _ _ _ _ _ _ _ _ _ _ c.reply-reply.ensures.reply c.give-done.ensures.ends
+
+pub returns-clause-refused : goal.returns-clause-refused
+returns-clause-refused g c = cause.refused _ _ _ _ _ _ _ _ _ _ c.reply-reply.ensures.reply c.give-done.ensures.ends
+
+pub returns-clause-memory : goal.returns-clause-memory
+returns-clause-memory g c = cause.memory _ _ _ _ _ _ _ _ _ _ c.reply-reply.ensures.reply c.give-done.ensures.ends
+
+pub returns-clause-soundness : goal.returns-clause-soundness
+returns-clause-soundness g c = cause.soundness _ _ _ _ _ _ _ _ _ _ c.reply-reply.ensures.reply c.give-done.ensures.ends
+
+pub returns-clause-completeness : goal.returns-clause-completeness
+returns-clause-completeness g c =
+    let r = cause.moved _ _ _ _ _ _ _ _ _ _ c.give-done.ensures.reads c.give-done.ensures.reads_at c.reply-reply.ensures.reply in
+    cause.completeness _ _ _ _ _ _ _ _ _ _ r c.give-done.ensures.ends
+
+pub returns-clause-text : goal.returns-clause-text
+returns-clause-text g c =
+    let r = cause.moved _ _ _ _ _ _ _ _ _ _ c.give-done.ensures.reads c.give-done.ensures.reads_at c.reply-reply.ensures.reply in
+    cause.text_written _ _ _ _ _ _ _ _ _ _ r c.give-done.ensures.ends
+
+pub returns-clause-bound : goal.returns-clause-bound
+returns-clause-bound g c = cause.bound _ _ _ _ _ _ _ _ _ _ c.reply-reply.ensures.reply c.give-done.ensures.ends c.reply-reply.ensures.bound
+
+pub returns-clause-files : goal.returns-clause-files
+returns-clause-files g c = cause.files_stay _ _ _ _ _ _ _ _ _ _ c.reply-reply.ensures.reply c.give-done.ensures.ends ∙ c.reply-reply.ensures.files

@@ -1,0 +1,76 @@
+-- When each answer comes, and what it says.
+use Rattle.std.specs.Prelude.{◌≡◌, ℕ, ◌<◌, ◌⊎◌, List, All, Option, Result, Ok, Err}
+use Rattle.adv_shelf.specs.Faults.{Rose}
+use Rattle.adv_shelf.specs.Shelf.{Files}
+use Rattle.adv_shelf.specs.Sink.{append_to, AppendsPrefix}
+use Rattle.report.specs.declared.done.Done.{Done}
+use Rattle.report.specs.declared.done.Done.TheVariants.{Usage, ReadFault, WriteFault, Refused, Memory, Priced, Explained as ExplainedDone}
+use Rattle.report.specs.declared.done.WordFault.{WordFault}
+use Rattle.cophy_core.specs.Answers.{Answers}
+use Rattle.cophy_core.specs.ReadWords.{PlainCommand, command_of}
+use Rattle.cophy_core.specs.Files.{files_of, ReadCounts, IsReadFault}
+use Rattle.cophy_core.specs.Replies.{MayAnswerWords, IsTextTo}
+
+-- the exit status of an answer
+abbrev pub status_of : Done → ℕ
+status_of (Usage fault) = 2
+status_of (ReadFault role) = 3
+status_of WriteFault = 4
+status_of (Refused why) = 5
+status_of Memory = 7
+status_of done = 0
+
+-- this answer, or want of memory
+abbrev pub IsOrMemory : Done → Done → Type 0
+IsOrMemory wanted done = (done ≡ wanted) ⊎ (done ≡ Memory)
+
+-- the count didn't rise
+abbrev pub IsSteady : ℕ → ℕ → Type 0
+IsSteady before after = Rose before after → ⊥
+
+-- a fault of the words comes only where they have it first
+abbrev pub UsageIsTrue : Result PlainCommand WordFault → Done → Type 0
+UsageIsTrue words (Usage fault) = words ≡ Err fault
+UsageIsTrue words done = Unit {0}
+
+-- a read fault comes only where the command reads that file, those before it are whole, and the counts rose
+abbrev pub ReadFaultIsTrue : Result PlainCommand WordFault → Option Files → ReadCounts → ReadCounts → Done → Type 0
+ReadFaultIsTrue words files before after (ReadFault role) =
+    (command : PlainCommand) × (words ≡ Ok command) × IsReadFault files (files_of command) before after role
+ReadFaultIsTrue words files before after done = Unit {0}
+
+-- a write fault comes only where the count of the sink's faults rose
+abbrev pub WriteFaultIsTrue : ℕ → ℕ → Done → Type 0
+WriteFaultIsTrue before after WriteFault = Rose before after
+WriteFaultIsTrue before after done = Unit {0}
+
+-- a refusal comes only where it is the first of a command's files
+abbrev pub RefusalIsTrue : Result PlainCommand WordFault → Option Files → Done → Type 0
+RefusalIsTrue words files (Refused why) = (command : PlainCommand) × (words ≡ Ok command) × Answers command files (Refused why)
+RefusalIsTrue words files done = Unit {0}
+
+-- where memory ran out, nothing was written
+abbrev pub MemoryWritesNothing : Option (List ℕ) → Option (List ℕ) → Done → Type 0
+MemoryWritesNothing old new Memory = new ≡ old
+MemoryWritesNothing old new done = Unit {0}
+
+-- every answer but a read fault, a write fault and want of memory is the command's over the files
+abbrev pub IsSound : PlainCommand → Option Files → Done → Type 0
+IsSound command files (ReadFault role) = Unit {0}
+IsSound command files WriteFault = Unit {0}
+IsSound command files Memory = Unit {0}
+IsSound command files done = Answers command files done
+
+-- all of an answer's text came behind what was written; where a write failed, a prefix of the text of some answer did
+abbrev pub IsWritten : List (List ℕ) → Option Files → ReadCounts → ReadCounts → Option (List ℕ) → Option (List ℕ) → Done → Type 0
+IsWritten words files before after old new WriteFault =
+    (told : Done) × (text : List ℕ)
+    × (MayAnswerWords (command_of words) files before after told × (IsTextTo (command_of words) files words told text × AppendsPrefix old new text))
+IsWritten words files before after old new done =
+    (text : List ℕ) × (IsTextTo (command_of words) files words done text × (new ≡ append_to old text))
+
+-- each cost of a plan is below 10^21, each total below 10^31
+abbrev pub IsBounded : Done → Type 0
+IsBounded (Priced prices) = All (λ cost. cost < 1000000000000000000000) prices.costs × (prices.total < 10000000000000000000000000000000)
+IsBounded (ExplainedDone explained) = explained.cost < 1000000000000000000000
+IsBounded done = Unit {0}

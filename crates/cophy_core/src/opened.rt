@@ -1,0 +1,13 @@
+//! What two files describe.
+ghost use Rattle.adv_base.specs.Limits.Settings.{SettingLimits};
+
+use adv_base::{Catalogue, IndexShape, List, Statement};
+
+/// A catalogue, the statements of a workload over it, and its candidate indexes.
+#[derive(Drop)]
+pub struct Opened {
+    pub cat: Catalogue,
+    pub statements: List<Statement>,
+    pub shapes: List<IndexShape>,
+    pub ghost limits: { SettingLimits cat statements shapes },
+}

@@ -1,0 +1,19 @@
+//! Tests of the program's public calls, from words and files in memory to a status and bytes. Cases are data: texts that
+//! one function walks. What they pin is what no clause says: that answers are found where there is memory, and that the
+//! definitions say what was meant.
+#![tactic(auto)]
+
+#[cfg(test)]
+mod catalogues;
+#[cfg(test)]
+mod faults;
+#[cfg(test)]
+mod large;
+#[cfg(test)]
+mod runs;
+#[cfg(test)]
+mod scene;
+#[cfg(test)]
+mod texts;
+#[cfg(test)]
+mod words;

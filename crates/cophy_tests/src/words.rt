@@ -1,0 +1,103 @@
+//! Command lines and configuration files.
+use crate::scene::{split, spread};
+use cophy_core::{read_conf, read_words};
+use std::test::Fail;
+
+/// What is read, `|`, and the words.
+const COMMAND_LINES: &str = r#"Err(NoCommand)|
+Err(UnknownCommand(1))|price a b
+Err(UnknownCommand(1))|COST a b
+Err(UnknownCommand(1))|--nodes
+Err(Missing(2))|cost
+Err(Missing(3))|cost a
+Err(Extra(4))|cost a b c
+Err(Extra(4))|cost a b --nodes 5
+Ok(Cost { cat: "--x", load: "-y" })|cost --x -y
+Ok(Candidates { cat: "a", load: "b" })|candidates a b
+Err(Missing(4))|whatif a b
+Ok(WhatIf { cat: "a", load: "b", conf: "c" })|whatif a b c
+Ok(Check { cat: "a", load: "b", cert: "c" })|check a b c
+Err(Extra(5))|check a b c d
+Err(Missing(5))|explain a b c
+Err(BadNumber(5))|explain a b c 0
+Err(BadNumber(5))|explain a b c 01
+Err(BadNumber(5))|explain a b c +1
+Err(BadNumber(5))|explain a b c 1001
+Err(BadNumber(5))|explain a b c 18446744073709551617
+Err(Extra(6))|explain a b c 1000 d
+Ok(Explain { cat: "a", load: "b", conf: "c", number: 1000 })|explain a b c 1000
+Err(BadNumber(2))|bench x
+Err(BadNumber(2))|bench 18446744073709551616
+Err(Missing(3))|bench 18446744073709551615
+Err(BadNumber(3))|bench 1 1 5 0
+Err(BadNumber(4))|bench 1 20 501 0
+Err(BadNumber(5))|bench 1 20 500 1000000000001
+Ok(Bench { seed: 0, tables: 2, statements: 500, budget: 1000000000000 })|bench 0 2 500 1000000000000
+Ok(Advise { cat: "c", load: "l", budget: 10, nodes: 20000, cert: None })|advise c l 10
+Ok(Advise { cat: "c", load: "l", budget: 0, nodes: 7, cert: Some("f") })|advise c l 0 --nodes 7 --cert f
+Ok(Advise { cat: "c", load: "l", budget: 0, nodes: 1000000, cert: Some("--nodes") })|advise c l 0 --cert --nodes --nodes 1000000
+Err(BadNumber(4))|advise c l -1
+Err(BadNumber(6))|advise c l 10 --nodes 0
+Err(BadNumber(6))|advise c l 10 --nodes 1000001
+Err(Twice(7))|advise c l 10 --nodes 5 --nodes 6
+Err(Twice(7))|advise c l 10 --cert a --cert
+Err(UnknownOption(5))|advise c l 10 --nodes=5
+Err(UnknownOption(5))|advise c l 10 --
+Err(Extra(5))|advise c l 10 -n
+Err(Extra(9))|advise c l 10 --nodes 5 --cert f x
+Err(Missing(6))|advise c l 10 --cert
+Err(Missing(6))|advise c l 10 --nodes"#;
+
+/// The bytes of configuration files over three candidates, in which `~` stands for a line feed: the first faulty line,
+/// or the candidates, `|` and the bytes.
+const CONFIGURATIONS: &str = "line 1|1\n\
+line 2|2~2~\n\
+line 2|2~1~\n\
+line 2|1~~\n\
+line 1|~\n\
+line 1|01~\n\
+line 1|+1~\n\
+line 1| 1~\n\
+line 2|1~4~\n\
+line 1|0~\n\
+line 3|1~2~3\n\
+line 4|1~2~3~~\n\
+none|\n\
+1 3|1~3~\n\
+1 2 3|1~2~3~\n\
+2|2~";
+
+#[test]
+fn command_lines(rt: HostRuntime) -> Result<(), Fail> {
+    for case in COMMAND_LINES.lines() {
+        let (want, line) = case.split_once('|').ok_or("no bar")?;
+        let words = split(rt.alloc(), line)?;
+        let found = format!(in rt.alloc(); "{:?}", read_words(words.as_slice()))?;
+        assert_eq!(rt; found.as_str(), want, "{line}");
+    }
+    Ok(())
+}
+
+#[test]
+fn configurations(rt: HostRuntime) -> Result<(), Fail> {
+    for case in CONFIGURATIONS.lines() {
+        let (want, written) = case.split_once('|').ok_or("no bar")?;
+        let bytes = spread(rt.alloc(), written)?;
+        let mut found = String::new(rt.alloc());
+        match read_conf(bytes.as_slice(), 3) {
+            Err(line) => found = format!(in rt.alloc(); "line {line}")?,
+            Ok(config) => {
+                for at in 0..256usize {
+                    if config.on[at] {
+                        let number = at + 1;
+                        let blank = if found.is_empty() { "" } else { " " };
+                        found = format!(in rt.alloc(); "{found}{blank}{number}")?;
+                    }
+                }
+            }
+        }
+        let want = if want == "none" { "" } else { want };
+        assert_eq!(rt; found.as_str(), want, "{written}");
+    }
+    Ok(())
+}
