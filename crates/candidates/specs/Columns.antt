@@ -16,7 +16,7 @@ use Rattle.adv_base.specs.Predicates.{is_point, is_range}
 
 -- a column stands in a list
 abbrev pub has_column : List ℕ → ℕ → Bool
-has_column keys c = list_any (λ key. key == c) keys
+has_column keys c = list_any (λ key. c == key) keys
 
 -- a list with a column behind it, unless it stands there already
 abbrev pub with_column : List ℕ → ℕ → List ℕ
@@ -60,7 +60,7 @@ up_column other = None
 
 -- the columns of a list that is upwards throughout and lies wholly in the slot
 abbrev pub own_columns : ℕ → List Item → List ℕ
-own_columns s items = if is_own_list s items then filter_map up_column items else []
+own_columns s items = if is_own_list s items then without_repeats (filter_map up_column items) else []
 
 -- the list to group by, where it is the slot's own
 unfoldable pub group_columns : Block → ℕ → List ℕ

@@ -21,32 +21,37 @@ single_lists table columns = map (λ c. (table, c ∷ [])) columns
 abbrev pub lists_behind : ℕ → List ℕ → List ℕ → List KeyList
 lists_behind table keys columns = map (λ c. (table, with_column keys c)) columns
 
--- From the columns with an equality or IN, those with a range, those of edges, the lists to group and to order by, and the
--- needed columns: the columns alone; the equalities followed by a range or by an edge's column; the two lists; the
--- equalities followed by the list to order by; and what may cover the slot, the equalities, a range and all needed columns.
-unfoldable pub lists_of : ℕ → List ℕ → List ℕ → List ℕ → List ℕ → List ℕ → List ℕ → List KeyList
-lists_of table equal range join group order needed =
-    single_lists table equal ++ single_lists table range ++ single_lists table join
-    ++ lists_behind table equal range
-    ++ lists_behind table equal join
-    ++ (table, group) ∷ (table, order) ∷ (table, joined equal order)
-    ∷ (table, joined (joined equal (take 1 range)) needed) ∷ []
+-- From the columns with equality or IN, those with a range test and those of edges: each column alone, and the first
+-- followed by a column with a range test or by one of an edge.
+unfoldable pub column_lists : ℕ → List ℕ → List ℕ → List ℕ → List KeyList
+column_lists table points ranges joins =
+    single_lists table points ++ single_lists table ranges ++ single_lists table joins ++ lists_behind table points ranges ++ lists_behind table points joins
 
+-- the list to group by, the list to order by, and the latter behind the columns with equality or IN
+unfoldable pub sorted_lists : ℕ → List ℕ → List ℕ → List ℕ → List KeyList
+sorted_lists table points group order = (table, group) ∷ (table, order) ∷ (table, joined points order) ∷ []
+
+-- the columns with equality or IN, the first one with a range test, and the rest of what is needed
+unfoldable pub covering_list : ℕ → List ℕ → List ℕ → List ℕ → KeyList
+covering_list table points ranges needed = (table, joined (joined points (take 1 ranges)) needed)
+
+-- what a slot proposes, in sequence
 unfoldable pub slot_lists : Catalogue → Block → ℕ → Slot → List KeyList
 slot_lists cat block s slot =
-    lists_of slot.table (point_columns block s) (range_columns block s) (join_columns block s) (group_columns block s) (order_columns block s)
-    (needed_columns cat slot)
+    column_lists slot.table (point_columns block s) (range_columns block s) (join_columns block s)
+    ++ sorted_lists slot.table (point_columns block s) (group_columns block s) (order_columns block s)
+    ++ covering_list slot.table (point_columns block s) (range_columns block s) (needed_columns cat slot) ∷ []
 
 unfoldable pub block_lists : Catalogue → Block → List KeyList
 block_lists cat block = flat_map (λ numbered. slot_lists cat block numbered.0 numbered.1) (enumerate_from 0 block.slots)
 
--- an INSERT reads nothing
-abbrev pub work_lists : Catalogue → Work → List KeyList
+-- an INSERT proposes nothing
+unfoldable pub work_lists : Catalogue → Work → List KeyList
 work_lists cat (Select block) = block_lists cat block
 work_lists cat (Update block columns) = block_lists cat block
 work_lists cat (Delete block) = block_lists cat block
 work_lists cat (Insert table rows) = []
 
--- the proposals of a workload, in sequence
+-- what a workload proposes, in sequence
 unfoldable pub proposals : Catalogue → List Statement → List KeyList
 proposals cat statements = flat_map (λ statement. work_lists cat statement.work) statements

@@ -27,7 +27,7 @@ fn is_range(test: Test) -> bool
 fn has_column(keys: &[u16], column: u16) -> bool
     ensures { result ≡ columns.has_column keys.now column }
 {
-    keys.iter().any(|key| *key == column)
+    keys.iter().any(|key| column == *key)
 }
 
 /// Adds a column to a list, unless it stands there already.
@@ -175,7 +175,8 @@ fn own_columns(alloc: Global, list: &[Item], slot: u8) -> Result<Vec<u16>, Alloc
     if !is_own_list(list, slot) {
         return Ok(Vec::new(alloc));
     }
-    up_columns(alloc, list)
+    let up = up_columns(alloc, list)?;
+    joined(alloc, &[], &up)
 }
 
 /// The list to group by, where it is the slot's own.

@@ -6,9 +6,11 @@
 //! `specs/Candidates.antt` which of these are left out. Whether a candidate helps is left to others.
 #![tactic(auto)]
 
+mod answer;
 mod columns;
 mod found;
 mod known;
 mod proposals;
-#[cfg(test)]
-mod tests;
+
+pub use answer::Candidates;
+pub use found::candidates;
