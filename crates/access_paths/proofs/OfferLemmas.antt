@@ -16,6 +16,7 @@ use Rattle.adv_base.specs.Access.{table_price}
 use Rattle.adv_base.specs.Configs.{chosen}
 use Rattle.adv_base.specs.Lookups.{table_at, slot_table}
 use Rattle.adv_base.specs.Offers.{Offer, offers, index_offer}
+use Rattle.adv_base.proofs.OfferLaws.{offers_on-shapes}
 use Rattle.plan_model.specs.OfferTables.{OfferLimits, OfferTableLimits}
 use Rattle.access_paths.specs.declared.slot_offers.SlotOffers.{SlotOffers}
 use Rattle.access_paths.specs.Candidates.{numbers_on, offer_candidates}
@@ -37,7 +38,8 @@ pub offers_listed : (cat : Catalogue) (block : Block) (shapes : List IndexShape)
 unfolding offers
 offers_listed cat block shapes config s source table source_is table_is =
     rw (source_is, table_is)
-    (ap (λ (rest : List Offer). ([], table_price cat table) ∷ rest)
+    (offers_on-shapes cat block shapes config s source table
+    ∙ ap (λ (rest : List Offer). ([], table_price cat table) ∷ rest)
     (map-append (index_offer cat block s source table) (map (λ index. index.shape) table.indexes)
     (filter (λ shape. shape.table == source.table) (chosen config.on shapes))))
 

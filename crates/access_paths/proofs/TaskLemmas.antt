@@ -18,7 +18,8 @@ use Rattle.adv_base.specs.Limits.Blocks.{ends as block_ends}
 use Rattle.adv_base.specs.Lookups.{slot_table, slot_columns}
 use Rattle.adv_base.specs.Named.{NamesBlock, NamesEdge, NamesItems, names_item}
 use Rattle.adv_base.specs.Rows.{set_rows}
-use Rattle.cardinality.specs.Tables.{AreRows, HoldsRows}
+use Rattle.adv_base.specs.Rows.{AreRows}
+use Rattle.cardinality.specs.Tables.{HoldsRows}
 use Rattle.plan_model.specs.BlockTask.{need, task_edge}
 use Rattle.plan_model.specs.Limits.Tasks.{TaskLimits, EdgeLimits, RowLimits, AreNumbered, is_numbered, ends}
 

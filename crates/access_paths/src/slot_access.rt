@@ -7,8 +7,7 @@ ghost use Rattle.access_paths.specs.SlotOffers.{pairs_of, numbers_of};
 
 use crate::reader::Reader;
 use crate::slot_offers::SlotOffers;
-use adv_base::{Block, Catalogue, Config, IndexShape, NoMemory, Slot};
-use cardinality::slot_table;
+use adv_base::{Block, Catalogue, Config, IndexShape, NoMemory, Slot, slot_table};
 use std::alloc::Global;
 
 /// A slot of the block.

@@ -86,9 +86,10 @@ pub line-only : (bytes line rest : List ℕ) (len : ℕ) → BeginsWithLine byte
     (take len bytes ≡ line) × (drop (len + 1) bytes ≡ rest)
 line-only bytes line rest len h before at =
     let same : len ≡ length line = line-length bytes line rest len h before at in
-    let next : len + 1 ≡ suc (length line) = omega arith in
-    (ap (λ (n : ℕ). take n bytes) same ∙ ap (take (length line)) h.parts ∙ take-front line (10 ∷ rest),
-    ap (λ (n : ℕ). drop n bytes) next ∙ ap (drop (suc (length line))) h.parts ∙ drop-front line rest 10)
+    let next : len + 1 ≡ suc (length line) = omega arith in (
+      ap (λ (n : ℕ). take n bytes) same ∙ ap (take (length line)) h.parts ∙ take-front line (10 ∷ rest),
+      ap (λ (n : ℕ). drop n bytes) next ∙ ap (drop (suc (length line))) h.parts ∙ drop-front line rest 10,
+    )
 
 -- without a line feed there is no line
 pub line-none : (bytes line rest : List ℕ) → ((k : ℕ) → k < length bytes → get_or bytes k 0 ≢ 10) → BeginsWithLine bytes line rest → ⊥

@@ -1,4 +1,7 @@
-use crate::{List, binary_digits, day_of, push_decimal, times_part};
+use crate::{
+    Config, List, Name, Rates, Test, Value, all_slots, binary_digits, day_of, first_line, has_slot,
+    push_decimal, read_number, times_part,
+};
 use std::test::Fail;
 
 #[test]
@@ -65,5 +68,63 @@ fn texts(rt: HostRuntime) -> Result<(), Fail> {
     let empty: List<u8> = List::new(rt.alloc());
     assert!(rt; empty.is_empty());
     assert_eq!(rt; empty.len(), 0);
+    Ok(())
+}
+
+#[test]
+fn numbers_and_lines(rt: HostRuntime) {
+    let cases: [(&[u8], Option<u64>); 12] = [
+        (b"0", None),
+        (b"1", Some(1)),
+        (b"1000000000000", Some(1000000000000)),
+        (b"1000000000001", None),
+        (b"99999999999999999999", None),
+        (b"", None),
+        (b"01", None),
+        (b"+1", None),
+        (b"-1", None),
+        (b" 1", None),
+        (b"1 ", None),
+        (b"1\xff", None),
+    ];
+    for (text, number) in cases.iter() {
+        assert_eq!(rt; read_number(*text, 1, 1000000000000), *number);
+    }
+    assert_eq!(rt; read_number(b"0", 0, 5), Some(0));
+    assert_eq!(rt;
+        read_number(b"18446744073709551615", 0, u64::MAX),
+        Some(u64::MAX)
+    );
+    assert_eq!(rt;
+        first_line(b"a\n\nb"),
+        Some((b"a".as_slice(), b"\nb".as_slice()))
+    );
+    assert_eq!(rt; first_line(b"\n"), Some((b"".as_slice(), b"".as_slice())));
+    assert_eq!(rt; first_line(b"a"), None);
+    assert_eq!(rt; first_line(b""), None);
+}
+
+#[test]
+fn small_words(rt: HostRuntime) -> Result<(), Fail> {
+    let mut config = Config::none();
+    assert!(rt; !config.has(1));
+    config.on[255] = true;
+    assert!(rt; config.has(256) && !config.has(255) && !config.has(0) && !config.has(257));
+    let name = Name {
+        items: Vec::from_slice(rt.alloc(), b"t")?,
+    };
+    let copy = name.copied(rt.alloc()).map_err(|_| "memory")?;
+    assert_eq!(rt; copy.as_slice(), b"t".as_slice());
+    let rates = Rates::default();
+    assert_eq!(rt;
+        (rates.seq_page, rates.rand_page, rates.row_cpu),
+        (1000, 4000, 10)
+    );
+    assert_eq!(rt; (rates.sort_cpu, rates.merge_cpu), (5, 5));
+    assert_eq!(rt; (rates.hash_cpu, rates.group_cpu), (8, 5));
+    assert!(rt; Test::Equal.is_equality() && !Test::OneOf(1).is_equality());
+    assert!(rt; !Test::Below(Value::Plain).is_equality());
+    assert_eq!(rt; all_slots(3), 7);
+    assert!(rt; has_slot(5, 2) && !has_slot(5, 1) && !has_slot(5, 9));
     Ok(())
 }

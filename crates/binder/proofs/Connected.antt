@@ -12,7 +12,7 @@ use Rattle.std.proofs.lemmas.List.Elements.{All-head, All-tail}
 use Rattle.adv_base.specs.declared.workload.parts.Edge.{Edge}
 use Rattle.adv_base.specs.Limits.Blocks.{ends}
 use Rattle.adv_base.specs.Sets.{all_slots, has_slot, is_crossing, IsConnected}
-use Rattle.binder.specs.Joins.{renamed, relabelled, labels_of, is_joined}
+use Rattle.binder.specs.inner.Labels.{renamed, relabelled, labels_of, have_one_label}
 use Rattle.binder.specs.Plain.{plain_edge}
 use Rattle.binder.proofs.Cuts.{bits_opposite, some_bit}
 
@@ -121,8 +121,8 @@ list_all-at first (x ∷ xs) (suc k) all lt = list_all-at first xs k (and_true (
 
 -- slots of which all have one label can't be cut in two without crossing an edge
 pub connected : (n : ℕ) (edges : List Edge) → All (λ (edge : Edge). edge.left < n) edges → All (λ (edge : Edge). edge.right < n) edges
-    → is_joined n (map plain_edge edges) ≡ true → IsConnected n (map ends edges)
-unfolding is_joined labels_of
+    → have_one_label n (map plain_edge edges) ≡ true → IsConnected n (map ends edges)
+unfolding have_one_label labels_of
 connected n edges lefts rights joined a b some_a some_b whole apart = by (list_any (is_crossing a b) (map ends edges)) refl
   where
     by : (t : Bool) → list_any (is_crossing a b) (map ends edges) ≡ t → t ≡ true

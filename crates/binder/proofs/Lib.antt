@@ -16,4 +16,5 @@ pub mod Named
 pub mod Lawful
 pub mod Ranges
 pub mod Uncrossed
+pub mod Joined
 pub mod ReadLimits

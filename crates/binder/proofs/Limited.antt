@@ -30,7 +30,7 @@ use Rattle.binder.specs.Scopes.{Names}
 use Rattle.binder.proofs.Readings.{bind_ok, ok_is}
 use Rattle.binder.proofs.Within.{IsColumn}
 use Rattle.binder.proofs.Checked.{IsPred, IsEdge, AreTests, AreTests-tests, edges-tests}
-use Rattle.binder.proofs.Connected.{connected}
+use Rattle.binder.proofs.Joined.{joined-connect}
 use Rattle.binder.proofs.Kept.{IsItem, IsBound, kept_items-free, kept_columns-limits, group_list-from, order_list-limits, order_list-free}
 use Rattle.binder.proofs.Sorted.{columns-are, items-are, orders-are}
 
@@ -121,7 +121,7 @@ select-limits names select clauses preds edges mentions distinct aggregate some 
       edge_lefts = rw len lefts;
       edge_rights = rw len rights;
       edges_most = omega arith;
-      connected = rw len (connected (length names.sources) edges lefts rights whole);
+      connected = rw len (joined-connect (length names.sources) edges whole);
       group_list = λ list g.
           let from = group_list-from names distinct aggregate clauses.tests.preds clauses.group clauses.items given.group given.items list g in
           rw len (subst (GroupLimits (length names.sources)) from.2 (kept_columns-limits names clauses.tests.preds from.0 from.1));

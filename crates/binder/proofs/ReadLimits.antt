@@ -74,3 +74,7 @@ statement-limits n s e =
 pub read-limits : (n : ℕ) (statements : List ParsedStatement) → statements_in n statements ≡ true → All StatementLimits statements
 read-limits n statements e =
     list_all-All (statement_in n) StatementLimits (λ s is. statement-limits n s is) statements (parts (nat_le (length statements) 1000) (list_all (statement_in n) statements) e).1
+
+-- and they are at most 1000
+pub few-read : (n : ℕ) (statements : List ParsedStatement) → statements_in n statements ≡ true → length statements ≤ 1000
+few-read n statements e = leb-true (length statements) 1000 (parts (nat_le (length statements) 1000) (list_all (statement_in n) statements) e).0

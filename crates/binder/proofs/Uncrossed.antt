@@ -1,6 +1,6 @@
 -- Where two slots have different labels behind the edges, some cut is crossed by no edge.
 use Rattle.std.proofs.Common.{◌≡◌, ◌≢◌, ℕ, zero, suc, ◌+◌, ◌-◌, ◌*◌, ◌/◌, ◌%◌, ◌^◌, ◌<◌, ◌≤◌, Bool, true, false, not, eqb, ◌&&◌, ◌||◌, cond, min, List, [], ◌∷◌, length, get_or, map, fold, refl, sym, ap, subst, ◌∙◌, arith, inl, inr, ◌⊎◌, true≢false}
-use Rattle.std.specs.Prelude.{bit_and, All, IsTrue, ◌↔◌}
+use Rattle.std.specs.Prelude.{bit_and, All}
 use Rattle.std.specs.List.{list_any, list_all, range_with_len}
 use Rattle.std.specs.Int.{bit_at}
 use Rattle.std.proofs.lemmas.Bool.{eqb-true, cases_lt}
@@ -12,7 +12,7 @@ use Rattle.std.proofs.lemmas.List.Elements.{All-nil, All-cons, All-head, All-tai
 use Rattle.adv_base.specs.declared.workload.parts.Edge.{Edge}
 use Rattle.adv_base.specs.Limits.Blocks.{ends}
 use Rattle.adv_base.specs.Sets.{all_slots, has_slot, is_crossing, IsConnected}
-use Rattle.binder.specs.Joins.{renamed, relabelled, labels_of, is_joined}
+use Rattle.binder.specs.inner.Labels.{renamed, relabelled, labels_of, have_one_label}
 use Rattle.binder.specs.Plain.{plain_edge}
 use Rattle.binder.proofs.Cuts.{double}
 use Rattle.binder.proofs.Connected.{has_slot-one, has_slot-zero, connected}
@@ -149,8 +149,8 @@ fails_at first (x ∷ xs) e = by (fails_at first xs) (eqb x first) refl e
 
 -- where not all slots hang together, the edges don't connect them
 pub not_connected : (n : ℕ) (edges : List Edge) → 1 ≤ n → All (λ (edge : Edge). edge.left < n) edges → All (λ (edge : Edge). edge.right < n) edges
-    → is_joined n (map plain_edge edges) ≡ false → IsConnected n (map ends edges) → ⊥
-unfolding is_joined labels_of
+    → have_one_label n (map plain_edge edges) ≡ false → IsConnected n (map ends edges) → ⊥
+unfolding have_one_label labels_of
 not_connected n edges some lefts rights apart all =
     let own = length-range_with_len 0 n in
     let labels = fold relabelled (range_with_len 0 n) (map plain_edge edges) in
@@ -173,9 +173,3 @@ not_connected n edges some lefts rights apart all =
     labels-length : (es : List Edge) (ls : List ℕ) → length (fold relabelled ls (map plain_edge es)) ≡ length ls
     labels-length [] ls = refl
     labels-length (x ∷ xs) ls = labels-length xs (relabelled ls (plain_edge x)) ∙ length-map ls (renamed (get_or ls x.left 0) (get_or ls x.right 0))
-
--- all slots hang together exactly where the edges connect them
-pub joined-connects : (n : ℕ) (edges : List Edge) → 1 ≤ n → All (λ (edge : Edge). edge.left < n) edges → All (λ (edge : Edge). edge.right < n) edges
-    → (t : Bool) → t ≡ is_joined n (map plain_edge edges) → IsTrue t ↔ IsConnected n (map ends edges)
-joined-connects n edges some lefts rights true e = (λ h. connected n edges lefts rights (sym e), λ h. refl)
-joined-connects n edges some lefts rights false e = (λ h. absurd (true≢false (sym h)), λ h. absurd (not_connected n edges some lefts rights (sym e) h))

@@ -1,20 +1,17 @@
--- Whether join edges connect slots, by labels as quick-find keeps them: slots with one label hang together.
-use Rattle.std.specs.Prelude.{ℕ, ◌==◌, Bool, if◌then◌else◌, List, map, fold, slice_index}
-use Rattle.std.specs.List.{list_all, range_with_len}
+-- Whether join edges connect the slots of a block.
+use Rattle.std.specs.Prelude.{ℕ, ◌-◌, Bool, List, map}
+use Rattle.std.specs.List.{list_any, list_all, range_with_len}
+use Rattle.adv_base.specs.Sets.{all_slots, is_crossing}
 use Rattle.binder.specs.Plain.{PlainEdge}
 
--- a label in place of another
-abbrev pub renamed : ℕ → ℕ → ℕ → ℕ
-renamed from to label = if label == from then to else label
+-- the slots that an edge joins
+abbrev pub joined_slots : PlainEdge → ℕ × ℕ
+joined_slots edge = (edge.left, edge.right)
 
--- an edge gives all slots that hang together with its left one the label of its right one
-abbrev pub relabelled : List ℕ → PlainEdge → List ℕ
-relabelled labels edge = map (renamed (slice_index labels edge.left) (slice_index labels edge.right)) labels
+-- some edge leads from a set of the slots below n to the others
+abbrev pub is_left : ℕ → List PlainEdge → ℕ → Bool
+is_left n edges set = list_any (is_crossing set (all_slots n - set)) (map joined_slots edges)
 
--- the labels behind all edges; each slot begins with its own
-unfoldable pub labels_of : ℕ → List PlainEdge → List ℕ
-labels_of n edges = fold relabelled (range_with_len 0 n) edges
-
--- all of n slots hang together
+-- the edges connect the slots below n: whichever way these are cut in two, some edge crosses the cut
 unfoldable pub is_joined : ℕ → List PlainEdge → Bool
-is_joined n edges = list_all (λ label. label == slice_index (labels_of n edges) 0) (labels_of n edges)
+is_joined n edges = list_all (is_left n edges) (range_with_len 1 (all_slots n - 1))

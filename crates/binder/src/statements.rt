@@ -108,6 +108,7 @@ fn with_statement(
     requires few { so_far.slots ≤ 2000 }
     ensures exact { Gives plain_bound result (one_statement_more directory.now.cat.now text.now (plain_bound so_far) statement.now) }
     ensures few { IfOk result (λ x. x.slots ≤ 2000) }
+    ensures count { IfOk result (λ x. length x.statements ≡ length so_far.statements + 1) }
 {
     let work = work(alloc, directory, text, statement.place, &statement.body)?;
     let slots = so_far.slots + slot_count(&work);
@@ -130,7 +131,8 @@ fn statements(
     parsed: &[ParsedStatement],
 ) -> Result<Bound, BindFault>
     requires { All StatementLimits parsed.now }
-    ensures { Gives plain_bound result (bound_of directory.now.cat.now text.now parsed.now) }
+    ensures exact { Gives plain_bound result (bound_of directory.now.cat.now text.now parsed.now) }
+    ensures count { IfOk result (λ x. length x.statements ≡ length parsed.now) }
 {
     let mut so_far = Bound {
         slots: 0,
@@ -160,6 +162,9 @@ pub fn bind(
     ensures exact { Gives plain_statements result (statements_of cat.now parsed.now.text.now parsed.now.statements) }
     // The tables and columns of each statement exist in the catalogue.
     ensures named { IfOk result (λ statements. All (λ statement. NamesWork cat.now statement.work) statements) }
+    // There are as many as were read, and so at most 1000.
+    ensures count { IfOk result (λ statements. length statements ≡ length parsed.now.statements) }
+    ensures most { IfOk result (λ statements. length statements ≤ 1000) }
     // All statements together have at most 2000 slots.
     ensures few { IfOk result (λ statements. sum_by (λ statement. slots_of_work statement.work) statements ≤ 2000) }
 {

@@ -1,4 +1,3 @@
-pub mod CallerLemmas
 pub mod Folds
 pub mod RowLemmas
 pub mod TableLemmas

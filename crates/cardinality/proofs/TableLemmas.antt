@@ -6,7 +6,8 @@ use Rattle.std.proofs.lemmas.List.Elements.{All-push, All-nil, All-get_or}
 use Rattle.adv_base.specs.declared.catalogue.Catalogue.{Catalogue}
 use Rattle.adv_base.specs.declared.workload.block.Block.{Block}
 use Rattle.adv_base.specs.Rows.{set_rows}
-use Rattle.cardinality.specs.Tables.{AreRows, HoldsRows}
+use Rattle.adv_base.specs.Rows.{AreRows}
+use Rattle.cardinality.specs.Tables.{HoldsRows}
 use Rattle.cardinality.proofs.RowLemmas.{set_rows-empty}
 
 -- the rows of one set more

@@ -2,12 +2,7 @@
 use Rattle.std.specs.Prelude.{◌≡◌, ℕ, ◌<◌, ◌≤◌, List, length, All, slice_index}
 use Rattle.adv_base.specs.declared.catalogue.Catalogue.{Catalogue}
 use Rattle.adv_base.specs.declared.workload.block.Block.{Block}
-use Rattle.adv_base.specs.Rows.{set_rows}
-
--- a number of rows, from 1 to 10^12
-pub record AreRows (n : ℕ) : Type 0 where
-  pub least : 1 ≤ n
-  pub most : n ≤ 1000000000000
+use Rattle.adv_base.specs.Rows.{AreRows, set_rows}
 
 -- for each set below a number, at its place, the rows of the join of its slots
 pub record HoldsRows (cat : Catalogue) (block : Block) (sets : ℕ) (of : List ℕ) : Type 0 where

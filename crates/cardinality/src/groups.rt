@@ -1,8 +1,9 @@
 //! The rows of a group.
 ghost use Rattle.std.specs.Prelude.{◌≡◌, ◌≤◌, ◌^◌, length, unwrap_or, true};
 ghost use Rattle.adv_base.specs.Named.{NamesBlock, NamesItems, names_item};
-ghost use Rattle.adv_base.specs.Rows.{group_rows as rows_of_groups, item_distinct};
+ghost use Rattle.adv_base.specs.Rows as row;
 ghost use Rattle.cardinality.specs.Tables.{HoldsRows};
+ghost use Rattle.adv_base.specs.declared.limits.TheConstants.{MOST_ROWS};
 
 use crate::parts::slot_distinct_count;
 use crate::table::{Rows, crossed};
@@ -15,9 +16,9 @@ const UNKNOWN_COUNT: u64 = 10;
 fn item_count(cat: &Catalogue, block: &Block, item: &Item) -> u64
     requires named { NamesBlock cat.now block.now }
     requires there { names_item cat.now block.now item.now ≡ true }
-    ensures exact { result ≡ unwrap_or (item_distinct cat.now block.now item.now) 10 }
+    ensures exact { result ≡ unwrap_or (row.item_distinct cat.now block.now item.now) 10 }
     ensures least { 1 ≤ result }
-    ensures most { result ≤ 1000000000000 }
+    ensures most { result ≤ MOST_ROWS }
 {
     let count = match *item {
         Item::Up { slot, column } => slot_distinct_count(cat, block, slot, column),
@@ -33,9 +34,9 @@ pub fn group_rows(cat: &Catalogue, block: &Block, items: &[Item], rows: &Rows) -
     requires named { NamesBlock cat.now block.now }
     requires items_named { NamesItems cat.now block.now items.now }
     requires table { HoldsRows cat.now block.now (2 ^ length block.now.slots) rows.now.of }
-    ensures exact { result ≡ rows_of_groups cat.now block.now items.now }
+    ensures exact { result ≡ row.group_rows cat.now block.now items.now }
     ensures least { 1 ≤ result }
-    ensures most { result ≤ 1000000000000 }
+    ensures most { result ≤ MOST_ROWS }
 {
     let mut groups = 1;
     for item in items {

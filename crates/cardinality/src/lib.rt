@@ -6,7 +6,6 @@
 #![tactic(auto)]
 
 mod groups;
-mod lookups;
 mod parts;
 mod range;
 mod rows;
@@ -17,7 +16,6 @@ mod tests;
 mod ties;
 
 pub use groups::group_rows;
-pub use lookups::{slot_table, table_column};
 pub use parts::{edge_part, part_of};
 pub use rows::{slot_rows, table_pages, table_rows};
 pub use table::{Rows, rows_table};

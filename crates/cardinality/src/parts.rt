@@ -1,16 +1,18 @@
 //! Selectivities, as parts of 10^9.
 ghost use Rattle.std.specs.Prelude.{◌≡◌, ℕ, ◌<◌, ◌≤◌, ◌*◌, length, Contains, slice_get, Some, MatchOption};
 ghost use Rattle.std.specs.Option.{ForSome};
-ghost use Rattle.adv_base.specs.Sums.{clamped_part as part_of_quotient, height as height_of};
-ghost use Rattle.adv_base.specs.Lookups.{slot_distinct, slot_columns, table_distinct};
 ghost use Rattle.adv_base.specs.declared.workload.predicate.Test.TheVariants.{Same, OneOf};
 ghost use Rattle.adv_base.specs.Named.{NamesBlock};
-ghost use Rattle.adv_base.specs.Parts.{equal_part as part_of_equal, tied_part as part_of_tie, above_part as part_above, below_part as part_below, between_part as part_between, test_part as part_of_test, pred_part, edge_part as part_of_edge};
+ghost use Rattle.adv_base.specs.Lookups as lookup;
+ghost use Rattle.adv_base.specs.Parts as part;
+ghost use Rattle.adv_base.specs.declared.limits.TheConstants.{MOST_ROWS, WHOLE};
 
-use crate::lookups::{slot_table, table_column};
 use crate::range::Range;
 use crate::sums::{clamped_part, height};
-use adv_base::{Block, Catalogue, Column, Edge, Pred, Table, Test, Value};
+use adv_base::limits::WHOLE;
+use adv_base::{
+    Block, Catalogue, Column, Edge, Pred, Table, Test, Value, slot_table, table_column,
+};
 
 /// What `c > v` keeps where the place of `v` isn't known: a third.
 const A_THIRD: u64 = 333333334;
@@ -20,19 +22,17 @@ const A_QUARTER: u64 = 250000000;
 const A_TENTH: u64 = 100000000;
 /// What IN keeps at most: a half.
 const A_HALF: u64 = 500000000;
-/// All rows.
-const ALL: u64 = 1000000000;
 
 /// `c = value`.
 fn equal_part(distinct: Option<u64>) -> u64
     requires { ForSome distinct (λ d. 1 ≤ d) }
-    ensures exact { result ≡ part_of_equal distinct }
+    ensures exact { result ≡ part.equal_part distinct }
     ensures least { 1 ≤ result }
-    ensures most { result ≤ 1000000000 }
+    ensures most { result ≤ WHOLE }
 {
     match distinct {
         None => A_TENTH,
-        Some(count) => clamped_part(ALL as u128, count),
+        Some(count) => clamped_part(WHOLE as u128, count),
     }
 }
 
@@ -40,9 +40,9 @@ fn equal_part(distinct: Option<u64>) -> u64
 fn tied_part(left: Option<u64>, right: Option<u64>) -> u64
     requires left_some { ForSome left (λ d. 1 ≤ d) }
     requires right_some { ForSome right (λ d. 1 ≤ d) }
-    ensures exact { result ≡ part_of_tie left right }
+    ensures exact { result ≡ part.tied_part left right }
     ensures least { 1 ≤ result }
-    ensures most { result ≤ 1000000000 }
+    ensures most { result ≤ WHOLE }
 {
     let Some(left_count) = left else {
         return equal_part(right);
@@ -55,9 +55,9 @@ fn tied_part(left: Option<u64>, right: Option<u64>) -> u64
 
 /// `c > v`.
 fn above_part(column: &Column, value: Value) -> u64
-    ensures exact { result ≡ part_above column.now value }
+    ensures exact { result ≡ part.above_part column.now value }
     ensures least { 1 ≤ result }
-    ensures most { result ≤ 1000000000 }
+    ensures most { result ≤ WHOLE }
 {
     let Value::Number(number) = value else {
         return A_THIRD;
@@ -70,9 +70,9 @@ fn above_part(column: &Column, value: Value) -> u64
 
 /// `c < v`.
 fn below_part(column: &Column, value: Value) -> u64
-    ensures exact { result ≡ part_below column.now value }
+    ensures exact { result ≡ part.below_part column.now value }
     ensures least { 1 ≤ result }
-    ensures most { result ≤ 1000000000 }
+    ensures most { result ≤ WHOLE }
 {
     let Value::Number(number) = value else {
         return A_THIRD;
@@ -85,9 +85,9 @@ fn below_part(column: &Column, value: Value) -> u64
 
 /// `c BETWEEN v AND w`.
 fn between_part(column: &Column, from: Value, to: Value) -> u64
-    ensures exact { result ≡ part_between column.now from to }
+    ensures exact { result ≡ part.between_part column.now from to }
     ensures least { 1 ≤ result }
-    ensures most { result ≤ 1000000000 }
+    ensures most { result ≤ WHOLE }
 {
     let Value::Number(first) = from else {
         return A_QUARTER;
@@ -105,20 +105,20 @@ fn between_part(column: &Column, from: Value, to: Value) -> u64
 pub fn test_part(table: &Table, column: &Column, test: Test) -> u64
     requires same { (other : ℕ) → test ≡ Same other → other < length table.now.columns }
     requires items { (n : ℕ) → test ≡ OneOf n → 1 ≤ n }
-    ensures exact { result ≡ part_of_test table.now column.now test }
+    ensures exact { result ≡ part.test_part table.now column.now test }
     ensures least { 1 ≤ result }
-    ensures most { result ≤ 1000000000 }
+    ensures most { result ≤ WHOLE }
 {
     match test {
         Test::Equal => equal_part(column.distinct),
-        Test::NotEqual => (ALL - equal_part(column.distinct)).max(1),
+        Test::NotEqual => (WHOLE - equal_part(column.distinct)).max(1),
         Test::Below(value) => below_part(column, value),
         Test::Above(value) => above_part(column, value),
         Test::Between(from, to) => between_part(column, from, to),
         Test::OneOf(items) => (items as u64 * equal_part(column.distinct)).min(A_HALF),
         Test::Like => A_TENTH,
         Test::IsNull => A_TENTH,
-        Test::NotNull => ALL,
+        Test::NotNull => WHOLE,
         Test::Same(other) => tied_part(column.distinct, table_column(table, other).distinct),
     }
 }
@@ -129,9 +129,9 @@ pub fn test_part(table: &Table, column: &Column, test: Test) -> u64
 pub fn part_of(cat: &Catalogue, block: &Block, pred: &Pred) -> u64
     requires named { NamesBlock cat.now block.now }
     requires own { Contains block.now.preds pred.now }
-    ensures exact { result ≡ pred_part cat.now block.now pred.now }
+    ensures exact { result ≡ part.pred_part cat.now block.now pred.now }
     ensures least { 1 ≤ result }
-    ensures most { result ≤ 1000000000 }
+    ensures most { result ≤ WHOLE }
 {
     let table = slot_table(cat, block, pred.slot);
     test_part(table, table_column(table, pred.column), pred.test)
@@ -141,10 +141,10 @@ pub fn part_of(cat: &Catalogue, block: &Block, pred: &Pred) -> u64
 pub fn slot_distinct_count(cat: &Catalogue, block: &Block, slot: u8, column: u16) -> Option<u64>
     requires named { NamesBlock cat.now block.now }
     requires slot_there { slot < length block.now.slots }
-    requires column_there { column < slot_columns cat.now block.now slot }
-    ensures exact { result ≡ slot_distinct cat.now block.now slot column }
+    requires column_there { column < lookup.slot_columns cat.now block.now slot }
+    ensures exact { result ≡ lookup.slot_distinct cat.now block.now slot column }
     ensures some { ForSome result (λ d. 1 ≤ d) }
-    ensures few { ForSome result (λ d. d ≤ 1000000000000) }
+    ensures few { ForSome result (λ d. d ≤ MOST_ROWS) }
 {
     table_column(slot_table(cat, block, slot), column).distinct
 }
@@ -155,9 +155,9 @@ pub fn slot_distinct_count(cat: &Catalogue, block: &Block, slot: u8, column: u16
 pub fn edge_part(cat: &Catalogue, block: &Block, edge: &Edge) -> u64
     requires named { NamesBlock cat.now block.now }
     requires own { Contains block.now.edges edge.now }
-    ensures exact { result ≡ part_of_edge cat.now block.now edge.now }
+    ensures exact { result ≡ part.edge_part cat.now block.now edge.now }
     ensures least { 1 ≤ result }
-    ensures most { result ≤ 1000000000 }
+    ensures most { result ≤ WHOLE }
 {
     let left = slot_distinct_count(cat, block, edge.left, edge.left_column);
     let right = slot_distinct_count(cat, block, edge.right, edge.right_column);

@@ -1,27 +1,28 @@
 //! The range of a column's values.
 ghost use Rattle.std.specs.Prelude.{◌<◌};
-ghost use Rattle.adv_base.specs.Sums.{height as height_of};
+ghost use Rattle.adv_base.specs.Sums as sum;
+ghost use Rattle.adv_base.specs.declared.limits.TheConstants.{WHOLE};
 
 use crate::sums::{clamped_part, height};
 use adv_base::Column;
+use adv_base::limits::WHOLE;
 
 /// The ends of a column's values, where both are known and lie apart.
 #[derive(Clone, Copy)]
 pub struct Range {
     pub low: i64,
     pub high: i64,
-    ghost apart: { 0 < height_of high low },
+    ghost apart: { 0 < sum.height high low },
 }
 
 impl Range {
     ghost use Rattle.std.specs.Prelude.{◌≡◌, ℕ, ◌≤◌, ◌*◌, ℤ};
-    ghost use Rattle.adv_base.specs.Sums.{clamped_part as part_of_quotient};
-    ghost use Rattle.adv_base.specs.Parts.{range_part};
+    ghost use Rattle.adv_base.specs.Parts as part;
     ghost use Rattle.cardinality.specs.Ranges.{share_or};
 
     /// The range of a column; None where an end isn't known or the low one isn't below the high one.
     pub fn of(column: &Column) -> Option<Range>
-        ensures { (share : ℤ → ℤ → ℕ) (unknown : ℕ) → range_part column.now.low column.now.high share unknown ≡ share_or result share unknown }
+        ensures { (share : ℤ → ℤ → ℕ) (unknown : ℕ) → part.range_part column.now.low column.now.high share unknown ≡ share_or result share unknown }
     {
         let Some(low) = column.low else {
             return None;
@@ -38,10 +39,10 @@ impl Range {
 
     /// The part of the range that a length is.
     pub fn share(&self, length: u64) -> u64
-        ensures exact { result ≡ part_of_quotient (1000000000 * length) (height_of self.now.high self.now.low) }
+        ensures exact { result ≡ sum.clamped_part (WHOLE * length) (sum.height self.now.high self.now.low) }
         ensures least { 1 ≤ result }
-        ensures most { result ≤ 1000000000 }
+        ensures most { result ≤ WHOLE }
     {
-        clamped_part(1000000000 * length as u128, height(self.high, self.low))
+        clamped_part(WHOLE as u128 * length as u128, height(self.high, self.low))
     }
 }

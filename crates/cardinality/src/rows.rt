@@ -1,29 +1,28 @@
 //! Numbers of rows, from 1 to 10^12.
 ghost use Rattle.std.specs.Prelude.{◌≡◌, ℕ, ◌==◌, ◌+◌, ◌<◌, ◌≤◌, ◌^◌, length, Contains, map, fold, filter, take, if◌then◌else◌, MatchResult, OnOk, IfOk, List, All};
-ghost use Rattle.adv_base.specs.Lookups.{slot_table as table_of};
 ghost use Rattle.adv_base.specs.Named.{NamesBlock};
-ghost use Rattle.adv_base.specs.Parts.{pred_part};
-ghost use Rattle.adv_base.specs.Rows.{table_rows as rows_of_table, table_pages as pages_of_table, filtered_rows};
-ghost use Rattle.adv_base.specs.Sums.{times_part as part_of_number};
+ghost use Rattle.adv_base.specs.Parts as part;
+ghost use Rattle.adv_base.specs.Rows as row;
+ghost use Rattle.adv_base.specs.Sums as sum;
+ghost use Rattle.adv_base.specs.declared.limits.TheConstants.{MOST_ROWS};
 
-use crate::lookups::slot_table;
 use crate::parts::part_of;
-use adv_base::{Block, Catalogue, Pred, Table, times_part};
+use adv_base::{Block, Catalogue, Pred, Table, slot_table, times_part};
 
 /// The rows of a table, which count as at least 1.
 pub fn table_rows(table: &Table) -> u64
-    ensures exact { result ≡ rows_of_table table.now }
+    ensures exact { result ≡ row.table_rows table.now }
     ensures least { 1 ≤ result }
-    ensures most { result ≤ 1000000000000 }
+    ensures most { result ≤ MOST_ROWS }
 {
     table.rows.max(1)
 }
 
 /// The pages of a table, which count as at least 1.
 pub fn table_pages(table: &Table) -> u64
-    ensures exact { result ≡ pages_of_table table.now }
+    ensures exact { result ≡ row.table_pages table.now }
     ensures least { 1 ≤ result }
-    ensures most { result ≤ 1000000000000 }
+    ensures most { result ≤ MOST_ROWS }
 {
     table.pages.max(1)
 }
@@ -33,10 +32,10 @@ fn rows_after(cat: &Catalogue, block: &Block, slot: u8, rows: u64, pred: &Pred) 
     requires named { NamesBlock cat.now block.now }
     requires own { Contains block.now.preds pred.now }
     requires some { 1 ≤ rows }
-    requires few { rows ≤ 1000000000000 }
-    ensures exact { result ≡ (if pred.now.slot == slot then part_of_number rows (pred_part cat.now block.now pred.now) else rows) }
+    requires few { rows ≤ MOST_ROWS }
+    ensures exact { result ≡ (if pred.now.slot == slot then sum.times_part rows (part.pred_part cat.now block.now pred.now) else rows) }
     ensures least { 1 ≤ result }
-    ensures most { result ≤ 1000000000000 }
+    ensures most { result ≤ MOST_ROWS }
 {
     if pred.slot == slot {
         times_part(rows, part_of(cat, block, pred))
@@ -51,9 +50,9 @@ fn rows_after(cat: &Catalogue, block: &Block, slot: u8, rows: u64, pred: &Pred) 
 pub fn slot_rows(cat: &Catalogue, block: &Block, slot: u8) -> u64
     requires named { NamesBlock cat.now block.now }
     requires there { slot < length block.now.slots }
-    ensures exact { result ≡ filtered_rows cat.now block.now slot }
+    ensures exact { result ≡ row.filtered_rows cat.now block.now slot }
     ensures least { 1 ≤ result }
-    ensures most { result ≤ 1000000000000 }
+    ensures most { result ≤ MOST_ROWS }
 {
     let mut rows = table_rows(slot_table(cat, block, slot));
     for pred in block.preds.items.iter() {

@@ -1,16 +1,15 @@
 //! The rows of each set of slots.
 ghost use Rattle.std.specs.Prelude.{◌≡◌, ◌<◌, ◌≤◌, ◌^◌, ◌+◌, ◌-◌, ◌*◌, ◌++◌, ◌∷◌, [], length, slice_index, IfOk, OnOk};
 ghost use Rattle.adv_base.specs.Named.{NamesBlock};
-ghost use Rattle.adv_base.specs.Sums.{capped};
+ghost use Rattle.adv_base.specs.Sums as sum;
 ghost use Rattle.cardinality.specs.Tables.{HoldsRows};
+ghost use Rattle.adv_base.specs.declared.limits.TheConstants.{MOST_ROWS};
 
 use crate::rows::slot_rows;
 use crate::ties::Ties;
+use adv_base::limits::MOST_ROWS;
 use adv_base::{Block, Catalogue, List, NoMemory};
 use std::alloc::Global;
-
-/// More rows than this aren't told apart.
-const MOST_ROWS: u128 = 1000000000000;
 
 /// The rows of the join of each set of slots, by the set as a number whose binary digit of weight 2^s says whether slot
 /// s is in it.
@@ -33,20 +32,21 @@ impl Rows {
 fn put(of: &mut Vec<u64>, rows: u64) -> Result<(), NoMemory>
     ensures { OnOk result (of.new.items ≡ of.old.items ++ rows ∷ []) }
 {
-    of.push(rows).map_err(|_| NoMemory)
+    of.push(rows)?;
+    Ok(())
 }
 
 /// At each slot the rows so far times the slot's own, at most 10^12.
 pub fn crossed(rows: u64, own: u64) -> u64
     requires rows_some { 1 ≤ rows }
-    requires rows_few { rows ≤ 1000000000000 }
+    requires rows_few { rows ≤ MOST_ROWS }
     requires own_some { 1 ≤ own }
-    requires own_few { own ≤ 1000000000000 }
-    ensures exact { result ≡ capped (rows * own) }
+    requires own_few { own ≤ MOST_ROWS }
+    ensures exact { result ≡ sum.capped (rows * own) }
     ensures least { 1 ≤ result }
-    ensures most { result ≤ 1000000000000 }
+    ensures most { result ≤ MOST_ROWS }
 {
-    (rows as u128 * own as u128).min(MOST_ROWS) as u64
+    (rows as u128 * own as u128).min(MOST_ROWS as u128) as u64
 }
 
 /// Goes from the sets of the slots below `slot` to those with that slot as well, which doubles the table.

@@ -1,10 +1,11 @@
 //! The join edges of a block, each with its part.
 ghost use Rattle.std.specs.Prelude.{◌≡◌, ◌<◌, ◌≤◌, map, fold, if◌then◌else◌, IfOk};
 ghost use Rattle.adv_base.specs.Named.{NamesBlock};
-ghost use Rattle.adv_base.specs.Parts.{edge_part as part_of_edge};
-ghost use Rattle.adv_base.specs.Rows.{edges_back, ties_back as is_tied_back};
-ghost use Rattle.adv_base.specs.Sets.{has_slot as is_in_set};
-ghost use Rattle.adv_base.specs.Sums.{times_part as part_of_number};
+ghost use Rattle.adv_base.specs.Parts as selectivity;
+ghost use Rattle.adv_base.specs.Rows as row;
+ghost use Rattle.adv_base.specs.Sets as sets;
+ghost use Rattle.adv_base.specs.Sums as sum;
+ghost use Rattle.adv_base.specs.declared.limits.TheConstants.{MOST_ROWS, WHOLE};
 
 use crate::parts::edge_part;
 use adv_base::{Block, Catalogue, Edge, NoMemory, times_part};
@@ -17,13 +18,13 @@ pub struct Ties<'a> {
     pub block: &'a Block,
     pub parts: Vec<u64>,
     pub ghost named: { NamesBlock cat.now block.now },
-    pub ghost exact: { parts.items ≡ map (part_of_edge cat.now block.now) block.now.edges },
+    pub ghost exact: { parts.items ≡ map (selectivity.edge_part cat.now block.now) block.now.edges },
 }
 
 /// Whether a set of slots has a slot.
 fn has_slot(set: usize, slot: u8) -> bool
     requires { slot < 64 }
-    ensures { result ≡ is_in_set set slot }
+    ensures { result ≡ sets.has_slot set slot }
 {
     set & (1 << slot) != 0
 }
@@ -31,7 +32,7 @@ fn has_slot(set: usize, slot: u8) -> bool
 /// Whether an edge is between the slot and an earlier one of the set.
 fn ties_back(edge: &Edge, set: usize, slot: u8) -> bool
     requires { slot < 64 }
-    ensures { result ≡ is_tied_back set slot edge.now }
+    ensures { result ≡ row.ties_back set slot edge.now }
 {
     (edge.left == slot && edge.right < slot && has_slot(set, edge.right))
         || (edge.right == slot && edge.left < slot && has_slot(set, edge.left))
@@ -40,12 +41,12 @@ fn ties_back(edge: &Edge, set: usize, slot: u8) -> bool
 /// The rows of a join after one more edge, which counts where it ties.
 fn rows_after(rows: u64, ties: bool, part: u64) -> u64
     requires some { 1 ≤ rows }
-    requires few { rows ≤ 1000000000000 }
+    requires few { rows ≤ MOST_ROWS }
     requires part_some { 1 ≤ part }
-    requires part_most { part ≤ 1000000000 }
-    ensures exact { result ≡ (if ties then part_of_number rows part else rows) }
+    requires part_most { part ≤ WHOLE }
+    ensures exact { result ≡ (if ties then sum.times_part rows part else rows) }
     ensures least { 1 ≤ result }
-    ensures most { result ≤ 1000000000000 }
+    ensures most { result ≤ MOST_ROWS }
 {
     if ties { times_part(rows, part) } else { rows }
 }
@@ -58,9 +59,7 @@ impl<'a> Ties<'a> {
     {
         let mut parts = Vec::new(alloc);
         for edge in block.edges.items.iter() {
-            parts
-                .push(edge_part(cat, block, edge))
-                .map_err(|_| NoMemory)?;
+            parts.push(edge_part(cat, block, edge))?;
         }
         Ok(Ties { cat, block, parts })
     }
@@ -69,10 +68,10 @@ impl<'a> Ties<'a> {
     pub fn through(&self, set: usize, slot: u8, rows: u64) -> u64
         requires slot_few { slot < 64 }
         requires some { 1 ≤ rows }
-        requires few { rows ≤ 1000000000000 }
-        ensures exact { result ≡ fold part_of_number rows (map (part_of_edge self.now.cat.now self.now.block.now) (edges_back self.now.block.now set slot)) }
+        requires few { rows ≤ MOST_ROWS }
+        ensures exact { result ≡ fold sum.times_part rows (map (selectivity.edge_part self.now.cat.now self.now.block.now) (row.edges_back self.now.block.now set slot)) }
         ensures least { 1 ≤ result }
-        ensures most { result ≤ 1000000000000 }
+        ensures most { result ≤ MOST_ROWS }
     {
         let block = self.block;
         let mut left = rows;

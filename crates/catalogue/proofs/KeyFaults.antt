@@ -3,6 +3,7 @@ use Rattle.std.proofs.Common.{◌≡◌, ◌≢◌, ℕ, ◌+◌, ◌-◌, lengt
 use Rattle.std.specs.Prelude.{codes, not, ◌&&◌, nat_eq}
 use Rattle.std.specs.List.{list_any}
 use Rattle.toml.specs.Data.{Data, Items, no_items, item, Members, get_member, as_integer, as_str, as_bool, as_array, as_table}
+use Rattle.adv_base.specs.declared.limits.TheConstants.{MOST_ROWS, MOST_RATE, MOST_WIDTH, MOST_TABLES, MOST_COLUMNS, MOST_KEYS}
 use Rattle.adv_base.specs.declared.catalogue.column.Kind.{Kind}
 use Rattle.adv_base.specs.declared.catalogue.column.Kind.TheVariants.{Int, Text, Date}
 use Rattle.catalogue.specs.declared.fault.CatFault.{CatFault}
@@ -11,7 +12,7 @@ use Rattle.catalogue.specs.declared.fault.KeyField.{KeyField}
 use Rattle.catalogue.specs.declared.fault.KeyField.TheVariants.{Itself, Version, SeqPage, RandPage, RowCpu, SortCpu, MergeCpu, HashCpu, GroupCpu, Name, Rows, Pages, Columns, Indexes, Kind as KindKey, Width, Distinct, Low, High, Keys, Unique, Clustered}
 use Rattle.catalogue.specs.declared.fault.KeyPath.{KeyPath}
 use Rattle.catalogue.specs.Paths.{whole_path, rates_path, table_path, column_path, index_path, key_column_path}
-use Rattle.catalogue.specs.Catalogue.{rate, rates_of, default_rates, end_of, not_below, column_names, column_at, next_column, columns_of, key_column, next_key, key_columns_of, flag, clustered, index_keys, index_at, index_names, has_clustered, index_count, table_names, next_index, indexes_of, table_at, next_table, tables_of, catalogue_of, document, catalogue_in}
+use Rattle.catalogue.specs.Catalogue.{rate, access_rates, operator_rates, rates_of, default_rates, end_of, not_below, column_names, statistics_of, column_at, next_column, columns_of, key_column, next_key, key_columns_of, flag, clustered, index_keys, index_at, index_names, has_clustered, index_count, table_names, next_index, indexes_of, size_of, parts_of, table_at, next_table, tables_of, catalogue_of, document, catalogue_in}
 use Rattle.adv_base.specs.declared.catalogue.Catalogue.{Catalogue}
 use Rattle.catalogue.specs.Content.{PlainRates, PlainColumn, PlainIndex, PlainTable, PlainCatalogue, plain_catalogue}
 use Rattle.catalogue.specs.Results.{◌>>=◌, Gives, or_fault, where_holds, read_each}
@@ -124,20 +125,28 @@ new_name-keys : (earlier : List (List ℕ)) → Keeps (new_name earlier)
 new_name-keys earlier path d = bind-keys _ _ (name-keys path d) (λ w. where-keys (TwoNames path) _ w (twice path))
 
 rate-keys : (key : List ℕ) (field : KeyField) (otherwise : ℕ) (keys : Members) → IsOfKeys (rate key field otherwise keys)
-rate-keys key field otherwise keys = given-keys otherwise key (rates_path field) (natural 0 1000000) keys (natural-keys 0 1000000)
+rate-keys key field otherwise keys = given-keys otherwise key (rates_path field) (natural 0 MOST_RATE) keys (natural-keys 0 MOST_RATE)
+
+access_rates-keys : (rates : PlainRates) (keys : Members) → IsOfKeys (access_rates rates keys)
+unfolding access_rates
+access_rates-keys rates keys =
+    bind-keys _ _ (rate-keys (codes "seq_page") SeqPage rates.seq_page keys) (λ seq_page.
+    bind-keys _ _ (rate-keys (codes "rand_page") RandPage rates.rand_page keys) (λ rand_page.
+    bind-keys _ _ (rate-keys (codes "row_cpu") RowCpu rates.row_cpu keys) (λ row_cpu. ok-keys _)))
+
+operator_rates-keys : (rates : PlainRates) (keys : Members) → IsOfKeys (operator_rates rates keys)
+unfolding operator_rates
+operator_rates-keys rates keys =
+    bind-keys _ _ (rate-keys (codes "sort_cpu") SortCpu rates.sort_cpu keys) (λ sort_cpu.
+    bind-keys _ _ (rate-keys (codes "merge_cpu") MergeCpu rates.merge_cpu keys) (λ merge_cpu.
+    bind-keys _ _ (rate-keys (codes "hash_cpu") HashCpu rates.hash_cpu keys) (λ hash_cpu.
+    bind-keys _ _ (rate-keys (codes "group_cpu") GroupCpu rates.group_cpu keys) (λ group_cpu. ok-keys _))))
 
 rates_of-keys : Keeps rates_of
 unfolding rates_of
 rates_of-keys path d =
     bind-keys _ _ (keys_of-keys path d) (λ keys.
-    bind-keys _ _ (rate-keys (codes "seq_page") SeqPage 1000 keys) (λ seq_page.
-    bind-keys _ _ (rate-keys (codes "rand_page") RandPage 4000 keys) (λ rand_page.
-    bind-keys _ _ (rate-keys (codes "row_cpu") RowCpu 10 keys) (λ row_cpu.
-    bind-keys _ _ (rate-keys (codes "sort_cpu") SortCpu 5 keys) (λ sort_cpu.
-    bind-keys _ _ (rate-keys (codes "merge_cpu") MergeCpu 5 keys) (λ merge_cpu.
-    bind-keys _ _ (rate-keys (codes "hash_cpu") HashCpu 8 keys) (λ hash_cpu.
-    bind-keys _ _ (rate-keys (codes "group_cpu") GroupCpu 5 keys) (λ group_cpu.
-    ok-keys {A = PlainRates} (record { seq_page = seq_page; rand_page = rand_page; row_cpu = row_cpu; sort_cpu = sort_cpu; merge_cpu = merge_cpu; hash_cpu = hash_cpu; group_cpu = group_cpu })))))))))
+    bind-keys _ _ (access_rates-keys default_rates keys) (λ rates. operator_rates-keys rates keys))
 
 end_of-keys : (kind : Kind) (key : List ℕ) (path : KeyPath) (keys : Members) → IsOfKeys (end_of kind key path keys)
 end_of-keys Int key path keys = optional-keys key path end_number keys end_number-keys
@@ -150,6 +159,15 @@ not_below-keys (Some low) path None = ok-keys None
 not_below-keys None path (Some high) = ok-keys (Some high)
 not_below-keys None path None = ok-keys None
 
+statistics_of-keys : (at : KeyField → KeyPath) (kind : Kind) (keys : Members) → IsOfKeys (statistics_of at kind keys)
+unfolding statistics_of
+statistics_of-keys at kind keys =
+    bind-keys _ _ (needed-keys (codes "width") (at Width) (natural 1 MOST_WIDTH) keys (natural-keys 1 MOST_WIDTH)) (λ width.
+    bind-keys _ _ (optional-keys (codes "distinct") (at Distinct) (natural 1 MOST_ROWS) keys (natural-keys 1 MOST_ROWS)) (λ distinct.
+    bind-keys _ _ (end_of-keys kind (codes "low") (at Low) keys) (λ low.
+    bind-keys _ _ (end_of-keys kind (codes "high") (at High) keys) (λ high.
+    bind-keys _ _ (not_below-keys low (at High) high) (λ end. ok-keys _)))))
+
 column_at-keys : (t : ℕ) (earlier : List (List ℕ)) (d : Data) → IsOfKeys (column_at t earlier d)
 unfolding column_at
 column_at-keys t earlier d =
@@ -157,15 +175,10 @@ column_at-keys t earlier d =
     bind-keys _ _ (keys_of-keys (at Itself) d) (λ keys.
     bind-keys _ _ (needed-keys (codes "name") (at Name) (new_name earlier) keys (new_name-keys earlier)) (λ name.
     bind-keys _ _ (needed-keys (codes "kind") (at KindKey) column_kind keys column_kind-keys) (λ kind.
-    bind-keys _ _ (needed-keys (codes "width") (at Width) (natural 1 1000) keys (natural-keys 1 1000)) (λ width.
-    bind-keys _ _ (optional-keys (codes "distinct") (at Distinct) (natural 1 1000000000000) keys (natural-keys 1 1000000000000)) (λ distinct.
-    bind-keys _ _ (end_of-keys kind (codes "low") (at Low) keys) (λ low.
-    bind-keys _ _ (end_of-keys kind (codes "high") (at High) keys) (λ high.
-    bind-keys _ _ (not_below-keys low (at High) high) (λ end.
-    ok-keys {A = PlainColumn} (record { name = name; kind = kind; width = width; distinct = distinct; low = low; high = end })))))))))
+    bind-keys _ _ (statistics_of-keys at kind keys) (λ found. ok-keys _))))
 
 columns_of-keys : (t : ℕ) → Keeps (columns_of t)
-columns_of-keys t path d = bind-keys _ _ (elements_within-keys 1 200 path d) (λ items. each-keys (next_column t) [] items (λ front x. column_at-keys t (column_names front) x))
+columns_of-keys t path d = bind-keys _ _ (elements_within-keys 1 MOST_COLUMNS path d) (λ items. each-keys (next_column t) [] items (λ front x. column_at-keys t (column_names front) x))
 
 key_column-keys : (columns : List (List ℕ)) (earlier : List ℕ) → Keeps (key_column columns earlier)
 key_column-keys columns earlier path d =
@@ -174,7 +187,7 @@ key_column-keys columns earlier path d =
     where-keys (TwoNames path) (not (list_any (λ y. nat_eq y k) earlier)) k (twice path)))
 
 key_columns_of-keys : (t i : ℕ) (columns : List (List ℕ)) → Keeps (key_columns_of t i columns)
-key_columns_of-keys t i columns path d = bind-keys _ _ (elements_within-keys 1 8 path d) (λ items. each-keys (next_key t i columns) [] items (λ front x. key_column-keys columns front (key_column_path t i (length front + 1)) x))
+key_columns_of-keys t i columns path d = bind-keys _ _ (elements_within-keys 1 MOST_KEYS path d) (λ items. each-keys (next_key t i columns) [] items (λ front x. key_column-keys columns front (key_column_path t i (length front + 1)) x))
 
 flag-keys : (key : List ℕ) (path : KeyPath) (keys : Members) → IsOfKeys (flag key path keys)
 flag-keys key path keys = given-keys false key path boolean keys boolean-keys
@@ -200,6 +213,18 @@ index_at-keys t columns before earlier taken d =
 indexes_of-keys : (t : ℕ) (columns : List (List ℕ)) (before : ℕ) → Keeps (indexes_of t columns before)
 indexes_of-keys t columns before path d = bind-keys _ _ (elements-keys path d) (λ items. each-keys (next_index t columns before) [] items (λ front x. index_at-keys t columns (before + length front) (index_names front) (has_clustered front) x))
 
+size_of-keys : (t : ℕ) (keys : Members) → IsOfKeys (size_of t keys)
+unfolding size_of
+size_of-keys t keys =
+    bind-keys _ _ (needed-keys (codes "rows") (table_path t Rows) (natural 0 MOST_ROWS) keys (natural-keys 0 MOST_ROWS)) (λ rows.
+    bind-keys _ _ (needed-keys (codes "pages") (table_path t Pages) (natural 0 MOST_ROWS) keys (natural-keys 0 MOST_ROWS)) (λ pages. ok-keys _))
+
+parts_of-keys : (t before : ℕ) (keys : Members) → IsOfKeys (parts_of t before keys)
+unfolding parts_of
+parts_of-keys t before keys =
+    bind-keys _ _ (needed-keys (codes "column") (table_path t Columns) (columns_of t) keys (columns_of-keys t)) (λ columns.
+    bind-keys _ _ (given-keys [] (codes "index") (table_path t Indexes) (indexes_of t (column_names columns) before) keys (indexes_of-keys t (column_names columns) before)) (λ indexes. ok-keys _))
+
 table_at-keys : (before : ℕ) (earlier : List (List ℕ)) (d : Data) → IsOfKeys (table_at before earlier d)
 unfolding table_at
 table_at-keys before earlier d =
@@ -207,14 +232,11 @@ table_at-keys before earlier d =
     let at : KeyField → KeyPath = table_path t in
     bind-keys _ _ (keys_of-keys (at Itself) d) (λ keys.
     bind-keys _ _ (needed-keys (codes "name") (at Name) (new_name earlier) keys (new_name-keys earlier)) (λ name.
-    bind-keys _ _ (needed-keys (codes "rows") (at Rows) (natural 0 1000000000000) keys (natural-keys 0 1000000000000)) (λ rows.
-    bind-keys _ _ (needed-keys (codes "pages") (at Pages) (natural 0 1000000000000) keys (natural-keys 0 1000000000000)) (λ pages.
-    bind-keys _ _ (needed-keys (codes "column") (at Columns) (columns_of t) keys (columns_of-keys t)) (λ columns.
-    bind-keys _ _ (given-keys [] (codes "index") (at Indexes) (indexes_of t (column_names columns) before) keys (indexes_of-keys t (column_names columns) before)) (λ indexes.
-    ok-keys {A = PlainTable} (record { name = name; rows = rows; pages = pages; columns = columns; indexes = indexes })))))))
+    bind-keys _ _ (size_of-keys t keys) (λ size.
+    bind-keys _ _ (parts_of-keys t before keys) (λ parts. ok-keys _))))
 
 tables_of-keys : Keeps tables_of
-tables_of-keys path d = bind-keys _ _ (elements_within-keys 0 200 path d) (λ items. each-keys next_table [] items (λ front x. table_at-keys (index_count front) (table_names front) x))
+tables_of-keys path d = bind-keys _ _ (elements_within-keys 0 MOST_TABLES path d) (λ items. each-keys next_table [] items (λ front x. table_at-keys (index_count front) (table_names front) x))
 
 catalogue_of-keys : (keys : Members) → IsOfKeys (catalogue_of keys)
 unfolding catalogue_of

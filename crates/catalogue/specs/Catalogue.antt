@@ -4,6 +4,7 @@ use Rattle.std.specs.List.{list_any}
 use Rattle.std.specs.Str.{is_utf8}
 use Rattle.toml.specs.Data.{Data, Members}
 use Rattle.toml.specs.Parse.{parse_document}
+use Rattle.adv_base.specs.declared.limits.TheConstants.{MOST_ROWS, MOST_RATE, MOST_WIDTH, MOST_TABLES, MOST_COLUMNS, MOST_INDEXES, MOST_KEYS}
 use Rattle.adv_base.specs.declared.catalogue.column.Kind.{Kind}
 use Rattle.adv_base.specs.declared.catalogue.column.Kind.TheVariants.{Int, Text, Date}
 use Rattle.catalogue.specs.declared.fault.CatFault.{CatFault}
@@ -11,7 +12,7 @@ use Rattle.catalogue.specs.declared.fault.CatFault.TheVariants.{NotToml, OutOfRa
 use Rattle.catalogue.specs.declared.fault.KeyField.{KeyField}
 use Rattle.catalogue.specs.declared.fault.KeyField.TheVariants.{Itself, Version, SeqPage, RandPage, RowCpu, SortCpu, MergeCpu, HashCpu, GroupCpu, Name, Rows, Pages, Columns, Indexes, Kind as KindKey, Width, Distinct, Low, High, Keys, Unique, Clustered}
 use Rattle.catalogue.specs.declared.fault.KeyPath.{KeyPath}
-use Rattle.catalogue.specs.Content.{PlainColumn, PlainIndex, PlainTable, PlainRates, PlainCatalogue}
+use Rattle.catalogue.specs.Content.{PlainStatistics, PlainColumn, PlainIndex, PlainTable, PlainRates, PlainCatalogue}
 use Rattle.catalogue.specs.Keys.{needed, optional, given_or, number_of}
 use Rattle.catalogue.specs.Paths.{whole_path, rates_path, table_path, column_path, index_path, key_column_path}
 use Rattle.catalogue.specs.Results.{◌>>=◌, or_fault, where_holds, read_each}
@@ -19,23 +20,34 @@ use Rattle.catalogue.specs.Values.{Rule, natural, end_number, end_day, text, boo
 
 -- a rate, or its default
 abbrev pub rate : List ℕ → KeyField → ℕ → Members → Result ℕ CatFault
-rate key field otherwise keys = given_or otherwise key (rates_path field) (natural 0 1000000) keys
-
-unfoldable pub rates_of : Rule PlainRates
-rates_of path d = do
-  keys ← keys_of path d
-  seq_page ← rate (codes "seq_page") SeqPage 1000 keys
-  rand_page ← rate (codes "rand_page") RandPage 4000 keys
-  row_cpu ← rate (codes "row_cpu") RowCpu 10 keys
-  sort_cpu ← rate (codes "sort_cpu") SortCpu 5 keys
-  merge_cpu ← rate (codes "merge_cpu") MergeCpu 5 keys
-  hash_cpu ← rate (codes "hash_cpu") HashCpu 8 keys
-  group_cpu ← rate (codes "group_cpu") GroupCpu 5 keys
-  Ok (record { seq_page = seq_page; rand_page = rand_page; row_cpu = row_cpu; sort_cpu = sort_cpu; merge_cpu = merge_cpu; hash_cpu = hash_cpu; group_cpu = group_cpu })
+rate key field otherwise keys = given_or otherwise key (rates_path field) (natural 0 MOST_RATE) keys
 
 -- the rates where none are given
 abbrev pub default_rates : PlainRates
 default_rates = record { seq_page = 1000; rand_page = 4000; row_cpu = 10; sort_cpu = 5; merge_cpu = 5; hash_cpu = 8; group_cpu = 5 }
+
+-- the rates of pages and rows that are given, in place of the defaults
+unfoldable pub access_rates : PlainRates → Members → Result PlainRates CatFault
+access_rates rates keys = do
+  seq_page ← rate (codes "seq_page") SeqPage rates.seq_page keys
+  rand_page ← rate (codes "rand_page") RandPage rates.rand_page keys
+  row_cpu ← rate (codes "row_cpu") RowCpu rates.row_cpu keys
+  Ok (record { seq_page = seq_page; rand_page = rand_page; row_cpu = row_cpu; sort_cpu = rates.sort_cpu; merge_cpu = rates.merge_cpu; hash_cpu = rates.hash_cpu; group_cpu = rates.group_cpu })
+
+-- and those of operators
+unfoldable pub operator_rates : PlainRates → Members → Result PlainRates CatFault
+operator_rates rates keys = do
+  sort_cpu ← rate (codes "sort_cpu") SortCpu rates.sort_cpu keys
+  merge_cpu ← rate (codes "merge_cpu") MergeCpu rates.merge_cpu keys
+  hash_cpu ← rate (codes "hash_cpu") HashCpu rates.hash_cpu keys
+  group_cpu ← rate (codes "group_cpu") GroupCpu rates.group_cpu keys
+  Ok (record { seq_page = rates.seq_page; rand_page = rates.rand_page; row_cpu = rates.row_cpu; sort_cpu = sort_cpu; merge_cpu = merge_cpu; hash_cpu = hash_cpu; group_cpu = group_cpu })
+
+unfoldable pub rates_of : Rule PlainRates
+rates_of path d = do
+  keys ← keys_of path d
+  rates ← access_rates default_rates keys
+  operator_rates rates keys
 
 -- an end of a column's values, by the column's kind: whatever a column of texts has there is passed over
 abbrev pub end_of : Kind → List ℕ → KeyPath → Members → Result (Option ℤ) CatFault
@@ -48,6 +60,16 @@ abbrev pub not_below : Option ℤ → KeyPath → Option ℤ → Result (Option 
 not_below (Some low) path (Some high) = where_holds (OutOfRange path) (int_le low high) (Some high)
 not_below low path high = Ok high
 
+-- what a column of a kind says of its values, at the paths of its keys
+unfoldable pub statistics_of : (KeyField → KeyPath) → Kind → Members → Result PlainStatistics CatFault
+statistics_of at kind keys = do
+  width ← needed (codes "width") (at Width) (natural 1 MOST_WIDTH) keys
+  distinct ← optional (codes "distinct") (at Distinct) (natural 1 MOST_ROWS) keys
+  low ← end_of kind (codes "low") (at Low) keys
+  high ← end_of kind (codes "high") (at High) keys
+  end ← not_below low (at High) high
+  Ok (record { width = width; distinct = distinct; low = low; high = end })
+
 -- a column of table t, behind those that have the earlier names
 unfoldable pub column_at : ℕ → List (List ℕ) → Data → Result PlainColumn CatFault
 column_at t earlier d =
@@ -55,12 +77,8 @@ column_at t earlier d =
       keys ← keys_of (column_path t c Itself) d
       name ← needed (codes "name") (column_path t c Name) (new_name earlier) keys
       kind ← needed (codes "kind") (column_path t c KindKey) column_kind keys
-      width ← needed (codes "width") (column_path t c Width) (natural 1 1000) keys
-      distinct ← optional (codes "distinct") (column_path t c Distinct) (natural 1 1000000000000) keys
-      low ← end_of kind (codes "low") (column_path t c Low) keys
-      high ← end_of kind (codes "high") (column_path t c High) keys
-      end ← not_below low (column_path t c High) high
-      Ok (record { name = name; kind = kind; width = width; distinct = distinct; low = low; high = end })
+      found ← statistics_of (column_path t c) kind keys
+      Ok (record { name = name; kind = kind; width = found.width; distinct = found.distinct; low = found.low; high = found.high })
 
 -- the names by which columns are known
 abbrev pub column_names : List PlainColumn → List (List ℕ)
@@ -71,7 +89,7 @@ abbrev pub next_column : ℕ → List PlainColumn → Data → Result PlainColum
 next_column t earlier d = column_at t (column_names earlier) d
 
 abbrev pub columns_of : ℕ → Rule (List PlainColumn)
-columns_of t path d = elements_within 1 200 path d >>= read_each (next_column t) []
+columns_of t path d = elements_within 1 MOST_COLUMNS path d >>= read_each (next_column t) []
 
 -- a key column by its number; one that the table doesn't have can't be an earlier one
 abbrev pub key_column : List (List ℕ) → List ℕ → Rule ℕ
@@ -85,7 +103,7 @@ abbrev pub next_key : ℕ → ℕ → List (List ℕ) → List ℕ → Data → 
 next_key t i columns earlier d = key_column columns earlier (key_column_path t i (length earlier + 1)) d
 
 abbrev pub key_columns_of : ℕ → ℕ → List (List ℕ) → Rule (List ℕ)
-key_columns_of t i columns path d = elements_within 1 8 path d >>= read_each (next_key t i columns) []
+key_columns_of t i columns path d = elements_within 1 MOST_KEYS path d >>= read_each (next_key t i columns) []
 
 -- true, false, or false where the key is left out
 abbrev pub flag : List ℕ → KeyPath → Members → Result Bool CatFault
@@ -105,7 +123,7 @@ clustered path taken keys = do
 abbrev pub index_keys : KeyPath → ℕ → Data → Result Members CatFault
 index_keys path before d = do
   keys ← keys_of path d
-  where_holds (OutOfRange path) (nat_lt before 1000) keys
+  where_holds (OutOfRange path) (nat_lt before MOST_INDEXES) keys
 
 -- an index of table t, which has these columns, behind those that have the earlier names
 unfoldable pub index_at : ℕ → List (List ℕ) → ℕ → List (List ℕ) → Bool → Data → Result PlainIndex CatFault
@@ -131,17 +149,29 @@ next_index t columns before earlier d = index_at t columns (before + length earl
 abbrev pub indexes_of : ℕ → List (List ℕ) → ℕ → Rule (List PlainIndex)
 indexes_of t columns before path d = elements path d >>= read_each (next_index t columns before) []
 
+-- the rows and the pages of table t
+unfoldable pub size_of : ℕ → Members → Result (ℕ × ℕ) CatFault
+size_of t keys = do
+  rows ← needed (codes "rows") (table_path t Rows) (natural 0 MOST_ROWS) keys
+  pages ← needed (codes "pages") (table_path t Pages) (natural 0 MOST_ROWS) keys
+  Ok (rows, pages)
+
+-- the columns and the indexes of table t, before which there are that many indexes
+unfoldable pub parts_of : ℕ → ℕ → Members → Result (List PlainColumn × List PlainIndex) CatFault
+parts_of t before keys = do
+  columns ← needed (codes "column") (table_path t Columns) (columns_of t) keys
+  indexes ← given_or [] (codes "index") (table_path t Indexes) (indexes_of t (column_names columns) before) keys
+  Ok (columns, indexes)
+
 -- a table behind those that have the earlier names, before which there are that many indexes
 unfoldable pub table_at : ℕ → List (List ℕ) → Data → Result PlainTable CatFault
 table_at before earlier d =
     let t = length earlier + 1 in do
       keys ← keys_of (table_path t Itself) d
       name ← needed (codes "name") (table_path t Name) (new_name earlier) keys
-      rows ← needed (codes "rows") (table_path t Rows) (natural 0 1000000000000) keys
-      pages ← needed (codes "pages") (table_path t Pages) (natural 0 1000000000000) keys
-      columns ← needed (codes "column") (table_path t Columns) (columns_of t) keys
-      indexes ← given_or [] (codes "index") (table_path t Indexes) (indexes_of t (column_names columns) before) keys
-      Ok (record { name = name; rows = rows; pages = pages; columns = columns; indexes = indexes })
+      size ← size_of t keys
+      parts ← parts_of t before keys
+      Ok (record { name = name; rows = size.0; pages = size.1; columns = parts.0; indexes = parts.1 })
 
 abbrev pub table_names : List PlainTable → List (List ℕ)
 table_names tables = map (λ table. folded table.name) tables
@@ -155,7 +185,7 @@ abbrev pub next_table : List PlainTable → Data → Result PlainTable CatFault
 next_table earlier d = table_at (index_count earlier) (table_names earlier) d
 
 abbrev pub tables_of : Rule (List PlainTable)
-tables_of path d = elements_within 0 200 path d >>= read_each next_table []
+tables_of path d = elements_within 0 MOST_TABLES path d >>= read_each next_table []
 
 -- the catalogue of a document
 unfoldable pub catalogue_of : Members → Result PlainCatalogue CatFault

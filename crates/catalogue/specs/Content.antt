@@ -6,6 +6,14 @@ use Rattle.adv_base.specs.declared.catalogue.column.Kind.{Kind}
 use Rattle.adv_base.specs.declared.catalogue.index.Index.{Index}
 use Rattle.adv_base.specs.declared.catalogue.rates.Rates.{Rates}
 use Rattle.adv_base.specs.declared.catalogue.table.Table.{Table}
+use Rattle.catalogue.specs.declared.statistics.Statistics.{Statistics}
+
+-- what a column says of its values
+pub record PlainStatistics : Type 0 where
+  pub width : ℕ
+  pub distinct : Option ℕ
+  pub low : Option ℤ
+  pub high : Option ℤ
 
 pub record PlainColumn : Type 0 where
   pub name : List ℕ
@@ -42,6 +50,9 @@ pub record PlainRates : Type 0 where
 pub record PlainCatalogue : Type 0 where
   pub rates : PlainRates
   pub tables : List PlainTable
+
+abbrev pub plain_statistics : Statistics → PlainStatistics
+plain_statistics x = record { width = x.width; distinct = x.distinct; low = x.low; high = x.high }
 
 abbrev pub plain_column : Column → PlainColumn
 plain_column x = record { name = x.name; kind = x.kind; width = x.width; distinct = x.distinct; low = x.low; high = x.high }

@@ -81,7 +81,7 @@ fn catalogue_of_file(alloc: Global, bytes: &[u8]) -> Result<Catalogue, CatFault>
 /// of one key, what is missing comes before a wrong kind, that before a value out of range, that before a name that
 /// stands twice, and that before an unknown name. Keys that have no meaning here are passed over.
 ///
-/// `NotToml` comes exactly where the bytes are no UTF-8 or no document of TOML 1.0, and `Memory` where memory runs out.
+/// `NotToml` comes exactly where the bytes are no UTF-8 or no document of TOML 1.1, as the crate `toml` reads it, and `Memory` where memory runs out.
 pub fn read_catalogue(alloc: Global, bytes: &[u8]) -> Result<Catalogue, CatFault>
     // The catalogue, or the first fault, unless memory ran out.
     ensures exact { Gives plain_catalogue result (catalogue_in bytes.now) }

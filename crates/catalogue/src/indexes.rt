@@ -1,5 +1,6 @@
 //! The indexes of a table.
 ghost use Rattle.std.specs.Prelude.{◌≡◌, ◌≤◌, ◌<◌, ◌+◌, ◌∷◌, ◌++◌, [], codes, length, All, IfOk, OnOk, nat_eq, false};
+ghost use Rattle.adv_base.specs.declared.limits.TheConstants.{MOST_COLUMNS, MOST_INDEXES, MOST_KEYS, MOST_TABLES};
 ghost use Rattle.std.specs.List.{list_any};
 ghost use Rattle.toml.specs.View.{view, items_view, table_view};
 ghost use Rattle.adv_base.specs.Limits.Numbers.{KeyLimits};
@@ -13,6 +14,7 @@ use crate::fault::{CatFault, KeyField, KeyPath};
 use crate::names::Names;
 use crate::paths::{index_path, key_column_path};
 use crate::{keys, values};
+use adv_base::limits::{MOST_INDEXES, MOST_KEYS};
 use adv_base::{Index, IndexShape, List};
 use std::alloc::Global;
 use toml::{Table, Value};
@@ -26,8 +28,8 @@ fn key_column(
     earlier: &[u16],
     value: &Value,
 ) -> Result<u16, CatFault>
-    requires known { length columns.now ≤ 200 }
-    requires few { length earlier.now < 8 }
+    requires known { length columns.now ≤ MOST_COLUMNS }
+    requires few { length earlier.now < MOST_KEYS }
     ensures exact { Gives (λ k. k) result (rows.next_key table index columns.now earlier.now (view value.now)) }
     ensures known { IfOk result (λ k. k < length columns.now) }
     ensures apart { IfOk result (λ k. list_any (λ y. nat_eq y k) earlier.now ≡ false) }
@@ -53,8 +55,8 @@ fn keys_in(
     items: &[Value],
 ) -> Result<List<u16>, CatFault>
     requires some { 1 ≤ length items.now }
-    requires few { length items.now ≤ 8 }
-    requires known { length columns.now ≤ 200 }
+    requires few { length items.now ≤ MOST_KEYS }
+    requires known { length columns.now ≤ MOST_COLUMNS }
     ensures exact { Gives (λ k. k) result
         (read_each (rows.next_key table index columns.now) [] (items_view items.now)) }
     ensures known { IfOk result (All (λ k. k < length columns.now)) }
@@ -76,14 +78,14 @@ fn key_columns(
     columns: &Names,
     keys: &Table,
 ) -> Result<List<u16>, CatFault>
-    requires { length columns.now ≤ 200 }
+    requires { length columns.now ≤ MOST_COLUMNS }
     ensures exact { Gives (λ k. k) result (rows.keys_needed table index columns.now (table_view keys.now)) }
     ensures known { IfOk result (All (λ k. k < length columns.now)) }
     ensures limits { IfOk result KeyLimits }
 {
     let path = index_path(table, index, KeyField::Keys);
     let value = keys::needed(keys, "keys", path)?;
-    let items = values::elements_within(value, path, 1, 8)?;
+    let items = values::elements_within(value, path, 1, MOST_KEYS)?;
     keys_in(alloc, table, index, columns, items)
 }
 
@@ -101,10 +103,10 @@ fn clustered(keys: &Table, path: KeyPath, taken: bool) -> Result<bool, CatFault>
 /// The keys of an index, of which there are at most 1000 over all tables; `before` counts those before it.
 fn keys_of(value: &Value, path: KeyPath, before: usize) -> Result<&Table, CatFault>
     ensures exact { Gives (λ t. table_view t.now) result (rows.index_keys path before (view value.now)) }
-    ensures room { OnOk result (before < 1000) }
+    ensures room { OnOk result (before < MOST_INDEXES) }
 {
     let keys = values::keys_of(value, path)?;
-    if before >= 1000 {
+    if before >= MOST_INDEXES {
         return Err(CatFault::OutOfRange(path));
     }
     Ok(keys)
@@ -123,12 +125,12 @@ fn index(
     value: &Value,
 ) -> Result<Index, CatFault>
     requires some { 1 ≤ table }
-    requires most { table ≤ 200 }
-    requires known { length columns.now ≤ 200 }
-    requires few { length names.old ≤ 1000 }
+    requires most { table ≤ MOST_TABLES }
+    requires known { length columns.now ≤ MOST_COLUMNS }
+    requires few { length names.old ≤ MOST_INDEXES }
     ensures exact { Gives plain_index result (rows.index_at table columns.now before names.old taken (view value.now)) }
     ensures joins { IfOk result (λ index. names.new ≡ names.old ++ folded index.name ∷ []) }
-    ensures room { OnOk result (before < 1000) }
+    ensures room { OnOk result (before < MOST_INDEXES) }
     ensures own { IfOk result (λ index. index.shape.table + 1 ≡ table) }
     ensures known { IfOk result (λ index. All (λ k. k < length columns.now) index.shape.keys) }
 {
@@ -159,12 +161,12 @@ fn indexes_in(
     items: &[Value],
 ) -> Result<List<Index>, CatFault>
     requires some { 1 ≤ table }
-    requires most { table ≤ 200 }
-    requires known { length columns.now ≤ 200 }
-    requires few { before ≤ 1000 }
+    requires most { table ≤ MOST_TABLES }
+    requires known { length columns.now ≤ MOST_COLUMNS }
+    requires few { before ≤ MOST_INDEXES }
     ensures exact { Gives plain_indexes result
         (read_each (rows.next_index table columns.now before) [] (items_view items.now)) }
-    ensures room { IfOk result (λ x. before + length x ≤ 1000) }
+    ensures room { IfOk result (λ x. before + length x ≤ MOST_INDEXES) }
     ensures own { IfOk result (All (λ index. index.shape.table + 1 ≡ table)) }
     ensures known { IfOk result (All (λ index. All (λ k. k < length columns.now) index.shape.keys)) }
 {
@@ -190,12 +192,12 @@ pub fn indexes(
     path: KeyPath,
 ) -> Result<List<Index>, CatFault>
     requires some { 1 ≤ table }
-    requires most { table ≤ 200 }
-    requires known { length columns.now ≤ 200 }
-    requires few { before ≤ 1000 }
+    requires most { table ≤ MOST_TABLES }
+    requires known { length columns.now ≤ MOST_COLUMNS }
+    requires few { before ≤ MOST_INDEXES }
     ensures exact { Gives plain_indexes result
         (given_or [] (codes "index") path (rows.indexes_of table columns.now before) (table_view keys.now)) }
-    ensures room { IfOk result (λ x. before + length x ≤ 1000) }
+    ensures room { IfOk result (λ x. before + length x ≤ MOST_INDEXES) }
     ensures own { IfOk result (All (λ index. index.shape.table + 1 ≡ table)) }
     ensures known { IfOk result (All (λ index. All (λ k. k < length columns.now) index.shape.keys)) }
 {

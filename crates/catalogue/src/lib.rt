@@ -15,6 +15,8 @@ mod keys;
 mod names;
 mod paths;
 mod rates;
+mod spread;
+mod statistics;
 mod tables;
 mod values;
 

@@ -1,9 +1,10 @@
 //! The tables of a catalogue.
 ghost use Rattle.std.specs.Prelude.{◌≡◌, ◌≤◌, ◌<◌, ◌+◌, ◌∷◌, ◌++◌, [], codes, length, All, IfOk};
+ghost use Rattle.adv_base.specs.declared.limits.TheConstants.{MOST_ROWS, MOST_TABLES, MOST_COLUMNS, MOST_INDEXES};
 ghost use Rattle.toml.specs.View.{view, items_view, table_view};
 ghost use Rattle.adv_base.specs.Limits.Catalogues.{CatalogueLimits};
 ghost use Rattle.catalogue.specs.Catalogue as rows;
-ghost use Rattle.catalogue.specs.Content.{plain_columns, plain_table, plain_tables};
+ghost use Rattle.catalogue.specs.Content.{plain_columns, plain_indexes, plain_table, plain_tables};
 ghost use Rattle.catalogue.specs.Paths as paths;
 ghost use Rattle.catalogue.specs.Keys.{needed as needed_of, given_or};
 ghost use Rattle.catalogue.specs.Results.{Gives, read_each};
@@ -15,7 +16,8 @@ use crate::indexes::indexes;
 use crate::names::Names;
 use crate::paths::table_path;
 use crate::{keys, values};
-use adv_base::{Column, List, Table};
+use adv_base::limits::{MOST_ROWS, MOST_TABLES};
+use adv_base::{Column, Index, List, Table};
 use std::alloc::Global;
 use toml::Value;
 
@@ -29,34 +31,65 @@ fn needed_columns(
         (needed_of (codes "column") (paths.table_path table KeyField.Columns) (rows.columns_of table)
         (table_view keys.now)) }
     ensures names { IfOk result (λ x. x.1 ≡ rows.column_names (plain_columns x.0)) }
-    ensures count { IfOk result (λ x. (1 ≤ length x.0) × (length x.0 ≤ 200)) }
+    ensures count { IfOk result (λ x. (1 ≤ length x.0) × (length x.0 ≤ MOST_COLUMNS)) }
 {
     let path = table_path(table, KeyField::Columns);
     let value = keys::needed(keys, "column", path)?;
     columns(alloc, table, value, path)
 }
 
+/// The rows and the pages of the table of this number.
+#[tactic(auto, unfolding(crate::specs::Catalogue::size_of))]
+fn size(number: u32, found: &toml::Table) -> Result<(u64, u64), CatFault>
+    ensures exact { Gives (λ x. x) result (rows.size_of number (table_view found.now)) }
+    ensures most { IfOk result (λ x. (x.0 ≤ MOST_ROWS) × (x.1 ≤ MOST_ROWS)) }
+{
+    let path = table_path(number, KeyField::Rows);
+    let rows = keys::needed_natural(found, "rows", path, 0, MOST_ROWS)?;
+    let path = table_path(number, KeyField::Pages);
+    let pages = keys::needed_natural(found, "pages", path, 0, MOST_ROWS)?;
+    Ok((rows, pages))
+}
+
+/// The columns and the indexes of the table of this number; `before` counts the indexes of the tables before it.
+#[tactic(auto, unfolding(crate::specs::Catalogue::parts_of))]
+fn parts(
+    alloc: Global,
+    number: u32,
+    before: usize,
+    found: &toml::Table,
+) -> Result<(List<Column>, List<Index>), CatFault>
+    requires some { 1 ≤ number }
+    requires most { number ≤ MOST_TABLES }
+    requires room { before ≤ MOST_INDEXES }
+    ensures exact { Gives (λ x. (plain_columns x.0, plain_indexes x.1)) result (rows.parts_of number before (table_view found.now)) }
+    ensures count { IfOk result (λ x. (1 ≤ length x.0) × (length x.0 ≤ MOST_COLUMNS)) }
+    ensures room { IfOk result (λ x. before + length x.1 ≤ MOST_INDEXES) }
+    ensures own { IfOk result (λ x. All (λ index. index.shape.table + 1 ≡ number) x.1) }
+    ensures known { IfOk result (λ x. All (λ index. All (λ k. k < length x.0) index.shape.keys) x.1) }
+{
+    let (columns, column_names) = needed_columns(alloc, number, found)?;
+    let path = table_path(number, KeyField::Indexes);
+    let indexes = indexes(alloc, number, &column_names, before, found, path)?;
+    Ok((columns, indexes))
+}
+
 /// One table. Its name joins those of the tables before it, which have `before` indexes.
 #[tactic(auto, unfolding(crate::specs::Catalogue::table_at))]
 fn table(alloc: Global, before: usize, names: &mut Names, value: &Value) -> Result<Table, CatFault>
-    requires few { length names.old < 200 }
-    requires room { before ≤ 1000 }
+    requires few { length names.old < MOST_TABLES }
+    requires room { before ≤ MOST_INDEXES }
     ensures exact { Gives plain_table result (rows.table_at before names.old (view value.now)) }
     ensures joins { IfOk result (λ table. names.new ≡ names.old ++ folded table.name ∷ []) }
-    ensures room { IfOk result (λ table. before + length table.indexes ≤ 1000) }
+    ensures room { IfOk result (λ table. before + length table.indexes ≤ MOST_INDEXES) }
     ensures own { IfOk result (λ table. All (λ index. index.shape.table ≡ length names.old) table.indexes) }
 {
     let number = names.len() as u32 + 1;
     let found = values::keys_of(value, table_path(number, KeyField::Itself))?;
     let path = table_path(number, KeyField::Name);
     let name = keys::needed_name(alloc, found, path, names)?;
-    let path = table_path(number, KeyField::Rows);
-    let rows = keys::needed_natural(found, "rows", path, 0, 1000000000000)?;
-    let path = table_path(number, KeyField::Pages);
-    let pages = keys::needed_natural(found, "pages", path, 0, 1000000000000)?;
-    let (columns, column_names) = needed_columns(alloc, number, found)?;
-    let path = table_path(number, KeyField::Indexes);
-    let indexes = indexes(alloc, number, &column_names, before, found, path)?;
+    let (rows, pages) = size(number, found)?;
+    let (columns, indexes) = parts(alloc, number, before, found)?;
     Ok(Table {
         name,
         rows,
@@ -68,7 +101,7 @@ fn table(alloc: Global, before: usize, names: &mut Names, value: &Value) -> Resu
 
 /// The tables that an array gives.
 fn tables_in(alloc: Global, items: &[Value]) -> Result<List<Table>, CatFault>
-    requires { length items.now ≤ 200 }
+    requires { length items.now ≤ MOST_TABLES }
     ensures exact { Gives plain_tables result (read_each rows.next_table [] (items_view items.now)) }
     ensures limits { IfOk result CatalogueLimits }
 {
@@ -92,7 +125,7 @@ pub fn tables(alloc: Global, keys: &toml::Table) -> Result<List<Table>, CatFault
     let path = table_path(0, KeyField::Itself);
     match keys::value_at(keys, "table") {
         Some(value) => {
-            let items = values::elements_within(value, path, 0, 200)?;
+            let items = values::elements_within(value, path, 0, MOST_TABLES)?;
             tables_in(alloc, items)
         }
         None => Ok(List::new(alloc)),

@@ -1,20 +1,19 @@
 //! Which configurations fit a space budget.
-ghost use Rattle.std.specs.Prelude.{◌≡◌, ◌≤◌, ◌↔◌, IsTrue, All, if◌then◌else◌};
-ghost use Rattle.adv_base.specs.Configs.{Fits, config_pages as pages_of_config};
+ghost use Rattle.std.specs.Prelude.{◌≡◌, ◌*◌, ◌≤◌, ◌↔◌, IsTrue, All, if◌then◌else◌};
+ghost use Rattle.adv_base.specs.Configs as configs;
 ghost use Rattle.adv_base.specs.Named.{NamesShape};
-ghost use Rattle.adv_base.specs.Sizes.{shape_pages};
+ghost use Rattle.adv_base.specs.Sizes as size;
+ghost use Rattle.adv_base.specs.declared.limits.TheConstants.{MOST_INDEX_PAGES};
 
 use crate::size::pages;
+use adv_base::limits::MOST_CANDIDATES;
 use adv_base::{Catalogue, Config, IndexShape};
-
-/// A configuration has a place for each of so many candidates.
-const MOST_CANDIDATES: usize = 256;
 
 /// The pages of a configuration's candidates, of which there are at most 256.
 fn config_pages(cat: &Catalogue, shapes: &[IndexShape], config: &Config) -> u64
     requires { All (NamesShape cat.now) shapes.now }
-    ensures exact { result ≡ pages_of_config cat.now shapes.now config.now }
-    ensures most { result ≤ 512000000000000 }
+    ensures exact { result ≡ configs.config_pages cat.now shapes.now config.now }
+    ensures most { result ≤ MOST_CANDIDATES * MOST_INDEX_PAGES }
 {
     let mut sum = 0;
     for (i, shape) in shapes.iter().enumerate() {
@@ -29,8 +28,8 @@ fn config_pages(cat: &Catalogue, shapes: &[IndexShape], config: &Config) -> u64
 /// The pages of a shape that is chosen, and else 0.
 fn pages_if(cat: &Catalogue, shape: &IndexShape, chosen: bool) -> u64
     requires { NamesShape cat.now shape.now }
-    ensures exact { result ≡ (if chosen then shape_pages cat.now shape.now else 0) }
-    ensures most { result ≤ 2000000000000 }
+    ensures exact { result ≡ (if chosen then size.shape_pages cat.now shape.now else 0) }
+    ensures most { result ≤ MOST_INDEX_PAGES }
 {
     if chosen { pages(cat, shape) } else { 0 }
 }
@@ -39,7 +38,7 @@ fn pages_if(cat: &Catalogue, shape: &IndexShape, chosen: bool) -> u64
 /// gives, in CoPhy's budget row.
 pub fn fits(cat: &Catalogue, shapes: &[IndexShape], config: &Config, budget: u64) -> bool
     requires { All (NamesShape cat.now) shapes.now }
-    ensures { IsTrue result ↔ Fits cat.now shapes.now config.now budget }
+    ensures { IsTrue result ↔ configs.Fits cat.now shapes.now config.now budget }
 {
     config_pages(cat, shapes, config) <= budget
 }

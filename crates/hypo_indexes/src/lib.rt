@@ -1,12 +1,15 @@
-//! Indexes that exist or might: how many pages each takes, and which sets of them fit a space budget.
+//! Indexes that exist or might: how many pages each takes, which sets of them fit a space budget, and what each write
+//! costs at them.
 //!
-//! Sizes are in pages of 8192 bytes. The definitions that the contracts cite stand in `adv_base`.
+//! Sizes are in pages of 8192 bytes, upkeep in thousandths of a page read. The definitions that the contracts cite stand in `adv_base`.
 #![tactic(auto)]
 
 mod budget;
 mod size;
 #[cfg(test)]
 mod tests;
+mod writes;
 
 pub use budget::fits;
 pub use size::{index_pages, pages};
+pub use writes::{config_upkeep, kept_upkeep, upkeep};

@@ -10,12 +10,11 @@ use Rattle.std.proofs.lemmas.List.Folds.{list_any-append, sum_by-replicate}
 use Rattle.std.proofs.lemmas.List.Sums.{sum_by-set, fold-append}
 use Rattle.adv_base.specs.declared.workload.parts.Item.{Item}
 use Rattle.adv_base.specs.declared.workload.parts.Item.TheVariants.{Up, Down, Made}
-use Rattle.adv_base.specs.Items.{Order}
+use Rattle.adv_base.specs.Items.{Order, is_up_of, is_same_order, is_own_list}
 use Rattle.plan_model.specs.declared.task.Task.{Task}
 use Rattle.plan_model.specs.Limits.Tasks.{is_numbered, AreNumbered}
-use Rattle.plan_model.specs.OfferTables.{is_up_of}
-use Rattle.plan_model.specs.Orders.{is_same_order, edge_orders, own_list, is_own_list, wanted_list, without_repeats, interesting_orders}
-use Rattle.interesting_orders.specs.Marks.{add_order, is_marked, AreMarks}
+use Rattle.plan_model.specs.Orders.{edge_orders, own_list, wanted_list, without_repeats, interesting_orders}
+use Rattle.interesting_orders.specs.inner.Marks.{add_order, is_marked, AreMarks}
 
 pub add_order-known : (orders : List Order) (order : Order) → list_any (is_same_order order) orders ≡ true → add_order orders order ≡ orders
 add_order-known orders order h = rw h

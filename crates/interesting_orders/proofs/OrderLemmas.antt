@@ -10,13 +10,13 @@ use Rattle.std.proofs.lemmas.List.Quantifiers.{all_pairs_push}
 use Rattle.std.proofs.lemmas.List.Sums.{fold-append, count_by-le-length}
 use Rattle.adv_base.specs.declared.workload.parts.Item.{Item}
 use Rattle.adv_base.specs.declared.workload.parts.Item.TheVariants.{Up}
-use Rattle.adv_base.specs.Items.{Order}
+use Rattle.adv_base.specs.Items.{Order, is_same_order, is_own_list}
+use Rattle.adv_base.proofs.ItemLaws.{is_same_order-decides}
 use Rattle.plan_model.specs.declared.edge.TaskEdge.{TaskEdge}
 use Rattle.plan_model.specs.declared.task.Task.{Task}
 use Rattle.plan_model.specs.Limits.Tasks.{EdgeLimits}
-use Rattle.plan_model.specs.Orders.{is_same_order, needs_at, edge_orders, own_list, is_own_list, wanted_list, without_repeats, interesting_orders}
-use Rattle.plan_model.proofs.OrderLaws.{is_same_order-decides}
-use Rattle.interesting_orders.specs.Marks.{add_order, AreMarks}
+use Rattle.plan_model.specs.Orders.{needs_at, edge_orders, own_list, wanted_list, without_repeats, interesting_orders}
+use Rattle.interesting_orders.specs.inner.Marks.{add_order, AreMarks}
 use Rattle.interesting_orders.proofs.MarkLemmas.{interesting_orders-fold, add_order-known, add_order-new, without_repeats-fold, AreMarks-start, AreMarks-add}
 
 -- the empty order comes first

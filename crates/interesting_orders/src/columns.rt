@@ -4,18 +4,20 @@ ghost use Rattle.std.specs.List.{list_all};
 ghost use Rattle.std.specs.Option.{ForSome};
 ghost use Rattle.adv_base.specs.Items.{Order};
 ghost use Rattle.plan_model.specs.Limits.Tasks.{AreNumbered};
-ghost use Rattle.plan_model.specs.OfferTables.{is_up_of as is_up_column};
-ghost use Rattle.plan_model.specs.Orders.{edge_orders, own_list, is_own_list as is_own};
-ghost use Rattle.interesting_orders.specs.Marks.{add_order, column_orders, is_marked, AreMarks, IsEdge};
+ghost use Rattle.adv_base.specs.declared.limits.TheConstants.{MOST_COLUMNS};
+ghost use Rattle.adv_base.specs.Items as rule;
+ghost use Rattle.plan_model.specs.Orders as interesting;
+ghost use Rattle.interesting_orders.specs.inner.Marks.{add_order, column_orders, is_marked, AreMarks, IsEdge};
 
 use adv_base::Item;
+use adv_base::limits::MOST_COLUMNS;
 use plan_model::TaskEdge;
 
 /// The column of an edge at a slot, where it has one there that isn't bound.
 pub fn column_at(edge: &TaskEdge, slot: u8) -> Option<u16>
     requires { IsEdge edge.now }
-    ensures exact { edge_orders slot edge.now ≡ column_orders slot result }
-    ensures small { ForSome result (λ column. column < 200) }
+    ensures exact { interesting.edge_orders slot edge.now ≡ column_orders slot result }
+    ensures small { ForSome result (λ column. column < MOST_COLUMNS) }
 {
     if edge.left == slot && edge.left_need.is_some() {
         return Some(edge.left_column);
@@ -27,9 +29,9 @@ pub fn column_at(edge: &TaskEdge, slot: u8) -> Option<u16>
 }
 
 /// Marks the column of an edge at a slot.
-pub fn mark_column(edge: &TaskEdge, slot: u8, seen: &mut [bool; 200])
+pub fn mark_column(edge: &TaskEdge, slot: u8, seen: &mut [bool; MOST_COLUMNS])
     requires { IsEdge edge.now }
-    ensures { (orders : List Order) → AreMarks slot seen.old orders → AreMarks slot seen.new (fold add_order orders (edge_orders slot edge.now)) }
+    ensures { (orders : List Order) → AreMarks slot seen.old orders → AreMarks slot seen.new (fold add_order orders (interesting.edge_orders slot edge.now)) }
 {
     if let Some(column) = column_at(edge, slot) {
         seen[column as usize] = true;
@@ -37,16 +39,16 @@ pub fn mark_column(edge: &TaskEdge, slot: u8, seen: &mut [bool; 200])
 }
 
 /// How many columns are marked.
-pub fn mark_count(seen: &[bool; 200]) -> u64
+pub fn mark_count(seen: &[bool; MOST_COLUMNS]) -> u64
     ensures exact { result ≡ count_by (λ mark. mark) seen.now }
-    ensures most { result ≤ 200 }
+    ensures most { result ≤ MOST_COLUMNS }
 {
     seen.iter().filter(|mark| **mark).count() as u64
 }
 
 /// Whether an item is an upward column of the slot.
 fn is_up_of(item: &Item, slot: u8) -> bool
-    ensures { result ≡ is_up_column slot item.now }
+    ensures { result ≡ rule.is_up_of slot item.now }
 {
     match item {
         Item::Up { slot: own, .. } => *own == slot,
@@ -56,20 +58,20 @@ fn is_up_of(item: &Item, slot: u8) -> bool
 
 /// Whether each item is an upward column of the slot.
 fn are_up_of(list: &[Item], slot: u8) -> bool
-    ensures { result ≡ list_all (is_up_column slot) list.now }
+    ensures { result ≡ list_all (rule.is_up_of slot) list.now }
 {
     list.iter().all(|item| is_up_of(item, slot))
 }
 
 /// Whether a list isn't empty and is of upward columns of the slot alone.
 fn is_own_list(list: &[Item], slot: u8) -> bool
-    ensures { result ≡ is_own slot list.now }
+    ensures { result ≡ interesting.is_own_list slot list.now }
 {
     !list.is_empty() && are_up_of(list, slot)
 }
 
 /// Whether a list is a single column that is marked.
-fn is_seen(list: &[Item], seen: &[bool; 200]) -> bool
+fn is_seen(list: &[Item], seen: &[bool; MOST_COLUMNS]) -> bool
     requires { AreNumbered list.now }
     ensures { result ≡ is_marked seen.now list.now }
 {
@@ -80,9 +82,9 @@ fn is_seen(list: &[Item], seen: &[bool; 200]) -> bool
 }
 
 /// Whether a list is of the slot alone and not one of the orders of the columns that are marked.
-pub fn is_new_list(list: &[Item], slot: u8, seen: &[bool; 200]) -> bool
+pub fn is_new_list(list: &[Item], slot: u8, seen: &[bool; MOST_COLUMNS]) -> bool
     requires { AreNumbered list.now }
-    ensures { (orders : List Order) → AreMarks slot seen.now orders → fold add_order orders (own_list slot list.now) ≡ (if result then orders ++ list.now ∷ [] else orders) }
+    ensures { (orders : List Order) → AreMarks slot seen.now orders → fold add_order orders (interesting.own_list slot list.now) ≡ (if result then orders ++ list.now ∷ [] else orders) }
 {
     is_own_list(list, slot) && !is_seen(list, seen)
 }

@@ -1,11 +1,13 @@
 //! The orders of a slot, and how many choices of them there are.
-ghost use Rattle.std.specs.Prelude.{◌≡◌, ◌<◌, ◌≤◌, ◌^◌, ◌++◌, ◌∷◌, [], length, IfOk, fold};
+ghost use Rattle.std.specs.Prelude.{◌≡◌, ◌+◌, ◌<◌, ◌≤◌, ◌^◌, ◌++◌, ◌∷◌, [], length, IfOk, fold};
 ghost use Rattle.std.specs.Result.{OnOk};
+ghost use Rattle.adv_base.specs.declared.limits.TheConstants.{MOST_COLUMNS};
 ghost use Rattle.plan_model.specs.Limits.Tasks.{AreNumbered};
-ghost use Rattle.plan_model.specs.Orders.{edge_orders, own_list, interesting_orders as orders_of, combinations as choices_of};
-ghost use Rattle.interesting_orders.specs.Marks.{add_order, AreMarks, IsEdge};
+ghost use Rattle.plan_model.specs.Orders as interesting;
+ghost use Rattle.interesting_orders.specs.inner.Marks.{add_order, AreMarks, IsEdge};
 
 use crate::columns::{column_at, is_new_list, mark_column, mark_count};
+use adv_base::limits::MOST_COLUMNS;
 use adv_base::{Item, List, NoMemory};
 use plan_model::{Task, TaskEdge};
 use std::alloc::Global;
@@ -13,19 +15,16 @@ use std::alloc::Global;
 fn copied(alloc: Global, items: &[Item]) -> Result<List<Item>, NoMemory>
     ensures { IfOk result (λ list. list ≡ items.now) }
 {
-    match Vec::from_slice(alloc, items) {
-        Ok(items) => Ok(List { items }),
-        Err(_) => Err(NoMemory),
-    }
+    Ok(List {
+        items: Vec::from_slice(alloc, items)?,
+    })
 }
 
 fn push_order(orders: &mut Vec<List<Item>>, order: List<Item>) -> Result<(), NoMemory>
     ensures { OnOk result (orders.new.items ≡ orders.old.items ++ order ∷ []) }
 {
-    match orders.push(order) {
-        Ok(()) => Ok(()),
-        Err(_) => Err(NoMemory),
-    }
+    orders.push(order)?;
+    Ok(())
 }
 
 /// Pushes the order of an edge's column at the slot, where it is new.
@@ -33,12 +32,12 @@ fn push_column(
     alloc: Global,
     edge: &TaskEdge,
     slot: u8,
-    seen: &mut [bool; 200],
+    seen: &mut [bool; MOST_COLUMNS],
     orders: &mut Vec<List<Item>>,
 ) -> Result<(), NoMemory>
     requires edge { IsEdge edge.now }
     requires marks { AreMarks slot seen.old orders.old.items }
-    ensures orders { OnOk result (orders.new.items ≡ fold add_order orders.old.items (edge_orders slot edge.now)) }
+    ensures orders { OnOk result (orders.new.items ≡ fold add_order orders.old.items (interesting.edge_orders slot edge.now)) }
     ensures marks { OnOk result (AreMarks slot seen.new orders.new.items) }
 {
     let Some(column) = column_at(edge, slot) else {
@@ -57,12 +56,12 @@ fn push_list(
     alloc: Global,
     list: &[Item],
     slot: u8,
-    seen: &[bool; 200],
+    seen: &[bool; MOST_COLUMNS],
     orders: &mut Vec<List<Item>>,
 ) -> Result<(), NoMemory>
     requires numbered { AreNumbered list.now }
     requires marks { AreMarks slot seen.now orders.old.items }
-    ensures { OnOk result (orders.new.items ≡ fold add_order orders.old.items (own_list slot list.now)) }
+    ensures { OnOk result (orders.new.items ≡ fold add_order orders.old.items (interesting.own_list slot list.now)) }
 {
     if is_new_list(list, slot, seen) {
         return push_order(orders, copied(alloc, list)?);
@@ -76,11 +75,11 @@ fn push_list(
 /// first. `NoMemory` is want of memory.
 pub fn slot_orders(alloc: Global, task: &Task, slot: u8) -> Result<List<List<Item>>, NoMemory>
     requires { slot < task.now.slots }
-    ensures { IfOk result (λ orders. orders ≡ orders_of task.now slot) }
+    ensures { IfOk result (λ orders. orders ≡ interesting.interesting_orders task.now slot) }
 {
     let mut orders = Vec::new(alloc);
     push_order(&mut orders, List::new(alloc))?;
-    let mut seen = [false; 200];
+    let mut seen = [false; MOST_COLUMNS];
     let edges = task.edges.as_slice();
     for edge in edges {
         push_column(alloc, edge, slot, &mut seen, &mut orders)?;
@@ -89,12 +88,12 @@ pub fn slot_orders(alloc: Global, task: &Task, slot: u8) -> Result<List<List<Ite
     Ok(List { items: orders })
 }
 
-/// How many orders a slot has, of which there are at most 203.
+/// How many orders a slot has, of which there are at most three more than columns.
 fn order_count(task: &Task, slot: u8) -> u64
-    ensures exact { result ≡ length (orders_of task.now slot) }
-    ensures few { result ≤ 203 }
+    ensures exact { result ≡ length (interesting.interesting_orders task.now slot) }
+    ensures few { result ≤ MOST_COLUMNS + 3 }
 {
-    let mut seen = [false; 200];
+    let mut seen = [false; MOST_COLUMNS];
     let edges = task.edges.as_slice();
     for edge in edges {
         mark_column(edge, slot, &mut seen);
@@ -109,7 +108,7 @@ fn order_count(task: &Task, slot: u8) -> u64
 
 /// How many ways there are to give each slot one of its orders. No memory is taken.
 pub fn combinations(task: &Task) -> u64
-    ensures exact { result ≡ choices_of task.now }
+    ensures exact { result ≡ interesting.combinations task.now }
     ensures small { result < 2 ^ 63 }
 {
     let mut product = 1;

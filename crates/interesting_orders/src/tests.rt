@@ -33,18 +33,6 @@ fn bound_edge(left: u8, left_column: u16, right: u8, right_column: u16) -> TaskE
     }
 }
 
-fn rates() -> Rates {
-    Rates {
-        seq_page: 1000,
-        rand_page: 4000,
-        row_cpu: 10,
-        sort_cpu: 5,
-        merge_cpu: 5,
-        hash_cpu: 8,
-        group_cpu: 5,
-    }
-}
-
 fn list<T: Copy>(alloc: Global, items: &[T]) -> Result<List<T>, AllocError> {
     Ok(List {
         items: Vec::from_slice(alloc, items)?,
@@ -70,7 +58,16 @@ fn task(
         Some(items) => Some(list(alloc, items)?),
     };
     let edges = list(alloc, edges)?;
-    Ok(checked_task(slots, edges, rows, group, 1, list(alloc, order)?, rates()).ok_or("no task")?)
+    Ok(checked_task(
+        slots,
+        edges,
+        rows,
+        group,
+        1,
+        list(alloc, order)?,
+        Rates::default(),
+    )
+    .ok_or("no task")?)
 }
 
 fn push_item(text: &mut Vec<u8>, item: &Item) -> Result<(), AllocError> {

@@ -13,7 +13,7 @@ use Rattle.adv_base.specs.Sums.{digits_within, binary_digits}
 use Rattle.plan_model.specs.declared.plan.Plan.{Plan}
 use Rattle.plan_model.specs.declared.plan.Plan.TheVariants.{Leaf, Sort', Merge', Hash'}
 use Rattle.plan_model.specs.declared.task.Task.{Task}
-use Rattle.plan_model.specs.OfferTables.{price_at, OfferTableLimits}
+use Rattle.adv_base.specs.OfferTables.{price_at, OfferTableLimits}
 use Rattle.plan_model.specs.Plans.{covers, IsValid}
 use Rattle.plan_model.specs.Costs.{rows_in, sort_cost, merge_cost, hash_cost}
 

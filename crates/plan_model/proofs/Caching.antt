@@ -4,15 +4,15 @@ use Rattle.std.proofs.Math.Seq.{take-length}
 use Rattle.std.proofs.lemmas.Bool.{cases_lt}
 use Rattle.adv_base.specs.Items.{Order, BeginsWith}
 use Rattle.adv_base.specs.Offers.{OfferTable}
+use Rattle.adv_base.proofs.Begins.{begins_length, begins_self, begins_trans}
 use Rattle.plan_model.specs.declared.plan.Whole.{Whole}
 use Rattle.plan_model.specs.declared.task.Task.{Task}
-use Rattle.plan_model.specs.OfferTables.{order_at, OfferTableLimits}
+use Rattle.adv_base.specs.OfferTables.{order_at, OfferTableLimits}
 use Rattle.plan_model.specs.Plans.{IsWhole}
 use Rattle.plan_model.specs.Costs.{whole_cost}
 use Rattle.plan_model.specs.Least.{IsCostOfPlan, Least}
 use Rattle.plan_model.specs.Exchange.{whole_internal, choice, leaf_price, leaf_order, sum_below, exchange_whole, ServesLike}
 use Rattle.plan_model.specs.Combinations.{Orders, IsCombination, free, IsInternal, CachedBy, IsEach, Cached, Weakens, IsKept, Templates, Covers}
-use Rattle.plan_model.proofs.OrderLaws.{BeginsWith-self, BeginsWith-length, BeginsWith-through}
 use Rattle.plan_model.proofs.SetLaws.{sum_below-le}
 use Rattle.plan_model.proofs.Exchanging.{whole-cost-splits}
 use Rattle.plan_model.proofs.Decomposing.{free-limits, free-cost, free-begins, exchange-cost, choice-within, AreSound, sound-plan, least-cached, matched, core-needs, core-is, core-combination, core-plan}
@@ -37,7 +37,7 @@ each-sound : (task : Task) → AreSound task (IsEach task)
 each-sound task = record { combination = λ needs internal each. each.combination; plan = λ needs internal each. each.least.plan }
 
 -- over the free leaves that it needs, a least plan is a least one
-least-core : (task : Task) (table : OfferTable) (cost : ℕ) → OfferTableLimits table → (least : Least task table cost) → IsEach task (core-needs task table least.plan.whole) (whole_internal task least.plan.whole)
+pub least-core : (task : Task) (table : OfferTable) (cost : ℕ) → OfferTableLimits table → (least : Least task table cost) → IsEach task (core-needs task table least.plan.whole) (whole_internal task least.plan.whole)
 least-core task table cost limits least =
     let whole = least.plan.whole in
     let valid = least.plan.valid in
@@ -55,19 +55,19 @@ least-core task table cost limits least =
                 (λ slot below. record {
                   within = choice-within task table whole valid slot below;
                   serves = subst (λ (o : Order). ServesLike task slot o (leaf_order table whole.body slot)) (sym (free-begins task needs other v slot below))
-                      (λ k d in_list begins. BeginsWith-through (leaf_order table whole.body slot) (needs slot) _ (core-is task table whole slot).begins begins);
+                      (λ k d in_list begins. begins_trans (leaf_order table whole.body slot) (needs slot) _ (core-is task table whole slot).begins begins);
                   costs = refl;
                 }) in
                 omega (arith, least.none_less back.whole back.valid, back.costs, split, least.plan.costs, free-cost task needs other v);
           };
     }
 
-each-covers : (task : Task) (needs : Orders) (internal cost : ℕ) → IsEach task needs internal → internal ≤ cost → Covers (IsEach task) needs cost
+pub each-covers : (task : Task) (needs : Orders) (internal cost : ℕ) → IsEach task needs internal → internal ≤ cost → Covers (IsEach task) needs cost
 each-covers task needs internal cost each less =
-    record { other = needs; internal = internal; template = each; fronts = λ slot. BeginsWith-self (needs slot); less = less }
+    record { other = needs; internal = internal; template = each; fronts = λ slot. begins_self (needs slot); less = less }
 
 -- what is least over templates that weakly cover each combination is least over plans
-covered-least : (task : Task) (templates : Templates) (table : OfferTable) (cost : ℕ) → OfferTableLimits table → AreSound task templates → ((needs : Orders) (internal : ℕ) → IsEach task needs internal → (Covers templates needs internal → ⊥) → ⊥) → CachedBy templates task table cost → Least task table cost
+pub covered-least : (task : Task) (templates : Templates) (table : OfferTable) (cost : ℕ) → OfferTableLimits table → AreSound task templates → ((needs : Orders) (internal : ℕ) → IsEach task needs internal → (Covers templates needs internal → ⊥) → ⊥) → CachedBy templates task table cost → Least task table cost
 covered-least task templates table cost limits sound weakly cached =
     record {
       plan = sound-plan task templates table cached.needs cached.internal cost sound cached.template cached.priced;
@@ -100,7 +100,7 @@ cache-decomposes task table cost limits = (
 -- ## Combinations that are kept
 
 -- how many items a combination asks for
-size : Task → Orders → ℕ
+pub size : Task → Orders → ℕ
 size task needs = sum_below (λ slot. length (needs slot)) task.slots
 
 sum-less : (f g : ℕ → ℕ) (n k : ℕ) → ((slot : ℕ) → slot < n → f slot ≤ g slot) → k < n → f k < g k → sum_below f n < sum_below g n
@@ -121,21 +121,21 @@ sum-less f g (suc n) k each below less =
 -- a front of the same length is the order itself
 front-whole : (o r : Order) → BeginsWith o r → length o ≤ length r → r ≡ o
 front-whole o r begins long =
-    let same : length r ≡ length o = omega (arith, BeginsWith-length o r begins, long) in
+    let same : length r ≡ length o = omega (arith, begins_length o r begins, long) in
     sym begins ∙ (ap (λ n. take n o) same ∙ take-length o)
 
 weaker-smaller : (task : Task) (weaker needs : Orders) → Weakens task weaker needs → size task weaker < size task needs
 unfolding size
 weaker-smaller task weaker needs w =
     sum-less (λ slot. length (weaker slot)) (λ slot. length (needs slot)) task.slots w.slot
-    (λ slot below. BeginsWith-length (needs slot) (weaker slot) (w.fronts slot)) w.of_task
+    (λ slot below. begins_length (needs slot) (weaker slot) (w.fronts slot)) w.of_task
     (elim (cases_lt (length (weaker w.slot)) (length (needs w.slot))) [
       | inl less ↦ less
       | inr long ↦ absurd (w.differs (front-whole (needs w.slot) (weaker w.slot) (w.fronts w.slot) long))
     ])
 
 -- a combination is covered by a kept one
-weakly-kept : (task : Task) (n : ℕ) (needs : Orders) (internal : ℕ) → IsEach task needs internal → size task needs < n → (Covers (IsKept task) needs internal → ⊥) → ⊥
+pub weakly-kept : (task : Task) (n : ℕ) (needs : Orders) (internal : ℕ) → IsEach task needs internal → size task needs < n → (Covers (IsKept task) needs internal → ⊥) → ⊥
 weakly-kept task zero needs internal each below never = absurd (omega (arith, below))
 weakly-kept task (suc n) needs internal each below never =
     never (record {
@@ -153,12 +153,12 @@ weakly-kept task (suc n) needs internal each below never =
                         other = cover.other;
                         internal = cover.internal;
                         template = cover.template;
-                        fronts = λ slot. BeginsWith-through (needs slot) (weaker slot) (cover.other slot) (w.fronts slot) (cover.fronts slot);
+                        fronts = λ slot. begins_trans (needs slot) (weaker slot) (cover.other slot) (w.fronts slot) (cover.fronts slot);
                         less = omega (arith, cover.less, cheaper);
                       })))
                 ];
           };
-      fronts = λ slot. BeginsWith-self (needs slot);
+      fronts = λ slot. begins_self (needs slot);
       less = omega arith;
     })
 

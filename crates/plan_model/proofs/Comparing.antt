@@ -4,16 +4,16 @@ use Rattle.std.specs.List.{list_any}
 use Rattle.std.proofs.lemmas.Bool.{cases_lt}
 use Rattle.adv_base.specs.Items.{Order, BeginsWith}
 use Rattle.adv_base.specs.Offers.{OfferTable}
+use Rattle.adv_base.proofs.Begins.{begins_trans}
 use Rattle.plan_model.specs.declared.plan.Whole.{Whole}
 use Rattle.plan_model.specs.declared.task.Task.{Task}
-use Rattle.plan_model.specs.OfferTables.{price_at, order_at, OfferTableLimits}
+use Rattle.adv_base.specs.OfferTables.{price_at, order_at, OfferTableLimits}
 use Rattle.plan_model.specs.Plans.{IsWhole}
 use Rattle.plan_model.specs.Costs.{whole_cost}
 use Rattle.plan_model.specs.Least.{IsCostOfPlan, Least}
 use Rattle.plan_model.specs.Exchange.{whole_internal, choice, leaf_price, sum_below, ServesLike}
 use Rattle.plan_model.specs.Combinations.{IsOffered, IsLeastPrice}
 use Rattle.plan_model.specs.Comparisons.{IsBetter, NoDearer, HasOffer, HasOffersOf, IsRaised, charges, IsBest}
-use Rattle.plan_model.proofs.OrderLaws.{BeginsWith-self, BeginsWith-through}
 use Rattle.plan_model.proofs.SetLaws.{sum_below-le, sum_below-add}
 use Rattle.plan_model.proofs.Exchanging.{whole-cost-splits}
 use Rattle.plan_model.proofs.Decomposing.{choice-within, exchange-cost, core, least-price}
@@ -51,7 +51,7 @@ least-never-rises task old new before after limits better a b =
     let made = better-plan task old new a.plan.whole limits better a.plan.valid in
     omega (arith, made.less, a.plan.costs, b.none_less made.plan.whole made.plan.valid, made.plan.costs)
 
-serves-same : (task : Task) (slot : ℕ) (o r : Order) → r ≡ o → ServesLike task slot o r
+pub serves-same : (task : Task) (slot : ℕ) (o r : Order) → r ≡ o → ServesLike task slot o r
 serves-same task slot o r same = subst (ServesLike task slot o) (sym same) (λ k d within begins. begins)
 
 offers-better : (task : Task) (old new : OfferTable) → HasOffersOf task old new → NoDearer task old new
@@ -99,7 +99,7 @@ best-back task table best is slot number below within =
       offer.number,
       record {
         within = offer.within;
-        serves = λ k d in_list begins. BeginsWith-through (order_at table slot offer.number) (order_at best slot number) _ offer.begins begins;
+        serves = λ k d in_list begins. begins_trans (order_at table slot offer.number) (order_at best slot number) _ offer.begins begins;
         cheaper = omega (arith, offer.costs);
       },
     )

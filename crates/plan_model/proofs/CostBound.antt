@@ -13,10 +13,10 @@ use Rattle.plan_model.specs.declared.plan.Plan.{Plan}
 use Rattle.plan_model.specs.declared.plan.Plan.TheVariants.{Leaf, Sort', Merge', Hash'}
 use Rattle.plan_model.specs.declared.plan.Whole.{Whole}
 use Rattle.plan_model.specs.declared.task.Task.{Task}
-use Rattle.plan_model.specs.OfferTables.{OfferTableLimits}
+use Rattle.adv_base.specs.OfferTables.{OfferTableLimits}
 use Rattle.plan_model.specs.Plans.{covers, IsValid, IsWhole, body_sorts}
 use Rattle.plan_model.specs.Costs.{rows_in, sort_cost, merge_of, hash_of, plan_cost, group_cost, final_rows, whole_cost}
-use Rattle.plan_model.specs.Judging.{plan_judged, IsKept}
+use Rattle.plan_model.specs.inner.Judging.{plan_judged, IsKept}
 use Rattle.plan_model.proofs.Bounds.{valid-covers, rows_in-most, price_at-most, sort_cost-most, merge_cost-most, hash_cost-most}
 use Rattle.plan_model.proofs.SetLaws.{bit-sum}
 
@@ -115,13 +115,15 @@ final-most : (task : Task) (last : Bool) (rows : ℕ) → rows ≤ 1000000000000
 final-most task true rows most = sort_cost-most task.rates (final_rows task task.group rows) (final_rows-most task task.group rows most)
 final-most task false rows most = omega arith
 
+-- eight leaves, and what stands above them
+pub valid-most : (sorts : Bool) (task : Task) (table : OfferTable) (plan : Plan) → OfferTableLimits table → IsValid sorts task table plan → plan_cost task table plan ≤ 800000000000000000000
+valid-most sorts task table plan limits v =
+    omega (arith, plan_cost-most sorts task table plan limits v, leaves-most sorts task table plan v)
+
 -- what is found of a valid plan keeps its limits
 pub valid-kept : (sorts : Bool) (task : Task) (table : OfferTable) (plan : Plan) → OfferTableLimits table → IsValid sorts task table plan → IsKept task (plan_judged task table plan)
 valid-kept sorts task table plan limits v =
-    record {
-      within = valid-covers sorts task table plan v;
-      most = omega (arith, plan_cost-most sorts task table plan limits v, leaves-most sorts task table plan v);
-    }
+    record { within = valid-covers sorts task table plan v; most = omega (arith, valid-most sorts task table plan limits v) }
 
 -- a valid whole plan costs less than 10^21
 pub whole_cost-most : (task : Task) (table : OfferTable) (whole : Whole) → OfferTableLimits table → IsWhole task table whole → whole_cost task table whole < 1000000000000000000000

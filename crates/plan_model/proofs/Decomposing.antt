@@ -3,22 +3,24 @@ use Rattle.std.proofs.Common.{◌≡◌, ◌≢◌, ◌⊎◌, ◌↔◌, inl, i
 use Rattle.std.specs.List.{list_any}
 use Rattle.std.proofs.lemmas.Bool.{cases_Bool, cases_lt, false≢true, or_left, or_right}
 use Rattle.std.proofs.lemmas.List.Elements.{All-head, All-tail, All-cons, All-nil}
-use Rattle.adv_base.specs.Items.{Order, BeginsWith}
+use Rattle.adv_base.specs.Items.{Order, BeginsWith, is_same_order}
 use Rattle.adv_base.specs.Offers.{Offer, OfferTable}
 use Rattle.adv_base.specs.Sets.{all_slots, has_slot}
+use Rattle.adv_base.proofs.Begins.{begins_decides, begins_longer, begins_nil, begins_trans}
+use Rattle.adv_base.proofs.ItemLaws.{is_same_order-decides}
 use Rattle.plan_model.specs.declared.plan.Plan.{Plan}
 use Rattle.plan_model.specs.declared.plan.Plan.TheVariants.{Leaf, Sort', Merge', Hash'}
 use Rattle.plan_model.specs.declared.plan.Whole.{Whole}
 use Rattle.plan_model.specs.declared.task.Task.{Task}
-use Rattle.plan_model.specs.OfferTables.{price_at, order_at, OfferLimits, OfferTableLimits}
-use Rattle.plan_model.specs.Orders.{is_same_order, interesting_orders}
+use Rattle.adv_base.specs.OfferTables.{price_at, order_at, OfferLimits, OfferTableLimits}
+use Rattle.plan_model.specs.Orders.{interesting_orders}
 use Rattle.plan_model.specs.Plans.{covers, IsValid, IsWhole, body_sorts}
 use Rattle.plan_model.specs.Costs.{whole_cost}
 use Rattle.plan_model.specs.Least.{IsCostOfPlan, Least}
 use Rattle.plan_model.specs.Exchange.{whole_internal, choice, leaf_price, leaf_order, sum_below, exchange, exchange_whole, Replaces, AreReplaced, ServesLike, IsWholeExchanged}
 use Rattle.plan_model.specs.Combinations.{Orders, IsCombination, free, IsInternal, IsOffered, IsLeastPrice, IsPriced, Templates, CachedBy, IsEach, Cached, Covers, AreEnough}
 use Rattle.plan_model.proofs.Bounds.{valid-covers}
-use Rattle.plan_model.proofs.OrderLaws.{is_same_order-decides, All-among, none-among, BeginsWith-none, BeginsWith-self, BeginsWith-length, BeginsWith-through, BeginsWith-chain, IsOfSlot, interesting_orders-of-slot}
+use Rattle.plan_model.proofs.OrderLaws.{All-among, none-among, IsOfSlot, interesting_orders-of-slot}
 use Rattle.plan_model.proofs.SetLaws.{has-all, has-below, has-right-where, sum_below-same, sum_below-le}
 use Rattle.plan_model.proofs.Exchanging.{whole-cost-splits, whole-exchange, single-is, choice-exchange}
 
@@ -119,7 +121,7 @@ pick task table needs prices offered slot =
             o.number,
             λ _. record {
               within = o.within;
-              serves = λ k d in_list begins. BeginsWith-through (order_at table slot o.number) (needs slot) _ o.begins begins;
+              serves = λ k d in_list begins. begins_trans (order_at table slot o.number) (needs slot) _ o.begins begins;
               costs = o.costs;
             },
           )
@@ -143,9 +145,6 @@ template-plan task table needs internal cost c plan priced =
     subst (IsCostOfPlan task table) (ap (λ n. n + sum_below priced.prices task.slots) above ∙ sym priced.sum) made
 
 -- ## From plans to combinations
-
-begins-decides : (o r : Order) → Decides (is_same_order (take (length r) o) r) (BeginsWith o r)
-begins-decides o r = is_same_order-decides (take (length r) o) r
 
 -- the longest of some orders with which an order begins
 pub record IsLongest (o : Order) (orders : List Order) (base best : Order) : Type 0 where
@@ -172,7 +171,7 @@ longest-of o base (x ∷ xs) begins =
       | inl fits ↦
           elim (cases_lt (length base) (length x)) [
             | inl longer ↦
-                let rest = longest-of o x xs ((begins-decides o x).0 fits) in (
+                let rest = longest-of o x xs ((begins_decides o x).0 fits) in (
                   rest.0,
                   record {
                     begins = rest.1.begins;
@@ -186,7 +185,7 @@ longest-of o base (x ∷ xs) begins =
                 )
             | inr shorter ↦ keeps (λ b. shorter)
           ]
-      | inr misses ↦ keeps (λ b. absurd (false≢true (sym misses ∙ (begins-decides o x).1 b)))
+      | inr misses ↦ keeps (λ b. absurd (false≢true (sym misses ∙ (begins_decides o x).1 b)))
     ]
 
 -- the longest interesting order with which an order begins serves all that the order serves
@@ -197,7 +196,7 @@ pub record IsCore (task : Task) (slot : ℕ) (o best : Order) : Type 0 where
 
 pub core : (task : Task) (slot : ℕ) (o : Order) → (best : Order) × IsCore task slot o best
 core task slot o =
-    let found = longest-of o [] (interesting_orders task slot) (BeginsWith-none o) in (
+    let found = longest-of o [] (interesting_orders task slot) (begins_nil o) in (
       found.0,
       record {
         among = elim found.1.from [
@@ -205,7 +204,7 @@ core task slot o =
           | inr here ↦ here
         ];
         begins = found.1.begins;
-        serves = λ k d within b. BeginsWith-chain o found.0 _ found.1.begins b (found.1.longest k d within b);
+        serves = λ k d within b. begins_longer o found.0 _ found.1.begins b (found.1.longest k d within b);
       },
     )
 
@@ -259,7 +258,7 @@ least-below table slot order (suc n) price o =
                     price_at table slot n,
                     omega (arith, cheaper, found.1),
                     record {
-                      offered = record { number = n; within = within; begins = (begins-decides (order_at table slot n) order).0 fits; costs = refl };
+                      offered = record { number = n; within = within; begins = (begins_decides (order_at table slot n) order).0 fits; costs = refl };
                       least = λ k below inside begins.
                           elim (cases_lt k n) [
                             | inl less ↦ let old = found.2.least k less inside begins in omega (arith, old, cheaper)
@@ -271,7 +270,7 @@ least-below table slot order (suc n) price o =
                   )
                   | inr dearer ↦ keeps (λ w b. dearer)
                 ]
-            | inr misses ↦ keeps (λ w b. absurd (false≢true (sym misses ∙ (begins-decides (order_at table slot n) order).1 b)))
+            | inr misses ↦ keeps (λ w b. absurd (false≢true (sym misses ∙ (begins_decides (order_at table slot n) order).1 b)))
           ]
       | inr past ↦ keeps (λ w b. absurd (omega (arith, past, w)))
     ]
@@ -320,7 +319,7 @@ matched task templates table whole limits v cover =
     record {
       number = choice whole.body slot;
       within = choice-within task table whole v slot below;
-      begins = BeginsWith-through (leaf_order table whole.body slot) (core-needs task table whole slot) (cover.other slot) (core-is task table whole slot).begins (cover.fronts slot);
+      begins = begins_trans (leaf_order table whole.body slot) (core-needs task table whole slot) (cover.other slot) (core-is task table whole slot).begins (cover.fronts slot);
       costs = refl;
     } in
     let priced = priced-by task table cover.other prices cover.internal offered in

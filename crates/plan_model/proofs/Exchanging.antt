@@ -5,7 +5,7 @@ use Rattle.std.specs.List.{list_any, list_all}
 use Rattle.std.proofs.lemmas.Bool.{cases_Bool, cases_eq, cases_lt, false≢true}
 use Rattle.std.proofs.lemmas.List.Sums.{list_all-from_AllPass}
 use Rattle.std.proofs.lemmas.Option.{slice_get-get_or, slice_get_past}
-use Rattle.adv_base.specs.Items.{Order, BeginsWith}
+use Rattle.adv_base.specs.Items.{Order, BeginsWith, is_up_of}
 use Rattle.adv_base.specs.Offers.{Offer, OfferTable}
 use Rattle.adv_base.specs.Sets.{all_slots, has_slot}
 use Rattle.plan_model.specs.declared.plan.GroupStep.{GroupStep}
@@ -14,14 +14,14 @@ use Rattle.plan_model.specs.declared.plan.Plan.{Plan}
 use Rattle.plan_model.specs.declared.plan.Plan.TheVariants.{Leaf, Sort', Merge', Hash'}
 use Rattle.plan_model.specs.declared.plan.Whole.{Whole}
 use Rattle.plan_model.specs.declared.task.Task.{Task}
-use Rattle.plan_model.specs.OfferTables.{price_at, order_at, is_up_of, OfferTableLimits}
+use Rattle.adv_base.specs.OfferTables.{price_at, order_at, OfferTableLimits}
 use Rattle.plan_model.specs.Orders.{wanted_list}
 use Rattle.plan_model.specs.Plans.{covers, delivers, side_need, is_column_of, crosses, Merges, IsValid, FitsGroup, group_order, IsWhole, body_sorts}
 use Rattle.plan_model.specs.Costs.{rows_in, sort_cost, group_cost, final_rows, plan_cost, whole_cost}
 use Rattle.plan_model.specs.Exchange
 use Rattle.plan_model.specs.Exchange.{internal, whole_internal, choice, leaf_price, leaf_order, sum_over, sum_below, exchange, exchange_whole, Replaces, AreReplaced, IsNeed, IsFront, IsExchanged, IsWholeExchanged}
 use Rattle.plan_model.proofs.Bounds.{valid-covers}
-use Rattle.plan_model.proofs.OrderLaws.{BeginsWith-self, front-served}
+use Rattle.plan_model.proofs.OrderLaws.{front-served}
 use Rattle.plan_model.proofs.SetLaws.{has-left, has-right, has-right-where, has-other, has-apart_right, has-single, has-all, sum_over-joined, sum_over-single, sum_over-all}
 
 -- ## The cost splits

@@ -7,3 +7,8 @@ pub mod Decomposing
 pub mod Caching
 pub mod Comparing
 pub mod Unique
+pub mod Listing
+pub mod TotalBound
+pub mod Renting
+pub mod Sums
+pub mod Duality

@@ -7,51 +7,24 @@ use Rattle.std.proofs.Math.Seq.{take-length}
 use Rattle.std.proofs.lemmas.List.{take-take, length-take}
 use Rattle.std.proofs.lemmas.Option.{get_or_from_slice_get, slice_get_within}
 use Rattle.std.proofs.lemmas.Map.Keys.{any_passes_from_place}
-use Rattle.std.proofs.lemmas.Bool.{cases_Bool, false≢true, eqb-true, and_parts, or_cases, or_left, or_right}
+use Rattle.std.proofs.lemmas.Bool.{cases_Bool, false≢true, eqb-true, ltb-true, and_parts, or_cases, or_left, or_right}
 use Rattle.std.proofs.lemmas.Bool.Decides.{Decides-and, Decides-eqb, Decides-like}
 use Rattle.std.proofs.lemmas.List.Elements.{All-head, All-tail, All-cons, All-nil, All-append}
 use Rattle.std.proofs.lemmas.List.Folds.{list_any-append}
 use Rattle.std.proofs.lemmas.List.Sums.{AllPass-from_list_all, list_all-from_AllPass}
 use Rattle.adv_base.specs.declared.workload.parts.Item.{Item}
 use Rattle.adv_base.specs.declared.workload.parts.Item.TheVariants.{Up, Down, Made}
-use Rattle.adv_base.specs.Items.{Order, AreApart, BeginsWith}
+use Rattle.adv_base.specs.Items.{Order, AreApart, AreWithinSlots, is_within_slots, BeginsWith, is_up_of, is_same_item, is_same_order, is_own_list}
 use Rattle.adv_base.specs.Sets.{has_slot}
+use Rattle.adv_base.proofs.Begins.{begins_all}
+use Rattle.adv_base.proofs.ItemLaws.{is_same_order-decides, order_same}
 use Rattle.plan_model.specs.declared.edge.TaskEdge.{TaskEdge}
 use Rattle.plan_model.specs.declared.task.Task.{Task}
 use Rattle.plan_model.specs.Limits.Tasks.{EdgeLimits}
-use Rattle.plan_model.specs.OfferTables.{is_up_of, OfferLimits}
-use Rattle.plan_model.specs.Orders.{is_same_item, is_same_order, need_order, needs_at, edge_orders, own_list, is_own_list, wanted_list, without_repeats, interesting_orders}
+use Rattle.adv_base.specs.OfferTables.{OfferLimits}
+use Rattle.plan_model.specs.Orders.{need_order, needs_at, edge_orders, own_list, wanted_list, without_repeats, interesting_orders}
 use Rattle.plan_model.specs.Plans.{side_need}
 use Rattle.plan_model.specs.Exchange.{IsNeed, IsFront, ServesLike}
-
--- ## Equality of orders
-
--- the test of items decides whether they are the same
-pub is_same_item-decides : (x y : Item) → Decides (is_same_item x y) (x ≡ y)
-is_same_item-decides (Up s c) (Up t d) =
-    Decides-like ((s == t) && (c == d)) (λ (p : (s ≡ t) × (c ≡ d)). cc) (λ (e : Up s c ≡ Up t d). (cc, cc)) (Decides-and (s == t) (c == d) (Decides-eqb s t) (Decides-eqb c d))
-is_same_item-decides (Up s c) (Down t d) = (λ h. absurd (false≢true h), λ e. cc)
-is_same_item-decides (Up s c) (Made n) = (λ h. absurd (false≢true h), λ e. cc)
-is_same_item-decides (Down s c) (Up t d) = (λ h. absurd (false≢true h), λ e. cc)
-is_same_item-decides (Down s c) (Down t d) =
-    Decides-like ((s == t) && (c == d)) (λ (p : (s ≡ t) × (c ≡ d)). cc) (λ (e : Down s c ≡ Down t d). (cc, cc)) (Decides-and (s == t) (c == d) (Decides-eqb s t) (Decides-eqb c d))
-is_same_item-decides (Down s c) (Made n) = (λ h. absurd (false≢true h), λ e. cc)
-is_same_item-decides (Made m) (Up t d) = (λ h. absurd (false≢true h), λ e. cc)
-is_same_item-decides (Made m) (Down t d) = (λ h. absurd (false≢true h), λ e. cc)
-is_same_item-decides (Made m) (Made n) =
-    Decides-like (m == n) (λ (p : m ≡ n). cc) (λ (e : Made m ≡ Made n). cc) (Decides-eqb m n)
-
--- the test of orders decides whether they are the same
-pub is_same_order-decides : (o r : Order) → Decides (is_same_order o r) (o ≡ r)
-is_same_order-decides [] [] = (λ h. refl, λ e. refl)
-is_same_order-decides [] (y ∷ ys) = (λ h. absurd (false≢true h), λ e. cc)
-is_same_order-decides (x ∷ xs) [] = (λ h. absurd (false≢true h), λ e. cc)
-is_same_order-decides (x ∷ xs) (y ∷ ys) =
-    Decides-like (is_same_item x y && is_same_order xs ys) (λ (p : (x ≡ y) × (xs ≡ ys)). cc) (λ (e : (x ∷ xs) ≡ (y ∷ ys)). (cc, cc))
-    (Decides-and (is_same_item x y) (is_same_order xs ys) (is_same_item-decides x y) (is_same_order-decides xs ys))
-
-pub is_same_order-self : (o : Order) → is_same_order o o ≡ true
-is_same_order-self o = (is_same_order-decides o o).1 refl
 
 -- what holds of each of some orders holds of one among them
 pub All-among : (P : Order → Type 0) (o : Order) (orders : List Order) → All P orders → list_any (is_same_order o) orders ≡ true → P o
@@ -62,39 +35,10 @@ All-among P o (x ∷ xs) h among =
       | inr later ↦ All-among P o xs (All-tail P x xs h) later
     ]
 
--- ## Prefixes
-
-pub BeginsWith-none : (o : Order) → BeginsWith o []
-BeginsWith-none o = refl
-
-pub BeginsWith-self : (o : Order) → BeginsWith o o
-BeginsWith-self o = take-length o
-
-pub BeginsWith-length : (o r : Order) → BeginsWith o r → length r ≤ length o
-BeginsWith-length o r h =
-    let e : length (take (length r) o) ≡ length r = ap length h in
-    omega (arith, e, length-take (length r) o)
-
--- what begins with an order begins with what that begins with
-pub BeginsWith-through : (o r q : Order) → BeginsWith o r → BeginsWith r q → BeginsWith o q
-BeginsWith-through o r q h g =
-    let shorter : length q ≤ length r = BeginsWith-length r q g in
-    sym (take-take (length q) (length r) o shorter) ∙ ap (take (length q)) h ∙ g
-
--- of two orders with which one begins, the longer begins with the shorter
-pub BeginsWith-chain : (o r q : Order) → BeginsWith o r → BeginsWith o q → length q ≤ length r → BeginsWith r q
-BeginsWith-chain o r q h g shorter = ap (take (length q)) (sym h) ∙ take-take (length q) (length r) o shorter ∙ g
-
 -- what holds of each item of an order holds of each item with which it begins
 pub All-front : (p : Item → Bool) (o r : Order) → list_all p o ≡ true → BeginsWith o r → list_all p r ≡ true
-All-front p o [] h begins = refl
-All-front p [] (y ∷ ys) h begins = cc
-All-front p (x ∷ xs) (y ∷ ys) h begins =
-    let both = and_parts (p x) (list_all p xs) h in
-    let whole : x ∷ take (length ys) xs ≡ y ∷ ys = begins in
-    let first : x ≡ y = cc in
-    let rest : take (length ys) xs ≡ ys = cc in
-    ap (λ t. p t && list_all p ys) (sym first) ∙ (ap (λ t. t && list_all p ys) both.0 ∙ All-front p xs ys both.1 rest)
+All-front p o r h begins =
+    list_all-from_AllPass p r (begins_all (λ item. p item ≡ true) o r (AllPass-from_list_all p o h) begins)
 
 -- ## Each interesting order
 
@@ -258,7 +202,7 @@ pub list-among : (task : Task) (slot : ℕ) → is_own_list slot (wanted_list ta
 list-among task slot own =
     let o = wanted_list task.group task.order in
     let alone : own_list slot o ≡ o ∷ [] = rw own in
-    let here : list_any (is_same_order o) (own_list slot o) ≡ true = ap (list_any (is_same_order o)) alone ∙ or_left (is_same_order o o) false (is_same_order-self o) in
+    let here : list_any (is_same_order o) (own_list slot o) ≡ true = ap (list_any (is_same_order o)) alone ∙ or_left (is_same_order o o) false (order_same o) in
     let all : list_any (is_same_order o) (flat_map (edge_orders slot) task.edges ++ own_list slot o) ≡ true =
     list_any-append (is_same_order o) (flat_map (edge_orders slot) task.edges) (own_list slot o)
     ∙ or_right (list_any (is_same_order o) (flat_map (edge_orders slot) task.edges)) (list_any (is_same_order o) (own_list slot o)) here in
@@ -272,7 +216,7 @@ need-in slot at' column (Some item) h own =
     let is : item ≡ Up at' column = h item refl in
     let first : is_up_of slot item ≡ true = (and_parts (is_up_of slot item) true own).0 in
     let here : (at' == slot) ≡ true = sym (ap (is_up_of slot) is) ∙ first in
-    let alone : list_any (is_same_order (item ∷ [])) (needs_at slot true (Some item)) ≡ true = or_left (is_same_order (item ∷ []) (item ∷ [])) false (is_same_order-self (item ∷ [])) in
+    let alone : list_any (is_same_order (item ∷ [])) (needs_at slot true (Some item)) ≡ true = or_left (is_same_order (item ∷ []) (item ∷ [])) false (order_same (item ∷ [])) in
     inr (subst (λ (b : Bool). list_any (is_same_order (item ∷ [])) (needs_at slot b (Some item)) ≡ true) (sym here) alone)
 
 edge-in : (n slot : ℕ) (edge : TaskEdge) (left : Bool) → EdgeLimits n edge → list_all (is_up_of slot) (need_order (cond left edge.left_need edge.right_need)) ≡ true → (need_order (cond left edge.left_need edge.right_need) ≡ []) ⊎ (list_any (is_same_order (need_order (cond left edge.left_need edge.right_need))) (edge_orders slot edge) ≡ true)
@@ -336,3 +280,59 @@ pub front-served : (task : Task) (slot : ℕ) (o r order : Order) → list_all (
 front-served task slot o r order own serves front begins =
     All-among (λ q. BeginsWith o q → BeginsWith r q) order (interesting_orders task slot) serves
     (front-among task slot order front (All-front (is_up_of slot) o order own begins)) begins
+
+-- ## Slots past those of the task have no interesting order but the empty one
+
+needs-past : (slot at' : ℕ) (need : Option Item) → at' < slot → needs_at slot (at' == slot) need ≡ []
+needs-past slot at' need below =
+    elim (cases_Bool (at' == slot)) [
+      | inl same ↦ let equal : at' ≡ slot = eqb-true at' slot same in absurd (omega (arith, equal, below))
+      | inr other ↦ ap (λ (b : Bool). needs_at slot b need) other
+    ]
+
+edges-past : (n slot : ℕ) (edges : List TaskEdge) → n ≤ slot → All (EdgeLimits n) edges → flat_map (edge_orders slot) edges ≡ []
+edges-past n slot [] past limits = refl
+edges-past n slot (e ∷ es) past limits =
+    let l = All-head (EdgeLimits n) e es limits in
+    let left = needs-past slot e.left e.left_need (omega (arith, past, l.left_slot)) in
+    let right = needs-past slot e.right e.right_need (omega (arith, past, l.right_slot)) in
+    let rest = edges-past n slot es past (All-tail (EdgeLimits n) e es limits) in
+    ap (λ t. (t ++ needs_at slot (e.right == slot) e.right_need) ++ flat_map (edge_orders slot) es) left
+    ∙ (ap (λ t. t ++ flat_map (edge_orders slot) es) right ∙ rest)
+
+item-past : (n slot : ℕ) (item : Item) → n ≤ slot → is_within_slots n item ≡ true → is_up_of slot item ≡ true → ⊥
+item-past n slot (Up s c) past within own =
+    let below : s < n = ltb-true s n within in
+    let same : s ≡ slot = eqb-true s slot own in
+    omega (arith, past, below, same)
+item-past n slot (Down s c) past within own = false≢true own
+item-past n slot (Made k) past within own = false≢true own
+
+own-past : (n slot : ℕ) (order : Order) → n ≤ slot → AreWithinSlots n order → own_list slot order ≡ []
+own-past n slot [] past within = refl
+own-past n slot (x ∷ xs) past within =
+    elim (cases_Bool (list_all (is_up_of slot) (x ∷ xs))) [
+      | inl own ↦ absurd (item-past n slot x past (All-head (λ item. is_within_slots n item ≡ true) x xs within) (and_parts (is_up_of slot x) (list_all (is_up_of slot) xs) own).0)
+      | inr other ↦ rw other refl
+    ]
+
+wanted-within : (task : Task) → AreWithinSlots task.slots (wanted_list task.group task.order)
+wanted-within task =
+    wanted-of (AreWithinSlots task.slots) task.group task.order (λ group is. (task.limits.group_list group is).list.within) task.limits.order_list.within
+
+pub interesting_orders-past : (task : Task) (slot : ℕ) → task.slots ≤ slot → interesting_orders task slot ≡ [] ∷ []
+unfolding interesting_orders
+interesting_orders-past task slot past =
+    let edges = edges-past task.slots slot task.edges past task.limits.each_edge in
+    let own = own-past task.slots slot (wanted_list task.group task.order) past (wanted-within task) in
+    let gathered : flat_map (edge_orders slot) task.edges ++ own_list slot (wanted_list task.group task.order) ≡ [] = ap (λ t. t ++ own_list slot (wanted_list task.group task.order)) edges ∙ own in
+    ap (λ t. without_repeats [] ([] ∷ t)) gathered
+
+-- an order of such a slot is the empty one
+pub past-none : (task : Task) (slot : ℕ) (o : Order) → task.slots ≤ slot → list_any (is_same_order o) (interesting_orders task slot) ≡ true → o ≡ []
+past-none task slot o past among =
+    let alone : list_any (is_same_order o) ([] ∷ []) ≡ true = subst (λ t. list_any (is_same_order o) t ≡ true) (interesting_orders-past task slot past) among in
+    elim (or_cases (is_same_order o []) false alone) [
+      | inl same ↦ (is_same_order-decides o []).0 same
+      | inr none ↦ absurd (false≢true none)
+    ]

@@ -1,5 +1,6 @@
 -- A block has one task, and each cost is one number.
-use Rattle.std.proofs.Common.{◌≡◌, ℕ, ◌+◌, ◌*◌, ◌≤◌, List, [], ◌∷◌, Option, refl, sym, ap, ◌∙◌, subst, arith}
+use Rattle.std.proofs.Common.{◌≡◌, ◌↔◌, ℕ, suc, ◌+◌, ◌*◌, ◌≤◌, List, [], ◌∷◌, Option, ℤ, pos, negsuc, refl, sym, ap, ◌∙◌, subst, arith}
+use Rattle.std.proofs.Math.Path.{fun_ext}
 use denote.Struct.Props.{props}
 use mathlib.Core.HLevel.{is_prop→PathP}
 use Rattle.adv_base.specs.declared.catalogue.Catalogue.{Catalogue}
@@ -10,12 +11,16 @@ use Rattle.adv_base.specs.declared.workload.Work.{Work}
 use Rattle.adv_base.specs.declared.workload.Work.TheVariants.{Select, Update, Delete, Insert}
 use Rattle.adv_base.specs.declared.workload.block.Block.{Block}
 use Rattle.adv_base.specs.declared.workload.parts.Item.{Item}
-use Rattle.adv_base.specs.Offers.{offers}
+use Rattle.adv_base.specs.Nodes.{Node, available}
+use Rattle.adv_base.specs.Offers.{OfferTable, offers, charged_offers}
+use Rattle.adv_base.specs.Settings.{TheSetting}
 use Rattle.plan_model.specs.declared.edge.TaskEdge.{TaskEdge}
+use Rattle.adv_base.proofs.OfferLaws.{uncharged}
 use Rattle.plan_model.specs.declared.task.Task.{Task}
 use Rattle.plan_model.specs.Limits.Tasks.{TaskLimits}
 use Rattle.plan_model.specs.Least.{Least}
 use Rattle.plan_model.specs.BlockTask.{IsTaskOf}
+use Rattle.plan_model.specs.Lagrangian.{TheMultipliers, IsRentedCost, IsRentedPlan, AreRentedPlans, weighted_kept, costs_inside, earnings, IsRoundedUp, IsLagrangian}
 use Rattle.plan_model.specs.Totals.{IsBlockCost, IsPlanCost, IsCost, AreCosts, weighted_sum, IsTotal}
 use Rattle.plan_model.proofs.Comparing.{least-one}
 
@@ -66,3 +71,57 @@ one-costs cat shapes config (statement ∷ statements) (x ∷ xs) (y ∷ ys) a b
 pub one-total : (cat : Catalogue) (shapes : List IndexShape) (config : Config) (statements : List Statement) (first second : ℕ) → IsTotal cat shapes config statements first → IsTotal cat shapes config statements second → first ≡ second
 one-total cat shapes config statements first second a b =
     a.sum ∙ ap (weighted_sum statements) (one-costs cat shapes config statements a.costs b.costs a.costs_are b.costs_are) ∙ sym b.sum
+
+-- ## Lagrangian values
+
+one-rented : (setting : TheSetting) (config : Config) (rent : ℕ → ℕ → ℕ) (block : Block) (first second : ℕ) → IsRentedCost setting config rent block first → IsRentedCost setting config rent block second → first ≡ second
+one-rented setting config rent block first second a b =
+    let table = charged_offers rent setting.cat block setting.shapes config in
+    least-one b.task table first second (subst (λ t. Least t table first) (one-task setting.cat block a.task b.task a.task_is b.task_is) a.least) b.least
+
+one-rented_plan : (setting : TheSetting) (config : Config) (rent : ℕ → ℕ → ℕ) (work : Work) (first second : ℕ) → IsRentedPlan setting config rent work first → IsRentedPlan setting config rent work second → first ≡ second
+one-rented_plan setting config rent (Select block) first second a b = one-rented setting config rent block first second a b
+one-rented_plan setting config rent (Update block columns) first second a b = one-rented setting config rent block first second a b
+one-rented_plan setting config rent (Delete block) first second a b = one-rented setting config rent block first second a b
+one-rented_plan setting config rent (Insert table rows) first second a b = a ∙ sym b
+
+one-rented_plans : (setting : TheSetting) (config : Config) (rent : ℕ → ℕ → ℕ → ℕ) (q : ℕ) (statements : List Statement) (first second : List ℕ) → AreRentedPlans setting config rent q statements first → AreRentedPlans setting config rent q statements second → first ≡ second
+one-rented_plans setting config rent q [] [] [] a b = refl
+one-rented_plans setting config rent q [] [] (y ∷ ys) a b = absurd b
+one-rented_plans setting config rent q [] (x ∷ xs) second a b = absurd a
+one-rented_plans setting config rent q (statement ∷ statements) [] second a b = absurd a
+one-rented_plans setting config rent q (statement ∷ statements) (x ∷ xs) [] a b = absurd b
+one-rented_plans setting config rent q (statement ∷ statements) (x ∷ xs) (y ∷ ys) a b =
+    let here : x ≡ y = one-rented_plan setting config (rent q) statement.work x y a.0 b.0 in
+    let later : xs ≡ ys = one-rented_plans setting config rent (suc q) statements xs ys a.1 b.1 in
+    cc
+
+one-rounded : (more less : ℕ) (first second : ℤ) → IsRoundedUp more less first → IsRoundedUp more less second → first ≡ second
+one-rounded more less (pos n) (pos m) a b = ap pos (omega (arith, a.0, a.1, b.0, b.1))
+one-rounded more less (pos n) (negsuc m) a b = absurd (omega (arith, a.0, a.1, b.0, b.1))
+one-rounded more less (negsuc n) (pos m) a b = absurd (omega (arith, a.0, a.1, b.0, b.1))
+one-rounded more less (negsuc n) (negsuc m) a b = ap negsuc (omega (arith, a.0, a.1, b.0, b.1))
+
+pub one-lagrangian : (setting : TheSetting) (budget : ℕ) (node : Node) (multipliers : TheMultipliers) (first second : ℤ) → IsLagrangian setting budget node multipliers first → IsLagrangian setting budget node multipliers second → first ≡ second
+one-lagrangian setting budget node multipliers first second a b =
+    let config = available setting.cat setting.shapes budget node in
+    let same : a.costs ≡ b.costs = one-rented_plans setting config multipliers.rent 1 setting.statements a.costs b.costs a.costs_are b.costs_are in
+    let less = earnings setting multipliers budget node 1 setting.shapes + multipliers.page * budget in
+    let more : List ℕ → ℕ = λ costs. 65536 * (weighted_sum setting.statements costs + weighted_kept setting) + costs_inside setting multipliers node 1 setting.shapes in
+    one-rounded (more b.costs) less first second (subst (λ costs. IsRoundedUp (more costs) less first) same a.value_is) b.value_is
+
+-- Two indexes of 3 and 4 pages save 67000 and 66000 of 80000 on statements of weights 10 and 11. Under a budget of 4 pages
+-- that cost 2^33 / 65536 each, rents of 39321 and 47662 leave 677204.
+worked-value : IsRoundedUp (65536 * (10 * 52321 + 11 * 61662)) (0 + 8589934592 * 4) (pos 677204)
+worked-value = (omega arith, omega arith)
+
+-- ## No rents
+
+unrented-table : (setting : TheSetting) (config : Config) (block : Block) → charged_offers (λ slot candidate. 0) setting.cat block setting.shapes config ≡ offers setting.cat block setting.shapes config
+unrented-table setting config block = fun_ext (uncharged setting.cat block setting.shapes config)
+
+pub unrented-plain : (setting : TheSetting) (config : Config) (block : Block) (cost : ℕ) → IsRentedCost setting config (λ slot candidate. 0) block cost ↔ IsBlockCost setting.cat setting.shapes config block cost
+unrented-plain setting config block cost = (
+  λ a. record { task = a.task; task_is = a.task_is; least = subst (λ (table : OfferTable). Least a.task table cost) (unrented-table setting config block) a.least },
+  λ b. record { task = b.task; task_is = b.task_is; least = subst (λ (table : OfferTable). Least b.task table cost) (sym (unrented-table setting config block)) b.least },
+)

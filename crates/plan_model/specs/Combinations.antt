@@ -2,13 +2,13 @@
 -- plans gives, after INUM.
 use Rattle.std.specs.Prelude.{◌≡◌, ◌≢◌, ℕ, ◌+◌, ◌<◌, ◌≤◌, true, ◌↔◌, List, [], ◌∷◌, length, Some, slice_get, slice_index_or}
 use Rattle.std.specs.List.{list_any}
-use Rattle.adv_base.specs.Items.{Order, BeginsWith}
+use Rattle.adv_base.specs.Items.{Order, BeginsWith, is_same_order}
 use Rattle.adv_base.specs.Offers.{OfferTable}
 use Rattle.plan_model.specs.declared.plan.Whole.{Whole}
 use Rattle.plan_model.specs.declared.task.Task.{Task}
 use Rattle.plan_model.specs.declared.template.Template.{Template}
-use Rattle.plan_model.specs.OfferTables.{price_at, order_at, OfferTableLimits}
-use Rattle.plan_model.specs.Orders.{is_same_order, interesting_orders}
+use Rattle.adv_base.specs.OfferTables.{price_at, order_at, OfferTableLimits}
+use Rattle.plan_model.specs.Orders.{interesting_orders}
 use Rattle.plan_model.specs.Plans.{IsWhole}
 use Rattle.plan_model.specs.Costs.{whole_cost}
 use Rattle.plan_model.specs.Least.{IsCostOfPlan, Least}
@@ -128,3 +128,21 @@ Decompose task templates =
 -- Decomposition: enough templates decompose their task.
 abbrev pub EnoughDecompose : Type 0
 EnoughDecompose = (task : Task) (templates : List Template) → AreEnough task (IsIn task templates) → Decompose task templates
+
+-- the templates are those of all combinations
+pub record AreEach (task : Task) (templates : List Template) : Type 0 where
+  pub each : (needs : Orders) (internal : ℕ) → IsIn task templates needs internal → IsEach task needs internal
+  pub all : (needs : Orders) (internal : ℕ) → IsEach task needs internal → IsIn task templates needs internal
+
+-- the templates are those of the combinations that are kept
+pub record AreKept (task : Task) (templates : List Template) : Type 0 where
+  pub kept : (needs : Orders) (internal : ℕ) → IsIn task templates needs internal → IsKept task needs internal
+  pub all : (needs : Orders) (internal : ℕ) → IsKept task needs internal → IsIn task templates needs internal
+
+-- One template for each combination decomposes the task.
+abbrev pub EachDecompose : Type 0
+EachDecompose = (task : Task) (templates : List Template) → AreEach task templates → Decompose task templates
+
+-- One for each combination that is kept does so too.
+abbrev pub KeptListDecompose : Type 0
+KeptListDecompose = (task : Task) (templates : List Template) → AreKept task templates → Decompose task templates

@@ -1,12 +1,12 @@
 -- Least costs over tables of offers that differ: with offers added, with prices raised, with the best offer for each order.
 use Rattle.std.specs.Prelude.{◌≡◌, ℕ, ◌+◌, ◌<◌, ◌≤◌, true, ◌↔◌, length}
 use Rattle.std.specs.List.{list_any}
-use Rattle.adv_base.specs.Items.{Order}
+use Rattle.adv_base.specs.Items.{Order, is_same_order}
 use Rattle.adv_base.specs.Offers.{OfferTable}
 use Rattle.plan_model.specs.declared.plan.Whole.{Whole}
 use Rattle.plan_model.specs.declared.task.Task.{Task}
-use Rattle.plan_model.specs.OfferTables.{price_at, order_at, OfferTableLimits}
-use Rattle.plan_model.specs.Orders.{is_same_order, interesting_orders}
+use Rattle.adv_base.specs.OfferTables.{price_at, order_at, OfferTableLimits}
+use Rattle.plan_model.specs.Orders.{interesting_orders}
 use Rattle.plan_model.specs.Plans.{IsWhole}
 use Rattle.plan_model.specs.Costs.{whole_cost}
 use Rattle.plan_model.specs.Least.{Least}

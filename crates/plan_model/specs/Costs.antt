@@ -10,7 +10,7 @@ use Rattle.plan_model.specs.declared.plan.Plan.{Plan}
 use Rattle.plan_model.specs.declared.plan.Plan.TheVariants.{Leaf, Sort', Merge', Hash'}
 use Rattle.plan_model.specs.declared.plan.Whole.{Whole}
 use Rattle.plan_model.specs.declared.task.Task.{Task}
-use Rattle.plan_model.specs.OfferTables.{price_at}
+use Rattle.adv_base.specs.OfferTables.{price_at}
 use Rattle.plan_model.specs.Plans.{covers}
 
 -- the rows of a set of slots

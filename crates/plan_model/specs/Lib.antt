@@ -3,7 +3,7 @@ pub mod OfferTables
 pub mod Orders
 pub mod Plans
 pub mod Costs
-pub mod Judging
+pub mod inner
 pub mod PlanTexts
 pub mod Least
 pub mod Exchange
@@ -11,4 +11,6 @@ pub mod Combinations
 pub mod Comparisons
 pub mod BlockTask
 pub mod Totals
+pub mod Lagrangian
+pub mod Useful
 pub mod Uniqueness

@@ -1,35 +1,3 @@
--- Tables of offers: for each slot a list of an order and a price.
-use Rattle.std.specs.Prelude.{◌≡◌, ℕ, ◌<◌, ◌≤◌, ◌==◌, Bool, true, false, [], length, All, slice_get}
-use Rattle.std.specs.Option.{option_map_or}
-use Rattle.adv_base.specs.declared.workload.parts.Item.{Item}
-use Rattle.adv_base.specs.declared.workload.parts.Item.TheVariants.{Up, Down, Made}
-use Rattle.adv_base.specs.Items.{Order, AreApart}
-use Rattle.adv_base.specs.Offers.{Offer, OfferTable}
-
--- what the offer of a number costs
-abbrev pub price_at : OfferTable → ℕ → ℕ → ℕ
-price_at table slot offer = option_map_or (λ o. o.1) (slice_get (table slot) offer) 0
-
--- the order that it delivers
-abbrev pub order_at : OfferTable → ℕ → ℕ → Order
-order_at table slot offer = option_map_or (λ o. o.0) (slice_get (table slot) offer) []
-
--- an upward column of the slot
-abbrev pub is_up_of : ℕ → Item → Bool
-is_up_of slot (Up s c) = s == slot
-is_up_of slot (Down s c) = false
-is_up_of slot (Made n) = false
-
--- an offer of a slot: a price of at most 10^19, and upward columns of the slot, none twice
-pub record OfferLimits (slot : ℕ) (offer : Offer) : Type 0 where
-  pub price : offer.1 ≤ 10000000000000000000
-  pub own : All (λ item. is_up_of slot item ≡ true) offer.0
-  pub apart : AreApart offer.0
-
--- each offer of each slot keeps its limits
-abbrev pub OfferTableLimits : OfferTable → Type 0
-OfferTableLimits table = (slot : ℕ) → All (OfferLimits slot) (table slot)
-
--- each slot below n has an offer
-abbrev pub HasOffers : ℕ → OfferTable → Type 0
-HasOffers n table = (slot : ℕ) → slot < n → 0 < length (table slot)
+-- Tables of offers, as the base has them.
+pub use Rattle.adv_base.specs.OfferTables.{price_at, order_at, OfferLimits, OfferTableLimits, HasOffers}
+pub use Rattle.adv_base.specs.Items.{is_up_of}

@@ -1,29 +1,11 @@
 -- The orders of a slot that some operator above may want, after System R's interesting orders.
-use Rattle.std.specs.Prelude.{ℕ, ◌*◌, ◌==◌, Bool, true, false, ◌&&◌, if◌then◌else◌, List, [], ◌∷◌, ◌++◌, length, Option, Some, None, zero, suc}
-use Rattle.std.specs.List.{list_all, list_any, flat_map}
+use Rattle.std.specs.Prelude.{ℕ, ◌*◌, ◌==◌, Bool, true, if◌then◌else◌, List, [], ◌∷◌, ◌++◌, length, Option, Some, None, zero, suc}
+use Rattle.std.specs.List.{list_any, flat_map}
 use Rattle.adv_base.specs.declared.workload.parts.Item.{Item}
-use Rattle.adv_base.specs.declared.workload.parts.Item.TheVariants.{Up, Down, Made}
 use Rattle.adv_base.specs.Items.{Order}
+pub use Rattle.adv_base.specs.Items.{is_same_item, is_same_order, is_own_list}
 use Rattle.plan_model.specs.declared.edge.TaskEdge.{TaskEdge}
 use Rattle.plan_model.specs.declared.task.Task.{Task}
-use Rattle.plan_model.specs.OfferTables.{is_up_of}
-
-abbrev pub is_same_item : Item → Item → Bool
-is_same_item (Up s c) (Up t d) = (s == t) && (c == d)
-is_same_item (Up s c) (Down t d) = false
-is_same_item (Up s c) (Made n) = false
-is_same_item (Down s c) (Up t d) = false
-is_same_item (Down s c) (Down t d) = (s == t) && (c == d)
-is_same_item (Down s c) (Made n) = false
-is_same_item (Made m) (Up t d) = false
-is_same_item (Made m) (Down t d) = false
-is_same_item (Made m) (Made n) = m == n
-
-abbrev pub is_same_order : Order → Order → Bool
-is_same_order [] [] = true
-is_same_order [] (y ∷ ys) = false
-is_same_order (x ∷ xs) [] = false
-is_same_order (x ∷ xs) (y ∷ ys) = is_same_item x y && is_same_order xs ys
 
 -- a need as an order
 abbrev pub need_order : Option Item → Order
@@ -32,17 +14,11 @@ need_order (Some item) = item ∷ []
 
 -- the needs of an edge at a slot, where its column there isn't bound
 abbrev pub needs_at : ℕ → Bool → Option Item → List Order
-needs_at slot false need = []
-needs_at slot true None = []
 needs_at slot true (Some item) = (item ∷ []) ∷ []
+needs_at slot here need = []
 
 abbrev pub edge_orders : ℕ → TaskEdge → List Order
 edge_orders slot edge = needs_at slot (edge.left == slot) edge.left_need ++ needs_at slot (edge.right == slot) edge.right_need
-
--- a list that isn't empty, of upward columns of one slot
-abbrev pub is_own_list : ℕ → Order → Bool
-is_own_list slot [] = false
-is_own_list slot (x ∷ xs) = list_all (is_up_of slot) (x ∷ xs)
 
 abbrev pub own_list : ℕ → Order → List Order
 own_list slot order = if is_own_list slot order then order ∷ [] else []

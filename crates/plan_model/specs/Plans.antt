@@ -14,7 +14,7 @@ use Rattle.plan_model.specs.declared.plan.Plan.TheVariants.{Leaf, Sort', Merge',
 use Rattle.plan_model.specs.declared.plan.Whole.{Whole}
 use Rattle.plan_model.specs.declared.task.Task.{Task}
 use Rattle.plan_model.specs.Limits.Tasks.{ends}
-use Rattle.plan_model.specs.OfferTables.{order_at}
+use Rattle.adv_base.specs.OfferTables.{order_at}
 use Rattle.plan_model.specs.Orders.{need_order}
 
 -- the set of slots that a plan reads
@@ -75,11 +75,9 @@ body_sorts Hashed = false
 -- that begins with the list.
 abbrev pub FitsGroup : Option Order → GroupStep → Order → Type 0
 FitsGroup None Nothing order = Unit {0}
-FitsGroup None Sorted order = ⊥
-FitsGroup None Hashed order = ⊥
-FitsGroup (Some group) Nothing order = ⊥
 FitsGroup (Some group) Sorted order = BeginsWith order group
 FitsGroup (Some group) Hashed order = Unit {0}
+FitsGroup group step order = ⊥
 
 -- the order after the group step
 abbrev pub group_order : Option Order → GroupStep → Order → Order

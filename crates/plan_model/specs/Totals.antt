@@ -1,27 +1,37 @@
 -- What statements and a workload cost under a configuration.
-use Rattle.std.specs.Prelude.{◌≡◌, ℕ, ◌+◌, ◌*◌, false, List, [], ◌∷◌, replicate}
+use Rattle.std.specs.Prelude.{◌≡◌, ℕ, ◌+◌, ◌*◌, ◌<◌, ◌≤◌, false, List, [], ◌∷◌, length, replicate, All, Option, Some, None}
 use Rattle.adv_base.specs.declared.catalogue.Catalogue.{Catalogue}
 use Rattle.adv_base.specs.declared.catalogue.index.IndexShape.{IndexShape}
+use Rattle.adv_base.specs.declared.limits.TheConstants.{MOST_CANDIDATES, MOST_STATEMENTS}
 use Rattle.adv_base.specs.declared.setting.Config.{Config}
 use Rattle.adv_base.specs.declared.workload.Statement.{Statement}
 use Rattle.adv_base.specs.declared.workload.Work.{Work}
 use Rattle.adv_base.specs.declared.workload.Work.TheVariants.{Select, Update, Delete, Insert}
 use Rattle.adv_base.specs.declared.workload.block.Block.{Block}
 use Rattle.adv_base.specs.Offers.{offers}
+use Rattle.adv_base.specs.OfferTables.{OfferTableLimits}
 use Rattle.adv_base.specs.Upkeep.{kept_upkeep, config_upkeep}
+use Rattle.plan_model.specs.declared.plan.TheConstants.{MOST_TOTAL}
 use Rattle.plan_model.specs.declared.task.Task.{Task}
 use Rattle.plan_model.specs.BlockTask.{IsTaskOf}
 use Rattle.plan_model.specs.Least.{Least}
 
 -- no candidate
 abbrev pub no_candidates : Config
-no_candidates = record { on = replicate 256 false }
+no_candidates = record { on = replicate MOST_CANDIDATES false }
 
 -- the cost of a least plan of a block under a configuration
 pub record IsBlockCost (cat : Catalogue) (shapes : List IndexShape) (config : Config) (block : Block) (cost : ℕ) : Type 0 where
   pub task : Task
   pub task_is : IsTaskOf cat block task
   pub least : Least task (offers cat block shapes config) cost
+
+-- the block of a statement; an INSERT has none
+abbrev pub block_of : Work → Option Block
+block_of (Select block) = Some block
+block_of (Update block columns) = Some block
+block_of (Delete block) = Some block
+block_of (Insert table rows) = None
 
 -- a statement's part that its plan costs; an INSERT has no plan
 abbrev pub IsPlanCost : Catalogue → List IndexShape → Config → Work → ℕ → Type 0
@@ -39,10 +49,9 @@ pub record IsCost (cat : Catalogue) (shapes : List IndexShape) (config : Config)
 -- the cost of each statement
 abbrev pub AreCosts : Catalogue → List IndexShape → Config → List Statement → List ℕ → Type 0
 AreCosts cat shapes config [] [] = Unit {0}
-AreCosts cat shapes config [] (cost ∷ costs) = ⊥
-AreCosts cat shapes config (statement ∷ statements) [] = ⊥
 AreCosts cat shapes config (statement ∷ statements) (cost ∷ costs) =
     IsCost cat shapes config statement.work cost × AreCosts cat shapes config statements costs
+AreCosts cat shapes config statements costs = ⊥
 
 -- the sum of weight times cost
 abbrev pub weighted_sum : List Statement → List ℕ → ℕ
@@ -55,3 +64,15 @@ pub record IsTotal (cat : Catalogue) (shapes : List IndexShape) (config : Config
   pub costs : List ℕ
   pub costs_are : AreCosts cat shapes config statements costs
   pub sum : total ≡ weighted_sum statements costs
+
+-- the offers of each statement's block keep their limits
+abbrev pub OffersKeepLimits : Catalogue → List IndexShape → Config → List Statement → Type 0
+OffersKeepLimits cat shapes config statements =
+    All (λ statement. (block : Block) → block_of statement.work ≡ Some block → OfferTableLimits (offers cat block shapes config)) statements
+
+-- a workload's total is less than 10^31
+abbrev pub TotalStaysBelow : Type 0
+TotalStaysBelow =
+    (cat : Catalogue) (shapes : List IndexShape) (config : Config) (statements : List Statement) (total : ℕ) →
+    length shapes ≤ MOST_CANDIDATES → length statements ≤ MOST_STATEMENTS → OffersKeepLimits cat shapes config statements →
+    IsTotal cat shapes config statements total → total < MOST_TOTAL

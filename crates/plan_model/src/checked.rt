@@ -3,14 +3,16 @@ ghost use Rattle.std.specs.Prelude.{◌≡◌, ◌↔◌, ◌<◌, ◌≤◌, �
 ghost use Rattle.std.specs.List.{list_all};
 ghost use Rattle.std.specs.Option.{ForSome, IfSome, IsNone};
 ghost use Rattle.adv_base.specs.declared.workload.parts.Item.TheVariants.{Up};
-ghost use Rattle.adv_base.specs.Items.{AreApart, AreUpward, AreWithinSlots, is_within_slots, is_same_column as is_same, is_upward as is_up};
+ghost use Rattle.adv_base.specs.Items as rule;
 ghost use Rattle.adv_base.specs.Sets.{IsConnected};
+ghost use Rattle.adv_base.specs.declared.limits.TheConstants.{MOST_SLOTS};
 ghost use Rattle.adv_base.specs.Limits.Blocks.{ListLimits, GroupLimits};
-ghost use Rattle.plan_model.specs.Limits.Tasks.{TaskLimits, EdgeLimits, RowLimits, AreNumbered, ends, is_numbered as numbered};
+ghost use Rattle.plan_model.specs.Limits.Tasks as tasks;
 
 use crate::edge::TaskEdge;
 use crate::order::{all_slots, are_joined};
 use crate::task::Task;
+use adv_base::limits::{MOST_COLUMNS, MOST_ROWS, MOST_SLOTS};
 use adv_base::{Item, List, Rates};
 
 fn is_need(need: Option<Item>, slot: u8, column: u16) -> bool
@@ -23,12 +25,12 @@ fn is_need(need: Option<Item>, slot: u8, column: u16) -> bool
 }
 
 fn is_edge(edge: &TaskEdge, slots: u8) -> bool
-    ensures { IsTrue result ↔ EdgeLimits slots edge.now }
+    ensures { IsTrue result ↔ tasks.EdgeLimits slots edge.now }
 {
     if edge.left >= slots || edge.right >= slots || edge.left == edge.right {
         return false;
     }
-    if edge.left_column >= 200 || edge.right_column >= 200 {
+    if edge.left_column as usize >= MOST_COLUMNS || edge.right_column as usize >= MOST_COLUMNS {
         return false;
     }
     is_need(edge.left_need, edge.left, edge.left_column)
@@ -36,41 +38,41 @@ fn is_edge(edge: &TaskEdge, slots: u8) -> bool
 }
 
 fn are_edges(edges: &[TaskEdge], slots: u8) -> bool
-    ensures { IsTrue result ↔ All (EdgeLimits slots) edges.now }
+    ensures { IsTrue result ↔ All (tasks.EdgeLimits slots) edges.now }
 {
     edges.iter().all(|edge| is_edge(edge, slots))
 }
 
 fn is_row_count(rows: u64) -> bool
-    ensures { IsTrue result ↔ RowLimits rows }
+    ensures { IsTrue result ↔ tasks.RowLimits rows }
 {
-    rows >= 1 && rows <= 1000000000000
+    rows >= 1 && rows <= MOST_ROWS
 }
 
 fn are_row_counts(rows: &[u64]) -> bool
-    ensures { IsTrue result ↔ All RowLimits rows.now }
+    ensures { IsTrue result ↔ All tasks.RowLimits rows.now }
 {
     rows.iter().all(|rows| is_row_count(*rows))
 }
 
 fn is_numbered(item: &Item) -> bool
-    ensures { result ≡ numbered item.now }
+    ensures { result ≡ tasks.is_numbered item.now }
 {
     match item {
-        Item::Up { column, .. } => *column < 200,
-        Item::Down { column, .. } => *column < 200,
+        Item::Up { column, .. } => (*column as usize) < MOST_COLUMNS,
+        Item::Down { column, .. } => (*column as usize) < MOST_COLUMNS,
         Item::Made(_) => true,
     }
 }
 
 fn are_numbered(items: &[Item]) -> bool
-    ensures { IsTrue result ↔ AreNumbered items.now }
+    ensures { IsTrue result ↔ tasks.AreNumbered items.now }
 {
     items.iter().all(is_numbered)
 }
 
 fn is_within(item: &Item, slots: u8) -> bool
-    ensures { result ≡ is_within_slots slots item.now }
+    ensures { result ≡ rule.is_within_slots slots item.now }
 {
     match item {
         Item::Up { slot, .. } => *slot < slots,
@@ -80,13 +82,13 @@ fn is_within(item: &Item, slots: u8) -> bool
 }
 
 fn are_within(items: &[Item], slots: u8) -> bool
-    ensures { IsTrue result ↔ AreWithinSlots slots items.now }
+    ensures { IsTrue result ↔ rule.AreWithinSlots slots items.now }
 {
     items.iter().all(|item| is_within(item, slots))
 }
 
 fn is_upward(item: &Item) -> bool
-    ensures { result ≡ is_up item.now }
+    ensures { result ≡ rule.is_upward item.now }
 {
     match item {
         Item::Up { .. } => true,
@@ -96,14 +98,14 @@ fn is_upward(item: &Item) -> bool
 }
 
 fn are_upward(items: &[Item]) -> bool
-    ensures { IsTrue result ↔ AreUpward items.now }
+    ensures { IsTrue result ↔ rule.AreUpward items.now }
 {
     items.iter().all(is_upward)
 }
 
 /// Whether two items are the same column, whichever way each goes.
 fn is_same_column(one: &Item, other: &Item) -> bool
-    ensures { result ≡ is_same one.now other.now }
+    ensures { result ≡ rule.is_same_column one.now other.now }
 {
     match one {
         Item::Up { slot, column } => is_column(other, *slot, *column),
@@ -113,7 +115,7 @@ fn is_same_column(one: &Item, other: &Item) -> bool
 }
 
 fn is_column(item: &Item, own_slot: u8, own_column: u16) -> bool
-    ensures { result ≡ is_same (Up own_slot own_column) item.now }
+    ensures { result ≡ rule.is_same_column (Up own_slot own_column) item.now }
 {
     match item {
         Item::Up { slot, column } => own_slot == *slot && own_column == *column,
@@ -123,14 +125,14 @@ fn is_column(item: &Item, own_slot: u8, own_column: u16) -> bool
 }
 
 fn is_apart_from(one: &Item, items: &[Item]) -> bool
-    ensures { result ≡ list_all (λ item. not (is_same one.now item)) items.now }
+    ensures { result ≡ list_all (λ item. not (rule.is_same_column one.now item)) items.now }
 {
     items.iter().all(|item| !is_same_column(one, item))
 }
 
 /// Whether no column stands twice.
 pub(crate) fn are_apart(items: &[Item]) -> bool
-    ensures { IsTrue result ↔ AreApart items.now }
+    ensures { IsTrue result ↔ rule.AreApart items.now }
 {
     match items.split_first() {
         None => true,
@@ -152,8 +154,8 @@ fn is_group(items: &[Item], slots: u8) -> bool
 
 /// Whether each cut of the slots in two is crossed.
 fn is_connected(edges: &[TaskEdge], slots: u8) -> bool
-    requires { slots ≤ 8 }
-    ensures { IsTrue result ↔ IsConnected slots (map ends edges.now) }
+    requires { slots ≤ MOST_SLOTS }
+    ensures { IsTrue result ↔ IsConnected slots (map tasks.ends edges.now) }
 {
     let all = all_slots(slots);
     for part in 1..all {
@@ -166,10 +168,10 @@ fn is_connected(edges: &[TaskEdge], slots: u8) -> bool
 
 /// Whether edges connect slots of a task, of which there are 1 to 8.
 fn are_tied(edges: &[TaskEdge], slots: u8) -> bool
-    ensures yes { IsTrue result → (1 ≤ slots) × (slots ≤ 8) × All (EdgeLimits slots) edges.now × (length edges.now < 2 ^ 32) × IsConnected slots (map ends edges.now) }
-    ensures no { (1 ≤ slots) × (slots ≤ 8) × All (EdgeLimits slots) edges.now × (length edges.now < 2 ^ 32) × IsConnected slots (map ends edges.now) → IsTrue result }
+    ensures yes { IsTrue result → (1 ≤ slots) × (slots ≤ MOST_SLOTS) × All (tasks.EdgeLimits slots) edges.now × (length edges.now < 2 ^ 32) × IsConnected slots (map tasks.ends edges.now) }
+    ensures no { (1 ≤ slots) × (slots ≤ MOST_SLOTS) × All (tasks.EdgeLimits slots) edges.now × (length edges.now < 2 ^ 32) × IsConnected slots (map tasks.ends edges.now) → IsTrue result }
 {
-    if slots < 1 || slots > 8 || edges.len() >= 4294967296 {
+    if slots < 1 || slots as usize > MOST_SLOTS || edges.len() >= 4294967296 {
         return false;
     }
     are_edges(edges, slots) && is_connected(edges, slots)
@@ -177,15 +179,15 @@ fn are_tied(edges: &[TaskEdge], slots: u8) -> bool
 
 /// Whether there are rows for each set of slots.
 fn are_rows(rows: &[u64], slots: u8) -> bool
-    requires { slots ≤ 8 }
-    ensures { IsTrue result ↔ ((length rows.now ≡ 2 ^ slots) × All RowLimits rows.now) }
+    requires { slots ≤ MOST_SLOTS }
+    ensures { IsTrue result ↔ ((length rows.now ≡ 2 ^ slots) × All tasks.RowLimits rows.now) }
 {
     rows.len() == 1 << slots && are_row_counts(rows)
 }
 
 /// Whether there is no list to group by, or a fitting one.
 fn may_group(group: &Option<List<Item>>, slots: u8) -> bool
-    ensures { IsTrue result ↔ (ForSome group.now (GroupLimits slots) × ForSome group.now AreNumbered) }
+    ensures { IsTrue result ↔ (ForSome group.now (GroupLimits slots) × ForSome group.now tasks.AreNumbered) }
 {
     match group {
         None => true,
@@ -195,7 +197,7 @@ fn may_group(group: &Option<List<Item>>, slots: u8) -> bool
 
 /// Whether a list may be ordered by.
 fn may_order(order: &[Item], slots: u8) -> bool
-    ensures { IsTrue result ↔ (ListLimits slots order.now × AreNumbered order.now) }
+    ensures { IsTrue result ↔ (ListLimits slots order.now × tasks.AreNumbered order.now) }
 {
     is_list(order, slots) && are_numbered(order)
 }
@@ -209,7 +211,7 @@ fn are_parts(
     group_rows: u64,
     order: &[Item],
 ) -> bool
-    ensures { IsTrue result ↔ TaskLimits slots edges.now rows.now group.now group_rows order.now }
+    ensures { IsTrue result ↔ tasks.TaskLimits slots edges.now rows.now group.now group_rows order.now }
 {
     if !are_tied(edges, slots) {
         return false;
@@ -232,7 +234,7 @@ pub fn checked_task(
     rates: Rates,
 ) -> Option<Task>
     ensures made { IfSome result (λ task. (task.slots ≡ slots) × (task.edges ≡ edges) × (task.rows ≡ rows) × (task.group ≡ group) × (task.group_rows ≡ group_rows) × (task.order ≡ order) × (task.rates ≡ rates)) }
-    ensures refused { IsNone result ↔ ¬ (TaskLimits slots edges rows group group_rows order) }
+    ensures refused { IsNone result ↔ ¬ (tasks.TaskLimits slots edges rows group group_rows order) }
 {
     if !are_parts(
         slots,

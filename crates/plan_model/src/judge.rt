@@ -2,9 +2,9 @@
 ghost use Rattle.std.specs.Prelude.{◌≡◌, ◌+◌, ◌<◌, ◌^◌, bit_and, All, IsTrue, true, length};
 ghost use Rattle.std.specs.List.{list_any};
 ghost use Rattle.std.specs.Option.{SomeIff};
-ghost use Rattle.plan_model.specs.OfferTables.{OfferTableLimits};
-ghost use Rattle.plan_model.specs.Plans.{Merges, IsValid, crosses as edge_crosses, is_column_of as is_column};
-ghost use Rattle.plan_model.specs.Judging.{leaf_judged, sort_judged, merge_judged, hash_judged, plan_judged, IsKept};
+ghost use Rattle.adv_base.specs.OfferTables.{OfferTableLimits};
+ghost use Rattle.plan_model.specs.Plans as plans;
+ghost use Rattle.plan_model.specs.inner.Judging as judging;
 
 use crate::offers::Offers;
 use crate::order::{are_joined, crosses, delivered, is_column_of, serves};
@@ -21,7 +21,7 @@ pub(crate) struct Judged {
 }
 
 fn judge_leaf<O: Offers>(task: &Task, offers: &O, slot: u8, offer: u32) -> Option<Judged>
-    ensures { SomeIff result ((slot < task.now.slots) × (offer < length (O.table offers.now slot))) (leaf_judged (O.table offers.now) slot offer) }
+    ensures { SomeIff result ((slot < task.now.slots) × (offer < length (O.table offers.now slot))) (judging.leaf_judged (O.table offers.now) slot offer) }
 {
     if slot >= task.slots || offer >= offers.count(slot) {
         return None;
@@ -33,8 +33,8 @@ fn judge_leaf<O: Offers>(task: &Task, offers: &O, slot: u8, offer: u32) -> Optio
 }
 
 fn judge_sort(task: &Task, order: &[Item], input: Judged) -> Option<Judged>
-    requires { IsKept task.now input }
-    ensures { SomeIff result (All (λ item. is_column input.covers item ≡ true) order.now) (sort_judged task.now input) }
+    requires { judging.IsKept task.now input }
+    ensures { SomeIff result (All (λ item. plans.is_column_of input.covers item ≡ true) order.now) (judging.sort_judged task.now input) }
 {
     if !order.iter().all(|item| is_column_of(input.covers, item)) {
         return None;
@@ -54,8 +54,8 @@ fn merges(
     left_order: &[Item],
     right_order: &[Item],
 ) -> bool
-    ensures yes { IsTrue result → Merges task.now number left right left_order.now right_order.now }
-    ensures no { Merges task.now number left right left_order.now right_order.now → IsTrue result }
+    ensures yes { IsTrue result → plans.Merges task.now number left right left_order.now right_order.now }
+    ensures no { plans.Merges task.now number left right left_order.now right_order.now → IsTrue result }
 {
     let edges = task.edges.as_slice();
     match edges.get(number as usize) {
@@ -74,9 +74,9 @@ fn judge_merge(
     left_order: &[Item],
     right_order: &[Item],
 ) -> Option<Judged>
-    requires left { IsKept task.now left }
-    requires right { IsKept task.now right }
-    ensures { SomeIff result ((bit_and left.covers right.covers ≡ 0) × Merges task.now number left.covers right.covers left_order.now right_order.now) (merge_judged task.now left right) }
+    requires left { judging.IsKept task.now left }
+    requires right { judging.IsKept task.now right }
+    ensures { SomeIff result ((bit_and left.covers right.covers ≡ 0) × plans.Merges task.now number left.covers right.covers left_order.now right_order.now) (judging.merge_judged task.now left right) }
 {
     if left.covers & right.covers != 0 {
         return None;
@@ -100,9 +100,9 @@ fn judge_merge(
 }
 
 fn judge_hash(task: &Task, left: Judged, right: Judged) -> Option<Judged>
-    requires left { IsKept task.now left }
-    requires right { IsKept task.now right }
-    ensures { SomeIff result ((bit_and left.covers right.covers ≡ 0) × (list_any (edge_crosses left.covers right.covers) task.now.edges ≡ true)) (hash_judged task.now left right) }
+    requires left { judging.IsKept task.now left }
+    requires right { judging.IsKept task.now right }
+    ensures { SomeIff result ((bit_and left.covers right.covers ≡ 0) × (list_any (plans.crosses left.covers right.covers) task.now.edges ≡ true)) (judging.hash_judged task.now left right) }
 {
     if left.covers & right.covers != 0 {
         return None;
@@ -121,7 +121,7 @@ fn judge_hash(task: &Task, left: Judged, right: Judged) -> Option<Judged>
 /// What a plan covers and costs, where it is valid; `sorts` says that a sort may stand at its top.
 pub(crate) fn judge<O: Offers>(task: &Task, offers: &O, plan: &Plan, sorts: bool) -> Option<Judged>
     requires { OfferTableLimits (O.table offers.now) }
-    ensures exact { SomeIff result (IsValid sorts task.now (O.table offers.now) plan.now) (plan_judged task.now (O.table offers.now) plan.now) }
+    ensures exact { SomeIff result (plans.IsValid sorts task.now (O.table offers.now) plan.now) (judging.plan_judged task.now (O.table offers.now) plan.now) }
 {
     match plan {
         Plan::Leaf { slot, offer } => judge_leaf(task, offers, *slot, *offer),

@@ -26,13 +26,14 @@ pub use checked::checked_task;
 pub use edge::TaskEdge;
 pub use labels::Labels;
 pub use laws::{
-    best_is_enough, cache_decomposes, cost_splits, costs_are_one, enough_decompose, least_is_one,
-    least_never_rises, leaves_exchange, raised_lies_between,
+    best_is_enough, cache_decomposes, cost_splits, costs_are_one, least_is_one, least_never_rises,
+    leaves_exchange, raised_lies_between, rents_bound, templates_decompose, total_stays_below,
+    weak_duality,
 };
 pub use lines::plan_text;
 pub use offers::Offers;
 pub use order::{all_slots, are_joined, begins_with, crosses, has_slot, is_column_of, serves};
-pub use plan::{GroupStep, Plan, Whole};
+pub use plan::{GroupStep, MOST_COST, MOST_TOTAL, Plan, Whole};
 pub use price::{group_price, hash_price, merge_price, rows_of, sort_price};
 pub use task::Task;
 pub use template::Template;

@@ -1,10 +1,10 @@
 //! The lines of a plan.
 ghost use Rattle.std.specs.Prelude.{◌≡◌, ◌++◌, ◌+◌, ◌*◌, ◌<◌, ◌≤◌, IfOk, decimal, codes, if◌then◌else◌, slice_get};
 ghost use Rattle.std.specs.Result.{OnOk};
-ghost use Rattle.plan_model.specs.OfferTables.{OfferTableLimits};
+ghost use Rattle.adv_base.specs.OfferTables.{OfferTableLimits};
 ghost use Rattle.plan_model.specs.Plans.{covers, IsValid, IsWhole, body_sorts};
-ghost use Rattle.plan_model.specs.Costs.{plan_cost as cost_of, whole_cost};
-ghost use Rattle.plan_model.specs.Judging.{plan_judged, IsKept};
+ghost use Rattle.plan_model.specs.Costs as costs;
+ghost use Rattle.plan_model.specs.inner.Judging.{plan_judged, IsKept};
 ghost use Rattle.plan_model.specs.PlanTexts.{line, items_words, merge_words, plan_words, plan_lines, group_lines, group_depth, grouped_lines, whole_lines};
 
 use crate::judge::{Judged, judge};
@@ -145,7 +145,7 @@ fn push_top<O: Offers>(
     requires limits { OfferTableLimits (O.table offers.now) }
     requires valid { IsValid sorts task.now (O.table offers.now) plan.now }
     requires room { depth ≤ 1000 }
-    ensures { OnOk result (text.new.items ≡ text.old.items ++ line depth (plan_words task.now labels.now plan.now) (cost_of task.now (O.table offers.now) plan.now)) }
+    ensures { OnOk result (text.new.items ≡ text.old.items ++ line depth (plan_words task.now labels.now plan.now) (costs.plan_cost task.now (O.table offers.now) plan.now)) }
 {
     push_indent(text, depth)?;
     push_words(alloc, text, task, offers, labels, plan, sorts)?;
@@ -266,7 +266,7 @@ fn push_final<O: Offers>(
 ) -> Result<(), NoMemory>
     requires limits { OfferTableLimits (O.table offers.now) }
     requires valid { IsWhole task.now (O.table offers.now) whole.now }
-    ensures { OnOk result (text.new.items ≡ text.old.items ++ line 0 (codes "final sort " ++ items_words labels.now task.now.order) (whole_cost task.now (O.table offers.now) whole.now)) }
+    ensures { OnOk result (text.new.items ≡ text.old.items ++ line 0 (codes "final sort " ++ items_words labels.now task.now.order) (costs.whole_cost task.now (O.table offers.now) whole.now)) }
 {
     let body = judged(task, offers, &whole.body, may_sort(whole.group));
     let cost = body.cost + steps_price(task, whole, rows_of(task, body.covers));

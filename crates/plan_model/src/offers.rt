@@ -1,7 +1,7 @@
 //! Offers.
 ghost use Rattle.std.specs.Prelude.{◌≡◌, ◌<◌, length};
 ghost use Rattle.adv_base.specs.Offers.{OfferTable};
-ghost use Rattle.plan_model.specs.OfferTables.{price_at, order_at, OfferTableLimits};
+ghost use Rattle.adv_base.specs.OfferTables.{price_at, order_at, OfferTableLimits};
 
 use adv_base::Item;
 
@@ -24,7 +24,7 @@ pub trait Offers {
         requires { offer < length (table self.now slot) }
         ensures { result.now ≡ order_at (table self.now) slot offer };
 
-    /// Does nothing: it tells that a price is at most 10^19, and that an order is of upward items of its own slot,
+    /// Does nothing: it tells that a price is at most `MOST_PRICE`, and that an order is of upward items of its own slot,
     /// none of them twice.
     fn limits(&self)
         ensures { OfferTableLimits (table self.now) };

@@ -1,11 +1,12 @@
 //! Orders, the edges between sets of slots, and what plans deliver.
 ghost use Rattle.std.specs.Prelude.{◌≡◌, ◌↔◌, ◌<◌, ◌≤◌, IsTrue, if◌then◌else◌};
 ghost use Rattle.std.specs.List.{list_any};
+ghost use Rattle.adv_base.specs.declared.limits.TheConstants.{MOST_SLOTS};
 ghost use Rattle.adv_base.specs.Items.{BeginsWith};
-ghost use Rattle.adv_base.specs.Sets.{all_slots as all_of, has_slot as set_has_slot};
+ghost use Rattle.adv_base.specs.Sets as sets;
 ghost use Rattle.plan_model.specs.Limits.Tasks.{AreNumbered};
-ghost use Rattle.plan_model.specs.Orders.{wanted_list as wanted_of};
-ghost use Rattle.plan_model.specs.Plans.{crosses as edge_crosses, side_need as need_of, delivers, is_column_of as is_column};
+ghost use Rattle.plan_model.specs.Orders as orders;
+ghost use Rattle.plan_model.specs.Plans as plans;
 
 use crate::edge::TaskEdge;
 use crate::offers::Offers;
@@ -15,15 +16,15 @@ use adv_base::Item;
 
 /// Whether a set, as a number, has a slot.
 pub fn has_slot(set: usize, slot: u8) -> bool
-    ensures { result ≡ set_has_slot set slot }
+    ensures { result ≡ sets.has_slot set slot }
 {
     slot < 64 && set & (1 << slot) != 0
 }
 
 /// The set of all slots of a task with that many.
 pub fn all_slots(slots: u8) -> usize
-    requires { slots ≤ 8 }
-    ensures exact { result ≡ all_of slots }
+    requires { slots ≤ MOST_SLOTS }
+    ensures exact { result ≡ sets.all_slots slots }
     ensures small { result < 256 }
 {
     (1 << slots) - 1
@@ -31,7 +32,7 @@ pub fn all_slots(slots: u8) -> usize
 
 /// Whether an edge has one end in each of two sets.
 pub fn crosses(left: usize, right: usize, edge: &TaskEdge) -> bool
-    ensures { result ≡ edge_crosses left right edge.now }
+    ensures { result ≡ plans.crosses left right edge.now }
 {
     has_slot(left, edge.left) && has_slot(right, edge.right)
         || has_slot(left, edge.right) && has_slot(right, edge.left)
@@ -39,14 +40,14 @@ pub fn crosses(left: usize, right: usize, edge: &TaskEdge) -> bool
 
 /// Whether some edge has one end in each of two sets.
 pub fn are_joined(edges: &[TaskEdge], left: usize, right: usize) -> bool
-    ensures { result ≡ list_any (edge_crosses left right) edges.now }
+    ensures { result ≡ list_any (plans.crosses left right) edges.now }
 {
     edges.iter().any(|edge| crosses(left, right, edge))
 }
 
 /// Whether an item is a column of a slot in the set.
 pub fn is_column_of(set: usize, item: &Item) -> bool
-    ensures { result ≡ is_column set item.now }
+    ensures { result ≡ plans.is_column_of set item.now }
 {
     match item {
         Item::Up { slot, .. } => has_slot(set, *slot),
@@ -64,7 +65,7 @@ pub fn begins_with(order: &[Item], front: &[Item]) -> bool
 
 /// Whether an order begins as a merge on the edge wants the side of that set to begin.
 pub fn serves(order: &[Item], edge: &TaskEdge, set: usize) -> bool
-    ensures { IsTrue result ↔ BeginsWith order.now (need_of edge.now set) }
+    ensures { IsTrue result ↔ BeginsWith order.now (plans.side_need edge.now set) }
 {
     let need = if has_slot(set, edge.left) {
         edge.left_need
@@ -79,7 +80,7 @@ pub fn serves(order: &[Item], edge: &TaskEdge, set: usize) -> bool
 
 /// The order in which a plan gives its rows.
 pub(crate) fn delivered<'a, O: Offers>(offers: &'a O, plan: &'a Plan) -> &'a [Item]
-    ensures { result.now ≡ delivers (O.table offers.now) plan.now }
+    ensures { result.now ≡ plans.delivers (O.table offers.now) plan.now }
 {
     match plan {
         Plan::Leaf { slot, offer } => {
@@ -98,7 +99,7 @@ pub(crate) fn delivered<'a, O: Offers>(offers: &'a O, plan: &'a Plan) -> &'a [It
 impl Task {
     /// The list to group by, or where the block doesn't group, the list to order by.
     pub fn wanted_list(&self) -> &[Item]
-        ensures exact { result.now ≡ wanted_of self.now.group self.now.order }
+        ensures exact { result.now ≡ orders.wanted_list self.now.group self.now.order }
         ensures numbered { AreNumbered result.now }
     {
         match &self.group {

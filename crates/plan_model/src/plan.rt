@@ -1,6 +1,12 @@
 //! Plans.
 use adv_base::{Item, List};
 
+/// What valid plans stay below, in thousandths of a page read: 10^21.
+pub const MOST_COST: u128 = 1_000_000_000_000_000_000_000;
+
+/// What the total of a workload stays below, in thousandths of a page read: 10^31.
+pub const MOST_TOTAL: u128 = 10_000_000_000_000_000_000_000_000_000_000;
+
 /// How to read and join a set of slots.
 #[derive(Drop)]
 pub enum Plan {

@@ -12,7 +12,8 @@
 //! Left out on purpose: memory and spilling to disk, caching of pages, parallel workers, start-up costs apart from total
 //! ones, widths of rows, and selectivities of an operator's own: the rows of a set are one number whichever plan makes them.
 //! The prices of leaves are those of their offers.
-ghost use Rattle.std.specs.Prelude.{◌≡◌, ◌+◌, ◌<◌, ◌≤◌, length};
+ghost use Rattle.std.specs.Prelude.{◌≡◌, ◌+◌, ◌*◌, ◌<◌, ◌≤◌, length};
+ghost use Rattle.adv_base.specs.declared.limits.TheConstants.{MOST_RATE, MOST_ROWS};
 ghost use Rattle.plan_model.specs.Costs.{rows_in, sort_cost, merge_of, hash_of, group_cost};
 
 use crate::plan::GroupStep;
@@ -24,7 +25,7 @@ pub fn rows_of(task: &Task, set: usize) -> u64
     requires { set < length task.now.rows }
     ensures exact { result ≡ rows_in task.now set }
     ensures some { 1 ≤ result }
-    ensures most { result ≤ 1000000000000 }
+    ensures most { result ≤ MOST_ROWS }
 {
     task.rows.items[set]
 }
@@ -32,9 +33,9 @@ pub fn rows_of(task: &Task, set: usize) -> u64
 /// Sorting that many rows.
 pub fn sort_price(task: &Task, rows: u64) -> u128
     requires some { 1 ≤ rows }
-    requires most { rows ≤ 1000000000000 }
+    requires most { rows ≤ MOST_ROWS }
     ensures exact { result ≡ sort_cost task.now.rates rows }
-    ensures most { result ≤ 40000000000000000000 }
+    ensures most { result ≤ 40 * (MOST_RATE * MOST_ROWS) }
 {
     let digits = binary_digits(rows) as u128;
     task.rates.sort_cpu as u128 * (rows as u128 * digits)
@@ -44,7 +45,7 @@ pub fn sort_price(task: &Task, rows: u64) -> u128
 pub fn merge_price(task: &Task, left: usize, right: usize) -> u128
     requires { left + right < length task.now.rows }
     ensures exact { result ≡ merge_of task.now left right }
-    ensures most { result ≤ 3000000000000000000 }
+    ensures most { result ≤ 3 * (MOST_RATE * MOST_ROWS) }
 {
     let sides = rows_of(task, left) as u128 + rows_of(task, right) as u128;
     let joined = rows_of(task, left + right) as u128;
@@ -55,7 +56,7 @@ pub fn merge_price(task: &Task, left: usize, right: usize) -> u128
 pub fn hash_price(task: &Task, left: usize, right: usize) -> u128
     requires { left + right < length task.now.rows }
     ensures exact { result ≡ hash_of task.now left right }
-    ensures most { result ≤ 4000000000000000000 }
+    ensures most { result ≤ 4 * (MOST_RATE * MOST_ROWS) }
 {
     let sides = rows_of(task, left) as u128 + 2 * rows_of(task, right) as u128;
     let joined = rows_of(task, left + right) as u128;
@@ -64,9 +65,9 @@ pub fn hash_price(task: &Task, left: usize, right: usize) -> u128
 
 /// Grouping that many rows.
 pub fn group_price(task: &Task, step: GroupStep, rows: u64) -> u128
-    requires { rows ≤ 1000000000000 }
+    requires { rows ≤ MOST_ROWS }
     ensures exact { result ≡ group_cost task.now.rates step rows }
-    ensures most { result ≤ 2000000000000000000 }
+    ensures most { result ≤ 2 * (MOST_RATE * MOST_ROWS) }
 {
     match step {
         GroupStep::Nothing => 0,

@@ -1,4 +1,5 @@
 //! Costs, refusals and lines of plans that are worked out by hand.
+mod advice;
 mod plans;
 mod table;
 
@@ -15,7 +16,7 @@ use std::process::Abort;
 use std::test::Fail;
 
 /// Each plan, by its steps, its group step and whether it ends in a sort, costs what stands beside it.
-fn all_cost(
+pub fn all_cost(
     rt: &impl Abort,
     alloc: Global,
     task: &Task,

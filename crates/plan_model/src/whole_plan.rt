@@ -1,9 +1,11 @@
 //! Which whole plans are valid, and what they cost.
-ghost use Rattle.std.specs.Prelude.{◌≡◌, ◌≢◌, ◌↔◌, ◌+◌, ◌≤◌, [], IsTrue, if◌then◌else◌};
-ghost use Rattle.std.specs.Option.{SomeIff};
+ghost use Rattle.std.specs.Prelude.{◌≡◌, ◌≢◌, ◌↔◌, ◌+◌, ◌*◌, ◌<◌, ◌≤◌, [], IsTrue, if◌then◌else◌};
+ghost use Rattle.std.specs.Option.{SomeIff, IfSome};
+ghost use Rattle.adv_base.specs.declared.limits.TheConstants.{MOST_RATE, MOST_ROWS};
 ghost use Rattle.adv_base.specs.Items.{BeginsWith};
-ghost use Rattle.plan_model.specs.Plans.{body_sorts, FitsGroup, group_order as order_of_groups, IsWhole};
-ghost use Rattle.plan_model.specs.Costs.{group_cost, sort_cost, final_rows as rows_to_sort, whole_cost};
+ghost use Rattle.plan_model.specs.declared.plan.TheConstants.{MOST_COST};
+ghost use Rattle.plan_model.specs.Plans as plans;
+ghost use Rattle.plan_model.specs.Costs as costs;
 
 use crate::judge::judge;
 use crate::offers::Offers;
@@ -15,7 +17,7 @@ use adv_base::{Item, List};
 
 /// Whether a sort may be the top of a body that is grouped so.
 pub(crate) fn may_sort(step: GroupStep) -> bool
-    ensures { result ≡ body_sorts step }
+    ensures { result ≡ plans.body_sorts step }
 {
     match step {
         GroupStep::Sorted => true,
@@ -26,7 +28,7 @@ pub(crate) fn may_sort(step: GroupStep) -> bool
 
 /// Whether the group step fits the list to group by and the order of what it groups.
 fn fits_group(group: &Option<List<Item>>, step: GroupStep, order: &[Item]) -> bool
-    ensures { IsTrue result ↔ FitsGroup group.now step order.now }
+    ensures { IsTrue result ↔ plans.FitsGroup group.now step order.now }
 {
     match group {
         None => match step {
@@ -48,7 +50,7 @@ fn grouped_order<'a>(
     step: GroupStep,
     order: &'a [Item],
 ) -> &'a [Item]
-    ensures { result.now ≡ order_of_groups group.now step order.now }
+    ensures { result.now ≡ plans.group_order group.now step order.now }
 {
     match step {
         GroupStep::Nothing => order,
@@ -62,7 +64,7 @@ fn grouped_order<'a>(
 
 /// Whether a whole plan whose body gives that order ends in the order that the task wants.
 fn is_ordered(task: &Task, whole: &Whole, order: &[Item]) -> bool
-    ensures { IsTrue result ↔ ((IsTrue whole.now.final_sort → task.now.order ≢ []) × BeginsWith (if whole.now.final_sort then task.now.order else order_of_groups task.now.group whole.now.group order.now) task.now.order) }
+    ensures { IsTrue result ↔ ((IsTrue whole.now.final_sort → task.now.order ≢ []) × BeginsWith (if whole.now.final_sort then task.now.order else plans.group_order task.now.group whole.now.group order.now) task.now.order) }
 {
     if whole.final_sort {
         return !task.order.is_empty();
@@ -76,10 +78,10 @@ fn is_ordered(task: &Task, whole: &Whole, order: &[Item]) -> bool
 /// The rows that a final sort gets, of a body with that many rows.
 fn final_rows(task: &Task, rows: u64) -> u64
     requires some { 1 ≤ rows }
-    requires most { rows ≤ 1000000000000 }
-    ensures exact { result ≡ rows_to_sort task.now task.now.group rows }
+    requires most { rows ≤ MOST_ROWS }
+    ensures exact { result ≡ costs.final_rows task.now task.now.group rows }
     ensures some { 1 ≤ result }
-    ensures most { result ≤ 1000000000000 }
+    ensures most { result ≤ MOST_ROWS }
 {
     match &task.group {
         None => rows,
@@ -90,9 +92,9 @@ fn final_rows(task: &Task, rows: u64) -> u64
 /// What the group step and the final sort cost above a body with that many rows.
 pub(crate) fn steps_price(task: &Task, whole: &Whole, rows: u64) -> u128
     requires some { 1 ≤ rows }
-    requires most { rows ≤ 1000000000000 }
-    ensures exact { result ≡ group_cost task.now.rates whole.now.group rows + (if whole.now.final_sort then sort_cost task.now.rates (rows_to_sort task.now task.now.group rows) else 0) }
-    ensures most { result ≤ 200000000000000000000 }
+    requires most { rows ≤ MOST_ROWS }
+    ensures exact { result ≡ costs.group_cost task.now.rates whole.now.group rows + (if whole.now.final_sort then costs.sort_cost task.now.rates (costs.final_rows task.now task.now.group rows) else 0) }
+    ensures most { result ≤ 42 * (MOST_RATE * MOST_ROWS) }
 {
     let grouping = group_price(task, whole.group, rows);
     if whole.final_sort {
@@ -103,9 +105,11 @@ pub(crate) fn steps_price(task: &Task, whole: &Whole, rows: u64) -> u128
 
 /// What a plan costs in thousandths of a page read, in the manner of System R's and INUM's models: the prices of its
 /// offers and what each sort, merge, hash join, group step and final sort costs. It is None exactly where the plan isn't
-/// a valid one of the whole task over these offers. Any plan may be asked about. It takes no memory.
+/// a valid one of the whole task over these offers; a valid one costs less than 10^21. Any plan may be asked about. It
+/// takes no memory.
 pub fn plan_cost<O: Offers>(task: &Task, offers: &O, whole: &Whole) -> Option<u128>
-    ensures { SomeIff result (IsWhole task.now (O.table offers.now) whole.now) (whole_cost task.now (O.table offers.now) whole.now) }
+    ensures exact { SomeIff result (plans.IsWhole task.now (O.table offers.now) whole.now) (costs.whole_cost task.now (O.table offers.now) whole.now) }
+    ensures most { IfSome result (λ cost. cost < MOST_COST) }
 {
     offers.limits();
     let body = judge(task, offers, &whole.body, may_sort(whole.group))?;

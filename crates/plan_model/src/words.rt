@@ -1,32 +1,28 @@
 //! The words of lines, pushed to a text.
 ghost use Rattle.std.specs.Prelude.{◌≡◌, ◌++◌, ◌*◌, ◌<◌, ◌≤◌, [], decimal, codes, replicate, slice_index_or};
 ghost use Rattle.std.specs.Result.{OnOk};
-ghost use Rattle.plan_model.specs.PlanTexts.{name_at as name_words, column_words, item_words, items_words, leaf_words, edge_words};
+ghost use Rattle.plan_model.specs.PlanTexts as texts;
 
 use crate::edge::TaskEdge;
 use crate::labels::Labels;
 use crate::order::has_slot;
-use adv_base::{Item, List, Name, NoMemory};
+use adv_base::{Item, List, Name, NoMemory, push_decimal};
 use std::alloc::Global;
 
 /// Pushes bytes.
 pub(crate) fn push(text: &mut Vec<u8>, bytes: &[u8]) -> Result<(), NoMemory>
     ensures { OnOk result (text.new.items ≡ text.old.items ++ bytes.now) }
 {
-    match text.extend_from_slice(bytes) {
-        Ok(()) => Ok(()),
-        Err(_) => Err(NoMemory),
-    }
+    text.extend_from_slice(bytes)?;
+    Ok(())
 }
 
 /// Pushes a number in decimal.
 pub(crate) fn push_number(alloc: Global, text: &mut Vec<u8>, number: u128) -> Result<(), NoMemory>
     ensures { OnOk result (text.new.items ≡ text.old.items ++ decimal number) }
 {
-    match format!(in alloc; "{number}") {
-        Ok(digits) => push(text, digits.as_bytes()),
-        Err(_) => Err(NoMemory),
-    }
+    push_decimal(alloc, text, number)?;
+    Ok(())
 }
 
 /// Pushes two spaces for each level.
@@ -34,15 +30,13 @@ pub(crate) fn push_indent(text: &mut Vec<u8>, depth: usize) -> Result<(), NoMemo
     requires { depth ≤ 1000 }
     ensures { OnOk result (text.new.items ≡ text.old.items ++ replicate (2 * depth) 32) }
 {
-    match text.resize(text.len() + 2 * depth, b' ') {
-        Ok(()) => Ok(()),
-        Err(_) => Err(NoMemory),
-    }
+    text.resize(text.len() + 2 * depth, b' ')?;
+    Ok(())
 }
 
 /// A name of a list, which is empty where there is none.
 fn name_at(names: &[Name], at: usize) -> &[u8]
-    ensures { result.now ≡ name_words names.now at }
+    ensures { result.now ≡ texts.name_at names.now at }
 {
     match names.get(at) {
         Some(name) => name.as_slice(),
@@ -61,7 +55,7 @@ fn names_of(lists: &List<List<Name>>, slot: u8) -> &[Name]
 }
 
 fn push_column(text: &mut Vec<u8>, labels: &Labels, slot: u8, column: u16) -> Result<(), NoMemory>
-    ensures { OnOk result (text.new.items ≡ text.old.items ++ column_words labels.now slot column) }
+    ensures { OnOk result (text.new.items ≡ text.old.items ++ texts.column_words labels.now slot column) }
 {
     push(text, name_at(labels.slots.as_slice(), slot as usize))?;
     push(text, b".")?;
@@ -77,7 +71,7 @@ fn push_item(
     labels: &Labels,
     item: &Item,
 ) -> Result<(), NoMemory>
-    ensures { OnOk result (text.new.items ≡ text.old.items ++ item_words labels.now item.now) }
+    ensures { OnOk result (text.new.items ≡ text.old.items ++ texts.item_words labels.now item.now) }
 {
     match item {
         Item::Up { slot, column } => push_column(text, labels, *slot, *column),
@@ -99,7 +93,7 @@ pub(crate) fn push_items(
     labels: &Labels,
     items: &[Item],
 ) -> Result<(), NoMemory>
-    ensures { OnOk result (text.new.items ≡ text.old.items ++ items_words labels.now items.now) }
+    ensures { OnOk result (text.new.items ≡ text.old.items ++ texts.items_words labels.now items.now) }
 {
     let Some((first, rest)) = items.split_first() else {
         return Ok(());
@@ -119,7 +113,7 @@ pub(crate) fn push_leaf(
     slot: u8,
     offer: u32,
 ) -> Result<(), NoMemory>
-    ensures { OnOk result (text.new.items ≡ text.old.items ++ leaf_words labels.now slot offer) }
+    ensures { OnOk result (text.new.items ≡ text.old.items ++ texts.leaf_words labels.now slot offer) }
 {
     push(
         text,
@@ -136,7 +130,7 @@ pub(crate) fn push_edge(
     set: usize,
     edge: &TaskEdge,
 ) -> Result<(), NoMemory>
-    ensures { OnOk result (text.new.items ≡ text.old.items ++ edge_words labels.now set edge.now) }
+    ensures { OnOk result (text.new.items ≡ text.old.items ++ texts.edge_words labels.now set edge.now) }
 {
     if has_slot(set, edge.left) {
         push_column(text, labels, edge.left, edge.left_column)?;

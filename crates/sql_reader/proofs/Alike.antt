@@ -1,7 +1,7 @@
 -- Rules that mean the same, though their nested forms may have different rules.
 use Rattle.std.proofs.Common.{◌≡◌, ℕ, zero, suc, Bool, true, false, ◌&&◌, List, [], ◌∷◌, ◌++◌, refl, ap, ◌∙◌, subst, inl, inr}
 use Rattle.std.proofs.lemmas.Bool.{and_parts}
-use Rattle.sql_reader.specs.declared.kind.Kind.{Kind}
+use Rattle.sql_reader.specs.declared.kind.PieceKind.{PieceKind}
 use Rattle.sql_reader.specs.declared.piece.Piece.{Piece}
 use Rattle.sql_reader.specs.Kinds.{has}
 use Rattle.sql_reader.specs.Rule.{Nesting, State, Rule, Give, Take, Then, Use, Either, Many, Nest, Meaning, Turns, IsOver}
@@ -46,7 +46,7 @@ module _ (d e : (x : Nesting) → Meaning (State x) (State x)) where
   pub give_same : {A B : Type 0} (f : A → B) → Same d e (Give f) (Give f)
   give_same f = record { there = λ a ps b h. h; back = λ a ps b h. h }
 
-  pub take_same : {A B : Type 0} (kinds : List Kind) (f : A → Piece → B) → Same d e (Take kinds f) (Take kinds f)
+  pub take_same : {A B : Type 0} (kinds : List PieceKind) (f : A → Piece → B) → Same d e (Take kinds f) (Take kinds f)
   take_same kinds f = record { there = λ a ps b h. h; back = λ a ps b h. h }
 
   then_there : {A M B : Type 0} (r s : Rule A M) (r2 s2 : Rule M B) → Same d e r s → Same d e r2 s2 → (a : A) (ps : List Piece) (b : B) → IsOver d (Then r r2) a ps b → IsOver e (Then s s2) a ps b
@@ -67,28 +67,28 @@ module _ (d e : (x : Nesting) → Meaning (State x) (State x)) where
   pub use_same : {A B C D : Type 0} {r s : Rule B C} (part : A → B) (join : A → C → D) → Same d e r s → Same d e (Use part r join) (Use part s join)
   use_same {r = r} {s = s} part join f = record { there = use_there part r s join f; back = use_back part r s join f }
 
-  either_there : {A B : Type 0} (ks ks2 : List Kind) (r s r2 s2 : Rule A B) → Same d e r s → Same d e r2 s2 → (a : A) (ps : List Piece) (b : B) → IsOver d (Either ks r r2) a ps b → IsOver e (Either ks2 s s2) a ps b
+  either_there : {A B : Type 0} (ks ks2 : List PieceKind) (r s r2 s2 : Rule A B) → Same d e r s → Same d e r2 s2 → (a : A) (ps : List Piece) (b : B) → IsOver d (Either ks r r2) a ps b → IsOver e (Either ks2 s s2) a ps b
   either_there ks ks2 r s r2 s2 f g a ps b (inl h) = inl (f.there a ps b h)
   either_there ks ks2 r s r2 s2 f g a ps b (inr h) = inr (g.there a ps b h)
 
-  either_back : {A B : Type 0} (ks ks2 : List Kind) (r s r2 s2 : Rule A B) → Same d e r s → Same d e r2 s2 → (a : A) (ps : List Piece) (b : B) → IsOver e (Either ks2 s s2) a ps b → IsOver d (Either ks r r2) a ps b
+  either_back : {A B : Type 0} (ks ks2 : List PieceKind) (r s r2 s2 : Rule A B) → Same d e r s → Same d e r2 s2 → (a : A) (ps : List Piece) (b : B) → IsOver e (Either ks2 s s2) a ps b → IsOver d (Either ks r r2) a ps b
   either_back ks ks2 r s r2 s2 f g a ps b (inl h) = inl (f.back a ps b h)
   either_back ks ks2 r s r2 s2 f g a ps b (inr h) = inr (g.back a ps b h)
 
-  pub either_same : {A B : Type 0} {r s r2 s2 : Rule A B} (ks ks2 : List Kind) → Same d e r s → Same d e r2 s2 → Same d e (Either ks r r2) (Either ks2 s s2)
+  pub either_same : {A B : Type 0} {r s r2 s2 : Rule A B} (ks ks2 : List PieceKind) → Same d e r s → Same d e r2 s2 → Same d e (Either ks r r2) (Either ks2 s s2)
   either_same {r = r} {s = s} {r2 = r2} {s2 = s2} ks ks2 f g = record { there = either_there ks ks2 r s r2 s2 f g; back = either_back ks ks2 r s r2 s2 f g }
 
-  many_there : {A : Type 0} (ks ks2 : List Kind) (r s : Rule A A) → Same d e r s → (a : A) (ps : List Piece) (b : A) → IsOver d (Many ks r) a ps b → IsOver e (Many ks2 s) a ps b
+  many_there : {A : Type 0} (ks ks2 : List PieceKind) (r s : Rule A A) → Same d e r s → (a : A) (ps : List Piece) (b : A) → IsOver d (Many ks r) a ps b → IsOver e (Many ks2 s) a ps b
   many_there ks ks2 r s f a ps b (n, t) = (n, turns_there d e r s f.there n a ps b t)
 
-  many_back : {A : Type 0} (ks ks2 : List Kind) (r s : Rule A A) → Same d e r s → (a : A) (ps : List Piece) (b : A) → IsOver e (Many ks2 s) a ps b → IsOver d (Many ks r) a ps b
+  many_back : {A : Type 0} (ks ks2 : List PieceKind) (r s : Rule A A) → Same d e r s → (a : A) (ps : List Piece) (b : A) → IsOver e (Many ks2 s) a ps b → IsOver d (Many ks r) a ps b
   many_back ks ks2 r s f a ps b (n, t) = (n, turns_there e d s r f.back n a ps b t)
 
-  pub many_same : {A : Type 0} {r s : Rule A A} (ks ks2 : List Kind) → Same d e r s → Same d e (Many ks r) (Many ks2 s)
+  pub many_same : {A : Type 0} {r s : Rule A A} (ks ks2 : List PieceKind) → Same d e r s → Same d e (Many ks r) (Many ks2 s)
   many_same {r = r} {s = s} ks ks2 f = record { there = many_there ks ks2 r s f; back = many_back ks ks2 r s f }
 
 -- A rule behind one piece.
-module _ (d : (x : Nesting) → Meaning (State x) (State x)) {A M B : Type 0} (kinds : List Kind) (f : A → Piece → M) (r : Rule M B) (a : A) (ps : List Piece) (b : B) where
+module _ (d : (x : Nesting) → Meaning (State x) (State x)) {A M B : Type 0} (kinds : List PieceKind) (f : A → Piece → M) (r : Rule M B) (a : A) (ps : List Piece) (b : B) where
   -- which piece it is
   pub took : IsOver d (Then (Take kinds f) r) a ps b → (p : Piece) × (rest : List Piece) × (has kinds p.kind ≡ true) × (ps ≡ p ∷ rest) × IsOver d r (f a p) rest b
   took (front, back, m, split, (p, k, ef, em), h) =

@@ -1,8 +1,8 @@
 -- The grammar means what it means as it is printed.
 use Rattle.std.proofs.Common.{◌≡◌, ℕ, zero, suc, true, List, refl, ap, ◌∙◌, inl, inr}
-use Rattle.sql_reader.specs.declared.kind.Kind.TheVariants as kinds
+use Rattle.sql_reader.specs.declared.kind.PieceKind.TheVariants as kinds
 use Rattle.sql_reader.specs.declared.piece.Piece.{Piece}
-use Rattle.sql_reader.specs.declared.found.Found.{Found}
+use Rattle.sql_reader.specs.declared.seen.Seen.{Seen}
 use Rattle.sql_reader.specs.declared.parsed.Body.{Body}
 use Rattle.sql_reader.specs.declared.parsed.Body.TheVariants as bodies
 use Rattle.sql_reader.specs.declared.parts.Progress.{Progress}
@@ -54,13 +54,13 @@ module _ (d e : (x : Nesting) → Meaning (State x) (State x)) (linked : Linked 
   unfolding listed_arguments maybe_distinct printed.closed
   listed_same = then_same d e (either_same d e _ _ (take_same d e _ _) (give_same d e _)) (then_same d e (exprs_same d e linked) (take_same d e _ _))
 
-  call_there : (a : Found) (ps : List Piece) (b : Found) → IsOver d (Then printed.call_name call) a ps b → IsOver e printed.call a ps b
+  call_there : (a : Seen) (ps : List Piece) (b : Seen) → IsOver d (Then printed.call_name call) a ps b → IsOver e printed.call a ps b
   unfolding call arguments star_argument printed.call printed.call_name printed.closed
   call_there a ps b (front, back, m, split, name, (front2, back2, m2, split2, open_sign, inl h)) = inl (front, back, m, split, name, (front2, back2, m2, split2, open_sign, h))
   call_there a ps b (front, back, m, split, name, (front2, back2, m2, split2, open_sign, inr (inl h))) = inr (inl (front, back, m, split, name, (front2, back2, m2, split2, open_sign, h)))
   call_there a ps b (front, back, m, split, name, (front2, back2, m2, split2, open_sign, inr (inr h))) = inr (inr (front, back, m, split, name, (front2, back2, m2, split2, open_sign, listed_same.there m2 back2 b h)))
 
-  call_back : (a : Found) (ps : List Piece) (b : Found) → IsOver e printed.call a ps b → IsOver d (Then printed.call_name call) a ps b
+  call_back : (a : Seen) (ps : List Piece) (b : Seen) → IsOver e printed.call a ps b → IsOver d (Then printed.call_name call) a ps b
   unfolding call arguments star_argument printed.call printed.call_name printed.closed
   call_back a ps b (inl (front, back, m, split, name, (front2, back2, m2, split2, open_sign, h))) = (front, back, m, split, name, (front2, back2, m2, split2, open_sign, inl h))
   call_back a ps b (inr (inl (front, back, m, split, name, (front2, back2, m2, split2, open_sign, h)))) = (front, back, m, split, name, (front2, back2, m2, split2, open_sign, inr (inl h)))

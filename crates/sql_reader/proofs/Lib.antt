@@ -1,8 +1,14 @@
 pub mod Alike
 pub mod AsPrinted
+pub mod Begun
 pub mod Exactly
 pub mod Good
+pub mod Keeps
+pub mod KeptExpressions
+pub mod KeptStatements
 pub mod KindSets
+pub mod KnownWords
+pub mod Limits
 pub mod Loops
 pub mod Nested
 pub mod Outcome

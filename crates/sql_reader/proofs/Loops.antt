@@ -1,9 +1,9 @@
 -- Each repetition of the grammar, turn by turn.
 use Rattle.std.proofs.Common.{◌≡◌, ℕ, zero, suc, ◌<◌, ◌≤◌, Bool, true, false, List, [], ◌∷◌, ◌++◌, length, sym, refl, ap, ◌∙◌, subst, arith, length-append, le_refl, if◌then◌else◌}
-use Rattle.sql_reader.specs.declared.kind.Kind.{Kind}
-use Rattle.sql_reader.specs.declared.kind.Kind.TheVariants as kinds
+use Rattle.sql_reader.specs.declared.kind.PieceKind.{PieceKind}
+use Rattle.sql_reader.specs.declared.kind.PieceKind.TheVariants as kinds
 use Rattle.sql_reader.specs.declared.piece.Piece.{Piece}
-use Rattle.sql_reader.specs.declared.found.Found.{Found}
+use Rattle.sql_reader.specs.declared.seen.Seen.{Seen}
 use Rattle.sql_reader.specs.declared.parsed.NameUse.{NameUse}
 use Rattle.sql_reader.specs.declared.parsed.ParsedItem.{ParsedItem}
 use Rattle.sql_reader.specs.declared.parsed.Condition.{Condition}
@@ -13,9 +13,9 @@ use Rattle.sql_reader.specs.declared.parts.InsertParts.{InsertParts}
 use Rattle.sql_reader.specs.declared.parts.UpdateParts.{UpdateParts}
 use Rattle.sql_reader.specs.declared.parts.Progress.{Progress}
 use Rattle.sql_reader.specs.Rule.{Rule, Many, Reading, Read, Stuck, ◌>>=◌, begins, Reader, repeated, IsNested, read_nested, may_be_empty, good, IsOver, read_over}
-use Rattle.sql_reader.specs.declared.cursor.Stop.{Stop}
-use Rattle.sql_reader.specs.declared.cursor.Stop.TheVariants.{Memory, Here}
-use Rattle.sql_reader.specs.Reads.{StopsAt}
+use Rattle.sql_reader.specs.declared.cursor.Unread.{Unread}
+use Rattle.sql_reader.specs.declared.cursor.Unread.TheVariants.{Memory, Here}
+use Rattle.sql_reader.specs.inner.Reads.{StopsAt}
 use Rattle.sql_reader.specs.Exact.{reads}
 use Rattle.sql_reader.specs.Grammar.{grammar, borders, operators, after_name, column, alias, source, plain_value, value, called_name, after_operand_name, after_operand_date, other_operand, operand, operation, operations, expression, another_expression, more_expressions, expressions, star_argument, maybe_distinct, listed_arguments, arguments, call, parenthesis, signed_operand, turned_test, tied_test, after_equal_date, equal_test, unequal_test, between_test, in_value, more_in_values, in_values, in_test, like_test, null_test, column_test, after_test_name, after_test_date, test, condition, and_condition, more_conditions, conditions, nested_conditions, where_conditions, rest_of_item, after_item_point, after_item_name, after_item_date, literal_item, item_value, one_item, another_item, more_items, item_list, quantifier, one_source, join_word, on_part, joined_source, another_source, more_sources, source_list, where_part, one_column, another_column, more_columns, column_list, group_part, having_test, another_having_test, more_having_tests, having_tests, having_part, direction, order_value, one_order, another_order, more_orders, order_list, order_part, offset_part, limit_part, from_part, select_head, group_and_having, order_and_limit, select_tail, select_rest, name_as_column, another_name, more_names, name_list, insert_columns, row_values, row, another_row, more_rows, rows, insert_table, insert_rest, set_column, assignment, another_assignment, more_assignments, assignments, update_source, update_rest, delete_conditions, delete_rest, select, insert, update, select_statement, insert_statement, update_statement, delete_statement, statement, maybe_statement, another_statement, more_statements, workload}
 use Rattle.sql_reader.proofs.KindSets.{not_both}
@@ -24,7 +24,7 @@ use Rattle.sql_reader.proofs.Exactly.{levels_sensible}
 use Rattle.sql_reader.proofs.Good.{good_grammar}
 
 -- where reading stops, it stops before what would stand behind
-stops_behind : {A B : Type 0} (stop : Stop) (rest : List Piece) (x : Reading A) (f : Reader A B) → StopsAt stop x rest → StopsAt stop (x >>= f) rest
+stops_behind : {A B : Type 0} (stop : Unread) (rest : List Piece) (x : Reading A) (f : Reader A B) → StopsAt stop x rest → StopsAt stop (x >>= f) rest
 stops_behind Memory rest x f h = tt
 stops_behind {A} {B} Here rest x f h = ap (λ (y : Reading A). y >>= f) h
 
@@ -47,7 +47,7 @@ same_behind (Stuck rest) f g h = refl
 same_behind (Read m rest) f g h = h m rest refl
 
 -- turns that take something end, however many may be taken
-same_turns : {A : Type 0} (kinds : List Kind) (turn : Reader A A) → ((a : A) (ps : List Piece) (m : A) (rest : List Piece) → turn a ps ≡ Read m rest → length rest < length ps) →
+same_turns : {A : Type 0} (kinds : List PieceKind) (turn : Reader A A) → ((a : A) (ps : List Piece) (m : A) (rest : List Piece) → turn a ps ≡ Read m rest → length rest < length ps) →
     (n n2 : ℕ) (a : A) (ps : List Piece) → length ps ≤ n → length ps ≤ n2 → repeated n kinds turn a ps ≡ repeated n2 kinds turn a ps
 same_turns kinds turn less zero n2 a [] room room2 = sym (repeated_ends n2 kinds turn a [] refl)
 same_turns kinds turn less zero n2 a (p ∷ ps) room room2 = absurd (omega arith)
@@ -59,7 +59,7 @@ same_turns {A} kinds turn less (suc n) (suc n2) a ps room room2 =
     (λ m rest e. let l = less a ps m rest e in same_turns kinds turn less n n2 m rest (omega arith) (omega arith)))
 
 -- one turn, and those behind it
-pub many_goes : {A : Type 0} (kinds : List Kind) (rule : Rule A A) → good borders rule ≡ true → may_be_empty rule ≡ false → (n : ℕ) (a : A) (ps : List Piece) → begins kinds ps ≡ true →
+pub many_goes : {A : Type 0} (kinds : List PieceKind) (rule : Rule A A) → good borders rule ≡ true → may_be_empty rule ≡ false → (n : ℕ) (a : A) (ps : List Piece) → begins kinds ps ≡ true →
     reads grammar n (Many kinds rule) a ps ≡ (reads grammar n rule a ps >>= reads grammar n (Many kinds rule))
 many_goes kinds rule g full n a [] k = absurd cc
 many_goes {A} kinds rule g full n a (p ∷ ps) k =
@@ -79,24 +79,24 @@ full-operation : may_be_empty operation ≡ false
 unfolding grammar after_name column alias source plain_value value called_name after_operand_name after_operand_date other_operand operand operation operations expression another_expression more_expressions expressions star_argument maybe_distinct listed_arguments arguments call parenthesis signed_operand turned_test tied_test after_equal_date equal_test unequal_test between_test in_value more_in_values in_values in_test like_test null_test column_test after_test_name after_test_date test condition and_condition more_conditions conditions nested_conditions where_conditions rest_of_item after_item_point after_item_name after_item_date literal_item item_value one_item another_item more_items item_list quantifier one_source join_word on_part joined_source another_source more_sources source_list where_part one_column another_column more_columns column_list group_part having_test another_having_test more_having_tests having_tests having_part direction order_value one_order another_order more_orders order_list order_part offset_part limit_part from_part select_head group_and_having order_and_limit select_tail select_rest name_as_column another_name more_names name_list insert_columns row_values row another_row more_rows rows insert_table insert_rest set_column assignment another_assignment more_assignments assignments update_source update_rest delete_conditions delete_rest select insert update select_statement insert_statement update_statement delete_statement statement maybe_statement another_statement more_statements workload
 full-operation = refl
 
-pub takes-operation : (n : ℕ) (a : Found) (ps : List Piece) (b : Found) (rest : List Piece) → reads grammar n operation a ps ≡ Read b rest → length rest < length ps
+pub takes-operation : (n : ℕ) (a : Seen) (ps : List Piece) (b : Seen) (rest : List Piece) → reads grammar n operation a ps ≡ Read b rest → length rest < length ps
 takes-operation n a ps b rest e = takes_some operation good-operation full-operation n a ps b rest e
 
-pub goes-operations : (n : ℕ) (a : Found) (ps : List Piece) → begins (operators) ps ≡ true → reads grammar n operations a ps ≡ (reads grammar n operation a ps >>= reads grammar n operations)
+pub goes-operations : (n : ℕ) (a : Seen) (ps : List Piece) → begins (operators) ps ≡ true → reads grammar n operations a ps ≡ (reads grammar n operation a ps >>= reads grammar n operations)
 unfolding operations
 goes-operations n a ps k = many_goes (operators) operation good-operation full-operation n a ps k
 
-pub ends-operations : (n : ℕ) (a : Found) (ps : List Piece) → begins (operators) ps ≡ false → reads grammar n operations a ps ≡ Read a ps
+pub ends-operations : (n : ℕ) (a : Seen) (ps : List Piece) → begins (operators) ps ≡ false → reads grammar n operations a ps ≡ Read a ps
 unfolding operations
 ends-operations n a ps k = repeated_ends (length ps) (operators) (reads grammar n operation) a ps k
 
-pub keep-operations : (n : ℕ) (x : Reading Found) (a : Found) (ps : List Piece) (b : Found) (rest : List Piece) → reads grammar n operations a ps ≡ x → begins (operators) ps ≡ true → reads grammar n operation a ps ≡ Read b rest → reads grammar n operations b rest ≡ x
-keep-operations n x a ps b rest i k e = sym (goes-operations n a ps k ∙ ap (λ (x : Reading Found). x >>= reads grammar n operations) e) ∙ i
+pub keep-operations : (n : ℕ) (x : Reading Seen) (a : Seen) (ps : List Piece) (b : Seen) (rest : List Piece) → reads grammar n operations a ps ≡ x → begins (operators) ps ≡ true → reads grammar n operation a ps ≡ Read b rest → reads grammar n operations b rest ≡ x
+keep-operations n x a ps b rest i k e = sym (goes-operations n a ps k ∙ ap (λ (x : Reading Seen). x >>= reads grammar n operations) e) ∙ i
 
-pub exit-operations : (n : ℕ) (x : Reading Found) (a : Found) (ps : List Piece) (stop : Stop) (rest : List Piece) → reads grammar n operations a ps ≡ x → begins (operators) ps ≡ true → StopsAt stop (reads grammar n operation a ps) rest → StopsAt stop x rest
-exit-operations n x a ps stop rest i k e = subst (λ (x : Reading Found). StopsAt stop x rest) (sym (goes-operations n a ps k) ∙ i) (stops_behind stop rest (reads grammar n operation a ps) (reads grammar n operations) e)
+pub exit-operations : (n : ℕ) (x : Reading Seen) (a : Seen) (ps : List Piece) (stop : Unread) (rest : List Piece) → reads grammar n operations a ps ≡ x → begins (operators) ps ≡ true → StopsAt stop (reads grammar n operation a ps) rest → StopsAt stop x rest
+exit-operations n x a ps stop rest i k e = subst (λ (x : Reading Seen). StopsAt stop x rest) (sym (goes-operations n a ps k) ∙ i) (stops_behind stop rest (reads grammar n operation a ps) (reads grammar n operations) e)
 
-pub end-operations : (n : ℕ) (x : Reading Found) (a : Found) (ps : List Piece) → reads grammar n operations a ps ≡ x → begins (operators) ps ≡ false → x ≡ Read a ps
+pub end-operations : (n : ℕ) (x : Reading Seen) (a : Seen) (ps : List Piece) → reads grammar n operations a ps ≡ x → begins (operators) ps ≡ false → x ≡ Read a ps
 end-operations n x a ps i k = sym i ∙ ends-operations n a ps k
 
 good-another_expression : good borders another_expression ≡ true
@@ -107,24 +107,24 @@ full-another_expression : may_be_empty another_expression ≡ false
 unfolding grammar after_name column alias source plain_value value called_name after_operand_name after_operand_date other_operand operand operation operations expression another_expression more_expressions expressions star_argument maybe_distinct listed_arguments arguments call parenthesis signed_operand turned_test tied_test after_equal_date equal_test unequal_test between_test in_value more_in_values in_values in_test like_test null_test column_test after_test_name after_test_date test condition and_condition more_conditions conditions nested_conditions where_conditions rest_of_item after_item_point after_item_name after_item_date literal_item item_value one_item another_item more_items item_list quantifier one_source join_word on_part joined_source another_source more_sources source_list where_part one_column another_column more_columns column_list group_part having_test another_having_test more_having_tests having_tests having_part direction order_value one_order another_order more_orders order_list order_part offset_part limit_part from_part select_head group_and_having order_and_limit select_tail select_rest name_as_column another_name more_names name_list insert_columns row_values row another_row more_rows rows insert_table insert_rest set_column assignment another_assignment more_assignments assignments update_source update_rest delete_conditions delete_rest select insert update select_statement insert_statement update_statement delete_statement statement maybe_statement another_statement more_statements workload
 full-another_expression = refl
 
-pub takes-another_expression : (n : ℕ) (a : Found) (ps : List Piece) (b : Found) (rest : List Piece) → reads grammar n another_expression a ps ≡ Read b rest → length rest < length ps
+pub takes-another_expression : (n : ℕ) (a : Seen) (ps : List Piece) (b : Seen) (rest : List Piece) → reads grammar n another_expression a ps ≡ Read b rest → length rest < length ps
 takes-another_expression n a ps b rest e = takes_some another_expression good-another_expression full-another_expression n a ps b rest e
 
-pub goes-more_expressions : (n : ℕ) (a : Found) (ps : List Piece) → begins (kinds.Comma ∷ []) ps ≡ true → reads grammar n more_expressions a ps ≡ (reads grammar n another_expression a ps >>= reads grammar n more_expressions)
+pub goes-more_expressions : (n : ℕ) (a : Seen) (ps : List Piece) → begins (kinds.Comma ∷ []) ps ≡ true → reads grammar n more_expressions a ps ≡ (reads grammar n another_expression a ps >>= reads grammar n more_expressions)
 unfolding more_expressions
 goes-more_expressions n a ps k = many_goes (kinds.Comma ∷ []) another_expression good-another_expression full-another_expression n a ps k
 
-pub ends-more_expressions : (n : ℕ) (a : Found) (ps : List Piece) → begins (kinds.Comma ∷ []) ps ≡ false → reads grammar n more_expressions a ps ≡ Read a ps
+pub ends-more_expressions : (n : ℕ) (a : Seen) (ps : List Piece) → begins (kinds.Comma ∷ []) ps ≡ false → reads grammar n more_expressions a ps ≡ Read a ps
 unfolding more_expressions
 ends-more_expressions n a ps k = repeated_ends (length ps) (kinds.Comma ∷ []) (reads grammar n another_expression) a ps k
 
-pub keep-more_expressions : (n : ℕ) (x : Reading Found) (a : Found) (ps : List Piece) (b : Found) (rest : List Piece) → reads grammar n more_expressions a ps ≡ x → begins (kinds.Comma ∷ []) ps ≡ true → reads grammar n another_expression a ps ≡ Read b rest → reads grammar n more_expressions b rest ≡ x
-keep-more_expressions n x a ps b rest i k e = sym (goes-more_expressions n a ps k ∙ ap (λ (x : Reading Found). x >>= reads grammar n more_expressions) e) ∙ i
+pub keep-more_expressions : (n : ℕ) (x : Reading Seen) (a : Seen) (ps : List Piece) (b : Seen) (rest : List Piece) → reads grammar n more_expressions a ps ≡ x → begins (kinds.Comma ∷ []) ps ≡ true → reads grammar n another_expression a ps ≡ Read b rest → reads grammar n more_expressions b rest ≡ x
+keep-more_expressions n x a ps b rest i k e = sym (goes-more_expressions n a ps k ∙ ap (λ (x : Reading Seen). x >>= reads grammar n more_expressions) e) ∙ i
 
-pub exit-more_expressions : (n : ℕ) (x : Reading Found) (a : Found) (ps : List Piece) (stop : Stop) (rest : List Piece) → reads grammar n more_expressions a ps ≡ x → begins (kinds.Comma ∷ []) ps ≡ true → StopsAt stop (reads grammar n another_expression a ps) rest → StopsAt stop x rest
-exit-more_expressions n x a ps stop rest i k e = subst (λ (x : Reading Found). StopsAt stop x rest) (sym (goes-more_expressions n a ps k) ∙ i) (stops_behind stop rest (reads grammar n another_expression a ps) (reads grammar n more_expressions) e)
+pub exit-more_expressions : (n : ℕ) (x : Reading Seen) (a : Seen) (ps : List Piece) (stop : Unread) (rest : List Piece) → reads grammar n more_expressions a ps ≡ x → begins (kinds.Comma ∷ []) ps ≡ true → StopsAt stop (reads grammar n another_expression a ps) rest → StopsAt stop x rest
+exit-more_expressions n x a ps stop rest i k e = subst (λ (x : Reading Seen). StopsAt stop x rest) (sym (goes-more_expressions n a ps k) ∙ i) (stops_behind stop rest (reads grammar n another_expression a ps) (reads grammar n more_expressions) e)
 
-pub end-more_expressions : (n : ℕ) (x : Reading Found) (a : Found) (ps : List Piece) → reads grammar n more_expressions a ps ≡ x → begins (kinds.Comma ∷ []) ps ≡ false → x ≡ Read a ps
+pub end-more_expressions : (n : ℕ) (x : Reading Seen) (a : Seen) (ps : List Piece) → reads grammar n more_expressions a ps ≡ x → begins (kinds.Comma ∷ []) ps ≡ false → x ≡ Read a ps
 end-more_expressions n x a ps i k = sym i ∙ ends-more_expressions n a ps k
 
 good-in_value : good borders in_value ≡ true
@@ -149,7 +149,7 @@ ends-more_in_values n a ps k = repeated_ends (length ps) (kinds.Comma ∷ []) (r
 pub keep-more_in_values : (n : ℕ) (x : Reading ℕ) (a : ℕ) (ps : List Piece) (b : ℕ) (rest : List Piece) → reads grammar n more_in_values a ps ≡ x → begins (kinds.Comma ∷ []) ps ≡ true → reads grammar n in_value a ps ≡ Read b rest → reads grammar n more_in_values b rest ≡ x
 keep-more_in_values n x a ps b rest i k e = sym (goes-more_in_values n a ps k ∙ ap (λ (x : Reading ℕ). x >>= reads grammar n more_in_values) e) ∙ i
 
-pub exit-more_in_values : (n : ℕ) (x : Reading ℕ) (a : ℕ) (ps : List Piece) (stop : Stop) (rest : List Piece) → reads grammar n more_in_values a ps ≡ x → begins (kinds.Comma ∷ []) ps ≡ true → StopsAt stop (reads grammar n in_value a ps) rest → StopsAt stop x rest
+pub exit-more_in_values : (n : ℕ) (x : Reading ℕ) (a : ℕ) (ps : List Piece) (stop : Unread) (rest : List Piece) → reads grammar n more_in_values a ps ≡ x → begins (kinds.Comma ∷ []) ps ≡ true → StopsAt stop (reads grammar n in_value a ps) rest → StopsAt stop x rest
 exit-more_in_values n x a ps stop rest i k e = subst (λ (x : Reading ℕ). StopsAt stop x rest) (sym (goes-more_in_values n a ps k) ∙ i) (stops_behind stop rest (reads grammar n in_value a ps) (reads grammar n more_in_values) e)
 
 pub end-more_in_values : (n : ℕ) (x : Reading ℕ) (a : ℕ) (ps : List Piece) → reads grammar n more_in_values a ps ≡ x → begins (kinds.Comma ∷ []) ps ≡ false → x ≡ Read a ps
@@ -177,7 +177,7 @@ ends-more_conditions n a ps k = repeated_ends (length ps) (kinds.And ∷ []) (re
 pub keep-more_conditions : (n : ℕ) (x : Reading (List Condition)) (a : (List Condition)) (ps : List Piece) (b : (List Condition)) (rest : List Piece) → reads grammar n more_conditions a ps ≡ x → begins (kinds.And ∷ []) ps ≡ true → reads grammar n and_condition a ps ≡ Read b rest → reads grammar n more_conditions b rest ≡ x
 keep-more_conditions n x a ps b rest i k e = sym (goes-more_conditions n a ps k ∙ ap (λ (x : Reading (List Condition)). x >>= reads grammar n more_conditions) e) ∙ i
 
-pub exit-more_conditions : (n : ℕ) (x : Reading (List Condition)) (a : (List Condition)) (ps : List Piece) (stop : Stop) (rest : List Piece) → reads grammar n more_conditions a ps ≡ x → begins (kinds.And ∷ []) ps ≡ true → StopsAt stop (reads grammar n and_condition a ps) rest → StopsAt stop x rest
+pub exit-more_conditions : (n : ℕ) (x : Reading (List Condition)) (a : (List Condition)) (ps : List Piece) (stop : Unread) (rest : List Piece) → reads grammar n more_conditions a ps ≡ x → begins (kinds.And ∷ []) ps ≡ true → StopsAt stop (reads grammar n and_condition a ps) rest → StopsAt stop x rest
 exit-more_conditions n x a ps stop rest i k e = subst (λ (x : Reading (List Condition)). StopsAt stop x rest) (sym (goes-more_conditions n a ps k) ∙ i) (stops_behind stop rest (reads grammar n and_condition a ps) (reads grammar n more_conditions) e)
 
 pub end-more_conditions : (n : ℕ) (x : Reading (List Condition)) (a : (List Condition)) (ps : List Piece) → reads grammar n more_conditions a ps ≡ x → begins (kinds.And ∷ []) ps ≡ false → x ≡ Read a ps
@@ -205,7 +205,7 @@ ends-more_items n a ps k = repeated_ends (length ps) (kinds.Comma ∷ []) (reads
 pub keep-more_items : (n : ℕ) (x : Reading (List ParsedItem)) (a : (List ParsedItem)) (ps : List Piece) (b : (List ParsedItem)) (rest : List Piece) → reads grammar n more_items a ps ≡ x → begins (kinds.Comma ∷ []) ps ≡ true → reads grammar n another_item a ps ≡ Read b rest → reads grammar n more_items b rest ≡ x
 keep-more_items n x a ps b rest i k e = sym (goes-more_items n a ps k ∙ ap (λ (x : Reading (List ParsedItem)). x >>= reads grammar n more_items) e) ∙ i
 
-pub exit-more_items : (n : ℕ) (x : Reading (List ParsedItem)) (a : (List ParsedItem)) (ps : List Piece) (stop : Stop) (rest : List Piece) → reads grammar n more_items a ps ≡ x → begins (kinds.Comma ∷ []) ps ≡ true → StopsAt stop (reads grammar n another_item a ps) rest → StopsAt stop x rest
+pub exit-more_items : (n : ℕ) (x : Reading (List ParsedItem)) (a : (List ParsedItem)) (ps : List Piece) (stop : Unread) (rest : List Piece) → reads grammar n more_items a ps ≡ x → begins (kinds.Comma ∷ []) ps ≡ true → StopsAt stop (reads grammar n another_item a ps) rest → StopsAt stop x rest
 exit-more_items n x a ps stop rest i k e = subst (λ (x : Reading (List ParsedItem)). StopsAt stop x rest) (sym (goes-more_items n a ps k) ∙ i) (stops_behind stop rest (reads grammar n another_item a ps) (reads grammar n more_items) e)
 
 pub end-more_items : (n : ℕ) (x : Reading (List ParsedItem)) (a : (List ParsedItem)) (ps : List Piece) → reads grammar n more_items a ps ≡ x → begins (kinds.Comma ∷ []) ps ≡ false → x ≡ Read a ps
@@ -233,7 +233,7 @@ ends-more_sources n a ps k = repeated_ends (length ps) (kinds.Comma ∷ kinds.In
 pub keep-more_sources : (n : ℕ) (x : Reading ParsedSelect) (a : ParsedSelect) (ps : List Piece) (b : ParsedSelect) (rest : List Piece) → reads grammar n more_sources a ps ≡ x → begins (kinds.Comma ∷ kinds.Inner ∷ kinds.Join ∷ []) ps ≡ true → reads grammar n another_source a ps ≡ Read b rest → reads grammar n more_sources b rest ≡ x
 keep-more_sources n x a ps b rest i k e = sym (goes-more_sources n a ps k ∙ ap (λ (x : Reading ParsedSelect). x >>= reads grammar n more_sources) e) ∙ i
 
-pub exit-more_sources : (n : ℕ) (x : Reading ParsedSelect) (a : ParsedSelect) (ps : List Piece) (stop : Stop) (rest : List Piece) → reads grammar n more_sources a ps ≡ x → begins (kinds.Comma ∷ kinds.Inner ∷ kinds.Join ∷ []) ps ≡ true → StopsAt stop (reads grammar n another_source a ps) rest → StopsAt stop x rest
+pub exit-more_sources : (n : ℕ) (x : Reading ParsedSelect) (a : ParsedSelect) (ps : List Piece) (stop : Unread) (rest : List Piece) → reads grammar n more_sources a ps ≡ x → begins (kinds.Comma ∷ kinds.Inner ∷ kinds.Join ∷ []) ps ≡ true → StopsAt stop (reads grammar n another_source a ps) rest → StopsAt stop x rest
 exit-more_sources n x a ps stop rest i k e = subst (λ (x : Reading ParsedSelect). StopsAt stop x rest) (sym (goes-more_sources n a ps k) ∙ i) (stops_behind stop rest (reads grammar n another_source a ps) (reads grammar n more_sources) e)
 
 pub end-more_sources : (n : ℕ) (x : Reading ParsedSelect) (a : ParsedSelect) (ps : List Piece) → reads grammar n more_sources a ps ≡ x → begins (kinds.Comma ∷ kinds.Inner ∷ kinds.Join ∷ []) ps ≡ false → x ≡ Read a ps
@@ -261,7 +261,7 @@ ends-more_columns n a ps k = repeated_ends (length ps) (kinds.Comma ∷ []) (rea
 pub keep-more_columns : (n : ℕ) (x : Reading (List NameUse)) (a : (List NameUse)) (ps : List Piece) (b : (List NameUse)) (rest : List Piece) → reads grammar n more_columns a ps ≡ x → begins (kinds.Comma ∷ []) ps ≡ true → reads grammar n another_column a ps ≡ Read b rest → reads grammar n more_columns b rest ≡ x
 keep-more_columns n x a ps b rest i k e = sym (goes-more_columns n a ps k ∙ ap (λ (x : Reading (List NameUse)). x >>= reads grammar n more_columns) e) ∙ i
 
-pub exit-more_columns : (n : ℕ) (x : Reading (List NameUse)) (a : (List NameUse)) (ps : List Piece) (stop : Stop) (rest : List Piece) → reads grammar n more_columns a ps ≡ x → begins (kinds.Comma ∷ []) ps ≡ true → StopsAt stop (reads grammar n another_column a ps) rest → StopsAt stop x rest
+pub exit-more_columns : (n : ℕ) (x : Reading (List NameUse)) (a : (List NameUse)) (ps : List Piece) (stop : Unread) (rest : List Piece) → reads grammar n more_columns a ps ≡ x → begins (kinds.Comma ∷ []) ps ≡ true → StopsAt stop (reads grammar n another_column a ps) rest → StopsAt stop x rest
 exit-more_columns n x a ps stop rest i k e = subst (λ (x : Reading (List NameUse)). StopsAt stop x rest) (sym (goes-more_columns n a ps k) ∙ i) (stops_behind stop rest (reads grammar n another_column a ps) (reads grammar n more_columns) e)
 
 pub end-more_columns : (n : ℕ) (x : Reading (List NameUse)) (a : (List NameUse)) (ps : List Piece) → reads grammar n more_columns a ps ≡ x → begins (kinds.Comma ∷ []) ps ≡ false → x ≡ Read a ps
@@ -275,24 +275,24 @@ full-another_having_test : may_be_empty another_having_test ≡ false
 unfolding grammar after_name column alias source plain_value value called_name after_operand_name after_operand_date other_operand operand operation operations expression another_expression more_expressions expressions star_argument maybe_distinct listed_arguments arguments call parenthesis signed_operand turned_test tied_test after_equal_date equal_test unequal_test between_test in_value more_in_values in_values in_test like_test null_test column_test after_test_name after_test_date test condition and_condition more_conditions conditions nested_conditions where_conditions rest_of_item after_item_point after_item_name after_item_date literal_item item_value one_item another_item more_items item_list quantifier one_source join_word on_part joined_source another_source more_sources source_list where_part one_column another_column more_columns column_list group_part having_test another_having_test more_having_tests having_tests having_part direction order_value one_order another_order more_orders order_list order_part offset_part limit_part from_part select_head group_and_having order_and_limit select_tail select_rest name_as_column another_name more_names name_list insert_columns row_values row another_row more_rows rows insert_table insert_rest set_column assignment another_assignment more_assignments assignments update_source update_rest delete_conditions delete_rest select insert update select_statement insert_statement update_statement delete_statement statement maybe_statement another_statement more_statements workload
 full-another_having_test = refl
 
-pub takes-another_having_test : (n : ℕ) (a : Found) (ps : List Piece) (b : Found) (rest : List Piece) → reads grammar n another_having_test a ps ≡ Read b rest → length rest < length ps
+pub takes-another_having_test : (n : ℕ) (a : Seen) (ps : List Piece) (b : Seen) (rest : List Piece) → reads grammar n another_having_test a ps ≡ Read b rest → length rest < length ps
 takes-another_having_test n a ps b rest e = takes_some another_having_test good-another_having_test full-another_having_test n a ps b rest e
 
-pub goes-more_having_tests : (n : ℕ) (a : Found) (ps : List Piece) → begins (kinds.And ∷ []) ps ≡ true → reads grammar n more_having_tests a ps ≡ (reads grammar n another_having_test a ps >>= reads grammar n more_having_tests)
+pub goes-more_having_tests : (n : ℕ) (a : Seen) (ps : List Piece) → begins (kinds.And ∷ []) ps ≡ true → reads grammar n more_having_tests a ps ≡ (reads grammar n another_having_test a ps >>= reads grammar n more_having_tests)
 unfolding more_having_tests
 goes-more_having_tests n a ps k = many_goes (kinds.And ∷ []) another_having_test good-another_having_test full-another_having_test n a ps k
 
-pub ends-more_having_tests : (n : ℕ) (a : Found) (ps : List Piece) → begins (kinds.And ∷ []) ps ≡ false → reads grammar n more_having_tests a ps ≡ Read a ps
+pub ends-more_having_tests : (n : ℕ) (a : Seen) (ps : List Piece) → begins (kinds.And ∷ []) ps ≡ false → reads grammar n more_having_tests a ps ≡ Read a ps
 unfolding more_having_tests
 ends-more_having_tests n a ps k = repeated_ends (length ps) (kinds.And ∷ []) (reads grammar n another_having_test) a ps k
 
-pub keep-more_having_tests : (n : ℕ) (x : Reading Found) (a : Found) (ps : List Piece) (b : Found) (rest : List Piece) → reads grammar n more_having_tests a ps ≡ x → begins (kinds.And ∷ []) ps ≡ true → reads grammar n another_having_test a ps ≡ Read b rest → reads grammar n more_having_tests b rest ≡ x
-keep-more_having_tests n x a ps b rest i k e = sym (goes-more_having_tests n a ps k ∙ ap (λ (x : Reading Found). x >>= reads grammar n more_having_tests) e) ∙ i
+pub keep-more_having_tests : (n : ℕ) (x : Reading Seen) (a : Seen) (ps : List Piece) (b : Seen) (rest : List Piece) → reads grammar n more_having_tests a ps ≡ x → begins (kinds.And ∷ []) ps ≡ true → reads grammar n another_having_test a ps ≡ Read b rest → reads grammar n more_having_tests b rest ≡ x
+keep-more_having_tests n x a ps b rest i k e = sym (goes-more_having_tests n a ps k ∙ ap (λ (x : Reading Seen). x >>= reads grammar n more_having_tests) e) ∙ i
 
-pub exit-more_having_tests : (n : ℕ) (x : Reading Found) (a : Found) (ps : List Piece) (stop : Stop) (rest : List Piece) → reads grammar n more_having_tests a ps ≡ x → begins (kinds.And ∷ []) ps ≡ true → StopsAt stop (reads grammar n another_having_test a ps) rest → StopsAt stop x rest
-exit-more_having_tests n x a ps stop rest i k e = subst (λ (x : Reading Found). StopsAt stop x rest) (sym (goes-more_having_tests n a ps k) ∙ i) (stops_behind stop rest (reads grammar n another_having_test a ps) (reads grammar n more_having_tests) e)
+pub exit-more_having_tests : (n : ℕ) (x : Reading Seen) (a : Seen) (ps : List Piece) (stop : Unread) (rest : List Piece) → reads grammar n more_having_tests a ps ≡ x → begins (kinds.And ∷ []) ps ≡ true → StopsAt stop (reads grammar n another_having_test a ps) rest → StopsAt stop x rest
+exit-more_having_tests n x a ps stop rest i k e = subst (λ (x : Reading Seen). StopsAt stop x rest) (sym (goes-more_having_tests n a ps k) ∙ i) (stops_behind stop rest (reads grammar n another_having_test a ps) (reads grammar n more_having_tests) e)
 
-pub end-more_having_tests : (n : ℕ) (x : Reading Found) (a : Found) (ps : List Piece) → reads grammar n more_having_tests a ps ≡ x → begins (kinds.And ∷ []) ps ≡ false → x ≡ Read a ps
+pub end-more_having_tests : (n : ℕ) (x : Reading Seen) (a : Seen) (ps : List Piece) → reads grammar n more_having_tests a ps ≡ x → begins (kinds.And ∷ []) ps ≡ false → x ≡ Read a ps
 end-more_having_tests n x a ps i k = sym i ∙ ends-more_having_tests n a ps k
 
 good-another_order : good borders another_order ≡ true
@@ -317,7 +317,7 @@ ends-more_orders n a ps k = repeated_ends (length ps) (kinds.Comma ∷ []) (read
 pub keep-more_orders : (n : ℕ) (x : Reading (List ParsedOrder)) (a : (List ParsedOrder)) (ps : List Piece) (b : (List ParsedOrder)) (rest : List Piece) → reads grammar n more_orders a ps ≡ x → begins (kinds.Comma ∷ []) ps ≡ true → reads grammar n another_order a ps ≡ Read b rest → reads grammar n more_orders b rest ≡ x
 keep-more_orders n x a ps b rest i k e = sym (goes-more_orders n a ps k ∙ ap (λ (x : Reading (List ParsedOrder)). x >>= reads grammar n more_orders) e) ∙ i
 
-pub exit-more_orders : (n : ℕ) (x : Reading (List ParsedOrder)) (a : (List ParsedOrder)) (ps : List Piece) (stop : Stop) (rest : List Piece) → reads grammar n more_orders a ps ≡ x → begins (kinds.Comma ∷ []) ps ≡ true → StopsAt stop (reads grammar n another_order a ps) rest → StopsAt stop x rest
+pub exit-more_orders : (n : ℕ) (x : Reading (List ParsedOrder)) (a : (List ParsedOrder)) (ps : List Piece) (stop : Unread) (rest : List Piece) → reads grammar n more_orders a ps ≡ x → begins (kinds.Comma ∷ []) ps ≡ true → StopsAt stop (reads grammar n another_order a ps) rest → StopsAt stop x rest
 exit-more_orders n x a ps stop rest i k e = subst (λ (x : Reading (List ParsedOrder)). StopsAt stop x rest) (sym (goes-more_orders n a ps k) ∙ i) (stops_behind stop rest (reads grammar n another_order a ps) (reads grammar n more_orders) e)
 
 pub end-more_orders : (n : ℕ) (x : Reading (List ParsedOrder)) (a : (List ParsedOrder)) (ps : List Piece) → reads grammar n more_orders a ps ≡ x → begins (kinds.Comma ∷ []) ps ≡ false → x ≡ Read a ps
@@ -345,7 +345,7 @@ ends-more_names n a ps k = repeated_ends (length ps) (kinds.Comma ∷ []) (reads
 pub keep-more_names : (n : ℕ) (x : Reading (List NameUse)) (a : (List NameUse)) (ps : List Piece) (b : (List NameUse)) (rest : List Piece) → reads grammar n more_names a ps ≡ x → begins (kinds.Comma ∷ []) ps ≡ true → reads grammar n another_name a ps ≡ Read b rest → reads grammar n more_names b rest ≡ x
 keep-more_names n x a ps b rest i k e = sym (goes-more_names n a ps k ∙ ap (λ (x : Reading (List NameUse)). x >>= reads grammar n more_names) e) ∙ i
 
-pub exit-more_names : (n : ℕ) (x : Reading (List NameUse)) (a : (List NameUse)) (ps : List Piece) (stop : Stop) (rest : List Piece) → reads grammar n more_names a ps ≡ x → begins (kinds.Comma ∷ []) ps ≡ true → StopsAt stop (reads grammar n another_name a ps) rest → StopsAt stop x rest
+pub exit-more_names : (n : ℕ) (x : Reading (List NameUse)) (a : (List NameUse)) (ps : List Piece) (stop : Unread) (rest : List Piece) → reads grammar n more_names a ps ≡ x → begins (kinds.Comma ∷ []) ps ≡ true → StopsAt stop (reads grammar n another_name a ps) rest → StopsAt stop x rest
 exit-more_names n x a ps stop rest i k e = subst (λ (x : Reading (List NameUse)). StopsAt stop x rest) (sym (goes-more_names n a ps k) ∙ i) (stops_behind stop rest (reads grammar n another_name a ps) (reads grammar n more_names) e)
 
 pub end-more_names : (n : ℕ) (x : Reading (List NameUse)) (a : (List NameUse)) (ps : List Piece) → reads grammar n more_names a ps ≡ x → begins (kinds.Comma ∷ []) ps ≡ false → x ≡ Read a ps
@@ -373,7 +373,7 @@ ends-more_rows n a ps k = repeated_ends (length ps) (kinds.Comma ∷ []) (reads 
 pub keep-more_rows : (n : ℕ) (x : Reading InsertParts) (a : InsertParts) (ps : List Piece) (b : InsertParts) (rest : List Piece) → reads grammar n more_rows a ps ≡ x → begins (kinds.Comma ∷ []) ps ≡ true → reads grammar n another_row a ps ≡ Read b rest → reads grammar n more_rows b rest ≡ x
 keep-more_rows n x a ps b rest i k e = sym (goes-more_rows n a ps k ∙ ap (λ (x : Reading InsertParts). x >>= reads grammar n more_rows) e) ∙ i
 
-pub exit-more_rows : (n : ℕ) (x : Reading InsertParts) (a : InsertParts) (ps : List Piece) (stop : Stop) (rest : List Piece) → reads grammar n more_rows a ps ≡ x → begins (kinds.Comma ∷ []) ps ≡ true → StopsAt stop (reads grammar n another_row a ps) rest → StopsAt stop x rest
+pub exit-more_rows : (n : ℕ) (x : Reading InsertParts) (a : InsertParts) (ps : List Piece) (stop : Unread) (rest : List Piece) → reads grammar n more_rows a ps ≡ x → begins (kinds.Comma ∷ []) ps ≡ true → StopsAt stop (reads grammar n another_row a ps) rest → StopsAt stop x rest
 exit-more_rows n x a ps stop rest i k e = subst (λ (x : Reading InsertParts). StopsAt stop x rest) (sym (goes-more_rows n a ps k) ∙ i) (stops_behind stop rest (reads grammar n another_row a ps) (reads grammar n more_rows) e)
 
 pub end-more_rows : (n : ℕ) (x : Reading InsertParts) (a : InsertParts) (ps : List Piece) → reads grammar n more_rows a ps ≡ x → begins (kinds.Comma ∷ []) ps ≡ false → x ≡ Read a ps
@@ -401,7 +401,7 @@ ends-more_assignments n a ps k = repeated_ends (length ps) (kinds.Comma ∷ []) 
 pub keep-more_assignments : (n : ℕ) (x : Reading UpdateParts) (a : UpdateParts) (ps : List Piece) (b : UpdateParts) (rest : List Piece) → reads grammar n more_assignments a ps ≡ x → begins (kinds.Comma ∷ []) ps ≡ true → reads grammar n another_assignment a ps ≡ Read b rest → reads grammar n more_assignments b rest ≡ x
 keep-more_assignments n x a ps b rest i k e = sym (goes-more_assignments n a ps k ∙ ap (λ (x : Reading UpdateParts). x >>= reads grammar n more_assignments) e) ∙ i
 
-pub exit-more_assignments : (n : ℕ) (x : Reading UpdateParts) (a : UpdateParts) (ps : List Piece) (stop : Stop) (rest : List Piece) → reads grammar n more_assignments a ps ≡ x → begins (kinds.Comma ∷ []) ps ≡ true → StopsAt stop (reads grammar n another_assignment a ps) rest → StopsAt stop x rest
+pub exit-more_assignments : (n : ℕ) (x : Reading UpdateParts) (a : UpdateParts) (ps : List Piece) (stop : Unread) (rest : List Piece) → reads grammar n more_assignments a ps ≡ x → begins (kinds.Comma ∷ []) ps ≡ true → StopsAt stop (reads grammar n another_assignment a ps) rest → StopsAt stop x rest
 exit-more_assignments n x a ps stop rest i k e = subst (λ (x : Reading UpdateParts). StopsAt stop x rest) (sym (goes-more_assignments n a ps k) ∙ i) (stops_behind stop rest (reads grammar n another_assignment a ps) (reads grammar n more_assignments) e)
 
 pub end-more_assignments : (n : ℕ) (x : Reading UpdateParts) (a : UpdateParts) (ps : List Piece) → reads grammar n more_assignments a ps ≡ x → begins (kinds.Comma ∷ []) ps ≡ false → x ≡ Read a ps
@@ -429,7 +429,7 @@ ends-more_statements n a ps k = repeated_ends (length ps) (kinds.Semicolon ∷ [
 pub keep-more_statements : (n : ℕ) (x : Reading Progress) (a : Progress) (ps : List Piece) (b : Progress) (rest : List Piece) → reads grammar n more_statements a ps ≡ x → begins (kinds.Semicolon ∷ []) ps ≡ true → reads grammar n another_statement a ps ≡ Read b rest → reads grammar n more_statements b rest ≡ x
 keep-more_statements n x a ps b rest i k e = sym (goes-more_statements n a ps k ∙ ap (λ (x : Reading Progress). x >>= reads grammar n more_statements) e) ∙ i
 
-pub exit-more_statements : (n : ℕ) (x : Reading Progress) (a : Progress) (ps : List Piece) (stop : Stop) (rest : List Piece) → reads grammar n more_statements a ps ≡ x → begins (kinds.Semicolon ∷ []) ps ≡ true → StopsAt stop (reads grammar n another_statement a ps) rest → StopsAt stop x rest
+pub exit-more_statements : (n : ℕ) (x : Reading Progress) (a : Progress) (ps : List Piece) (stop : Unread) (rest : List Piece) → reads grammar n more_statements a ps ≡ x → begins (kinds.Semicolon ∷ []) ps ≡ true → StopsAt stop (reads grammar n another_statement a ps) rest → StopsAt stop x rest
 exit-more_statements n x a ps stop rest i k e = subst (λ (x : Reading Progress). StopsAt stop x rest) (sym (goes-more_statements n a ps k) ∙ i) (stops_behind stop rest (reads grammar n another_statement a ps) (reads grammar n more_statements) e)
 
 pub end-more_statements : (n : ℕ) (x : Reading Progress) (a : Progress) (ps : List Piece) → reads grammar n more_statements a ps ≡ x → begins (kinds.Semicolon ∷ []) ps ≡ false → x ≡ Read a ps

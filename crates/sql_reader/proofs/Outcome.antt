@@ -1,26 +1,51 @@
 -- What the grammar says of pieces that were read, and which faults come.
-use Rattle.std.proofs.Common.{◌≡◌, ℕ, ◌+◌, Bool, true, false, List, [], ◌∷◌, length, Option, Some, None, option_map, nat_lt, sym, refl, subst, if◌then◌else◌}
+use Rattle.std.proofs.Common.{◌≡◌, ℕ, ◌+◌, Bool, true, false, List, [], ◌∷◌, ◌++◌, length, Option, Some, None, option_map, nat_lt, sym, refl, subst, if◌then◌else◌}
 use Rattle.sql_reader.specs.declared.piece.Piece.{Piece}
 use Rattle.sql_reader.specs.declared.parsed.SqlFault.{SqlFault}
 use Rattle.sql_reader.specs.declared.parsed.SqlFault.TheVariants as faults
 use Rattle.sql_reader.specs.declared.parts.Progress.{Progress}
-use Rattle.sql_reader.specs.declared.cursor.Stop.{Stop}
-use Rattle.sql_reader.specs.declared.cursor.Stop.TheVariants.{Memory, Here}
-use Rattle.sql_reader.specs.Reads.{StopsAt}
+use Rattle.sql_reader.specs.declared.cursor.Unread.{Unread}
+use Rattle.sql_reader.specs.declared.cursor.Unread.TheVariants.{Memory, Here}
+use Rattle.sql_reader.specs.inner.Reads.{StopsAt}
 use Rattle.sql_reader.specs.Kinds.{has}
-use Rattle.sql_reader.specs.Rule.{Reading, Read, Stuck}
-use Rattle.sql_reader.specs.Exact.{IsExact, IsRead, reads}
+use Rattle.sql_reader.specs.Rule.{Meaning, Reading, Read, Stuck}
+use Rattle.sql_reader.specs.Exact.{NoneGoesOn, FailsAt, IsExact, IsRead, reads}
 use Rattle.sql_reader.specs.Grammar.{grammar, borders, levels, workload}
 use Rattle.sql_reader.specs.Values.{place_of, no_statements}
 use Rattle.sql_reader.specs.Pieces.{bad_weight, start_behind}
-use Rattle.sql_reader.specs.Workload.{MeansStatements, left_out, grammar_fault, fault_behind, GrammarSays, place_of_fault, earlier, first_fault, Says, IsFirstFault, HasSqlFault}
+use Rattle.sql_reader.specs.Workload.{MeansStatements, left_out, grammar_fault, fault_behind, GrammarSays, place_of_fault, earlier, IsFirstFault, HasSqlFault}
+use Rattle.sql_reader.proofs.AsPrinted.{is_as_printed}
 use Rattle.sql_reader.proofs.Exactly.{reads_exactly}
 use Rattle.sql_reader.proofs.Good.{good_workload, closes_workload, good_grammar}
 
-exact_at : (pieces : List Piece) (x : Reading Progress) → reads grammar levels workload no_statements pieces ≡ x → IsExact (IsRead grammar levels workload) no_statements pieces x
+-- where two meanings are the same, what fails in one fails in the other
+module _ {A B : Type 0} (is also : Meaning A B) (there : (a : A) (ps : List Piece) (b : B) → is a ps b → also a ps b) (back : (a : A) (ps : List Piece) (b : B) → also a ps b → is a ps b) where
+  none_also : (a : A) (front rest : List Piece) → NoneGoesOn is a front rest → NoneGoesOn also a front rest
+  none_also a front [] h = λ b k. h b (back a front b k)
+  none_also a front (p ∷ rest) h = λ q more b e k. h q more b e (back a (front ++ q ∷ more) b k)
+
+  fails_also : (a : A) (pieces rest : List Piece) → FailsAt is a pieces rest → FailsAt also a pieces rest
+  fails_also a pieces rest h =
+      let (more, b, is_there) = h.before in
+      record { front = h.front; split = h.split; before = (more, b, there a (h.front ++ more) b is_there); none = none_also a h.front rest h.none }
+
+  exact_also : (a : A) (pieces : List Piece) (x : Reading B) → IsExact is a pieces x → IsExact also a pieces x
+  exact_also a pieces (Read b []) h = there a pieces b h
+  exact_also a pieces (Read b (p ∷ rest)) h = fails_also a pieces (p ∷ rest) h
+  exact_also a pieces (Stuck rest) h = fails_also a pieces rest h
+
+-- what is meant by the printed grammar is what is meant by the rules that are read
+pub means_printed : (start : Progress) (pieces : List Piece) (end : Progress) → IsRead grammar levels workload start pieces end → MeansStatements start pieces end
+means_printed start pieces end h = (is_as_printed.workload_rule levels start pieces end).0 h
+
+pub means_read : (start : Progress) (pieces : List Piece) (end : Progress) → MeansStatements start pieces end → IsRead grammar levels workload start pieces end
+means_read start pieces end h = (is_as_printed.workload_rule levels start pieces end).1 h
+
+exact_at : (pieces : List Piece) (x : Reading Progress) → reads grammar levels workload no_statements pieces ≡ x → IsExact MeansStatements no_statements pieces x
 exact_at pieces x e =
-    subst (λ (y : Reading Progress). IsExact (IsRead grammar levels workload) no_statements pieces y) e
-    (reads_exactly borders grammar levels workload good_grammar good_workload closes_workload no_statements pieces)
+    exact_also (IsRead grammar levels workload) MeansStatements means_printed means_read no_statements pieces x
+    (subst (λ (y : Reading Progress). IsExact (IsRead grammar levels workload) no_statements pieces y) e
+    (reads_exactly borders grammar levels workload good_grammar good_workload closes_workload no_statements pieces))
 
 pub says_read : (end : ℕ) (pieces : List Piece) (progress : Progress) (rest : List Piece) → reads grammar levels workload no_statements pieces ≡ Read progress rest →
     GrammarSays end pieces progress (fault_behind end rest)
@@ -32,7 +57,7 @@ pub says_stuck : (end : ℕ) (pieces : List Piece) (progress : Progress) (rest :
 says_stuck end pieces progress rest e = (rest, exact_at pieces (Stuck rest) e, refl)
 
 -- where a function stops before the next piece the reading is stuck
-pub stuck_from : (stop : Stop) (reading : Reading Progress) (rest : List Piece) → stop ≡ Here → StopsAt stop reading rest → reading ≡ Stuck rest
+pub stuck_from : (stop : Unread) (reading : Reading Progress) (rest : List Piece) → stop ≡ Here → StopsAt stop reading rest → reading ≡ Stuck rest
 stuck_from Memory reading rest e h = absurd cc
 stuck_from Here reading rest e h = h
 

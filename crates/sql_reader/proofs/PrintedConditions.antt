@@ -1,7 +1,7 @@
 -- Conditions mean what they mean as they are printed.
 use Rattle.std.proofs.Common.{◌≡◌, true, List, [], ◌∷◌, ◌++◌, sym, refl, ap, ◌∙◌, subst, ◌⊎◌, inl, inr}
-use Rattle.sql_reader.specs.declared.kind.Kind.{Kind}
-use Rattle.sql_reader.specs.declared.kind.Kind.TheVariants as kinds
+use Rattle.sql_reader.specs.declared.kind.PieceKind.{PieceKind}
+use Rattle.sql_reader.specs.declared.kind.PieceKind.TheVariants as kinds
 use Rattle.sql_reader.specs.declared.piece.Piece.{Piece}
 use Rattle.sql_reader.specs.declared.parsed.NameUse.{NameUse}
 use Rattle.sql_reader.specs.declared.parsed.Literal.{Literal}
@@ -19,15 +19,15 @@ use Rattle.sql_reader.proofs.Alike.{Same, flat, flat_same, give_same, take_same,
 use Rattle.sql_reader.proofs.PrintedOperands.{name_parts, plain_is_name, date_is_name, value_same, Linked}
 
 -- the comparisons other than "="
-abbrev unequal : List Kind
+abbrev unequal : List PieceKind
 unequal = kinds.NotEqual ∷ kinds.Below ∷ kinds.Above ∷ []
 
 -- what is read as "=" compares for being equal
-compares_equal : (k : Kind) → has (kinds.Equal ∷ []) k ≡ true → compare_of k ≡ compares.Equal
+compares_equal : (k : PieceKind) → has (kinds.Equal ∷ []) k ≡ true → compare_of k ≡ compares.Equal
 compares_equal kinds.Equal h = refl
 compares_equal _ h = absurd cc
 
-comparison_parts : (k : Kind) → has comparisons k ≡ true → (has (kinds.Equal ∷ []) k ≡ true) ⊎ (has unequal k ≡ true)
+comparison_parts : (k : PieceKind) → has comparisons k ≡ true → (has (kinds.Equal ∷ []) k ≡ true) ⊎ (has unequal k ≡ true)
 comparison_parts k h = or_cases (has (kinds.Equal ∷ []) k) (has unequal k) (sym (has-append (kinds.Equal ∷ []) unequal k) ∙ h)
 
 flat_column : flat column ≡ true

@@ -1,8 +1,8 @@
 -- Items of select lists mean what they mean as they are printed.
 use Rattle.std.proofs.Common.{◌≡◌, true, List, [], ◌∷◌, ◌++◌, sym, refl, ap, ◌∙◌, subst, inl, inr, append_assoc}
-use Rattle.sql_reader.specs.declared.kind.Kind.TheVariants as kinds
+use Rattle.sql_reader.specs.declared.kind.PieceKind.TheVariants as kinds
 use Rattle.sql_reader.specs.declared.piece.Piece.{Piece}
-use Rattle.sql_reader.specs.declared.found.Found.{Found}
+use Rattle.sql_reader.specs.declared.seen.Seen.{Seen}
 use Rattle.sql_reader.specs.declared.parsed.ParsedItem.{ParsedItem}
 use Rattle.sql_reader.specs.declared.parsed.ParsedItem.TheVariants as items
 use Rattle.sql_reader.specs.Kinds.{has}
@@ -15,7 +15,7 @@ use Rattle.sql_reader.proofs.PrintedOperands.{name_parts, plain_is_name, date_is
 
 module _ (d e : (x : Nesting) → Meaning (State x) (State x)) (linked : Linked d e) where
   -- an operand and the rest of an expression, with an alias
-  made : (ps : List Piece) (b : ParsedItem) (front rest : List Piece) (m : Found) → ps ≡ front ++ rest → IsOver d operand nothing_found front m → IsOver d rest_of_item m rest b → IsOver e printed.item (tt {0}) ps b
+  made : (ps : List Piece) (b : ParsedItem) (front rest : List Piece) (m : Seen) → ps ≡ front ++ rest → IsOver d operand nothing_found front m → IsOver d rest_of_item m rest b → IsOver e printed.item (tt {0}) ps b
   unfolding rest_of_item expression printed.item
   made ps b front rest m split h (middle, back, m2, split2, others, (name, is_alias, eb)) =
       let is_expr = (expr_same d e linked).there nothing_found (front ++ middle) m2 (front, middle, m, refl, h, others) in
@@ -41,7 +41,7 @@ module _ (d e : (x : Nesting) → Meaning (State x) (State x)) (linked : Linked 
       point_there ps b p q rest rest2 k at kq at2 h2
   name_there ps b p rest k at (inr (front, back, m, split, (m2, h, em), t)) =
       let is_operand = named_operand d nothing_found (p ∷ front) m2 p front k refl (inr h) in
-      let rest_there = subst (λ (x : Found). IsOver d rest_of_item x back b) em t in
+      let rest_there = subst (λ (x : Seen). IsOver d rest_of_item x back b) em t in
       made ps b (p ∷ front) back m2 (at ∙ ap (λ (x : List Piece). p ∷ x) split) is_operand rest_there
 
   date_there : (ps : List Piece) (b : ParsedItem) (p : Piece) (rest : List Piece) → has (kinds.Date ∷ []) p.kind ≡ true → ps ≡ p ∷ rest → IsOver d after_item_date p rest b → IsOver e printed.item (tt {0}) ps b
@@ -62,7 +62,7 @@ module _ (d e : (x : Nesting) → Meaning (State x) (State x)) (linked : Linked 
       let (p, rest, k, at, h2) = took d plain_names (λ _ p. p) after_item_name (tt {0}) ps b h in
       name_there ps b p rest (plain_is_name p.kind k) at h2
   item_there a ps b (inr (inr (inr (front, back, m, split, (m2, h, em), t)))) =
-      made ps b front back m2 split (inr (inr h)) (subst (λ (x : Found). IsOver d rest_of_item x back b) em t)
+      made ps b front back m2 split (inr (inr h)) (subst (λ (x : Seen). IsOver d rest_of_item x back b) em t)
 
   -- what stands behind the first name of an item
   behind_name : (ps : List Piece) (b : ParsedItem) (p : Piece) (rest : List Piece) → has names p.kind ≡ true → ps ≡ p ∷ rest → IsOver d after_item_name p rest b → IsOver d item_value (tt {0}) ps b
@@ -81,26 +81,26 @@ module _ (d e : (x : Nesting) → Meaning (State x) (State x)) (linked : Linked 
       behind_name ps b p rest k at (inl (put d (kinds.Point ∷ []) (λ name _. name) after_item_point p rest b q rest2 kq at2 (inl h3)))
 
   -- an operand that begins with a name, and what stands behind it
-  name_back : (p : Piece) (front rest : List Piece) (m : Found) (b : ParsedItem) → IsOver d after_operand_name (nothing_found, p) front m → IsOver d rest_of_item m rest b → IsOver d after_item_name p (front ++ rest) b
+  name_back : (p : Piece) (front rest : List Piece) (m : Seen) (b : ParsedItem) → IsOver d after_operand_name (nothing_found, p) front m → IsOver d rest_of_item m rest b → IsOver d after_item_name p (front ++ rest) b
   unfolding after_operand_name after_item_name after_item_point
   name_back p front rest m b (inl h) t =
       let (q, front2, kq, at, u) = took d (kinds.Point ∷ []) (λ s _. s) (Take names (λ s n. with_use s.0 (column_of_source s.1.span n.span))) (nothing_found, p) front m h in
       let (n, kn, en, em) = u in
-      let rest_there = subst (λ (x : Found). IsOver d rest_of_item x rest b) em t in
+      let rest_there = subst (λ (x : Seen). IsOver d rest_of_item x rest b) em t in
       let named = put d names (λ name p. with_use nothing_found (column_of_source name.span p.span)) rest_of_item p (front2 ++ rest) b n rest kn (ap (λ (x : List Piece). x ++ rest) en) rest_there in
       inl (put d (kinds.Point ∷ []) (λ name _. name) after_item_point p (front ++ rest) b q (front2 ++ rest) kq (ap (λ (x : List Piece). x ++ rest) at) (inr named))
   name_back p front rest m b (inr h) t = inr (front, rest, m, refl, (m, h, refl), t)
 
-  date_back : (ps : List Piece) (b : ParsedItem) (p : Piece) (front rest : List Piece) (m : Found) → has (kinds.Date ∷ []) p.kind ≡ true → ps ≡ p ∷ (front ++ rest) → IsOver d after_operand_date (nothing_found, p) front m → IsOver d rest_of_item m rest b → IsOver d item_value (tt {0}) ps b
+  date_back : (ps : List Piece) (b : ParsedItem) (p : Piece) (front rest : List Piece) (m : Seen) → has (kinds.Date ∷ []) p.kind ≡ true → ps ≡ p ∷ (front ++ rest) → IsOver d after_operand_date (nothing_found, p) front m → IsOver d rest_of_item m rest b → IsOver d item_value (tt {0}) ps b
   unfolding after_operand_date item_value after_item_date
   date_back ps b p front rest m k at (inl (q, kq, eq, em)) t =
-      let rest_there = subst (λ (x : Found). IsOver d rest_of_item x rest b) em t in
+      let rest_there = subst (λ (x : Seen). IsOver d rest_of_item x rest b) em t in
       let day = put d (kinds.Day ∷ []) (λ _ _. nothing_found) rest_of_item p (front ++ rest) b q rest kq (ap (λ (x : List Piece). x ++ rest) eq) rest_there in
       inr (inl (put d (kinds.Date ∷ []) (λ _ p. p) after_item_date (tt {0}) ps b p (front ++ rest) k at (inl day)))
   date_back ps b p front rest m k at (inr h) t = behind_name ps b p (front ++ rest) (date_is_name p.kind k) at (name_back p front rest m b h t)
 
   -- an operand and the rest of an item
-  operand_back : (ps : List Piece) (b : ParsedItem) (front rest : List Piece) (m : Found) → ps ≡ front ++ rest → IsOver d operand nothing_found front m → IsOver d rest_of_item m rest b → IsOver d item_value (tt {0}) ps b
+  operand_back : (ps : List Piece) (b : ParsedItem) (front rest : List Piece) (m : Seen) → ps ≡ front ++ rest → IsOver d operand nothing_found front m → IsOver d rest_of_item m rest b → IsOver d item_value (tt {0}) ps b
   unfolding operand item_value literal_item
   operand_back ps b front rest m split (inl h) t =
       let (p, front2, k, at, h2) = took d (kinds.Date ∷ []) beside after_operand_date nothing_found front m h in
@@ -110,7 +110,7 @@ module _ (d e : (x : Nesting) → Meaning (State x) (State x)) (linked : Linked 
       behind_name ps b p (front2 ++ rest) (plain_is_name p.kind k) (split ∙ ap (λ (x : List Piece). x ++ rest) at) (name_back p front2 rest m b h2 t)
   operand_back ps b front rest m split (inr (inr h)) t = inr (inr (inr (front, rest, m, split, (m, h, refl), t)))
 
-  made_back : (ps : List Piece) (b : ParsedItem) (front back : List Piece) (m : Found) → ps ≡ front ++ back → IsOver d expression nothing_found front m → IsOver e (Use (λ _. tt) printed.alias (λ found name. items.Made (expr_of found) name)) m back b → IsOver d item_value (tt {0}) ps b
+  made_back : (ps : List Piece) (b : ParsedItem) (front back : List Piece) (m : Seen) → ps ≡ front ++ back → IsOver d expression nothing_found front m → IsOver e (Use (λ _. tt) printed.alias (λ found name. items.Made (expr_of found) name)) m back b → IsOver d item_value (tt {0}) ps b
   unfolding expression rest_of_item
   made_back ps b front back m split (begin, others, m2, split2, h, t) (name, is_alias, eb) =
       let whole : ps ≡ begin ++ (others ++ back) = split ∙ ap (λ (x : List Piece). x ++ back) split2 ∙ append_assoc begin others back in
@@ -122,7 +122,7 @@ module _ (d e : (x : Nesting) → Meaning (State x) (State x)) (linked : Linked 
   item_back a ps b (inr (inl h)) = star_back ps b h
   item_back a ps b (inr (inr (none, rest, start, split, (en, es), (front, back, m, split2, h, t)))) =
       let whole : ps ≡ front ++ back = split ∙ ap (λ (x : List Piece). x ++ rest) en ∙ split2 in
-      let from_nothing = subst (λ (x : Found). IsOver e printed.expr x front m) es h in
+      let from_nothing = subst (λ (x : Seen). IsOver e printed.expr x front m) es h in
       made_back ps b front back m whole ((expr_same d e linked).back nothing_found front m from_nothing) t
 
   -- item = "*" | name "." "*" | expr [[AS] name]

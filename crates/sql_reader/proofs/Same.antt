@@ -1,9 +1,10 @@
 -- A text says one thing: its tokens, pieces, statements and first fault are determined by it.
-use Rattle.std.proofs.Common.{◌≡◌, ℕ, ℤ, ◌^◌, Bool, true, false, List, [], ◌∷◌, ◌++◌, Option, sym, refl, ap, ◌∙◌, subst, ◌⊎◌, inl, inr, append_assoc, append-nil}
+use Rattle.std.proofs.Common.{◌≡◌, ℕ, ℤ, ◌^◌, ◌<◌, Bool, true, false, List, [], ◌∷◌, ◌++◌, Option, sym, refl, ap, ◌∙◌, subst, ◌⊎◌, inl, inr, append_assoc, append-nil}
 use Rattle.std.specs.Option.{ForSome}
 use Rattle.std.specs.Prelude.{pos, neg_ℤ, ◌<ℤ◌}
 use denote.Struct.Props.{props}
 use mathlib.Core.HLevel.{is_prop→PathP}
+use Rattle.sql_tokens.specs.declared.token.Span.{Span}
 use Rattle.sql_tokens.specs.declared.token.Token.{Token}
 use Rattle.sql_reader.specs.declared.piece.Piece.{Piece}
 use Rattle.sql_reader.specs.declared.piece.Mark.{Mark}
@@ -17,12 +18,16 @@ least_prop number = hlevel props
 most_prop : (number : Option ℤ) → IsProp (ForSome number (λ n. n <ℤ pos (10 ^ 18)))
 most_prop number = hlevel props
 
+placed_prop : (s : Span) → IsProp (s.from < 2 ^ 32)
+placed_prop s = hlevel props
+
 -- pieces with the same parts are the same
 same_piece : (p q : Piece) → p.kind ≡ q.kind → p.span ≡ q.span → p.number ≡ q.number → p.mark ≡ q.mark → p ≡ q
 same_piece p q kind span number mark =
     let least = is_prop→PathP (λ i. ForSome (number i) (λ n. neg_ℤ (pos (10 ^ 18)) <ℤ n)) (λ i. least_prop (number i)) p.least q.least in
     let most = is_prop→PathP (λ i. ForSome (number i) (λ n. n <ℤ pos (10 ^ 18))) (λ i. most_prop (number i)) p.most q.most in
-    λ i. record { kind = kind i; span = span i; number = number i; mark = mark i; least = least i; most = most i }
+    let placed = is_prop→PathP (λ i. (span i).from < 2 ^ 32) (λ i. placed_prop (span i)) p.placed q.placed in
+    λ i. record { kind = kind i; span = span i; number = number i; mark = mark i; least = least i; most = most i; placed = placed i }
 
 one_piece : (text : List ℕ) (mark : Mark) (t : Token) (p q : Piece) → IsPiece text mark t p → IsPiece text mark t q → p ≡ q
 one_piece text mark t p q a b =

@@ -6,9 +6,9 @@ use Rattle.sql_reader.specs.declared.piece.Mark.{Mark}
 use Rattle.sql_reader.specs.Kinds.{has}
 use Rattle.sql_reader.specs.Grammar.{starts}
 use Rattle.sql_reader.specs.Values.{place_of}
-use Rattle.sql_reader.specs.declared.cursor.Stop.{Stop}
-use Rattle.sql_reader.specs.declared.cursor.Stop.TheVariants.{Memory}
-use Rattle.sql_reader.specs.Reads.{IsPush}
+use Rattle.sql_reader.specs.declared.cursor.Unread.{Unread}
+use Rattle.sql_reader.specs.declared.cursor.Unread.TheVariants.{Memory}
+use Rattle.sql_reader.specs.inner.Reads.{IsPush}
 use Rattle.sql_reader.specs.Pieces.{mark_of, IsPiece, WithToken, ArePieces, AddsToken, is_weight, is_bad_weight, bad_weight, start_behind}
 
 -- what is left of a list at a place in it
@@ -109,12 +109,12 @@ pub add_mark : (text : List ℕ) (t : Token) (mark new_mark : Mark) (list : List
 add_mark text t mark new_mark list true k e = (e, refl)
 add_mark text t mark new_mark list false k e = absurd cc
 
-pub add_piece : (text : List ℕ) (t : Token) (mark : Mark) (list : List Piece) (p : Piece) (r : Result (Unit {0}) Stop) (new : List Piece) (c : Bool) → c ≡ false →
+pub add_piece : (text : List ℕ) (t : Token) (mark : Mark) (list : List Piece) (p : Piece) (r : Result (Unit {0}) Unread) (new : List Piece) (c : Bool) → c ≡ false →
     IsPiece text mark t p → IsPush list p r new → OnOk r (AddsToken text t mark list c mark new)
 add_piece text t mark list p (Ok u) new false k is e = (refl, p, is, e)
 add_piece text t mark list p (Ok u) new true k is e = absurd cc
 add_piece text t mark list p (Err stop) new c k is e = tt
 
-pub add_stop : (list : List Piece) (p : Piece) (r : Result (Unit {0}) Stop) (new : List Piece) → IsPush list p r new → IfErr r (λ stop. stop ≡ Memory)
+pub add_stop : (list : List Piece) (p : Piece) (r : Result (Unit {0}) Unread) (new : List Piece) → IsPush list p r new → IfErr r (λ stop. stop ≡ Memory)
 add_stop list p (Ok u) new e = tt
 add_stop list p (Err stop) new e = e

@@ -2,7 +2,7 @@
 use Rattle.std.proofs.Common.{◌≡◌, ℕ, zero, suc, ◌+◌, ◌≤◌, Bool, true, false, ◌||◌, ◌&&◌, not, List, [], ◌∷◌, ◌++◌, length, sym, refl, ap, ◌∙◌, subst, ◌⊎◌, inl, inr, arith, length-append, append-nil, append_assoc, if◌then◌else◌, None, le_refl}
 use Rattle.std.proofs.lemmas.Bool.{and_parts}
 use Rattle.std.proofs.lemmas.List.{append_cancel_right}
-use Rattle.sql_reader.specs.declared.kind.Kind.{Kind}
+use Rattle.sql_reader.specs.declared.kind.PieceKind.{PieceKind}
 use Rattle.sql_reader.specs.declared.piece.Piece.{Piece}
 use Rattle.sql_reader.specs.Kinds.{has, apart, within}
 use Rattle.sql_reader.specs.Rule.{Nesting, State, Rule, Give, Take, Then, Use, Either, Many, Nest, Meaning, Turns, IsOver, Reading, Read, Stuck, ◌>>=◌, begins, piece_of, Reader, repeated, read_over, Borders, may_be_empty, first_of_rule, more_of_rule, not_empty, closes, good}
@@ -61,7 +61,7 @@ same_head_behind : (front rest other : List Piece) → SameHead rest other → S
 same_head_behind [] rest other h = h
 same_head_behind (p ∷ front) rest other h = refl
 
-begins_same : (kinds : List Kind) (rest other : List Piece) → SameHead rest other → begins kinds rest ≡ begins kinds other
+begins_same : (kinds : List PieceKind) (rest other : List Piece) → SameHead rest other → begins kinds rest ≡ begins kinds other
 begins_same kinds [] [] h = refl
 begins_same kinds [] (q ∷ qs) h = absurd h
 begins_same kinds (p ∷ ps) [] h = absurd h
@@ -71,7 +71,7 @@ nil_same_head : (other : List Piece) → SameHead [] other → other ≡ []
 nil_same_head [] h = refl
 nil_same_head (q ∷ qs) h = absurd h
 
-pub repeated_ends : {A : Type 0} (n : ℕ) (kinds : List Kind) (turn : Reader A A) (a : A) (ps : List Piece) → begins kinds ps ≡ false → repeated n kinds turn a ps ≡ Read a ps
+pub repeated_ends : {A : Type 0} (n : ℕ) (kinds : List PieceKind) (turn : Reader A A) (a : A) (ps : List Piece) → begins kinds ps ≡ false → repeated n kinds turn a ps ≡ Read a ps
 repeated_ends zero kinds turn a ps h = refl
 repeated_ends (suc n) kinds turn a ps h = rw h refl
 
@@ -131,9 +131,9 @@ module _ (borders : Borders) (deeper : (x : Nesting) → Meaning (State x) (Stat
   first_in (Nest x) a b p ps h = sensible.begun x a p ps b h
 
   -- what is taken where the last alternative is taken everywhere
-  sample : (kinds : List Kind) → not_empty kinds ≡ true → (p : Piece) × (has kinds p.kind ≡ true)
+  sample : (kinds : List PieceKind) → not_empty kinds ≡ true → (p : Piece) × (has kinds p.kind ≡ true)
   sample [] h = absurd cc
-  sample (k ∷ kinds) h = (record { kind = k; span = record { from = 0; to = 0 }; number = None; mark = record { place = 0; weight = 0 }; least = λ x e. cc; most = λ x e. cc }, rw same_itself refl)
+  sample (k ∷ kinds) h = (record { kind = k; span = record { from = 0; to = 0 }; number = None; mark = record { place = 0; weight = 0 }; least = λ x e. cc; most = λ x e. cc; placed = omega arith }, rw same_itself refl)
 
   pub closing : {A B : Type 0} (r : Rule A B) → closes r ≡ true → (a : A) → (more : List Piece) × (b : B) × IsOver deeper r a more b
   closing (Give f) h a = ([], f a, (refl, refl))
@@ -181,7 +181,7 @@ module _ (borders : Borders) (deeper : (x : Nesting) → Meaning (State x) (Stat
   use_right part rule join a ps (Stuck rest) (front, e, inl v) = (front, e, inl v)
   use_right part rule join a ps (Stuck rest) (front, e, inr (more, m, h)) = (front, e, inr (more, join a m, (m, h, refl)))
 
-  take_right : {A B : Type 0} (kinds : List Kind) (f : A → Piece → B) (a : A) (p : Piece) (ps : List Piece) (c : Bool) → has kinds p.kind ≡ c →
+  take_right : {A B : Type 0} (kinds : List PieceKind) (f : A → Piece → B) (a : A) (p : Piece) (ps : List Piece) (c : Bool) → has kinds p.kind ≡ c →
       Explains (IsOver deeper (Take kinds f)) a (p ∷ ps) ((if c then Read p ps else Stuck (p ∷ ps)) >>= λ q rest. Read (f a q) rest)
   take_right kinds f a p ps true k = (p ∷ [], refl, (p, k, refl, refl))
   take_right kinds f a p ps false k = ([], refl, inl refl)
@@ -214,7 +214,7 @@ module _ (borders : Borders) (deeper : (x : Nesting) → Meaning (State x) (Stat
   turn_right turn a ps again more (Stuck rest) (front, e, inr (end, m, h)) =
       (front, e, inr (end, m, (1, (front ++ end, [], m, sym (append-nil (front ++ end)), h, (refl, refl)))))
 
-  turns_right : {A : Type 0} (kinds : List Kind) (turn : Rule A A) → ((a : A) (ps : List Piece) → Explains (IsOver deeper turn) a ps (read_over reader turn a ps)) →
+  turns_right : {A : Type 0} (kinds : List PieceKind) (turn : Rule A A) → ((a : A) (ps : List Piece) → Explains (IsOver deeper turn) a ps (read_over reader turn a ps)) →
       (n : ℕ) (a : A) (ps : List Piece) → Explains (SomeTurns turn) a ps (repeated n kinds (read_over reader turn) a ps)
   unfolding SomeTurns
   turns_right kinds turn one zero a ps = ([], refl, (zero, (refl, refl)))
@@ -259,7 +259,7 @@ module _ (borders : Borders) (deeper : (x : Nesting) → Meaning (State x) (Stat
       let parts = or_parts (begins (more_of_rule borders second) rest) (begins (if may_be_empty second then more_of_rule borders first else []) rest) (sym (begins-append (more_of_rule borders second) _ rest) ∙ stop) in
       (not_in_first (more_of_rule borders first) (first_of_rule borders second) p.kind away (first_in second m b p back h), parts.0)
 
-  left_complete : {A B : Type 0} (kinds : List Kind) (left right_rule : Rule A B) → may_be_empty left ≡ false → within (first_of_rule borders left) kinds ≡ true →
+  left_complete : {A B : Type 0} (kinds : List PieceKind) (left right_rule : Rule A B) → may_be_empty left ≡ false → within (first_of_rule borders left) kinds ≡ true →
       (a : A) (b : B) (front rest : List Piece) → IsOver deeper left a front b → read_over reader left a (front ++ rest) ≡ Read b rest →
       read_over reader (Either kinds left right_rule) a (front ++ rest) ≡ Read b rest
   left_complete kinds left right_rule full wide a b [] rest h e = not_both (may_be_empty left) (empty_only left a b h) full
@@ -267,7 +267,7 @@ module _ (borders : Borders) (deeper : (x : Nesting) → Meaning (State x) (Stat
       let k = in_wider (first_of_rule borders left) kinds p.kind wide (first_in left a b p front h) in
       rw k e
 
-  right_complete : {A B : Type 0} (kinds : List Kind) (left right_rule : Rule A B) → apart (first_of_rule borders right_rule) kinds ≡ true →
+  right_complete : {A B : Type 0} (kinds : List PieceKind) (left right_rule : Rule A B) → apart (first_of_rule borders right_rule) kinds ≡ true →
       (a : A) (b : B) (front rest : List Piece) → IsOver deeper right_rule a front b → begins (if may_be_empty right_rule then kinds else []) rest ≡ false →
       read_over reader right_rule a (front ++ rest) ≡ Read b rest → read_over reader (Either kinds left right_rule) a (front ++ rest) ≡ Read b rest
   right_complete kinds left right_rule away a b [] rest h stop e =
@@ -279,7 +279,7 @@ module _ (borders : Borders) (deeper : (x : Nesting) → Meaning (State x) (Stat
       rw k e
 
   -- where another turn goes on, the turn before has ended
-  turn_ended : {A : Type 0} (kinds : List Kind) (turn : Rule A A) → may_be_empty turn ≡ false → apart (more_of_rule borders turn) kinds ≡ true → within (first_of_rule borders turn) kinds ≡ true →
+  turn_ended : {A : Type 0} (kinds : List PieceKind) (turn : Rule A A) → may_be_empty turn ≡ false → apart (more_of_rule borders turn) kinds ≡ true → within (first_of_rule borders turn) kinds ≡ true →
       (n : ℕ) (a b : A) (back rest : List Piece) → Turns (IsOver deeper turn) n a back b → begins (more_of_rule borders turn) rest ≡ false →
       begins (more_of_rule borders turn) (back ++ rest) ≡ false
   turn_ended kinds turn full away wide n a b [] rest h stop = stop
@@ -289,7 +289,7 @@ module _ (borders : Borders) (deeper : (x : Nesting) → Meaning (State x) (Stat
       not_in_other' : has kinds p.kind ≡ true → has (more_of_rule borders turn) p.kind ≡ false
       not_in_other' k = not_in_first (more_of_rule borders turn) kinds p.kind away k
 
-  turns_complete : {A : Type 0} (kinds : List Kind) (turn : Rule A A) → may_be_empty turn ≡ false → apart (more_of_rule borders turn) kinds ≡ true → within (first_of_rule borders turn) kinds ≡ true →
+  turns_complete : {A : Type 0} (kinds : List PieceKind) (turn : Rule A A) → may_be_empty turn ≡ false → apart (more_of_rule borders turn) kinds ≡ true → within (first_of_rule borders turn) kinds ≡ true →
       ((a b : A) (front rest : List Piece) → IsOver deeper turn a front b → begins (more_of_rule borders turn) rest ≡ false → read_over reader turn a (front ++ rest) ≡ Read b rest) →
       (k n : ℕ) (a b : A) (front rest : List Piece) → length (front ++ rest) ≤ n → Turns (IsOver deeper turn) k a front b →
       begins kinds rest ≡ false → begins (more_of_rule borders turn) rest ≡ false → repeated n kinds (read_over reader turn) a (front ++ rest) ≡ Read b rest
@@ -390,11 +390,11 @@ module _ (borders : Borders) (deeper : (x : Nesting) → Meaning (State x) (Stat
   choice_local other rest true x y x2 y2 hx hy l = hx l
   choice_local other rest false x y x2 y2 hx hy l = hy l
 
-  begins_behind : (kinds : List Kind) (front rest other : List Piece) → SameHead rest other → begins kinds (front ++ rest) ≡ begins kinds (front ++ other)
+  begins_behind : (kinds : List PieceKind) (front rest other : List Piece) → SameHead rest other → begins kinds (front ++ rest) ≡ begins kinds (front ++ other)
   begins_behind kinds front rest other same = begins_same kinds (front ++ rest) (front ++ other) (same_head_behind front rest other same)
 
   -- a piece that isn't taken is left, one that is taken is gone
-  pub take_local : {A B : Type 0} (kinds : List Kind) (f : A → Piece → B) (a : A) (front rest other : List Piece) → SameHead rest other →
+  pub take_local : {A B : Type 0} (kinds : List PieceKind) (f : A → Piece → B) (a : A) (front rest other : List Piece) → SameHead rest other →
       left_of (read_over reader (Take kinds f) a (front ++ rest)) ≡ rest → read_over reader (Take kinds f) a (front ++ other) ≡ moved other (read_over reader (Take kinds f) a (front ++ rest))
   take_local kinds f a [] [] [] same l = refl
   take_local kinds f a [] [] (q ∷ qs) same l = absurd same
@@ -419,7 +419,7 @@ module _ (borders : Borders) (deeper : (x : Nesting) → Meaning (State x) (Stat
           absurd (omega (arith, ap length l2, length-append front rest))
 
   -- one turn is read, and the others behind it
-  turn_local : {A : Type 0} (kinds : List Kind) (turn : Rule A A) → good borders turn ≡ true → may_be_empty turn ≡ false →
+  turn_local : {A : Type 0} (kinds : List PieceKind) (turn : Rule A A) → good borders turn ≡ true → may_be_empty turn ≡ false →
       ((a : A) (front rest other : List Piece) → SameHead rest other → left_of (read_over reader turn a (front ++ rest)) ≡ rest → read_over reader turn a (front ++ other) ≡ moved other (read_over reader turn a (front ++ rest))) →
       (n n2 : ℕ) →
       ((a : A) (front rest other : List Piece) → SameHead rest other → length (front ++ rest) ≤ n → length (front ++ other) ≤ n2 →
@@ -457,12 +457,12 @@ module _ (borders : Borders) (deeper : (x : Nesting) → Meaning (State x) (Stat
       starts turn full a m [] h = not_both (may_be_empty turn) (empty_only turn a m h) full
       starts turn full a m (p ∷ start) h = omega arith
 
-  empty_begins : (kinds : List Kind) (ps : List Piece) → length ps ≤ 0 → begins kinds ps ≡ false
+  empty_begins : (kinds : List PieceKind) (ps : List Piece) → length ps ≤ 0 → begins kinds ps ≡ false
   empty_begins kinds [] h = refl
   empty_begins kinds (p ∷ ps) h = absurd (omega arith)
 
   -- no further turn is read
-  ends_local : {A : Type 0} (kinds : List Kind) (turn : Rule A A) (n n2 : ℕ) (a : A) (front rest other : List Piece) → SameHead rest other → begins kinds (front ++ rest) ≡ false →
+  ends_local : {A : Type 0} (kinds : List PieceKind) (turn : Rule A A) (n n2 : ℕ) (a : A) (front rest other : List Piece) → SameHead rest other → begins kinds (front ++ rest) ≡ false →
       left_of (repeated n kinds (read_over reader turn) a (front ++ rest)) ≡ rest →
       repeated n2 kinds (read_over reader turn) a (front ++ other) ≡ moved other (repeated n kinds (read_over reader turn) a (front ++ rest))
   ends_local kinds turn n n2 a front rest other same k l =
@@ -473,7 +473,7 @@ module _ (borders : Borders) (deeper : (x : Nesting) → Meaning (State x) (Stat
       there ∙ ap (λ (f : List Piece). Read a (f ++ other)) none ∙ sym (ap (moved other) here)
 
   -- another turn is read, or none
-  test_local : {A : Type 0} (kinds : List Kind) (turn : Rule A A) (n n2 : ℕ) (a : A) (front rest other : List Piece) → SameHead rest other → (c : Bool) → begins kinds (front ++ rest) ≡ c →
+  test_local : {A : Type 0} (kinds : List PieceKind) (turn : Rule A A) (n n2 : ℕ) (a : A) (front rest other : List Piece) → SameHead rest other → (c : Bool) → begins kinds (front ++ rest) ≡ c →
       (left_of (read_over reader turn a (front ++ rest) >>= repeated n kinds (read_over reader turn)) ≡ rest →
       (read_over reader turn a (front ++ other) >>= repeated n2 kinds (read_over reader turn)) ≡ moved other (read_over reader turn a (front ++ rest) >>= repeated n kinds (read_over reader turn))) →
       left_of (repeated (suc n) kinds (read_over reader turn) a (front ++ rest)) ≡ rest →
@@ -485,7 +485,7 @@ module _ (borders : Borders) (deeper : (x : Nesting) → Meaning (State x) (Stat
       subst (λ (c : Bool). left_of (if c then (read_over reader turn a (front ++ rest) >>= repeated n kinds (read_over reader turn)) else Read a (front ++ rest)) ≡ rest) k l in
       rw (k, k2) (go l2)
 
-  turns_local : {A : Type 0} (kinds : List Kind) (turn : Rule A A) → good borders turn ≡ true → may_be_empty turn ≡ false →
+  turns_local : {A : Type 0} (kinds : List PieceKind) (turn : Rule A A) → good borders turn ≡ true → may_be_empty turn ≡ false →
       ((a : A) (front rest other : List Piece) → SameHead rest other → left_of (read_over reader turn a (front ++ rest)) ≡ rest → read_over reader turn a (front ++ other) ≡ moved other (read_over reader turn a (front ++ rest))) →
       (n n2 : ℕ) (a : A) (front rest other : List Piece) → SameHead rest other → length (front ++ rest) ≤ n → length (front ++ other) ≤ n2 →
       left_of (repeated n kinds (read_over reader turn) a (front ++ rest)) ≡ rest →

@@ -1,5 +1,5 @@
 -- A text says one thing: its statements or its first fault are determined by it.
-use Rattle.std.proofs.Common.{◌≡◌, ℕ, ◌+◌, List, length, Option, Some, None, Result, Ok, Err, IfOk, IfErr, MatchResult, nat_lt, Bool, true, false, if◌then◌else◌, sym, refl, ap, ◌∙◌, subst, ◌⊎◌, inl, inr}
+use Rattle.std.proofs.Common.{◌≡◌, ℕ, ◌+◌, List, length, Option, Some, None, option_map, Result, Ok, Err, IfOk, IfErr, MatchResult, nat_lt, Bool, true, false, if◌then◌else◌, sym, refl, ap, ◌∙◌, subst, ◌⊎◌, inl, inr}
 use Rattle.sql_tokens.specs.declared.token.Token.{Token}
 use Rattle.sql_tokens.specs.declared.token_list.TokenFault.{TokenFault}
 use Rattle.sql_tokens.specs.declared.token_list.TokenFault.TheVariants as tokens
@@ -13,10 +13,11 @@ use Rattle.sql_reader.specs.declared.parsed.SqlFault.TheVariants as faults
 use Rattle.sql_reader.specs.declared.parts.Progress.{Progress}
 use Rattle.sql_reader.specs.Grammar.{grammar, borders, levels, workload}
 use Rattle.sql_reader.specs.Values.{no_statements}
-use Rattle.sql_reader.specs.Pieces.{ArePieces, no_mark}
+use Rattle.sql_reader.specs.Pieces.{ArePieces, no_mark, bad_weight, start_behind}
 use Rattle.sql_reader.specs.Workload.{MeansStatements, grammar_fault, GrammarSays, place_of_fault, earlier, first_fault, Says, IsWorkload, IsFirstFault, HasSqlFault}
 use Rattle.sql_reader.proofs.Exactly.{has_one_meaning}
 use Rattle.sql_reader.proofs.Good.{good_workload, good_grammar}
+use Rattle.sql_reader.proofs.Outcome.{means_read}
 use Rattle.sql_reader.proofs.Same.{one_pieces, one_failure, meant_or_fails}
 
 -- the grammar has one fault for pieces, or none
@@ -56,16 +57,46 @@ no_earlier (Some f) (Some g) e = chosen (nat_lt (place_of_fault g) (place_of_fau
     chosen true h = absurd cc
     chosen false h = absurd cc
 
+none_later : (f g : Option SqlFault) → None ≡ earlier f g → g ≡ None
+none_later None g e = sym e
+none_later (Some f) g e = absurd (by_first (no_earlier (Some f) g e))
+  where
+    by_first : Some f ≡ None → ⊥
+    by_first h = absurd cc
+
+not_mapped : (f : ℕ → SqlFault) (o : Option ℕ) → option_map f o ≡ None → o ≡ None
+not_mapped f None e = refl
+not_mapped f (Some n) e = cc
+
+-- with no fault there is none of each kind
+module _ (text : List ℕ) (list : List Token) (pieces : List Piece) (fault : Option SqlFault) (none : None ≡ first_fault text list pieces fault) where
+  pub no_grammar_fault : fault ≡ None
+  no_grammar_fault = no_earlier fault _ none
+
+  no_late : None ≡ earlier (option_map faults.BadWeight (bad_weight text list)) (option_map faults.TooManyStatements (start_behind 1000 pieces))
+  no_late = sym (none_later fault _ none)
+
+  pub no_bad_weight : bad_weight text list ≡ None
+  no_bad_weight = not_mapped faults.BadWeight (bad_weight text list) (no_earlier _ _ no_late)
+
+  pub no_start : start_behind 1000 pieces ≡ None
+  no_start = not_mapped faults.TooManyStatements (start_behind 1000 pieces) (none_later _ _ no_late)
+
 -- with no fault the grammar has none
 means : (text : List ℕ) (s : List ParsedStatement) (x : Says text s None) → MeansStatements no_statements x.pieces x.progress
 means text s x =
     subst (λ (o : Option SqlFault). GrammarSays (length text + 1) x.pieces x.progress o) (no_earlier x.of_grammar _ x.first) x.says
 
+-- pieces have one meaning
+pub one_progress : (start : Progress) (pieces : List Piece) (p q : Progress) → MeansStatements start pieces p → MeansStatements start pieces q → p ≡ q
+one_progress start pieces p q a b =
+    has_one_meaning borders grammar levels workload good_grammar good_workload start pieces p q (means_read start pieces p a) (means_read start pieces q b)
+
 -- a text is a workload of one list of statements
 pub one_workload : (text : List ℕ) (s t : List ParsedStatement) → IsWorkload text s → IsWorkload text t → s ≡ t
 one_workload text s t x y =
     let meant = subst (λ (ps : List Piece). MeansStatements no_statements ps x.progress) (one_pieces_of text s t None None x y) (means text s x) in
-    let same = has_one_meaning borders grammar levels workload good_grammar good_workload no_statements y.pieces x.progress y.progress meant (means text t y) in
+    let same = one_progress no_statements y.pieces x.progress y.progress meant (means text t y) in
     x.same ∙ ap (λ (p : Progress). p.statements) same ∙ sym y.same
 
 some_or_none : (text : List ℕ) (s : List ParsedStatement) (e : SqlFault) → IsWorkload text s → IsFirstFault text e → ⊥

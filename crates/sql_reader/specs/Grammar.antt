@@ -2,10 +2,10 @@
 -- tells its alternatives apart. The comment of a rule is the production, or the part of one, that it stands for.
 use Rattle.std.specs.Prelude.{ℕ, ◌+◌, true, false, List, [], ◌∷◌, ◌++◌, Option, Some, None}
 use Rattle.sql_tokens.specs.declared.token.Span.{Span}
-use Rattle.sql_reader.specs.declared.kind.Kind.{Kind}
-use Rattle.sql_reader.specs.declared.kind.Kind.TheVariants as kinds
+use Rattle.sql_reader.specs.declared.kind.PieceKind.{PieceKind}
+use Rattle.sql_reader.specs.declared.kind.PieceKind.TheVariants as kinds
 use Rattle.sql_reader.specs.declared.piece.Piece.{Piece}
-use Rattle.sql_reader.specs.declared.found.Found.{Found}
+use Rattle.sql_reader.specs.declared.seen.Seen.{Seen}
 use Rattle.sql_reader.specs.declared.parsed.NameUse.{NameUse}
 use Rattle.sql_reader.specs.declared.parsed.ParsedItem.{ParsedItem}
 use Rattle.sql_reader.specs.declared.parsed.ParsedItem.TheVariants as items
@@ -25,31 +25,31 @@ use Rattle.sql_reader.specs.Rule.{Nesting, State, Rule, Give, Take, Then, Use, E
 use Rattle.sql_reader.specs.Values.{plain_column, column_of_source, day_literal, literal_of, signed, compare_of, turned, nothing_found, with_form, not_alone, with_use, with_star, called, beside, beside_kind, beside_span, with_distinct, with_source, with_conditions, with_group, with_having, with_order, with_items, with_values, with_row, with_insert_columns, with_set_columns, with_set_values, with_update_conditions, conditions_of, group_of, order_of, items_of, values_of, insert_columns_of, set_columns_of, set_values_of, update_conditions_of, literal_form, expr_of, empty_select, empty_insert, insert_body, empty_update, update_body, with_statement}
 
 -- name = Word that isn't reserved | Quoted
-abbrev pub names : List Kind
+abbrev pub names : List PieceKind
 names = kinds.Name ∷ kinds.Aggregate ∷ kinds.Date ∷ []
 
 -- the names but for DATE
-abbrev pub plain_names : List Kind
+abbrev pub plain_names : List PieceKind
 plain_names = kinds.Name ∷ kinds.Aggregate ∷ []
 
 -- the literals of one piece
-abbrev pub literals : List Kind
+abbrev pub literals : List PieceKind
 literals = kinds.Whole ∷ kinds.Decimal ∷ kinds.Text ∷ kinds.Day ∷ kinds.Null ∷ kinds.Question ∷ []
 
 -- "+" | "-"
-abbrev pub signs : List Kind
+abbrev pub signs : List PieceKind
 signs = kinds.Plus ∷ kinds.Minus ∷ []
 
 -- "+" | "-" | "*" | "/" | "%" | "||"
-abbrev pub operators : List Kind
+abbrev pub operators : List PieceKind
 operators = kinds.Plus ∷ kinds.Minus ∷ kinds.Star ∷ kinds.Operator ∷ []
 
 -- compare = "=" | "<>" | "!=" | "<" | "<=" | ">" | ">="
-abbrev pub comparisons : List Kind
+abbrev pub comparisons : List PieceKind
 comparisons = kinds.Equal ∷ kinds.NotEqual ∷ kinds.Below ∷ kinds.Above ∷ []
 
 -- the words with which statements begin
-abbrev pub starts : List Kind
+abbrev pub starts : List PieceKind
 starts = kinds.Select ∷ kinds.Insert ∷ kinds.Update ∷ kinds.Delete ∷ []
 
 -- column, behind its first name: [ "." name ]
@@ -77,75 +77,75 @@ unfoldable pub value : Rule (Unit {0}) Literal
 value = Either (kinds.Date ∷ []) (Then (Take (kinds.Date ∷ []) (λ u _. u)) (Take (kinds.Day ∷ []) (λ _ p. day_literal p))) plain_value
 
 -- a name in an expression: the parentheses of a call, or the end of a column
-unfoldable pub called_name : Rule (Found × Piece) Found
+unfoldable pub called_name : Rule (Seen × Piece) Seen
 called_name = Either (kinds.Open ∷ []) (Use (λ s. called s.0 s.1.kind) (Nest Call) (λ _ found. found)) (Give (λ s. with_use s.0 (plain_column s.1.span)))
 
 -- behind a name in an expression: "." name, a call, or nothing
-unfoldable pub after_operand_name : Rule (Found × Piece) Found
+unfoldable pub after_operand_name : Rule (Seen × Piece) Seen
 after_operand_name = Either (kinds.Point ∷ []) (Then (Take (kinds.Point ∷ []) (λ s _. s)) (Take names (λ s p. with_use s.0 (column_of_source s.1.span p.span)))) called_name
 
 -- behind DATE in an expression: a date, or what stands behind a name
-unfoldable pub after_operand_date : Rule (Found × Piece) Found
+unfoldable pub after_operand_date : Rule (Seen × Piece) Seen
 after_operand_date = Either (kinds.Day ∷ []) (Take (kinds.Day ∷ []) (λ s _. not_alone s.0)) after_operand_name
 
 -- prim, where it begins with no name
-unfoldable pub other_operand : Rule Found Found
+unfoldable pub other_operand : Rule Seen Seen
 other_operand = Either (kinds.Open ∷ []) (Nest Parenthesis) (Either signs (Nest Signed) (Take literals (λ found p. with_form (literal_form p.kind p.number) found)))
 
 -- prim = ("+" | "-") prim | "(" expr ")" | literal | column | call
-unfoldable pub operand : Rule Found Found
+unfoldable pub operand : Rule Seen Seen
 operand = Either (kinds.Date ∷ []) (Then (Take (kinds.Date ∷ []) beside) after_operand_date) (Either plain_names (Then (Take plain_names beside) after_operand_name) other_operand)
 
 -- an operator and its right side
-unfoldable pub operation : Rule Found Found
+unfoldable pub operation : Rule Seen Seen
 operation = Then (Take operators (λ found _. found)) (Then operand (Give not_alone))
 
 -- { ("+" | "-" | "*" | "/" | "%" | "||") prim }
-unfoldable pub operations : Rule Found Found
+unfoldable pub operations : Rule Seen Seen
 operations = Many operators operation
 
 -- expr = prim { ("+" | "-" | "*" | "/" | "%" | "||") prim }
-unfoldable pub expression : Rule Found Found
+unfoldable pub expression : Rule Seen Seen
 expression = Then operand operations
 
 -- "," expr
-unfoldable pub another_expression : Rule Found Found
+unfoldable pub another_expression : Rule Seen Seen
 another_expression = Then (Take (kinds.Comma ∷ []) (λ found _. found)) expression
 
 -- { "," expr }
-unfoldable pub more_expressions : Rule Found Found
+unfoldable pub more_expressions : Rule Seen Seen
 more_expressions = Many (kinds.Comma ∷ []) another_expression
 
 -- expr { "," expr }
-unfoldable pub expressions : Rule Found Found
+unfoldable pub expressions : Rule Seen Seen
 expressions = Then expression more_expressions
 
 -- "*" ")" of a call
-unfoldable pub star_argument : Rule Found Found
+unfoldable pub star_argument : Rule Seen Seen
 star_argument = Then (Take (kinds.Star ∷ []) (λ found _. with_star found)) (Take (kinds.Close ∷ []) (λ found _. not_alone found))
 
 -- [DISTINCT]
-unfoldable pub maybe_distinct : Rule Found Found
+unfoldable pub maybe_distinct : Rule Seen Seen
 maybe_distinct = Either (kinds.Distinct ∷ []) (Take (kinds.Distinct ∷ []) (λ found _. found)) (Give (λ found. found))
 
 -- [DISTINCT] expr { "," expr } ")"
-unfoldable pub listed_arguments : Rule Found Found
+unfoldable pub listed_arguments : Rule Seen Seen
 listed_arguments = Then maybe_distinct (Then expressions (Take (kinds.Close ∷ []) (λ found _. not_alone found)))
 
 -- behind the "(" of a call: ")", "*" ")" or [DISTINCT] expr { "," expr } ")"
-unfoldable pub arguments : Rule Found Found
+unfoldable pub arguments : Rule Seen Seen
 arguments = Either (kinds.Close ∷ []) (Take (kinds.Close ∷ []) (λ found _. not_alone found)) (Either (kinds.Star ∷ []) star_argument listed_arguments)
 
 -- the parentheses of a call
-unfoldable pub call : Rule Found Found
+unfoldable pub call : Rule Seen Seen
 call = Then (Take (kinds.Open ∷ []) (λ found _. found)) arguments
 
 -- "(" expr ")"
-unfoldable pub parenthesis : Rule Found Found
+unfoldable pub parenthesis : Rule Seen Seen
 parenthesis = Then (Take (kinds.Open ∷ []) (λ found _. found)) (Then expression (Take (kinds.Close ∷ []) (λ found _. not_alone found)))
 
 -- ("+" | "-") prim
-unfoldable pub signed_operand : Rule Found Found
+unfoldable pub signed_operand : Rule Seen Seen
 signed_operand = Then (Take signs (λ found _. found)) (Then operand (Give not_alone))
 
 -- behind a value: compare column
@@ -237,7 +237,7 @@ unfoldable pub where_conditions : Rule (List Condition) (List Condition)
 where_conditions = Either (kinds.Where ∷ []) (Then (Take (kinds.Where ∷ []) (λ before _. before)) conditions) (Give (λ before. before))
 
 -- the rest of an expression of a select list, and [[AS] name]
-unfoldable pub rest_of_item : Rule Found ParsedItem
+unfoldable pub rest_of_item : Rule Seen ParsedItem
 rest_of_item = Then operations (Use (λ _. tt) alias (λ found name. items.Made (expr_of found) name))
 
 -- behind name ".": "*", or name and the rest of an expression
@@ -333,19 +333,19 @@ unfoldable pub group_part : Rule ParsedSelect ParsedSelect
 group_part = Either (kinds.Group ∷ []) (Then (Take (kinds.Group ∷ []) (λ select _. select)) (Then (Take (kinds.By ∷ []) (λ select _. select)) (Use group_of column_list with_group))) (Give (λ select. select))
 
 -- test = expr compare expr
-unfoldable pub having_test : Rule Found Found
+unfoldable pub having_test : Rule Seen Seen
 having_test = Then expression (Then (Take comparisons (λ found _. found)) expression)
 
 -- AND test
-unfoldable pub another_having_test : Rule Found Found
+unfoldable pub another_having_test : Rule Seen Seen
 another_having_test = Then (Take (kinds.And ∷ []) (λ found _. found)) having_test
 
 -- { AND test }
-unfoldable pub more_having_tests : Rule Found Found
+unfoldable pub more_having_tests : Rule Seen Seen
 more_having_tests = Many (kinds.And ∷ []) another_having_test
 
 -- test { AND test }
-unfoldable pub having_tests : Rule Found Found
+unfoldable pub having_tests : Rule Seen Seen
 having_tests = Then having_test more_having_tests
 
 -- [HAVING test { AND test }]
@@ -353,7 +353,7 @@ unfoldable pub having_part : Rule ParsedSelect ParsedSelect
 having_part = Either (kinds.Having ∷ []) (Then (Take (kinds.Having ∷ []) (λ select _. select)) (Use (λ _. nothing_found) having_tests (λ select found. with_having select found.uses))) (Give (λ select. select))
 
 -- [ASC | DESC]
-unfoldable pub direction : Rule Found ParsedOrder
+unfoldable pub direction : Rule Seen ParsedOrder
 direction = Either (kinds.Desc ∷ []) (Take (kinds.Desc ∷ []) (λ found _. record { expr = expr_of found; down = true })) (Either (kinds.Asc ∷ []) (Take (kinds.Asc ∷ []) (λ found _. record { expr = expr_of found; down = false })) (Give (λ found. record { expr = expr_of found; down = false })))
 
 -- order = expr [ASC | DESC]
@@ -552,13 +552,13 @@ grammar Call = call
 grammar Signed = signed_operand
 
 -- with which kinds a nested form begins, and with which it may go on where it could end too
-abbrev pub first_of_nesting : Nesting → List Kind
+abbrev pub first_of_nesting : Nesting → List PieceKind
 first_of_nesting Conditions = kinds.Open ∷ []
 first_of_nesting Parenthesis = kinds.Open ∷ []
 first_of_nesting Call = kinds.Open ∷ []
 first_of_nesting Signed = signs
 
-abbrev pub more_of_nesting : Nesting → List Kind
+abbrev pub more_of_nesting : Nesting → List PieceKind
 more_of_nesting Conditions = []
 more_of_nesting Parenthesis = []
 more_of_nesting Call = []

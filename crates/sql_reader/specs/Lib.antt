@@ -3,7 +3,7 @@ pub mod Grammar
 pub mod Kinds
 pub mod Pieces
 pub mod Printed
-pub mod Reads
+pub mod inner
 pub mod Rule
 pub mod Valid
 pub mod Values

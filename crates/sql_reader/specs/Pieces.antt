@@ -3,10 +3,11 @@ use Rattle.std.specs.Prelude.{◌≡◌, ℕ, ℤ, zero, suc, ◌+◌, Bool, tru
 use Rattle.sql_tokens.specs.declared.token.Token.{Token}
 use Rattle.sql_tokens.specs.declared.token.TokenKind.{TokenKind}
 use Rattle.sql_tokens.specs.declared.token.TokenKind.TheVariants as token
-use Rattle.sql_reader.specs.declared.kind.Kind.{Kind}
-use Rattle.sql_reader.specs.declared.kind.Kind.TheVariants as kinds
+use Rattle.sql_reader.specs.declared.kind.PieceKind.{PieceKind}
+use Rattle.sql_reader.specs.declared.kind.PieceKind.TheVariants as kinds
 use Rattle.sql_reader.specs.declared.piece.Piece.{Piece}
 use Rattle.sql_reader.specs.declared.piece.Mark.{Mark}
+use Rattle.sql_reader.specs.declared.parsed.ParsedStatement.{ParsedStatement}
 use Rattle.sql_reader.specs.Kinds.{has}
 use Rattle.sql_reader.specs.Grammar.{starts}
 use Rattle.sql_reader.specs.Values.{place_of}
@@ -16,12 +17,12 @@ use Rattle.sql_reader.specs.Words.{word_kind, quoted_kind, symbol_kind, whole_nu
 abbrev pub bytes_of : List ℕ → Token → List ℕ
 bytes_of text t = slice_range text t.span.from t.span.to
 
-abbrev pub kind_of_text : Option ℤ → Kind
+abbrev pub kind_of_text : Option ℤ → PieceKind
 kind_of_text None = kinds.Text
 kind_of_text (Some day) = kinds.Day
 
 -- the kind of a token with these bytes; a weight comment is no piece
-abbrev pub kind_of : TokenKind → List ℕ → Kind
+abbrev pub kind_of : TokenKind → List ℕ → PieceKind
 kind_of token.Word bytes = word_kind bytes
 kind_of token.Quoted bytes = quoted_kind bytes
 kind_of token.Whole bytes = kinds.Whole
@@ -80,6 +81,16 @@ is_bad_weight text t = is_weight t.kind && not (is_good_weight (weight_number (b
 abbrev pub bad_weight : List ℕ → List Token → Option ℕ
 bad_weight text [] = None
 bad_weight text (t ∷ ts) = if is_bad_weight text t then Some (t.span.from + 1) else bad_weight text ts
+
+-- the places of the words with which statements begin
+abbrev pub starts_in : List Piece → List ℕ
+starts_in [] = []
+starts_in (p ∷ pieces) = if has starts p.kind then place_of p ∷ starts_in pieces else starts_in pieces
+
+-- the places at which statements begin
+abbrev pub places_of : List ParsedStatement → List ℕ
+places_of [] = []
+places_of (s ∷ statements) = s.place ∷ places_of statements
 
 -- the place of the first word with which statements begin that stands behind n others
 abbrev pub start_behind : ℕ → List Piece → Option ℕ

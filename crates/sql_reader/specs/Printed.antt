@@ -3,10 +3,10 @@
 -- Grammar mean, by which workloads are read. Rules that are printed as they are read are those of Grammar.
 use Rattle.std.specs.Prelude.{ℕ, ◌+◌, ◌↔◌, List, [], ◌∷◌, ◌++◌, Option, Some, None}
 use Rattle.sql_tokens.specs.declared.token.Span.{Span}
-use Rattle.sql_reader.specs.declared.kind.Kind.{Kind}
-use Rattle.sql_reader.specs.declared.kind.Kind.TheVariants as kinds
+use Rattle.sql_reader.specs.declared.kind.PieceKind.{PieceKind}
+use Rattle.sql_reader.specs.declared.kind.PieceKind.TheVariants as kinds
 use Rattle.sql_reader.specs.declared.piece.Piece.{Piece}
-use Rattle.sql_reader.specs.declared.found.Found.{Found}
+use Rattle.sql_reader.specs.declared.seen.Seen.{Seen}
 use Rattle.sql_reader.specs.declared.parsed.NameUse.{NameUse}
 use Rattle.sql_reader.specs.declared.parsed.ParsedItem.{ParsedItem}
 use Rattle.sql_reader.specs.declared.parsed.ParsedItem.TheVariants as items
@@ -48,7 +48,7 @@ abbrev pub any : {A : Type 0} → Rule A A → Rule A A
 any rule = Many [] rule
 
 -- a word or sign that says no more than that it stands there
-abbrev pub word : {A : Type 0} → Kind → Rule A A
+abbrev pub word : {A : Type 0} → PieceKind → Rule A A
 word kind = Take (kind ∷ []) (λ a _. a)
 
 -- rule { "," rule }
@@ -90,13 +90,13 @@ value =
 -- grammar below.
 
 -- literal, in an expression
-unfoldable pub literal_operand : Rule Found Found
+unfoldable pub literal_operand : Rule Seen Seen
 literal_operand =
     Take literals (λ found p. with_form (literal_form p.kind p.number) found)
     or (word kinds.Date ▸ Take (kinds.Day ∷ []) (λ found _. not_alone found))
 
 -- prim = ("+" | "-") prim | "(" expr ")" | literal | column | call
-unfoldable pub prim : Rule Found Found
+unfoldable pub prim : Rule Seen Seen
 prim =
     Nest Signed
     or Nest Parenthesis
@@ -105,30 +105,30 @@ prim =
     or Nest Call
 
 -- expr = prim { ("+" | "-" | "*" | "/" | "%" | "||") prim }
-unfoldable pub expr : Rule Found Found
+unfoldable pub expr : Rule Seen Seen
 expr = prim ▸ any (Take operators (λ found _. found) ▸ prim ▸ Give not_alone)
 
 -- the ")" of an expression or a call
-unfoldable pub closed : Rule Found Found
+unfoldable pub closed : Rule Seen Seen
 closed = Take (kinds.Close ∷ []) (λ found _. not_alone found)
 
 -- the name of a call
-unfoldable pub call_name : Rule Found Found
+unfoldable pub call_name : Rule Seen Seen
 call_name = Take names (λ found p. called found p.kind)
 
 -- call = name "(" ")" | name "(" "*" ")" | name "(" [DISTINCT] expr { "," expr } ")"
-unfoldable pub call : Rule Found Found
+unfoldable pub call : Rule Seen Seen
 call =
     (call_name ▸ word kinds.Open ▸ closed)
     or (call_name ▸ word kinds.Open ▸ Take (kinds.Star ∷ []) (λ found _. with_star found) ▸ closed)
     or (call_name ▸ word kinds.Open ▸ maybe (word kinds.Distinct) ▸ commas expr ▸ closed)
 
 -- "(" expr ")"
-unfoldable pub parenthesis : Rule Found Found
+unfoldable pub parenthesis : Rule Seen Seen
 parenthesis = word kinds.Open ▸ expr ▸ closed
 
 -- ("+" | "-") prim
-unfoldable pub signed_prim : Rule Found Found
+unfoldable pub signed_prim : Rule Seen Seen
 signed_prim = Take signs (λ found _. found) ▸ prim ▸ Give not_alone
 
 -- Conditions.
@@ -202,7 +202,7 @@ item =
     or (Give (λ _. nothing_found) ▸ expr ▸ also alias (λ found name. items.Made (expr_of found) name))
 
 -- test = expr compare expr
-unfoldable pub test : Rule Found Found
+unfoldable pub test : Rule Seen Seen
 test = expr ▸ Take comparisons (λ found _. found) ▸ expr
 
 -- order = expr [ASC | DESC]

@@ -1,9 +1,9 @@
 -- A small language of grammar rules. A rule of type Rule A B reads pieces: from what is known before, a value of
 -- A, they give what is known after, a value of B.
 use Rattle.std.specs.Prelude.{◌≡◌, ℕ, zero, suc, Bool, true, false, ◌||◌, ◌&&◌, not, List, [], ◌∷◌, ◌++◌, length, ◌⊎◌, if◌then◌else◌}
-use Rattle.sql_reader.specs.declared.kind.Kind.{Kind}
+use Rattle.sql_reader.specs.declared.kind.PieceKind.{PieceKind}
 use Rattle.sql_reader.specs.declared.piece.Piece.{Piece}
-use Rattle.sql_reader.specs.declared.found.Found.{Found}
+use Rattle.sql_reader.specs.declared.seen.Seen.{Seen}
 use Rattle.sql_reader.specs.declared.parsed.Condition.{Condition}
 use Rattle.sql_reader.specs.Kinds.{has, apart, within}
 
@@ -18,9 +18,9 @@ pub data Nesting : Type 0 where
 -- what a nested form adds to
 abbrev pub State : Nesting → Type 0
 State Conditions = List Condition
-State Parenthesis = Found
-State Call = Found
-State Signed = Found
+State Parenthesis = Seen
+State Call = Seen
+State Signed = Seen
 
 -- Give reads nothing. Take reads one piece of these kinds. Then reads one rule behind another. Use reads a rule
 -- from a part of what is known, and joins what it gives. Either reads one of two rules: the first exactly where
@@ -28,11 +28,11 @@ State Signed = Found
 -- kinds. Nest reads a nested form, one level deeper.
 pub data Rule : Type 0 → Type 0 → Type 1 where
   Give : {A B : Type 0} → (A → B) → Rule A B
-  Take : {A B : Type 0} → List Kind → (A → Piece → B) → Rule A B
+  Take : {A B : Type 0} → List PieceKind → (A → Piece → B) → Rule A B
   Then : {A B C : Type 0} → Rule A B → Rule B C → Rule A C
   Use : {A B C D : Type 0} → (A → B) → Rule B C → (A → C → D) → Rule A D
-  Either : {A B : Type 0} → List Kind → Rule A B → Rule A B → Rule A B
-  Many : {A : Type 0} → List Kind → Rule A A → Rule A A
+  Either : {A B : Type 0} → List PieceKind → Rule A B → Rule A B → Rule A B
+  Many : {A : Type 0} → List PieceKind → Rule A A → Rule A A
   Nest : (x : Nesting) → Rule (State x) (State x)
 
 -- What rules mean, apart from how they are read: which pieces lead from a value to which value.
@@ -79,12 +79,12 @@ abbrev pub ◌>>=◌ : {A B : Type 0} → Reading A → (A → List Piece → Re
 (Stuck rest) >>= f = Stuck rest
 
 -- the next piece is of these kinds
-abbrev pub begins : List Kind → List Piece → Bool
+abbrev pub begins : List PieceKind → List Piece → Bool
 begins kinds [] = false
 begins kinds (p ∷ pieces) = has kinds p.kind
 
 -- one piece of these kinds
-abbrev pub piece_of : List Kind → List Piece → Reading Piece
+abbrev pub piece_of : List PieceKind → List Piece → Reading Piece
 piece_of kinds [] = Stuck []
 piece_of kinds (p ∷ pieces) = if has kinds p.kind then Read p pieces else Stuck (p ∷ pieces)
 
@@ -93,7 +93,7 @@ abbrev pub Reader : Type 0 → Type 0 → Type 0
 Reader A B = A → List Piece → Reading B
 
 -- turns of a reader while the next piece is of these kinds, at most so many
-abbrev pub repeated : {A : Type 0} → ℕ → List Kind → Reader A A → Reader A A
+abbrev pub repeated : {A : Type 0} → ℕ → List PieceKind → Reader A A → Reader A A
 repeated zero kinds turn a pieces = Read a pieces
 repeated (suc n) kinds turn a pieces =
     if begins kinds pieces then (turn a pieces >>= repeated n kinds turn) else Read a pieces
@@ -118,8 +118,8 @@ read_nested grammar (suc n) x a pieces = read_over (read_nested grammar n) (gram
 -- The test that a rule has to pass. The kinds with which a nested form begins, and those with which it may go on
 -- where it could end too, are given; the test of a grammar checks them.
 pub record Borders : Type 0 where
-  pub first : Nesting → List Kind
-  pub more : Nesting → List Kind
+  pub first : Nesting → List PieceKind
+  pub more : Nesting → List PieceKind
 
 -- the rule may read nothing
 abbrev pub may_be_empty : {A B : Type 0} → Rule A B → Bool
@@ -132,7 +132,7 @@ may_be_empty (Many kinds turn) = true
 may_be_empty (Nest x) = false
 
 -- the kinds with which the rule begins
-abbrev pub first_of_rule : Borders → {A B : Type 0} → Rule A B → List Kind
+abbrev pub first_of_rule : Borders → {A B : Type 0} → Rule A B → List PieceKind
 first_of_rule borders (Give f) = []
 first_of_rule borders (Take kinds f) = kinds
 first_of_rule borders (Then first second) =
@@ -143,7 +143,7 @@ first_of_rule borders (Many kinds turn) = first_of_rule borders turn
 first_of_rule borders (Nest x) = borders.first x
 
 -- the kinds with which the rule may go on where it could end too
-abbrev pub more_of_rule : Borders → {A B : Type 0} → Rule A B → List Kind
+abbrev pub more_of_rule : Borders → {A B : Type 0} → Rule A B → List PieceKind
 more_of_rule borders (Give f) = []
 more_of_rule borders (Take kinds f) = []
 more_of_rule borders (Then first second) =
@@ -154,7 +154,7 @@ more_of_rule borders (Either kinds left right) =
 more_of_rule borders (Many kinds turn) = kinds ++ more_of_rule borders turn
 more_of_rule borders (Nest x) = borders.more x
 
-abbrev pub not_empty : List Kind → Bool
+abbrev pub not_empty : List PieceKind → Bool
 not_empty [] = false
 not_empty (k ∷ ks) = true
 

@@ -1,12 +1,12 @@
 -- What the productions of the grammar give.
-use Rattle.std.specs.Prelude.{ℕ, ℤ, pos, neg_ℤ, ◌+◌, ◌-◌, ◌^◌, min, Bool, true, false, ◌||◌, nat_lt, nat_abs, int_lt, if◌then◌else◌, List, [], ◌∷◌, ◌++◌, Option, Some, None}
+use Rattle.std.specs.Prelude.{ℕ, ℤ, pos, neg_ℤ, ◌+◌, ◌^◌, Bool, true, false, ◌||◌, nat_lt, nat_abs, int_lt, if◌then◌else◌, List, [], ◌∷◌, ◌++◌, Option, Some, None}
 use Rattle.sql_tokens.specs.declared.token.Span.{Span}
-use Rattle.sql_reader.specs.declared.kind.Kind.{Kind}
-use Rattle.sql_reader.specs.declared.kind.Kind.TheVariants as kinds
+use Rattle.sql_reader.specs.declared.kind.PieceKind.{PieceKind}
+use Rattle.sql_reader.specs.declared.kind.PieceKind.TheVariants as kinds
 use Rattle.sql_reader.specs.declared.piece.Piece.{Piece}
-use Rattle.sql_reader.specs.declared.found.Form.{Form}
-use Rattle.sql_reader.specs.declared.found.Form.TheVariants as forms
-use Rattle.sql_reader.specs.declared.found.Found.{Found}
+use Rattle.sql_reader.specs.declared.seen.ExprForm.{ExprForm}
+use Rattle.sql_reader.specs.declared.seen.ExprForm.TheVariants as forms
+use Rattle.sql_reader.specs.declared.seen.Seen.{Seen}
 use Rattle.sql_reader.specs.declared.parsed.NameUse.{NameUse}
 use Rattle.sql_reader.specs.declared.parsed.Expr.{Expr}
 use Rattle.sql_reader.specs.declared.parsed.ParsedItem.{ParsedItem}
@@ -49,7 +49,7 @@ whole_literal None = literals.Other
 whole_literal (Some n) = literals.Whole n
 
 -- the literal that one piece is: a text that holds a date is a text where no DATE stands before it
-abbrev pub literal_of_kind : Kind → Piece → Literal
+abbrev pub literal_of_kind : PieceKind → Piece → Literal
 literal_of_kind kinds.Whole p = whole_literal p.number
 literal_of_kind kinds.Text p = literals.Text p.span
 literal_of_kind kinds.Day p = literals.Text p.span
@@ -63,13 +63,13 @@ negative (literals.Whole n) = literals.Whole (neg_ℤ n)
 negative l = l
 
 -- a number behind a sign
-abbrev pub signed : Kind → Piece → Literal
+abbrev pub signed : PieceKind → Piece → Literal
 signed kinds.Minus p = negative (literal_of p)
 signed _ p = literal_of p
 
 -- comparisons
 
-abbrev pub compare_of : Kind → Compare
+abbrev pub compare_of : PieceKind → Compare
 compare_of kinds.Equal = compares.Equal
 compare_of kinds.NotEqual = compares.NotEqual
 compare_of kinds.Below = compares.Below
@@ -83,48 +83,48 @@ turned compares.Above = compares.Below
 
 -- expressions
 
-abbrev pub nothing_found : Found
+abbrev pub nothing_found : Seen
 nothing_found = record { uses = []; stars = 0; aggregate = false; form = forms.Other }
 
-abbrev pub with_form : Form → Found → Found
+abbrev pub with_form : ExprForm → Seen → Seen
 with_form form found = record found { form = form }
 
 -- more than a column or a number alone
-abbrev pub not_alone : Found → Found
+abbrev pub not_alone : Seen → Seen
 not_alone found = with_form forms.Other found
 
-abbrev pub with_use : Found → NameUse → Found
+abbrev pub with_use : Seen → NameUse → Seen
 with_use found name = record found { uses = found.uses ++ name ∷ []; form = forms.Column }
 
-abbrev pub with_star : Found → Found
+abbrev pub with_star : Seen → Seen
 with_star found = record found { stars = found.stars + 1 }
 
-abbrev pub is_aggregate : Kind → Bool
+abbrev pub is_aggregate : PieceKind → Bool
 is_aggregate kinds.Aggregate = true
 is_aggregate _ = false
 
 -- a call of this name begins
-abbrev pub called : Found → Kind → Found
+abbrev pub called : Seen → PieceKind → Seen
 called found kind = record found { aggregate = found.aggregate || is_aggregate kind }
 
 -- a whole number is an ordinal where it is below 2^32
-abbrev pub number_form : Option ℤ → Form
+abbrev pub number_form : Option ℤ → ExprForm
 number_form None = forms.Other
 number_form (Some n) = if nat_lt (nat_abs n) (2 ^ 32) then forms.Number (nat_abs n) else forms.Other
 
-abbrev pub literal_form : Kind → Option ℤ → Form
+abbrev pub literal_form : PieceKind → Option ℤ → ExprForm
 literal_form kinds.Whole number = number_form number
 literal_form _ number = forms.Other
 
-abbrev pub is_column : Form → Bool
+abbrev pub is_column : ExprForm → Bool
 is_column forms.Column = true
 is_column _ = false
 
-abbrev pub ordinal_of : Form → Option ℕ
+abbrev pub ordinal_of : ExprForm → Option ℕ
 ordinal_of (forms.Number n) = Some n
 ordinal_of _ = None
 
-abbrev pub expr_of : Found → Expr
+abbrev pub expr_of : Seen → Expr
 expr_of found = record { uses = found.uses; stars = found.stars; plain = is_column found.form; aggregate = found.aggregate; ordinal = ordinal_of found.form }
 
 -- statements
@@ -144,9 +144,9 @@ empty_update source = record { source = source; columns = []; found = nothing_fo
 abbrev pub update_body : UpdateParts → Body
 update_body parts = bodies.Update parts.source parts.columns parts.found.uses parts.conditions
 
--- the place of a piece's first byte, from 1, as far as 64 bits go
+-- the place of a piece's first byte, from 1
 abbrev pub place_of : Piece → ℕ
-place_of p = min (p.span.from + 1) (2 ^ 64 - 1)
+place_of p = p.span.from + 1
 
 -- the weight of the statement that begins with this piece: that of the last weight comment before it, where that
 -- stands behind the first token of the statement before
@@ -167,7 +167,7 @@ no_statements = record { statements = []; before = 0 }
 abbrev pub beside : {A B : Type 0} → A → B → A × B
 beside a b = (a, b)
 
-abbrev pub beside_kind : {A : Type 0} → A → Piece → A × Kind
+abbrev pub beside_kind : {A : Type 0} → A → Piece → A × PieceKind
 beside_kind a p = (a, p.kind)
 
 abbrev pub beside_span : {A : Type 0} → A → Piece → A × Span
@@ -214,10 +214,10 @@ insert_columns_of parts = parts.columns
 abbrev pub with_insert_columns : InsertParts → List NameUse → InsertParts
 with_insert_columns parts all = record parts { columns = all }
 
-abbrev pub values_of : InsertParts → Found
+abbrev pub values_of : InsertParts → Seen
 values_of parts = parts.found
 
-abbrev pub with_values : InsertParts → Found → InsertParts
+abbrev pub with_values : InsertParts → Seen → InsertParts
 with_values parts found = record parts { found = found }
 
 abbrev pub with_row : InsertParts → InsertParts
@@ -229,10 +229,10 @@ set_columns_of parts = parts.columns
 abbrev pub with_set_columns : UpdateParts → List NameUse → UpdateParts
 with_set_columns parts all = record parts { columns = all }
 
-abbrev pub set_values_of : UpdateParts → Found
+abbrev pub set_values_of : UpdateParts → Seen
 set_values_of parts = parts.found
 
-abbrev pub with_set_values : UpdateParts → Found → UpdateParts
+abbrev pub with_set_values : UpdateParts → Seen → UpdateParts
 with_set_values parts found = record parts { found = found }
 
 abbrev pub update_conditions_of : UpdateParts → List Condition

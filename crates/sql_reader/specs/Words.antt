@@ -3,83 +3,62 @@ use Rattle.std.specs.Prelude.{ℕ, ℤ, pos, neg_ℤ, ◌+◌, ◌*◌, ◌-◌,
 use Rattle.std.specs.Char.{is_ascii_digit}
 use Rattle.std.specs.Str.{str_eq_ignore_ascii_case}
 use Rattle.adv_base.specs.Days.{day_number}
-use Rattle.sql_reader.specs.declared.kind.Kind.{Kind}
-use Rattle.sql_reader.specs.declared.kind.Kind.TheVariants as kinds
+use Rattle.sql_reader.specs.declared.kind.PieceKind.{PieceKind}
+use Rattle.sql_reader.specs.declared.kind.PieceKind.TheVariants as kinds
+use Rattle.sql_reader.specs.declared.words.Word.{Word}
 
--- a word of the grammar, and its kind
-abbrev pub Word : Type 0
-Word = List ℕ × Kind
+-- a word that the grammar knows, and its kind
+abbrev pub Entry : Type 0
+Entry = List ℕ × PieceKind
 
 -- the kind of the first of these words that the bytes are, in any case of letters
-abbrev pub look_up : List Word → List ℕ → Option Kind
-look_up [] bytes = None
-look_up (w ∷ ws) bytes = if str_eq_ignore_ascii_case bytes w.0 then Some w.1 else look_up ws bytes
+abbrev pub kind_in : List Entry → List ℕ → Option PieceKind
+kind_in [] bytes = None
+kind_in (w ∷ ws) bytes = if str_eq_ignore_ascii_case bytes w.0 then Some w.1 else kind_in ws bytes
 
--- the reserved words, by their first letters
-abbrev pub words_a_to_c : List Word
-words_a_to_c =
-    (codes "ALL", kinds.All) ∷ (codes "AND", kinds.And) ∷ (codes "AS", kinds.As) ∷ (codes "ASC", kinds.Asc) ∷ (codes "BETWEEN", kinds.Between) ∷ (codes "BY", kinds.By)
-    ∷ (codes "CASE", kinds.LeftOut) ∷ (codes "CROSS", kinds.LeftOut) ∷ []
+-- the words that the grammar knows: the reserved ones, the aggregates and DATE
+abbrev pub known : List Entry
+known =
+    (codes "ALL", kinds.All) ∷ (codes "AND", kinds.And) ∷ (codes "AS", kinds.As) ∷ (codes "ASC", kinds.Asc) ∷ (codes "BETWEEN", kinds.Between)
+    ∷ (codes "BY", kinds.By) ∷ (codes "CASE", kinds.LeftOut) ∷ (codes "CROSS", kinds.LeftOut) ∷ (codes "DELETE", kinds.Delete) ∷ (codes "DESC", kinds.Desc)
+    ∷ (codes "DISTINCT", kinds.Distinct) ∷ (codes "EXCEPT", kinds.LeftOut) ∷ (codes "EXISTS", kinds.LeftOut) ∷ (codes "FROM", kinds.From) ∷ (codes "FULL", kinds.LeftOut)
+    ∷ (codes "GROUP", kinds.Group) ∷ (codes "HAVING", kinds.Having) ∷ (codes "IN", kinds.In) ∷ (codes "INNER", kinds.Inner) ∷ (codes "INSERT", kinds.Insert)
+    ∷ (codes "INTERSECT", kinds.LeftOut) ∷ (codes "INTO", kinds.Into) ∷ (codes "IS", kinds.Is) ∷ (codes "JOIN", kinds.Join) ∷ (codes "LEFT", kinds.LeftOut)
+    ∷ (codes "LIKE", kinds.Like) ∷ (codes "LIMIT", kinds.Limit) ∷ (codes "NATURAL", kinds.LeftOut) ∷ (codes "NOT", kinds.Not) ∷ (codes "NULL", kinds.Null)
+    ∷ (codes "OFFSET", kinds.Offset) ∷ (codes "ON", kinds.On) ∷ (codes "OR", kinds.LeftOut) ∷ (codes "ORDER", kinds.Order) ∷ (codes "OUTER", kinds.LeftOut)
+    ∷ (codes "OVER", kinds.LeftOut) ∷ (codes "RETURNING", kinds.LeftOut) ∷ (codes "RIGHT", kinds.LeftOut) ∷ (codes "SELECT", kinds.Select) ∷ (codes "SET", kinds.Set)
+    ∷ (codes "UNION", kinds.LeftOut) ∷ (codes "UPDATE", kinds.Update) ∷ (codes "USING", kinds.LeftOut) ∷ (codes "VALUES", kinds.Values) ∷ (codes "WHERE", kinds.Where)
+    ∷ (codes "WITH", kinds.LeftOut) ∷ (codes "COUNT", kinds.Aggregate) ∷ (codes "SUM", kinds.Aggregate) ∷ (codes "MIN", kinds.Aggregate) ∷ (codes "MAX", kinds.Aggregate)
+    ∷ (codes "AVG", kinds.Aggregate) ∷ (codes "DATE", kinds.Date) ∷ []
 
-abbrev pub words_d_to_f : List Word
-words_d_to_f =
-    (codes "DELETE", kinds.Delete) ∷ (codes "DESC", kinds.Desc) ∷ (codes "DISTINCT", kinds.Distinct) ∷ (codes "EXCEPT", kinds.LeftOut) ∷ (codes "EXISTS", kinds.LeftOut)
-    ∷ (codes "FROM", kinds.From) ∷ (codes "FULL", kinds.LeftOut) ∷ []
+-- the same of the code's table
+abbrev pub entries : List Word → List Entry
+entries [] = []
+entries (w ∷ ws) = (w.0.now, w.1) ∷ entries ws
 
-abbrev pub words_g_to_i : List Word
-words_g_to_i =
-    (codes "GROUP", kinds.Group) ∷ (codes "HAVING", kinds.Having) ∷ (codes "IN", kinds.In) ∷ (codes "INNER", kinds.Inner) ∷ (codes "INSERT", kinds.Insert)
-    ∷ (codes "INTERSECT", kinds.LeftOut) ∷ (codes "INTO", kinds.Into) ∷ (codes "IS", kinds.Is) ∷ []
-
-abbrev pub words_j_to_n : List Word
-words_j_to_n =
-    (codes "JOIN", kinds.Join) ∷ (codes "LEFT", kinds.LeftOut) ∷ (codes "LIKE", kinds.Like) ∷ (codes "LIMIT", kinds.Limit) ∷ (codes "NATURAL", kinds.LeftOut)
-    ∷ (codes "NOT", kinds.Not) ∷ (codes "NULL", kinds.Null) ∷ []
-
-abbrev pub words_o_to_r : List Word
-words_o_to_r =
-    (codes "OFFSET", kinds.Offset) ∷ (codes "ON", kinds.On) ∷ (codes "OR", kinds.LeftOut) ∷ (codes "ORDER", kinds.Order) ∷ (codes "OUTER", kinds.LeftOut)
-    ∷ (codes "OVER", kinds.LeftOut) ∷ (codes "RETURNING", kinds.LeftOut) ∷ (codes "RIGHT", kinds.LeftOut) ∷ []
-
-abbrev pub words_s_to_w : List Word
-words_s_to_w =
-    (codes "SELECT", kinds.Select) ∷ (codes "SET", kinds.Set) ∷ (codes "UNION", kinds.LeftOut) ∷ (codes "UPDATE", kinds.Update) ∷ (codes "USING", kinds.LeftOut)
-    ∷ (codes "VALUES", kinds.Values) ∷ (codes "WHERE", kinds.Where) ∷ (codes "WITH", kinds.LeftOut) ∷ []
-
--- the aggregates
-abbrev pub aggregates : List Word
-aggregates =
-    (codes "COUNT", kinds.Aggregate) ∷ (codes "SUM", kinds.Aggregate) ∷ (codes "MIN", kinds.Aggregate) ∷ (codes "MAX", kinds.Aggregate) ∷ (codes "AVG", kinds.Aggregate) ∷ []
-
-abbrev pub date_word : List Word
-date_word = (codes "DATE", kinds.Date) ∷ []
-
--- the first choice, or else the second
-abbrev pub or_else : Option Kind → Option Kind → Option Kind
-or_else (Some k) other = Some k
-or_else None other = other
-
-abbrev pub kind_or : Kind → Option Kind → Kind
+abbrev pub kind_or : PieceKind → Option PieceKind → PieceKind
 kind_or other None = other
 kind_or other (Some k) = k
 
--- a word: a reserved word, DATE, an aggregate or another name
-unfoldable pub word_kind : List ℕ → Kind
-word_kind bytes =
-    kind_or kinds.Name (or_else (look_up words_a_to_c bytes) (or_else (look_up words_d_to_f bytes) (or_else (look_up words_g_to_i bytes)
-    (or_else (look_up words_j_to_n bytes) (or_else (look_up words_o_to_r bytes) (or_else (look_up words_s_to_w bytes)
-    (or_else (look_up aggregates bytes) (look_up date_word bytes))))))))
+-- a word: one that the grammar knows, or a name
+unfoldable pub word_kind : List ℕ → PieceKind
+word_kind bytes = kind_or kinds.Name (kind_in known bytes)
 
 -- the bytes between the quotes
 abbrev pub inside : List ℕ → List ℕ
 inside bytes = slice_range bytes 1 (length bytes - 1)
 
--- a quoted name: an aggregate or another name
-unfoldable pub quoted_kind : List ℕ → Kind
-quoted_kind bytes = kind_or kinds.Name (look_up aggregates (inside bytes))
+-- a name that is an aggregate or not
+abbrev pub aggregate_or_name : Option PieceKind → PieceKind
+aggregate_or_name (Some kinds.Aggregate) = kinds.Aggregate
+aggregate_or_name _ = kinds.Name
+
+-- a quoted name: an aggregate, or another name
+unfoldable pub quoted_kind : List ℕ → PieceKind
+quoted_kind bytes = aggregate_or_name (kind_in known (inside bytes))
 
 -- a symbol, by its first byte and, for `<`, its second
-unfoldable pub symbol_kind : ℕ → ℕ → Kind
+unfoldable pub symbol_kind : ℕ → ℕ → PieceKind
 symbol_kind first second =
     if first == 40 then kinds.Open
     else (if first == 41 then kinds.Close

@@ -3,8 +3,8 @@ use Rattle.std.specs.Prelude.{◌≡◌, ℕ, ◌+◌, nat_lt, List, [], ◌∷�
 use Rattle.sql_tokens.specs.declared.token.Token.{Token}
 use Rattle.sql_tokens.specs.declared.token_list.TokenFault.TheVariants as tokens
 use Rattle.sql_tokens.specs.Cut.{AreTokens, HasFault}
-use Rattle.sql_reader.specs.declared.kind.Kind.{Kind}
-use Rattle.sql_reader.specs.declared.kind.Kind.TheVariants as kinds
+use Rattle.sql_reader.specs.declared.kind.PieceKind.{PieceKind}
+use Rattle.sql_reader.specs.declared.kind.PieceKind.TheVariants as kinds
 use Rattle.sql_reader.specs.declared.piece.Piece.{Piece}
 use Rattle.sql_reader.specs.declared.parsed.ParsedStatement.{ParsedStatement}
 use Rattle.sql_reader.specs.declared.parsed.SqlFault.{SqlFault}
@@ -13,16 +13,17 @@ use Rattle.sql_reader.specs.declared.parts.Progress.{Progress}
 use Rattle.sql_reader.specs.Kinds.{has}
 use Rattle.sql_reader.specs.Rule.{Meaning}
 use Rattle.sql_reader.specs.Exact.{IsRead, FailsAt}
-use Rattle.sql_reader.specs.Grammar.{grammar, levels, workload}
+use Rattle.sql_reader.specs.Grammar.{levels}
+use Rattle.sql_reader.specs.Printed.{grammar, workload}
 use Rattle.sql_reader.specs.Values.{place_of, no_statements}
 use Rattle.sql_reader.specs.Pieces.{ArePieces, no_mark, bad_weight, start_behind}
 
--- pieces, and the statements that they are
+-- pieces, and the statements that they are by the grammar as it is printed
 abbrev pub MeansStatements : Meaning Progress Progress
 MeansStatements start pieces progress = IsRead grammar levels workload start pieces progress
 
 -- the kinds of words at which the fault is Unsupported
-abbrev pub left_out : List Kind
+abbrev pub left_out : List PieceKind
 left_out = kinds.LeftOut ∷ kinds.Not ∷ kinds.Select ∷ []
 
 -- the fault where the grammar fails before these pieces, with the place of the end of the text

@@ -1,19 +1,19 @@
 //! Reads INSERT, UPDATE and DELETE.
 ghost use Rattle.sql_reader.specs.Grammar as rule;
-ghost use Rattle.sql_reader.specs.Reads.{AddsBy, ReadsBy};
+ghost use Rattle.sql_reader.specs.inner.Reads.{AddsBy, ReadsBy};
 ghost use Rattle.std.specs.Prelude.{◌≡◌};
 
-use crate::cursor::{Cursor, Reader, Stop};
+use crate::cursor::{Cursor, GrammarReader, Unread};
 use crate::list::push;
 use crate::name::NAMES;
-use crate::{Body, Found, InsertParts, Kind, NameUse, Source, UpdateParts};
+use crate::{Body, InsertParts, NameUse, PieceKind, Seen, Source, UpdateParts};
 use adv_base::List;
 use std::alloc::Global;
 
-impl Reader {
+impl GrammarReader {
     /// A name, put behind those before as a column.
     #[tactic(auto, unfolding(crate::specs::Grammar::name_as_column))]
-    fn name_as_column(self, cursor: &mut Cursor<'_>, all: &mut List<NameUse>) -> Result<(), Stop>
+    fn name_as_column(self, cursor: &mut Cursor<'_>, all: &mut List<NameUse>) -> Result<(), Unread>
         ensures { AddsBy rule.name_as_column all.old self cursor.old result all.new cursor.new }
     {
         let name = cursor.take(&NAMES)?;
@@ -28,18 +28,18 @@ impl Reader {
 
     /// A comma and a name.
     #[tactic(auto, unfolding(crate::specs::Grammar::another_name))]
-    fn another_name(self, cursor: &mut Cursor<'_>, all: &mut List<NameUse>) -> Result<(), Stop>
+    fn another_name(self, cursor: &mut Cursor<'_>, all: &mut List<NameUse>) -> Result<(), Unread>
         ensures { AddsBy rule.another_name all.old self cursor.old result all.new cursor.new }
     {
-        cursor.take(&[Kind::Comma])?;
+        cursor.take(&[PieceKind::Comma])?;
         self.name_as_column(cursor, all)
     }
 
     /// More names behind commas.
-    fn more_names(self, cursor: &mut Cursor<'_>, all: &mut List<NameUse>) -> Result<(), Stop>
+    fn more_names(self, cursor: &mut Cursor<'_>, all: &mut List<NameUse>) -> Result<(), Unread>
         ensures { AddsBy rule.more_names all.old self cursor.old result all.new cursor.new }
     {
-        'turns: while cursor.begins(&[Kind::Comma]) {
+        'turns: while cursor.begins(&[PieceKind::Comma]) {
             self.another_name(cursor, all)?;
         }
         Ok(())
@@ -47,7 +47,7 @@ impl Reader {
 
     /// Names with commas between them.
     #[tactic(auto, unfolding(crate::specs::Grammar::name_list))]
-    fn name_list(self, cursor: &mut Cursor<'_>, all: &mut List<NameUse>) -> Result<(), Stop>
+    fn name_list(self, cursor: &mut Cursor<'_>, all: &mut List<NameUse>) -> Result<(), Unread>
         ensures { AddsBy rule.name_list all.old self cursor.old result all.new cursor.new }
     {
         self.name_as_column(cursor, all)?;
@@ -56,21 +56,21 @@ impl Reader {
 
     /// The columns of an INSERT, perhaps.
     #[tactic(auto, unfolding(crate::specs::Grammar::insert_columns))]
-    fn insert_columns(self, cursor: &mut Cursor<'_>, all: &mut List<NameUse>) -> Result<(), Stop>
+    fn insert_columns(self, cursor: &mut Cursor<'_>, all: &mut List<NameUse>) -> Result<(), Unread>
         ensures { AddsBy rule.insert_columns all.old self cursor.old result all.new cursor.new }
     {
-        if !cursor.begins(&[Kind::Open]) {
+        if !cursor.begins(&[PieceKind::Open]) {
             return Ok(());
         }
-        cursor.take(&[Kind::Open])?;
+        cursor.take(&[PieceKind::Open])?;
         self.name_list(cursor, all)?;
-        cursor.take(&[Kind::Close])?;
+        cursor.take(&[PieceKind::Close])?;
         Ok(())
     }
 
     /// The expressions of a row of VALUES.
     #[tactic(auto, unfolding(crate::specs::Grammar::row_values))]
-    fn row_values(self, cursor: &mut Cursor<'_>, parts: &mut InsertParts) -> Result<(), Stop>
+    fn row_values(self, cursor: &mut Cursor<'_>, parts: &mut InsertParts) -> Result<(), Unread>
         ensures { AddsBy rule.row_values parts.old self cursor.old result parts.new cursor.new }
     {
         self.expressions(cursor, &mut parts.found)
@@ -78,31 +78,31 @@ impl Reader {
 
     /// A row of VALUES.
     #[tactic(auto, unfolding(crate::specs::Grammar::row))]
-    fn row(self, cursor: &mut Cursor<'_>, parts: &mut InsertParts) -> Result<(), Stop>
+    fn row(self, cursor: &mut Cursor<'_>, parts: &mut InsertParts) -> Result<(), Unread>
         ensures { AddsBy rule.row parts.old self cursor.old result parts.new cursor.new }
     {
-        cursor.take(&[Kind::Open])?;
+        cursor.take(&[PieceKind::Open])?;
         self.row_values(cursor, parts)?;
-        cursor.take(&[Kind::Close])?;
+        cursor.take(&[PieceKind::Close])?;
         // There are fewer rows than bytes, so the count always fits.
-        parts.rows = parts.rows.checked_add(1).ok_or(Stop::Memory)?;
+        parts.rows = parts.rows.checked_add(1).ok_or(Unread::Memory)?;
         Ok(())
     }
 
     /// A comma and a row.
     #[tactic(auto, unfolding(crate::specs::Grammar::another_row))]
-    fn another_row(self, cursor: &mut Cursor<'_>, parts: &mut InsertParts) -> Result<(), Stop>
+    fn another_row(self, cursor: &mut Cursor<'_>, parts: &mut InsertParts) -> Result<(), Unread>
         ensures { AddsBy rule.another_row parts.old self cursor.old result parts.new cursor.new }
     {
-        cursor.take(&[Kind::Comma])?;
+        cursor.take(&[PieceKind::Comma])?;
         self.row(cursor, parts)
     }
 
     /// More rows behind commas.
-    fn more_rows(self, cursor: &mut Cursor<'_>, parts: &mut InsertParts) -> Result<(), Stop>
+    fn more_rows(self, cursor: &mut Cursor<'_>, parts: &mut InsertParts) -> Result<(), Unread>
         ensures { AddsBy rule.more_rows parts.old self cursor.old result parts.new cursor.new }
     {
-        'turns: while cursor.begins(&[Kind::Comma]) {
+        'turns: while cursor.begins(&[PieceKind::Comma]) {
             self.another_row(cursor, parts)?;
         }
         Ok(())
@@ -110,7 +110,7 @@ impl Reader {
 
     /// The rows of VALUES.
     #[tactic(auto, unfolding(crate::specs::Grammar::rows))]
-    fn rows(self, cursor: &mut Cursor<'_>, parts: &mut InsertParts) -> Result<(), Stop>
+    fn rows(self, cursor: &mut Cursor<'_>, parts: &mut InsertParts) -> Result<(), Unread>
         ensures { AddsBy rule.rows parts.old self cursor.old result parts.new cursor.new }
     {
         self.row(cursor, parts)?;
@@ -119,44 +119,44 @@ impl Reader {
 
     /// INTO and the table of an INSERT.
     #[tactic(auto, unfolding(crate::specs::Grammar::insert_table))]
-    fn insert_table(self, alloc: Global, cursor: &mut Cursor<'_>) -> Result<InsertParts, Stop>
+    fn insert_table(self, alloc: Global, cursor: &mut Cursor<'_>) -> Result<InsertParts, Unread>
         ensures { ReadsBy rule.insert_table tt self cursor.old result cursor.new }
     {
-        cursor.take(&[Kind::Into])?;
+        cursor.take(&[PieceKind::Into])?;
         let table = cursor.take(&NAMES)?;
         Ok(InsertParts {
             table: table.span,
             columns: List::new(alloc),
-            found: Found::new(alloc),
+            found: Seen::new(alloc),
             rows: 0,
         })
     }
 
     /// An INSERT behind its first word.
     #[tactic(auto, unfolding(crate::specs::Grammar::insert_rest))]
-    fn insert_rest(self, alloc: Global, cursor: &mut Cursor<'_>) -> Result<InsertParts, Stop>
+    fn insert_rest(self, alloc: Global, cursor: &mut Cursor<'_>) -> Result<InsertParts, Unread>
         ensures { ReadsBy rule.insert_rest tt self cursor.old result cursor.new }
     {
         let mut parts = self.insert_table(alloc, cursor)?;
         self.insert_columns(cursor, &mut parts.columns)?;
-        cursor.take(&[Kind::Values])?;
+        cursor.take(&[PieceKind::Values])?;
         self.rows(cursor, &mut parts)?;
         Ok(parts)
     }
 
     /// The column that is set, and `=`.
     #[tactic(auto, unfolding(crate::specs::Grammar::set_column))]
-    fn set_column(self, cursor: &mut Cursor<'_>, parts: &mut UpdateParts) -> Result<(), Stop>
+    fn set_column(self, cursor: &mut Cursor<'_>, parts: &mut UpdateParts) -> Result<(), Unread>
         ensures { AddsBy rule.set_column parts.old self cursor.old result parts.new cursor.new }
     {
         self.name_as_column(cursor, &mut parts.columns)?;
-        cursor.take(&[Kind::Equal])?;
+        cursor.take(&[PieceKind::Equal])?;
         Ok(())
     }
 
     /// A column, `=` and an expression.
     #[tactic(auto, unfolding(crate::specs::Grammar::assignment))]
-    fn assignment(self, cursor: &mut Cursor<'_>, parts: &mut UpdateParts) -> Result<(), Stop>
+    fn assignment(self, cursor: &mut Cursor<'_>, parts: &mut UpdateParts) -> Result<(), Unread>
         ensures { AddsBy rule.assignment parts.old self cursor.old result parts.new cursor.new }
     {
         self.set_column(cursor, parts)?;
@@ -169,18 +169,22 @@ impl Reader {
         self,
         cursor: &mut Cursor<'_>,
         parts: &mut UpdateParts,
-    ) -> Result<(), Stop>
+    ) -> Result<(), Unread>
         ensures { AddsBy rule.another_assignment parts.old self cursor.old result parts.new cursor.new }
     {
-        cursor.take(&[Kind::Comma])?;
+        cursor.take(&[PieceKind::Comma])?;
         self.assignment(cursor, parts)
     }
 
     /// More of SET behind commas.
-    fn more_assignments(self, cursor: &mut Cursor<'_>, parts: &mut UpdateParts) -> Result<(), Stop>
+    fn more_assignments(
+        self,
+        cursor: &mut Cursor<'_>,
+        parts: &mut UpdateParts,
+    ) -> Result<(), Unread>
         ensures { AddsBy rule.more_assignments parts.old self cursor.old result parts.new cursor.new }
     {
-        'turns: while cursor.begins(&[Kind::Comma]) {
+        'turns: while cursor.begins(&[PieceKind::Comma]) {
             self.another_assignment(cursor, parts)?;
         }
         Ok(())
@@ -188,7 +192,7 @@ impl Reader {
 
     /// What SET says.
     #[tactic(auto, unfolding(crate::specs::Grammar::assignments))]
-    fn assignments(self, cursor: &mut Cursor<'_>, parts: &mut UpdateParts) -> Result<(), Stop>
+    fn assignments(self, cursor: &mut Cursor<'_>, parts: &mut UpdateParts) -> Result<(), Unread>
         ensures { AddsBy rule.assignments parts.old self cursor.old result parts.new cursor.new }
     {
         self.assignment(cursor, parts)?;
@@ -197,25 +201,25 @@ impl Reader {
 
     /// The source of an UPDATE.
     #[tactic(auto, unfolding(crate::specs::Grammar::update_source))]
-    fn update_source(self, alloc: Global, cursor: &mut Cursor<'_>) -> Result<UpdateParts, Stop>
+    fn update_source(self, alloc: Global, cursor: &mut Cursor<'_>) -> Result<UpdateParts, Unread>
         ensures { ReadsBy rule.update_source tt self cursor.old result cursor.new }
     {
         let source = self.source(cursor)?;
         Ok(UpdateParts {
             source,
             columns: List::new(alloc),
-            found: Found::new(alloc),
+            found: Seen::new(alloc),
             conditions: List::new(alloc),
         })
     }
 
     /// An UPDATE behind its first word.
     #[tactic(auto, unfolding(crate::specs::Grammar::update_rest))]
-    fn update_rest(self, alloc: Global, cursor: &mut Cursor<'_>) -> Result<UpdateParts, Stop>
+    fn update_rest(self, alloc: Global, cursor: &mut Cursor<'_>) -> Result<UpdateParts, Unread>
         ensures { ReadsBy rule.update_rest tt self cursor.old result cursor.new }
     {
         let mut parts = self.update_source(alloc, cursor)?;
-        cursor.take(&[Kind::Set])?;
+        cursor.take(&[PieceKind::Set])?;
         self.assignments(cursor, &mut parts)?;
         self.where_conditions(cursor, &mut parts.conditions)?;
         Ok(parts)
@@ -223,10 +227,10 @@ impl Reader {
 
     /// A DELETE behind its first word.
     #[tactic(auto, unfolding(crate::specs::Grammar::delete_rest))]
-    pub fn delete_rest(self, alloc: Global, cursor: &mut Cursor<'_>) -> Result<Body, Stop>
+    pub fn delete_rest(self, alloc: Global, cursor: &mut Cursor<'_>) -> Result<Body, Unread>
         ensures { ReadsBy rule.delete_rest tt self cursor.old result cursor.new }
     {
-        cursor.take(&[Kind::From])?;
+        cursor.take(&[PieceKind::From])?;
         let source = self.source(cursor)?;
         self.delete_conditions(alloc, cursor, source)
     }
@@ -238,7 +242,7 @@ impl Reader {
         alloc: Global,
         cursor: &mut Cursor<'_>,
         source: Source,
-    ) -> Result<Body, Stop>
+    ) -> Result<Body, Unread>
         ensures { ReadsBy rule.delete_conditions source self cursor.old result cursor.new }
     {
         let mut conditions = List::new(alloc);
@@ -248,7 +252,7 @@ impl Reader {
 
     /// An INSERT behind its first word, as a body.
     #[tactic(auto, unfolding(crate::specs::Grammar::insert))]
-    pub fn insert(self, alloc: Global, cursor: &mut Cursor<'_>) -> Result<Body, Stop>
+    pub fn insert(self, alloc: Global, cursor: &mut Cursor<'_>) -> Result<Body, Unread>
         ensures { ReadsBy rule.insert tt self cursor.old result cursor.new }
     {
         let InsertParts {
@@ -267,7 +271,7 @@ impl Reader {
 
     /// An UPDATE behind its first word, as a body.
     #[tactic(auto, unfolding(crate::specs::Grammar::update))]
-    pub fn update(self, alloc: Global, cursor: &mut Cursor<'_>) -> Result<Body, Stop>
+    pub fn update(self, alloc: Global, cursor: &mut Cursor<'_>) -> Result<Body, Unread>
         ensures { ReadsBy rule.update tt self cursor.old result cursor.new }
     {
         let UpdateParts {

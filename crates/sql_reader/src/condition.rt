@@ -1,21 +1,21 @@
 //! Reads the tests of ON and WHERE.
 ghost use Rattle.sql_reader.specs.Grammar as rule;
-ghost use Rattle.sql_reader.specs.Reads.{AddsBy, AddsNested, ReadsBy};
+ghost use Rattle.sql_reader.specs.inner.Reads.{AddsBy, AddsNested, ReadsBy};
 ghost use Rattle.sql_reader.specs.Rule.{Conditions};
 ghost use Rattle.std.specs.Prelude.{◌≡◌};
 
-use crate::cursor::{Cursor, Reader, Stop};
+use crate::cursor::{Cursor, GrammarReader, Unread};
 use crate::list::push;
 use crate::literal::COMPARISONS;
 use crate::name::PLAIN_NAMES;
-use crate::{Compare, Condition, Kind, Literal, NameUse};
+use crate::{Compare, Condition, Literal, NameUse, PieceKind};
 use adv_base::List;
 use sql_tokens::Span;
 
-impl Reader {
+impl GrammarReader {
     /// A comparison and a column, behind a value.
     #[tactic(auto, unfolding(crate::specs::Grammar::turned_test))]
-    pub fn turned_test(self, cursor: &mut Cursor<'_>, value: Literal) -> Result<Condition, Stop>
+    pub fn turned_test(self, cursor: &mut Cursor<'_>, value: Literal) -> Result<Condition, Unread>
         ensures { ReadsBy rule.turned_test value self cursor.old result cursor.new }
     {
         let comparison = cursor.take(&COMPARISONS)?;
@@ -30,7 +30,7 @@ impl Reader {
         cursor: &mut Cursor<'_>,
         column: NameUse,
         first: Span,
-    ) -> Result<Condition, Stop>
+    ) -> Result<Condition, Unread>
         ensures { ReadsBy rule.tied_test (column, first) self cursor.old result cursor.new }
     {
         let other = self.after_name(cursor, first)?;
@@ -44,11 +44,11 @@ impl Reader {
         cursor: &mut Cursor<'_>,
         column: NameUse,
         first: Span,
-    ) -> Result<Condition, Stop>
+    ) -> Result<Condition, Unread>
         ensures { ReadsBy rule.after_equal_date (column, first) self cursor.old result cursor.new }
     {
-        if cursor.begins(&[Kind::Day]) {
-            let day = cursor.take(&[Kind::Day])?;
+        if cursor.begins(&[PieceKind::Day]) {
+            let day = cursor.take(&[PieceKind::Day])?;
             return Ok(Condition::Compared(column, Compare::Equal, day.day()));
         }
         self.tied_test(cursor, column, first)
@@ -56,11 +56,11 @@ impl Reader {
 
     /// The right side of an equation: a value or a column.
     #[tactic(auto, unfolding(crate::specs::Grammar::equal_test))]
-    pub fn equal_test(self, cursor: &mut Cursor<'_>, column: NameUse) -> Result<Condition, Stop>
+    pub fn equal_test(self, cursor: &mut Cursor<'_>, column: NameUse) -> Result<Condition, Unread>
         ensures { ReadsBy rule.equal_test column self cursor.old result cursor.new }
     {
-        if cursor.begins(&[Kind::Date]) {
-            let first = cursor.take(&[Kind::Date])?;
+        if cursor.begins(&[PieceKind::Date]) {
+            let first = cursor.take(&[PieceKind::Date])?;
             return self.after_equal_date(cursor, column, first.span);
         }
         if cursor.begins(&PLAIN_NAMES) {
@@ -73,43 +73,43 @@ impl Reader {
 
     /// A comparison other than `=`, and a value.
     #[tactic(auto, unfolding(crate::specs::Grammar::unequal_test))]
-    pub fn unequal_test(self, cursor: &mut Cursor<'_>, column: NameUse) -> Result<Condition, Stop>
+    pub fn unequal_test(self, cursor: &mut Cursor<'_>, column: NameUse) -> Result<Condition, Unread>
         ensures { ReadsBy rule.unequal_test column self cursor.old result cursor.new }
     {
-        let comparison = cursor.take(&[Kind::NotEqual, Kind::Below, Kind::Above])?;
+        let comparison = cursor.take(&[PieceKind::NotEqual, PieceKind::Below, PieceKind::Above])?;
         let value = self.value(cursor)?;
         Ok(Condition::Compared(column, comparison.kind.compare(), value))
     }
 
     /// BETWEEN, a value, AND, a value.
     #[tactic(auto, unfolding(crate::specs::Grammar::between_test))]
-    pub fn between_test(self, cursor: &mut Cursor<'_>, column: NameUse) -> Result<Condition, Stop>
+    pub fn between_test(self, cursor: &mut Cursor<'_>, column: NameUse) -> Result<Condition, Unread>
         ensures { ReadsBy rule.between_test column self cursor.old result cursor.new }
     {
-        cursor.take(&[Kind::Between])?;
+        cursor.take(&[PieceKind::Between])?;
         let low = self.value(cursor)?;
-        cursor.take(&[Kind::And])?;
+        cursor.take(&[PieceKind::And])?;
         let high = self.value(cursor)?;
         Ok(Condition::Between(column, low, high))
     }
 
     /// A comma and a value, counted.
     #[tactic(auto, unfolding(crate::specs::Grammar::in_value))]
-    pub fn in_value(self, cursor: &mut Cursor<'_>, count: &mut u32) -> Result<(), Stop>
+    pub fn in_value(self, cursor: &mut Cursor<'_>, count: &mut u32) -> Result<(), Unread>
         ensures { AddsBy rule.in_value count.old self cursor.old result count.new cursor.new }
     {
-        cursor.take(&[Kind::Comma])?;
+        cursor.take(&[PieceKind::Comma])?;
         self.value(cursor)?;
         // There are fewer values than bytes, so the count always fits.
-        *count = count.checked_add(1).ok_or(Stop::Memory)?;
+        *count = count.checked_add(1).ok_or(Unread::Memory)?;
         Ok(())
     }
 
     /// More values behind commas, counted.
-    pub fn more_in_values(self, cursor: &mut Cursor<'_>, count: &mut u32) -> Result<(), Stop>
+    pub fn more_in_values(self, cursor: &mut Cursor<'_>, count: &mut u32) -> Result<(), Unread>
         ensures { AddsBy rule.more_in_values count.old self cursor.old result count.new cursor.new }
     {
-        'turns: while cursor.begins(&[Kind::Comma]) {
+        'turns: while cursor.begins(&[PieceKind::Comma]) {
             self.in_value(cursor, count)?;
         }
         Ok(())
@@ -117,7 +117,7 @@ impl Reader {
 
     /// Values with commas between them, and how many.
     #[tactic(auto, unfolding(crate::specs::Grammar::in_values))]
-    pub fn in_values(self, cursor: &mut Cursor<'_>) -> Result<u32, Stop>
+    pub fn in_values(self, cursor: &mut Cursor<'_>) -> Result<u32, Unread>
         ensures { ReadsBy rule.in_values tt self cursor.old result cursor.new }
     {
         self.value(cursor)?;
@@ -128,60 +128,60 @@ impl Reader {
 
     /// IN and its values.
     #[tactic(auto, unfolding(crate::specs::Grammar::in_test))]
-    pub fn in_test(self, cursor: &mut Cursor<'_>, column: NameUse) -> Result<Condition, Stop>
+    pub fn in_test(self, cursor: &mut Cursor<'_>, column: NameUse) -> Result<Condition, Unread>
         ensures { ReadsBy rule.in_test column self cursor.old result cursor.new }
     {
-        cursor.take(&[Kind::In])?;
-        cursor.take(&[Kind::Open])?;
+        cursor.take(&[PieceKind::In])?;
+        cursor.take(&[PieceKind::Open])?;
         let count = self.in_values(cursor)?;
-        cursor.take(&[Kind::Close])?;
+        cursor.take(&[PieceKind::Close])?;
         Ok(Condition::OneOf(column, count))
     }
 
     /// LIKE and a value.
     #[tactic(auto, unfolding(crate::specs::Grammar::like_test))]
-    pub fn like_test(self, cursor: &mut Cursor<'_>, column: NameUse) -> Result<Condition, Stop>
+    pub fn like_test(self, cursor: &mut Cursor<'_>, column: NameUse) -> Result<Condition, Unread>
         ensures { ReadsBy rule.like_test column self cursor.old result cursor.new }
     {
-        cursor.take(&[Kind::Like])?;
+        cursor.take(&[PieceKind::Like])?;
         self.value(cursor)?;
         Ok(Condition::Like(column))
     }
 
     /// IS NULL or IS NOT NULL.
     #[tactic(auto, unfolding(crate::specs::Grammar::null_test))]
-    pub fn null_test(self, cursor: &mut Cursor<'_>, column: NameUse) -> Result<Condition, Stop>
+    pub fn null_test(self, cursor: &mut Cursor<'_>, column: NameUse) -> Result<Condition, Unread>
         ensures { ReadsBy rule.null_test column self cursor.old result cursor.new }
     {
-        cursor.take(&[Kind::Is])?;
-        if cursor.begins(&[Kind::Not]) {
-            cursor.take(&[Kind::Not])?;
-            cursor.take(&[Kind::Null])?;
+        cursor.take(&[PieceKind::Is])?;
+        if cursor.begins(&[PieceKind::Not]) {
+            cursor.take(&[PieceKind::Not])?;
+            cursor.take(&[PieceKind::Null])?;
             return Ok(Condition::NotNull(column));
         }
-        cursor.take(&[Kind::Null])?;
+        cursor.take(&[PieceKind::Null])?;
         Ok(Condition::IsNull(column))
     }
 
     /// What a test says of a column.
     #[tactic(auto, unfolding(crate::specs::Grammar::column_test))]
-    pub fn column_test(self, cursor: &mut Cursor<'_>, column: NameUse) -> Result<Condition, Stop>
+    pub fn column_test(self, cursor: &mut Cursor<'_>, column: NameUse) -> Result<Condition, Unread>
         ensures { ReadsBy rule.column_test column self cursor.old result cursor.new }
     {
-        if cursor.begins(&[Kind::Equal]) {
-            cursor.take(&[Kind::Equal])?;
+        if cursor.begins(&[PieceKind::Equal]) {
+            cursor.take(&[PieceKind::Equal])?;
             return self.equal_test(cursor, column);
         }
-        if cursor.begins(&[Kind::NotEqual, Kind::Below, Kind::Above]) {
+        if cursor.begins(&[PieceKind::NotEqual, PieceKind::Below, PieceKind::Above]) {
             return self.unequal_test(cursor, column);
         }
-        if cursor.begins(&[Kind::Between]) {
+        if cursor.begins(&[PieceKind::Between]) {
             return self.between_test(cursor, column);
         }
-        if cursor.begins(&[Kind::In]) {
+        if cursor.begins(&[PieceKind::In]) {
             return self.in_test(cursor, column);
         }
-        if cursor.begins(&[Kind::Like]) {
+        if cursor.begins(&[PieceKind::Like]) {
             return self.like_test(cursor, column);
         }
         self.null_test(cursor, column)
@@ -189,7 +189,7 @@ impl Reader {
 
     /// A test behind the first name of its column.
     #[tactic(auto, unfolding(crate::specs::Grammar::after_test_name))]
-    pub fn after_test_name(self, cursor: &mut Cursor<'_>, first: Span) -> Result<Condition, Stop>
+    pub fn after_test_name(self, cursor: &mut Cursor<'_>, first: Span) -> Result<Condition, Unread>
         ensures { ReadsBy rule.after_test_name first self cursor.old result cursor.new }
     {
         let column = self.after_name(cursor, first)?;
@@ -198,11 +198,11 @@ impl Reader {
 
     /// A test behind DATE.
     #[tactic(auto, unfolding(crate::specs::Grammar::after_test_date))]
-    pub fn after_test_date(self, cursor: &mut Cursor<'_>, first: Span) -> Result<Condition, Stop>
+    pub fn after_test_date(self, cursor: &mut Cursor<'_>, first: Span) -> Result<Condition, Unread>
         ensures { ReadsBy rule.after_test_date first self cursor.old result cursor.new }
     {
-        if cursor.begins(&[Kind::Day]) {
-            let day = cursor.take(&[Kind::Day])?;
+        if cursor.begins(&[PieceKind::Day]) {
+            let day = cursor.take(&[PieceKind::Day])?;
             return self.turned_test(cursor, day.day());
         }
         self.after_test_name(cursor, first)
@@ -210,11 +210,11 @@ impl Reader {
 
     /// A test that stands in no parentheses.
     #[tactic(auto, unfolding(crate::specs::Grammar::test))]
-    pub fn test(self, cursor: &mut Cursor<'_>) -> Result<Condition, Stop>
+    pub fn test(self, cursor: &mut Cursor<'_>) -> Result<Condition, Unread>
         ensures { ReadsBy rule.test tt self cursor.old result cursor.new }
     {
-        if cursor.begins(&[Kind::Date]) {
-            let first = cursor.take(&[Kind::Date])?;
+        if cursor.begins(&[PieceKind::Date]) {
+            let first = cursor.take(&[PieceKind::Date])?;
             return self.after_test_date(cursor, first.span);
         }
         if cursor.begins(&PLAIN_NAMES) {
@@ -228,10 +228,10 @@ impl Reader {
     /// A test, or tests in parentheses.
     #[tactic(auto, unfolding(crate::specs::Grammar::condition))]
     #[cycle(conditions)]
-    fn condition(self, cursor: &mut Cursor<'_>, all: &mut List<Condition>) -> Result<(), Stop>
+    fn condition(self, cursor: &mut Cursor<'_>, all: &mut List<Condition>) -> Result<(), Unread>
         ensures { AddsBy rule.condition all.old self cursor.old result all.new cursor.new }
     {
-        if cursor.begins(&[Kind::Open]) {
+        if cursor.begins(&[PieceKind::Open]) {
             return self.deeper_conditions(cursor, all);
         }
         let condition = self.test(cursor)?;
@@ -241,19 +241,23 @@ impl Reader {
     /// AND and a test.
     #[tactic(auto, unfolding(crate::specs::Grammar::and_condition))]
     #[cycle(conditions)]
-    fn and_condition(self, cursor: &mut Cursor<'_>, all: &mut List<Condition>) -> Result<(), Stop>
+    fn and_condition(self, cursor: &mut Cursor<'_>, all: &mut List<Condition>) -> Result<(), Unread>
         ensures { AddsBy rule.and_condition all.old self cursor.old result all.new cursor.new }
     {
-        cursor.take(&[Kind::And])?;
+        cursor.take(&[PieceKind::And])?;
         self.condition(cursor, all)
     }
 
     /// More tests behind AND.
     #[cycle(conditions)]
-    fn more_conditions(self, cursor: &mut Cursor<'_>, all: &mut List<Condition>) -> Result<(), Stop>
+    fn more_conditions(
+        self,
+        cursor: &mut Cursor<'_>,
+        all: &mut List<Condition>,
+    ) -> Result<(), Unread>
         ensures { AddsBy rule.more_conditions all.old self cursor.old result all.new cursor.new }
     {
-        'turns: while cursor.begins(&[Kind::And]) {
+        'turns: while cursor.begins(&[PieceKind::And]) {
             self.and_condition(cursor, all)?;
         }
         Ok(())
@@ -262,7 +266,11 @@ impl Reader {
     /// Tests with AND between them.
     #[tactic(auto, unfolding(crate::specs::Grammar::conditions))]
     #[cycle(conditions)]
-    pub fn conditions(self, cursor: &mut Cursor<'_>, all: &mut List<Condition>) -> Result<(), Stop>
+    pub fn conditions(
+        self,
+        cursor: &mut Cursor<'_>,
+        all: &mut List<Condition>,
+    ) -> Result<(), Unread>
         ensures { AddsBy rule.conditions all.old self cursor.old result all.new cursor.new }
     {
         self.condition(cursor, all)?;
@@ -276,12 +284,12 @@ impl Reader {
         self,
         cursor: &mut Cursor<'_>,
         all: &mut List<Condition>,
-    ) -> Result<(), Stop>
+    ) -> Result<(), Unread>
         ensures { AddsBy rule.nested_conditions all.old self cursor.old result all.new cursor.new }
     {
-        cursor.take(&[Kind::Open])?;
+        cursor.take(&[PieceKind::Open])?;
         self.conditions(cursor, all)?;
-        cursor.take(&[Kind::Close])?;
+        cursor.take(&[PieceKind::Close])?;
         Ok(())
     }
 
@@ -292,13 +300,13 @@ impl Reader {
         self,
         cursor: &mut Cursor<'_>,
         all: &mut List<Condition>,
-    ) -> Result<(), Stop>
+    ) -> Result<(), Unread>
         ensures { AddsNested Conditions all.old self cursor.old result all.new cursor.new }
     {
         if self.levels == 0 {
-            return Err(Stop::Here);
+            return Err(Unread::Here);
         }
-        let inner = Reader {
+        let inner = GrammarReader {
             levels: self.levels - 1,
         };
         inner.nested_conditions(cursor, all)
@@ -310,13 +318,13 @@ impl Reader {
         self,
         cursor: &mut Cursor<'_>,
         all: &mut List<Condition>,
-    ) -> Result<(), Stop>
+    ) -> Result<(), Unread>
         ensures { AddsBy rule.where_conditions all.old self cursor.old result all.new cursor.new }
     {
-        if !cursor.begins(&[Kind::Where]) {
+        if !cursor.begins(&[PieceKind::Where]) {
             return Ok(());
         }
-        cursor.take(&[Kind::Where])?;
+        cursor.take(&[PieceKind::Where])?;
         self.conditions(cursor, all)
     }
 }

@@ -1,32 +1,32 @@
 //! A place in the pieces of a text.
-ghost use Rattle.sql_reader.specs.Reads.{Gives, same};
+ghost use Rattle.sql_reader.specs.inner.Reads.{Gives, same};
 ghost use Rattle.sql_reader.specs.Kinds.{has};
 ghost use Rattle.sql_reader.specs.Rule.{begins, piece_of};
 ghost use Rattle.std.specs.Prelude.{◌≡◌};
 
-use crate::{Kind, Piece};
+use crate::{Piece, PieceKind};
 
 /// Why reading stops: there is no memory, or nothing goes on with the next piece.
-#[derive(Clone, Copy, Debug)]
-pub enum Stop {
+#[derive(Clone, Copy)]
+pub enum Unread {
     Memory,
     Here,
 }
 
 /// The pieces that are left.
-#[derive(Debug, Drop)]
+#[derive(Drop)]
 pub struct Cursor<'a> {
     pub rest: &'a [Piece],
 }
 
 /// Reads by the grammar, where so many more levels may nest.
-#[derive(Clone, Copy, Debug)]
-pub struct Reader {
+#[derive(Clone, Copy)]
+pub struct GrammarReader {
     pub levels: u8,
 }
 
 /// Whether a kind is one of these.
-pub fn has(kinds: &[Kind], kind: Kind) -> bool
+pub fn has(kinds: &[PieceKind], kind: PieceKind) -> bool
     ensures { result ≡ has kinds.now kind }
 {
     let code = kind.code();
@@ -35,7 +35,7 @@ pub fn has(kinds: &[Kind], kind: Kind) -> bool
 
 impl Cursor<'_> {
     /// Whether the next piece is of one of these kinds.
-    pub fn begins(&self, kinds: &[Kind]) -> bool
+    pub fn begins(&self, kinds: &[PieceKind]) -> bool
         ensures { result ≡ begins kinds.now self.now.rest.now }
     {
         match self.rest.first() {
@@ -45,14 +45,14 @@ impl Cursor<'_> {
     }
 
     /// Takes one piece of these kinds.
-    pub fn take(&mut self, kinds: &[Kind]) -> Result<Piece, Stop>
+    pub fn take(&mut self, kinds: &[PieceKind]) -> Result<Piece, Unread>
         ensures { Gives same result (piece_of kinds.now self.old.rest.now) self.new }
     {
         let Some((piece, rest)) = self.rest.split_first() else {
-            return Err(Stop::Here);
+            return Err(Unread::Here);
         };
         if !has(kinds, piece.kind) {
-            return Err(Stop::Here);
+            return Err(Unread::Here);
         }
         self.rest = rest;
         Ok(*piece)

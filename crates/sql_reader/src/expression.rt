@@ -1,80 +1,85 @@
 //! Reads expressions.
 ghost use Rattle.sql_reader.specs.Grammar as rule;
-ghost use Rattle.sql_reader.specs.Reads.{AddsBy, AddsNested};
+ghost use Rattle.sql_reader.specs.inner.Reads.{AddsBy, AddsNested};
 ghost use Rattle.sql_reader.specs.Rule.{Call, Parenthesis, Signed};
 ghost use Rattle.sql_reader.specs.Values as values;
 ghost use Rattle.std.specs.Prelude.{◌≡◌, OnOk, IfErr};
-ghost use Rattle.sql_reader.specs.declared.cursor.Stop.TheVariants.{Memory};
+ghost use Rattle.sql_reader.specs.declared.cursor.Unread.TheVariants.{Memory};
 
-use crate::cursor::{Cursor, Reader, Stop};
+use crate::cursor::{Cursor, GrammarReader, Unread};
 use crate::list::push;
 use crate::literal::{LITERALS, SIGNS};
 use crate::name::{NAMES, PLAIN_NAMES};
-use crate::{Expr, Form, Found, Kind, NameUse, Piece};
+use crate::{Expr, ExprForm, NameUse, Piece, PieceKind, Seen};
 use adv_base::List;
 use sql_tokens::Span;
 use std::alloc::Global;
 
 /// The operators between two operands.
-pub const OPERATORS: [Kind; 4] = [Kind::Plus, Kind::Minus, Kind::Star, Kind::Operator];
+pub const OPERATORS: [PieceKind; 4] = [
+    PieceKind::Plus,
+    PieceKind::Minus,
+    PieceKind::Star,
+    PieceKind::Operator,
+];
 
 impl Piece {
     /// The form of an expression that is this literal alone.
-    pub fn form(self) -> Form
+    pub fn form(self) -> ExprForm
         ensures { result ≡ values.literal_form self.kind self.number }
     {
         match self.kind {
-            Kind::Whole => match self.number {
+            PieceKind::Whole => match self.number {
                 Some(number) => number_form(number),
-                None => Form::Other,
+                None => ExprForm::Other,
             },
-            _ => Form::Other,
+            _ => ExprForm::Other,
         }
     }
 }
 
 /// The form of a whole number alone: an ordinal where it is below 2^32.
-fn number_form(number: i64) -> Form
+fn number_form(number: i64) -> ExprForm
     ensures { result ≡ values.number_form (Some number) }
 {
     match u32::try_from(number.unsigned_abs()) {
-        Ok(ordinal) => Form::Number(ordinal),
-        Err(_) => Form::Other,
+        Ok(ordinal) => ExprForm::Number(ordinal),
+        Err(_) => ExprForm::Other,
     }
 }
 
-impl Kind {
+impl PieceKind {
     /// Whether the kind is the name of an aggregate function.
     pub fn is_aggregate(self) -> bool
         ensures { result ≡ values.is_aggregate self }
     {
         match self {
-            Kind::Aggregate => true,
+            PieceKind::Aggregate => true,
             _ => false,
         }
     }
 }
 
-impl Found {
+impl Seen {
     /// Nothing yet.
-    pub fn new(alloc: Global) -> Found
+    pub fn new(alloc: Global) -> Seen
         ensures { result ≡ values.nothing_found }
     {
-        Found {
+        Seen {
             uses: List::new(alloc),
             stars: 0,
             aggregate: false,
-            form: Form::Other,
+            form: ExprForm::Other,
         }
     }
 
     /// Adds a column.
-    pub fn add_use(&mut self, name: NameUse) -> Result<(), Stop>
+    pub fn add_use(&mut self, name: NameUse) -> Result<(), Unread>
         ensures ok { OnOk result (self.new ≡ values.with_use self.old name) }
         ensures err { IfErr result (λ stop. stop ≡ Memory) }
     {
         push(&mut self.uses, name)?;
-        self.form = Form::Column;
+        self.form = ExprForm::Column;
         Ok(())
     }
 
@@ -82,7 +87,7 @@ impl Found {
     pub fn into_uses(self) -> List<NameUse>
         ensures { result ≡ self.uses }
     {
-        let Found {
+        let Seen {
             uses,
             stars: _,
             aggregate: _,
@@ -95,16 +100,16 @@ impl Found {
     pub fn expr(self) -> Expr
         ensures { result ≡ values.expr_of self }
     {
-        let Found {
+        let Seen {
             uses,
             stars,
             aggregate,
             form,
         } = self;
         let (plain, ordinal) = match form {
-            Form::Column => (true, None),
-            Form::Number(number) => (false, Some(number)),
-            Form::Other => (false, None),
+            ExprForm::Column => (true, None),
+            ExprForm::Number(number) => (false, Some(number)),
+            ExprForm::Other => (false, None),
         };
         Expr {
             uses,
@@ -116,19 +121,19 @@ impl Found {
     }
 }
 
-impl Reader {
+impl GrammarReader {
     /// The parentheses of a call behind a name, or the end of a column.
     #[tactic(auto, unfolding(crate::specs::Grammar::called_name))]
     #[cycle(expression)]
     pub fn called_name(
         self,
         cursor: &mut Cursor<'_>,
-        found: &mut Found,
+        found: &mut Seen,
         name: Piece,
-    ) -> Result<(), Stop>
+    ) -> Result<(), Unread>
         ensures { AddsBy rule.called_name (found.old, name) self cursor.old result found.new cursor.new }
     {
-        if cursor.begins(&[Kind::Open]) {
+        if cursor.begins(&[PieceKind::Open]) {
             found.aggregate = found.aggregate || name.kind.is_aggregate();
             return self.nested_call(cursor, found);
         }
@@ -144,15 +149,15 @@ impl Reader {
     fn after_operand_name(
         self,
         cursor: &mut Cursor<'_>,
-        found: &mut Found,
+        found: &mut Seen,
         name: Piece,
-    ) -> Result<(), Stop>
+    ) -> Result<(), Unread>
         ensures { AddsBy rule.after_operand_name (found.old, name) self cursor.old result found.new cursor.new }
     {
-        if !cursor.begins(&[Kind::Point]) {
+        if !cursor.begins(&[PieceKind::Point]) {
             return self.called_name(cursor, found, name);
         }
-        cursor.take(&[Kind::Point])?;
+        cursor.take(&[PieceKind::Point])?;
         let second = cursor.take(&NAMES)?;
         found.add_use(NameUse {
             qualifier: Some(name.span),
@@ -166,26 +171,26 @@ impl Reader {
     fn after_operand_date(
         self,
         cursor: &mut Cursor<'_>,
-        found: &mut Found,
+        found: &mut Seen,
         name: Piece,
-    ) -> Result<(), Stop>
+    ) -> Result<(), Unread>
         ensures { AddsBy rule.after_operand_date (found.old, name) self cursor.old result found.new cursor.new }
     {
-        if !cursor.begins(&[Kind::Day]) {
+        if !cursor.begins(&[PieceKind::Day]) {
             return self.after_operand_name(cursor, found, name);
         }
-        cursor.take(&[Kind::Day])?;
-        found.form = Form::Other;
+        cursor.take(&[PieceKind::Day])?;
+        found.form = ExprForm::Other;
         Ok(())
     }
 
     /// An operand that begins with no name.
     #[tactic(auto, unfolding(crate::specs::Grammar::other_operand))]
     #[cycle(expression)]
-    pub fn other_operand(self, cursor: &mut Cursor<'_>, found: &mut Found) -> Result<(), Stop>
+    pub fn other_operand(self, cursor: &mut Cursor<'_>, found: &mut Seen) -> Result<(), Unread>
         ensures { AddsBy rule.other_operand found.old self cursor.old result found.new cursor.new }
     {
-        if cursor.begins(&[Kind::Open]) {
+        if cursor.begins(&[PieceKind::Open]) {
             return self.nested_parenthesis(cursor, found);
         }
         if cursor.begins(&SIGNS) {
@@ -199,11 +204,11 @@ impl Reader {
     /// An operand.
     #[tactic(auto, unfolding(crate::specs::Grammar::operand))]
     #[cycle(expression)]
-    fn operand(self, cursor: &mut Cursor<'_>, found: &mut Found) -> Result<(), Stop>
+    fn operand(self, cursor: &mut Cursor<'_>, found: &mut Seen) -> Result<(), Unread>
         ensures { AddsBy rule.operand found.old self cursor.old result found.new cursor.new }
     {
-        if cursor.begins(&[Kind::Date]) {
-            let name = cursor.take(&[Kind::Date])?;
+        if cursor.begins(&[PieceKind::Date]) {
+            let name = cursor.take(&[PieceKind::Date])?;
             return self.after_operand_date(cursor, found, name);
         }
         if cursor.begins(&PLAIN_NAMES) {
@@ -216,18 +221,18 @@ impl Reader {
     /// An operator and its right side.
     #[tactic(auto, unfolding(crate::specs::Grammar::operation))]
     #[cycle(expression)]
-    fn operation(self, cursor: &mut Cursor<'_>, found: &mut Found) -> Result<(), Stop>
+    fn operation(self, cursor: &mut Cursor<'_>, found: &mut Seen) -> Result<(), Unread>
         ensures { AddsBy rule.operation found.old self cursor.old result found.new cursor.new }
     {
         cursor.take(&OPERATORS)?;
         self.operand(cursor, found)?;
-        found.form = Form::Other;
+        found.form = ExprForm::Other;
         Ok(())
     }
 
     /// The operators behind an operand, with their right sides.
     #[cycle(expression)]
-    pub fn operations(self, cursor: &mut Cursor<'_>, found: &mut Found) -> Result<(), Stop>
+    pub fn operations(self, cursor: &mut Cursor<'_>, found: &mut Seen) -> Result<(), Unread>
         ensures { AddsBy rule.operations found.old self cursor.old result found.new cursor.new }
     {
         'turns: while cursor.begins(&OPERATORS) {
@@ -239,7 +244,7 @@ impl Reader {
     /// An expression.
     #[tactic(auto, unfolding(crate::specs::Grammar::expression))]
     #[cycle(expression)]
-    pub fn expression(self, cursor: &mut Cursor<'_>, found: &mut Found) -> Result<(), Stop>
+    pub fn expression(self, cursor: &mut Cursor<'_>, found: &mut Seen) -> Result<(), Unread>
         ensures { AddsBy rule.expression found.old self cursor.old result found.new cursor.new }
     {
         self.operand(cursor, found)?;
@@ -249,19 +254,19 @@ impl Reader {
     /// A comma and an expression.
     #[tactic(auto, unfolding(crate::specs::Grammar::another_expression))]
     #[cycle(expression)]
-    fn another_expression(self, cursor: &mut Cursor<'_>, found: &mut Found) -> Result<(), Stop>
+    fn another_expression(self, cursor: &mut Cursor<'_>, found: &mut Seen) -> Result<(), Unread>
         ensures { AddsBy rule.another_expression found.old self cursor.old result found.new cursor.new }
     {
-        cursor.take(&[Kind::Comma])?;
+        cursor.take(&[PieceKind::Comma])?;
         self.expression(cursor, found)
     }
 
     /// More expressions behind commas.
     #[cycle(expression)]
-    fn more_expressions(self, cursor: &mut Cursor<'_>, found: &mut Found) -> Result<(), Stop>
+    fn more_expressions(self, cursor: &mut Cursor<'_>, found: &mut Seen) -> Result<(), Unread>
         ensures { AddsBy rule.more_expressions found.old self cursor.old result found.new cursor.new }
     {
-        'turns: while cursor.begins(&[Kind::Comma]) {
+        'turns: while cursor.begins(&[PieceKind::Comma]) {
             self.another_expression(cursor, found)?;
         }
         Ok(())
@@ -270,7 +275,7 @@ impl Reader {
     /// Expressions with commas between them.
     #[tactic(auto, unfolding(crate::specs::Grammar::expressions))]
     #[cycle(expression)]
-    pub fn expressions(self, cursor: &mut Cursor<'_>, found: &mut Found) -> Result<(), Stop>
+    pub fn expressions(self, cursor: &mut Cursor<'_>, found: &mut Seen) -> Result<(), Unread>
         ensures { AddsBy rule.expressions found.old self cursor.old result found.new cursor.new }
     {
         self.expression(cursor, found)?;
@@ -279,53 +284,54 @@ impl Reader {
 
     /// The argument `*` of a call, to the closing parenthesis.
     #[tactic(auto, unfolding(crate::specs::Grammar::star_argument))]
-    fn star_argument(self, cursor: &mut Cursor<'_>, found: &mut Found) -> Result<(), Stop>
+    fn star_argument(self, cursor: &mut Cursor<'_>, found: &mut Seen) -> Result<(), Unread>
         ensures { AddsBy rule.star_argument found.old self cursor.old result found.new cursor.new }
     {
-        cursor.take(&[Kind::Star])?;
+        cursor.take(&[PieceKind::Star])?;
         // There are fewer calls than bytes, so the count always fits.
-        found.stars = found.stars.checked_add(1).ok_or(Stop::Memory)?;
-        cursor.take(&[Kind::Close])?;
-        found.form = Form::Other;
+        found.stars = found.stars.checked_add(1).ok_or(Unread::Memory)?;
+        cursor.take(&[PieceKind::Close])?;
+        found.form = ExprForm::Other;
         Ok(())
     }
 
     /// DISTINCT, perhaps.
     #[tactic(auto, unfolding(crate::specs::Grammar::maybe_distinct))]
-    fn maybe_distinct(self, cursor: &mut Cursor<'_>, found: &Found) -> Result<(), Stop>
+    fn maybe_distinct(self, cursor: &mut Cursor<'_>, found: &Seen) -> Result<(), Unread>
         ensures { AddsBy rule.maybe_distinct found.now self cursor.old result found.now cursor.new }
     {
-        if cursor.begins(&[Kind::Distinct]) {
-            cursor.take(&[Kind::Distinct])?;
+        if !cursor.begins(&[PieceKind::Distinct]) {
+            return Ok(());
         }
+        cursor.take(&[PieceKind::Distinct])?;
         Ok(())
     }
 
     /// The expressions that are the arguments of a call, to the closing parenthesis.
     #[tactic(auto, unfolding(crate::specs::Grammar::listed_arguments))]
     #[cycle(expression)]
-    fn listed_arguments(self, cursor: &mut Cursor<'_>, found: &mut Found) -> Result<(), Stop>
+    fn listed_arguments(self, cursor: &mut Cursor<'_>, found: &mut Seen) -> Result<(), Unread>
         ensures { AddsBy rule.listed_arguments found.old self cursor.old result found.new cursor.new }
     {
         self.maybe_distinct(cursor, found)?;
         self.expressions(cursor, found)?;
-        cursor.take(&[Kind::Close])?;
-        found.form = Form::Other;
+        cursor.take(&[PieceKind::Close])?;
+        found.form = ExprForm::Other;
         Ok(())
     }
 
     /// The arguments of a call, behind its opening parenthesis.
     #[tactic(auto, unfolding(crate::specs::Grammar::arguments))]
     #[cycle(expression)]
-    fn arguments(self, cursor: &mut Cursor<'_>, found: &mut Found) -> Result<(), Stop>
+    fn arguments(self, cursor: &mut Cursor<'_>, found: &mut Seen) -> Result<(), Unread>
         ensures { AddsBy rule.arguments found.old self cursor.old result found.new cursor.new }
     {
-        if cursor.begins(&[Kind::Close]) {
-            cursor.take(&[Kind::Close])?;
-            found.form = Form::Other;
+        if cursor.begins(&[PieceKind::Close]) {
+            cursor.take(&[PieceKind::Close])?;
+            found.form = ExprForm::Other;
             return Ok(());
         }
-        if cursor.begins(&[Kind::Star]) {
+        if cursor.begins(&[PieceKind::Star]) {
             return self.star_argument(cursor, found);
         }
         self.listed_arguments(cursor, found)
@@ -334,48 +340,48 @@ impl Reader {
     /// The parentheses of a call.
     #[tactic(auto, unfolding(crate::specs::Grammar::call))]
     #[cycle(expression)]
-    fn call(self, cursor: &mut Cursor<'_>, found: &mut Found) -> Result<(), Stop>
+    fn call(self, cursor: &mut Cursor<'_>, found: &mut Seen) -> Result<(), Unread>
         ensures { AddsBy rule.call found.old self cursor.old result found.new cursor.new }
     {
-        cursor.take(&[Kind::Open])?;
+        cursor.take(&[PieceKind::Open])?;
         self.arguments(cursor, found)
     }
 
     /// An expression in parentheses.
     #[tactic(auto, unfolding(crate::specs::Grammar::parenthesis))]
     #[cycle(expression)]
-    fn parenthesis(self, cursor: &mut Cursor<'_>, found: &mut Found) -> Result<(), Stop>
+    fn parenthesis(self, cursor: &mut Cursor<'_>, found: &mut Seen) -> Result<(), Unread>
         ensures { AddsBy rule.parenthesis found.old self cursor.old result found.new cursor.new }
     {
-        cursor.take(&[Kind::Open])?;
+        cursor.take(&[PieceKind::Open])?;
         self.expression(cursor, found)?;
-        cursor.take(&[Kind::Close])?;
-        found.form = Form::Other;
+        cursor.take(&[PieceKind::Close])?;
+        found.form = ExprForm::Other;
         Ok(())
     }
 
     /// A sign and an operand.
     #[tactic(auto, unfolding(crate::specs::Grammar::signed_operand))]
     #[cycle(expression)]
-    fn signed_operand(self, cursor: &mut Cursor<'_>, found: &mut Found) -> Result<(), Stop>
+    fn signed_operand(self, cursor: &mut Cursor<'_>, found: &mut Seen) -> Result<(), Unread>
         ensures { AddsBy rule.signed_operand found.old self cursor.old result found.new cursor.new }
     {
         cursor.take(&SIGNS)?;
         self.operand(cursor, found)?;
-        found.form = Form::Other;
+        found.form = ExprForm::Other;
         Ok(())
     }
 
     /// The parentheses of a call, one level deeper.
     #[tactic(auto, using(crate::proofs::Nested::no_call, crate::proofs::Nested::deeper_call))]
     #[cycle(expression)]
-    fn nested_call(self, cursor: &mut Cursor<'_>, found: &mut Found) -> Result<(), Stop>
+    fn nested_call(self, cursor: &mut Cursor<'_>, found: &mut Seen) -> Result<(), Unread>
         ensures { AddsNested Call found.old self cursor.old result found.new cursor.new }
     {
         if self.levels == 0 {
-            return Err(Stop::Here);
+            return Err(Unread::Here);
         }
-        let inner = Reader {
+        let inner = GrammarReader {
             levels: self.levels - 1,
         };
         inner.call(cursor, found)
@@ -384,13 +390,13 @@ impl Reader {
     /// An expression in parentheses, one level deeper.
     #[tactic(auto, using(crate::proofs::Nested::no_parenthesis, crate::proofs::Nested::deeper_parenthesis))]
     #[cycle(expression)]
-    fn nested_parenthesis(self, cursor: &mut Cursor<'_>, found: &mut Found) -> Result<(), Stop>
+    fn nested_parenthesis(self, cursor: &mut Cursor<'_>, found: &mut Seen) -> Result<(), Unread>
         ensures { AddsNested Parenthesis found.old self cursor.old result found.new cursor.new }
     {
         if self.levels == 0 {
-            return Err(Stop::Here);
+            return Err(Unread::Here);
         }
-        let inner = Reader {
+        let inner = GrammarReader {
             levels: self.levels - 1,
         };
         inner.parenthesis(cursor, found)
@@ -399,13 +405,13 @@ impl Reader {
     /// A sign and an operand, one level deeper.
     #[tactic(auto, using(crate::proofs::Nested::no_signed, crate::proofs::Nested::deeper_signed))]
     #[cycle(expression)]
-    fn nested_signed(self, cursor: &mut Cursor<'_>, found: &mut Found) -> Result<(), Stop>
+    fn nested_signed(self, cursor: &mut Cursor<'_>, found: &mut Seen) -> Result<(), Unread>
         ensures { AddsNested Signed found.old self cursor.old result found.new cursor.new }
     {
         if self.levels == 0 {
-            return Err(Stop::Here);
+            return Err(Unread::Here);
         }
-        let inner = Reader {
+        let inner = GrammarReader {
             levels: self.levels - 1,
         };
         inner.signed_operand(cursor, found)

@@ -1,19 +1,19 @@
 //! Reads the items of a select list.
 ghost use Rattle.sql_reader.specs.Grammar as rule;
-ghost use Rattle.sql_reader.specs.Reads.{AddsBy, ReadsBy};
+ghost use Rattle.sql_reader.specs.inner.Reads.{AddsBy, ReadsBy};
 ghost use Rattle.std.specs.Prelude.{◌≡◌};
 
-use crate::cursor::{Cursor, Reader, Stop};
+use crate::cursor::{Cursor, GrammarReader, Unread};
 use crate::list::push;
 use crate::name::{NAMES, PLAIN_NAMES};
-use crate::{Found, Kind, NameUse, ParsedItem, Piece};
+use crate::{NameUse, ParsedItem, Piece, PieceKind, Seen};
 use adv_base::List;
 use std::alloc::Global;
 
-impl Reader {
+impl GrammarReader {
     /// The rest of an expression of a select list, and its alias.
     #[tactic(auto, unfolding(crate::specs::Grammar::rest_of_item))]
-    fn rest_of_item(self, cursor: &mut Cursor<'_>, mut found: Found) -> Result<ParsedItem, Stop>
+    fn rest_of_item(self, cursor: &mut Cursor<'_>, mut found: Seen) -> Result<ParsedItem, Unread>
         ensures { ReadsBy rule.rest_of_item found self cursor.old result cursor.new }
     {
         self.operations(cursor, &mut found)?;
@@ -31,15 +31,15 @@ impl Reader {
         alloc: Global,
         cursor: &mut Cursor<'_>,
         name: Piece,
-    ) -> Result<ParsedItem, Stop>
+    ) -> Result<ParsedItem, Unread>
         ensures { ReadsBy rule.after_item_point name self cursor.old result cursor.new }
     {
-        if cursor.begins(&[Kind::Star]) {
-            cursor.take(&[Kind::Star])?;
+        if cursor.begins(&[PieceKind::Star]) {
+            cursor.take(&[PieceKind::Star])?;
             return Ok(ParsedItem::SlotStar(name.span));
         }
         let second = cursor.take(&NAMES)?;
-        let mut found = Found::new(alloc);
+        let mut found = Seen::new(alloc);
         found.add_use(NameUse {
             qualifier: Some(name.span),
             name: second.span,
@@ -54,14 +54,14 @@ impl Reader {
         alloc: Global,
         cursor: &mut Cursor<'_>,
         name: Piece,
-    ) -> Result<ParsedItem, Stop>
+    ) -> Result<ParsedItem, Unread>
         ensures { ReadsBy rule.after_item_name name self cursor.old result cursor.new }
     {
-        if cursor.begins(&[Kind::Point]) {
-            cursor.take(&[Kind::Point])?;
+        if cursor.begins(&[PieceKind::Point]) {
+            cursor.take(&[PieceKind::Point])?;
             return self.after_item_point(alloc, cursor, name);
         }
-        let mut found = Found::new(alloc);
+        let mut found = Seen::new(alloc);
         self.called_name(cursor, &mut found, name)?;
         self.rest_of_item(cursor, found)
     }
@@ -73,37 +73,37 @@ impl Reader {
         alloc: Global,
         cursor: &mut Cursor<'_>,
         name: Piece,
-    ) -> Result<ParsedItem, Stop>
+    ) -> Result<ParsedItem, Unread>
         ensures { ReadsBy rule.after_item_date name self cursor.old result cursor.new }
     {
-        if cursor.begins(&[Kind::Day]) {
-            cursor.take(&[Kind::Day])?;
-            return self.rest_of_item(cursor, Found::new(alloc));
+        if cursor.begins(&[PieceKind::Day]) {
+            cursor.take(&[PieceKind::Day])?;
+            return self.rest_of_item(cursor, Seen::new(alloc));
         }
         self.after_item_name(alloc, cursor, name)
     }
 
     /// An item that begins with no name.
     #[tactic(auto, unfolding(crate::specs::Grammar::literal_item))]
-    fn literal_item(self, alloc: Global, cursor: &mut Cursor<'_>) -> Result<ParsedItem, Stop>
+    fn literal_item(self, alloc: Global, cursor: &mut Cursor<'_>) -> Result<ParsedItem, Unread>
         ensures { ReadsBy rule.literal_item tt self cursor.old result cursor.new }
     {
-        let mut found = Found::new(alloc);
+        let mut found = Seen::new(alloc);
         self.other_operand(cursor, &mut found)?;
         self.rest_of_item(cursor, found)
     }
 
     /// An item of a select list.
     #[tactic(auto, unfolding(crate::specs::Grammar::item_value))]
-    fn item_value(self, alloc: Global, cursor: &mut Cursor<'_>) -> Result<ParsedItem, Stop>
+    fn item_value(self, alloc: Global, cursor: &mut Cursor<'_>) -> Result<ParsedItem, Unread>
         ensures { ReadsBy rule.item_value tt self cursor.old result cursor.new }
     {
-        if cursor.begins(&[Kind::Star]) {
-            cursor.take(&[Kind::Star])?;
+        if cursor.begins(&[PieceKind::Star]) {
+            cursor.take(&[PieceKind::Star])?;
             return Ok(ParsedItem::Star);
         }
-        if cursor.begins(&[Kind::Date]) {
-            let name = cursor.take(&[Kind::Date])?;
+        if cursor.begins(&[PieceKind::Date]) {
+            let name = cursor.take(&[PieceKind::Date])?;
             return self.after_item_date(alloc, cursor, name);
         }
         if cursor.begins(&PLAIN_NAMES) {
@@ -120,7 +120,7 @@ impl Reader {
         alloc: Global,
         cursor: &mut Cursor<'_>,
         all: &mut List<ParsedItem>,
-    ) -> Result<(), Stop>
+    ) -> Result<(), Unread>
         ensures { AddsBy rule.one_item all.old self cursor.old result all.new cursor.new }
     {
         let item = self.item_value(alloc, cursor)?;
@@ -134,10 +134,10 @@ impl Reader {
         alloc: Global,
         cursor: &mut Cursor<'_>,
         all: &mut List<ParsedItem>,
-    ) -> Result<(), Stop>
+    ) -> Result<(), Unread>
         ensures { AddsBy rule.another_item all.old self cursor.old result all.new cursor.new }
     {
-        cursor.take(&[Kind::Comma])?;
+        cursor.take(&[PieceKind::Comma])?;
         self.one_item(alloc, cursor, all)
     }
 
@@ -147,10 +147,10 @@ impl Reader {
         alloc: Global,
         cursor: &mut Cursor<'_>,
         all: &mut List<ParsedItem>,
-    ) -> Result<(), Stop>
+    ) -> Result<(), Unread>
         ensures { AddsBy rule.more_items all.old self cursor.old result all.new cursor.new }
     {
-        'turns: while cursor.begins(&[Kind::Comma]) {
+        'turns: while cursor.begins(&[PieceKind::Comma]) {
             self.another_item(alloc, cursor, all)?;
         }
         Ok(())
@@ -163,7 +163,7 @@ impl Reader {
         alloc: Global,
         cursor: &mut Cursor<'_>,
         all: &mut List<ParsedItem>,
-    ) -> Result<(), Stop>
+    ) -> Result<(), Unread>
         ensures { AddsBy rule.item_list all.old self cursor.old result all.new cursor.new }
     {
         self.one_item(alloc, cursor, all)?;

@@ -2,8 +2,8 @@
 
 /// What the grammar sees of a token: a reserved word, a symbol, a name or a literal. Tokens that the
 /// grammar treats alike share a kind.
-#[derive(Clone, Copy, Debug)]
-pub enum Kind {
+#[derive(Clone, Copy)]
+pub enum PieceKind {
     All,
     And,
     As,
@@ -72,7 +72,7 @@ pub enum Kind {
     Day,
 }
 
-impl Kind {
+impl PieceKind {
     ghost use Rattle.std.specs.Prelude.{◌≡◌};
     ghost use Rattle.sql_reader.specs.Kinds.{code_of};
 

@@ -1,16 +1,32 @@
 //! Laws of the grammar.
-ghost use Rattle.sql_reader.specs.Exact.{IsRead};
-ghost use Rattle.sql_reader.specs.Grammar.{grammar, levels, workload};
+ghost use Rattle.sql_reader.specs.Pieces.{places_of, starts_in};
 ghost use Rattle.sql_reader.specs.Printed.{IsAsPrinted};
+ghost use Rattle.sql_reader.specs.Values.{no_statements};
+ghost use Rattle.sql_reader.specs.Workload.{HasSqlFault, IsWorkload, MeansStatements};
+ghost use Rattle.sql_reader.specs.declared.parsed.ParsedStatement.{ParsedStatement};
+ghost use Rattle.sql_reader.specs.declared.parsed.SqlFault.{SqlFault};
 ghost use Rattle.sql_reader.specs.declared.parts.Progress.{Progress};
 ghost use Rattle.sql_reader.specs.declared.piece.Piece.{Piece};
-ghost use Rattle.std.specs.Prelude.{◌≡◌, List};
+ghost use Rattle.std.specs.Prelude.{◌≡◌, List, ℕ};
 
 /// Each list of pieces has at most one meaning as a workload.
 pub fn one_meaning()
     ensures { (start : Progress) (pieces : List Piece) (first second : Progress) →
-        IsRead grammar levels workload start pieces first → IsRead grammar levels workload start pieces second →
-        first ≡ second }
+        MeansStatements start pieces first → MeansStatements start pieces second → first ≡ second }
+{}
+
+/// A text has one answer: it is a workload of one list of statements, or it has one fault, and not both.
+pub fn one_answer()
+    ensures statements { (text : List ℕ) (first second : List ParsedStatement) → IsWorkload text first → IsWorkload text second → first ≡ second }
+    ensures fault { (text : List ℕ) (first second : SqlFault) → HasSqlFault text first → HasSqlFault text second → first ≡ second }
+    ensures either { (text : List ℕ) (statements : List ParsedStatement) (fault : SqlFault) → IsWorkload text statements → HasSqlFault text fault → ⊥ }
+{}
+
+/// The statements of a workload begin at its words that begin one, in order. So the 1001st of these words is the
+/// first token of the 1001st statement of each workload that goes on through it.
+pub fn statements_begin()
+    ensures { (pieces : List Piece) (progress : Progress) →
+        MeansStatements no_statements pieces progress → places_of progress.statements ≡ starts_in pieces }
 {}
 
 /// The grammar as it is printed in the reference, alternative by alternative, means what the rules mean by which

@@ -5,7 +5,6 @@ mod change;
 mod condition;
 mod cursor;
 mod expression;
-mod found;
 mod item;
 mod kind;
 mod law;
@@ -17,15 +16,14 @@ mod parsed_text;
 mod parts;
 mod piece;
 mod scan;
+mod seen;
 mod select;
 mod statement;
-mod valid;
 mod words;
 mod workload;
 
-pub use found::{Form, Found};
-pub use kind::Kind;
-pub use law::{as_printed, one_meaning};
+pub use kind::PieceKind;
+pub use law::{as_printed, one_answer, one_meaning, statements_begin};
 pub use parsed::{
     Body, Compare, Condition, Expr, Literal, NameUse, ParsedItem, ParsedOrder, ParsedSelect,
     ParsedStatement, Source, SqlFault,
@@ -33,4 +31,5 @@ pub use parsed::{
 pub use parsed_text::Parsed;
 pub use parts::{InsertParts, Progress, UpdateParts};
 pub use piece::{Mark, Piece};
+pub use seen::{ExprForm, Seen};
 pub use workload::read_workload;

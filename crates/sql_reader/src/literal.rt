@@ -1,27 +1,32 @@
 //! Reads the values of tests.
 ghost use Rattle.sql_reader.specs.Grammar as rule;
-ghost use Rattle.sql_reader.specs.Reads.{ReadsBy};
+ghost use Rattle.sql_reader.specs.inner.Reads.{ReadsBy};
 ghost use Rattle.sql_reader.specs.Values as values;
 ghost use Rattle.std.specs.Prelude.{◌≡◌, pos, neg_ℤ, ◌<ℤ◌, ◌^◌};
 
-use crate::cursor::{Cursor, Reader, Stop};
-use crate::{Compare, Kind, Literal, Piece};
+use crate::cursor::{Cursor, GrammarReader, Unread};
+use crate::{Compare, Literal, Piece, PieceKind};
 
 /// The literals of one piece.
-pub const LITERALS: [Kind; 6] = [
-    Kind::Whole,
-    Kind::Decimal,
-    Kind::Text,
-    Kind::Day,
-    Kind::Null,
-    Kind::Question,
+pub const LITERALS: [PieceKind; 6] = [
+    PieceKind::Whole,
+    PieceKind::Decimal,
+    PieceKind::Text,
+    PieceKind::Day,
+    PieceKind::Null,
+    PieceKind::Question,
 ];
 
 /// The signs.
-pub const SIGNS: [Kind; 2] = [Kind::Plus, Kind::Minus];
+pub const SIGNS: [PieceKind; 2] = [PieceKind::Plus, PieceKind::Minus];
 
 /// The comparisons.
-pub const COMPARISONS: [Kind; 4] = [Kind::Equal, Kind::NotEqual, Kind::Below, Kind::Above];
+pub const COMPARISONS: [PieceKind; 4] = [
+    PieceKind::Equal,
+    PieceKind::NotEqual,
+    PieceKind::Below,
+    PieceKind::Above,
+];
 
 /// The number with its sign turned.
 fn negated(number: i64) -> i64
@@ -37,22 +42,22 @@ impl Piece {
         ensures { result ≡ values.literal_of self }
     {
         match self.kind {
-            Kind::Whole => match self.number {
+            PieceKind::Whole => match self.number {
                 Some(number) => Literal::Whole(number),
                 None => Literal::Other,
             },
-            Kind::Text | Kind::Day => Literal::Text(self.span),
+            PieceKind::Text | PieceKind::Day => Literal::Text(self.span),
             _ => Literal::Other,
         }
     }
 
     /// The literal that the piece is behind a sign.
-    pub fn signed_literal(self, sign: Kind) -> Literal
+    pub fn signed_literal(self, sign: PieceKind) -> Literal
         ensures { result ≡ values.signed sign self }
     {
         match sign {
-            Kind::Minus => match self.kind {
-                Kind::Whole => match self.number {
+            PieceKind::Minus => match self.kind {
+                PieceKind::Whole => match self.number {
                     Some(number) => Literal::Whole(negated(number)),
                     None => Literal::Other,
                 },
@@ -70,15 +75,15 @@ impl Piece {
     }
 }
 
-impl Kind {
+impl PieceKind {
     /// The comparison that the kind is.
     pub fn compare(self) -> Compare
         ensures { result ≡ values.compare_of self }
     {
         match self {
-            Kind::Equal => Compare::Equal,
-            Kind::NotEqual => Compare::NotEqual,
-            Kind::Below => Compare::Below,
+            PieceKind::Equal => Compare::Equal,
+            PieceKind::NotEqual => Compare::NotEqual,
+            PieceKind::Below => Compare::Below,
             _ => Compare::Above,
         }
     }
@@ -98,15 +103,15 @@ impl Compare {
     }
 }
 
-impl Reader {
+impl GrammarReader {
     /// A value that doesn't begin with DATE.
     #[tactic(auto, unfolding(crate::specs::Grammar::plain_value))]
-    pub fn plain_value(self, cursor: &mut Cursor<'_>) -> Result<Literal, Stop>
+    pub fn plain_value(self, cursor: &mut Cursor<'_>) -> Result<Literal, Unread>
         ensures { ReadsBy rule.plain_value tt self cursor.old result cursor.new }
     {
         if cursor.begins(&SIGNS) {
             let sign = cursor.take(&SIGNS)?;
-            let number = cursor.take(&[Kind::Whole, Kind::Decimal])?;
+            let number = cursor.take(&[PieceKind::Whole, PieceKind::Decimal])?;
             return Ok(number.signed_literal(sign.kind));
         }
         let piece = cursor.take(&LITERALS)?;
@@ -115,12 +120,12 @@ impl Reader {
 
     /// A value.
     #[tactic(auto, unfolding(crate::specs::Grammar::value))]
-    pub fn value(self, cursor: &mut Cursor<'_>) -> Result<Literal, Stop>
+    pub fn value(self, cursor: &mut Cursor<'_>) -> Result<Literal, Unread>
         ensures { ReadsBy rule.value tt self cursor.old result cursor.new }
     {
-        if cursor.begins(&[Kind::Date]) {
-            cursor.take(&[Kind::Date])?;
-            let day = cursor.take(&[Kind::Day])?;
+        if cursor.begins(&[PieceKind::Date]) {
+            cursor.take(&[PieceKind::Date])?;
+            let day = cursor.take(&[PieceKind::Day])?;
             return Ok(day.day());
         }
         self.plain_value(cursor)

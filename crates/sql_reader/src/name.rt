@@ -1,31 +1,31 @@
 //! Reads names, columns and sources.
 ghost use Rattle.sql_reader.specs.Grammar as rule;
-ghost use Rattle.sql_reader.specs.Reads.{ReadsBy};
+ghost use Rattle.sql_reader.specs.inner.Reads.{ReadsBy};
 ghost use Rattle.std.specs.Prelude.{◌≡◌};
 
-use crate::cursor::{Cursor, Reader, Stop};
-use crate::{Kind, NameUse, Source};
+use crate::cursor::{Cursor, GrammarReader, Unread};
+use crate::{NameUse, PieceKind, Source};
 use sql_tokens::Span;
 
 /// The kinds of names.
-pub const NAMES: [Kind; 3] = [Kind::Name, Kind::Aggregate, Kind::Date];
+pub const NAMES: [PieceKind; 3] = [PieceKind::Name, PieceKind::Aggregate, PieceKind::Date];
 
 /// The names but for DATE.
-pub const PLAIN_NAMES: [Kind; 2] = [Kind::Name, Kind::Aggregate];
+pub const PLAIN_NAMES: [PieceKind; 2] = [PieceKind::Name, PieceKind::Aggregate];
 
-impl Reader {
+impl GrammarReader {
     /// A column, behind its first name.
     #[tactic(auto, unfolding(crate::specs::Grammar::after_name))]
-    pub fn after_name(self, cursor: &mut Cursor<'_>, first: Span) -> Result<NameUse, Stop>
+    pub fn after_name(self, cursor: &mut Cursor<'_>, first: Span) -> Result<NameUse, Unread>
         ensures { ReadsBy rule.after_name first self cursor.old result cursor.new }
     {
-        if !cursor.begins(&[Kind::Point]) {
+        if !cursor.begins(&[PieceKind::Point]) {
             return Ok(NameUse {
                 qualifier: None,
                 name: first,
             });
         }
-        cursor.take(&[Kind::Point])?;
+        cursor.take(&[PieceKind::Point])?;
         let second = cursor.take(&NAMES)?;
         Ok(NameUse {
             qualifier: Some(first),
@@ -35,7 +35,7 @@ impl Reader {
 
     /// A column: a name, or a source's name, a point and a name.
     #[tactic(auto, unfolding(crate::specs::Grammar::column))]
-    pub fn column(self, cursor: &mut Cursor<'_>) -> Result<NameUse, Stop>
+    pub fn column(self, cursor: &mut Cursor<'_>) -> Result<NameUse, Unread>
         ensures { ReadsBy rule.column tt self cursor.old result cursor.new }
     {
         let first = cursor.take(&NAMES)?;
@@ -44,11 +44,11 @@ impl Reader {
 
     /// An alias, with or without AS, or none.
     #[tactic(auto, unfolding(crate::specs::Grammar::alias))]
-    pub fn alias(self, cursor: &mut Cursor<'_>) -> Result<Option<Span>, Stop>
+    pub fn alias(self, cursor: &mut Cursor<'_>) -> Result<Option<Span>, Unread>
         ensures { ReadsBy rule.alias tt self cursor.old result cursor.new }
     {
-        if cursor.begins(&[Kind::As]) {
-            cursor.take(&[Kind::As])?;
+        if cursor.begins(&[PieceKind::As]) {
+            cursor.take(&[PieceKind::As])?;
             let name = cursor.take(&NAMES)?;
             return Ok(Some(name.span));
         }
@@ -61,7 +61,7 @@ impl Reader {
 
     /// A table with its alias.
     #[tactic(auto, unfolding(crate::specs::Grammar::source))]
-    pub fn source(self, cursor: &mut Cursor<'_>) -> Result<Source, Stop>
+    pub fn source(self, cursor: &mut Cursor<'_>) -> Result<Source, Unread>
         ensures { ReadsBy rule.source tt self cursor.old result cursor.new }
     {
         let table = cursor.take(&NAMES)?;

@@ -1,15 +1,15 @@
 //! Makes the pieces of a text from its tokens.
 ghost use Rattle.sql_reader.specs.Pieces as pieces;
-ghost use Rattle.sql_reader.specs.declared.cursor.Stop.TheVariants.{Memory};
+ghost use Rattle.sql_reader.specs.declared.cursor.Unread.TheVariants.{Memory};
 ghost use Rattle.sql_tokens.specs.Span.{LiesIn};
 ghost use Rattle.std.specs.Option.{ForSome};
-ghost use Rattle.std.specs.Prelude.{◌≡◌, ◌≤◌, ◌^◌, ◌<ℤ◌, All, IfErr, IfOk, OnOk, length, neg_ℤ, pos, slice_index};
+ghost use Rattle.std.specs.Prelude.{◌≡◌, ◌≤◌, ◌<◌, ◌^◌, ◌<ℤ◌, All, IfErr, IfOk, OnOk, length, neg_ℤ, pos, slice_index};
 
-use crate::cursor::{Stop, has};
-use crate::list::push;
+use crate::cursor::{Unread, has};
+use crate::list::{push, with_room};
 use crate::statement::STARTS;
 use crate::words::{quoted_kind, symbol_kind, text_day, weight_number, whole_number, word_kind};
-use crate::{Kind, Mark, Piece};
+use crate::{Mark, Piece, PieceKind};
 use adv_base::List;
 use sql_tokens::{Token, TokenKind};
 use std::alloc::Global;
@@ -23,7 +23,7 @@ fn bytes_of(text: &[u8], token: Token) -> &[u8]
 }
 
 /// The kind of a token and its number.
-fn classify(kind: TokenKind, bytes: &[u8]) -> (Kind, Option<i64>)
+fn classify(kind: TokenKind, bytes: &[u8]) -> (PieceKind, Option<i64>)
     requires { 1 ≤ length bytes.now }
     ensures kind { result.0 ≡ pieces.kind_of kind bytes.now }
     ensures number { result.1 ≡ pieces.number_of kind bytes.now }
@@ -33,22 +33,22 @@ fn classify(kind: TokenKind, bytes: &[u8]) -> (Kind, Option<i64>)
     match kind {
         TokenKind::Word => (word_kind(bytes), None),
         TokenKind::Quoted => (quoted_kind(bytes), None),
-        TokenKind::Whole => (Kind::Whole, whole_number(bytes)),
-        TokenKind::Decimal => (Kind::Decimal, None),
+        TokenKind::Whole => (PieceKind::Whole, whole_number(bytes)),
+        TokenKind::Decimal => (PieceKind::Decimal, None),
         TokenKind::Text => classify_text(text_day(bytes)),
         TokenKind::Symbol => (symbol_kind(bytes[0], second(bytes)), None),
-        TokenKind::Weight => (Kind::LeftOut, None),
+        TokenKind::Weight => (PieceKind::LeftOut, None),
     }
 }
 
 /// A text, with its day where it holds one.
-fn classify_text(day: Option<i64>) -> (Kind, Option<i64>)
+fn classify_text(day: Option<i64>) -> (PieceKind, Option<i64>)
     ensures kind { result.0 ≡ pieces.kind_of_text day }
     ensures number { result.1 ≡ day }
 {
     match day {
-        Some(number) => (Kind::Day, Some(number)),
-        None => (Kind::Text, None),
+        Some(number) => (PieceKind::Day, Some(number)),
+        None => (PieceKind::Text, None),
     }
 }
 
@@ -61,7 +61,8 @@ fn second(bytes: &[u8]) -> u8
 
 /// The piece that a token is.
 fn piece(text: &[u8], token: Token, mark: Mark) -> Piece
-    requires { LiesIn text.now token }
+    requires lies { LiesIn text.now token }
+    requires short { length text.now < 2 ^ 32 }
     ensures { pieces.IsPiece text.now mark token result }
 {
     let (kind, number) = classify(token.kind, bytes_of(text, token));
@@ -79,14 +80,15 @@ fn mark_of(text: &[u8], token: Token) -> Mark
     ensures { result ≡ pieces.mark_of text.now token }
 {
     Mark {
-        place: token.span.from + 1,
+        place: token.span.place(),
         weight: weight_number(bytes_of(text, token)),
     }
 }
 
 /// Adds a token: a weight comment as the mark, every other as a piece.
-fn add(text: &[u8], token: Token, mark: &mut Mark, list: &mut List<Piece>) -> Result<(), Stop>
-    requires { LiesIn text.now token }
+fn add(text: &[u8], token: Token, mark: &mut Mark, list: &mut List<Piece>) -> Result<(), Unread>
+    requires lies { LiesIn text.now token }
+    requires short { length text.now < 2 ^ 32 }
     ensures ok { OnOk result (pieces.AddsToken text.now token mark.old list.old (pieces.is_weight token.kind) mark.new list.new) }
     ensures err { IfErr result (λ stop. stop ≡ Memory) }
 {
@@ -109,12 +111,13 @@ fn is_weight(kind: TokenKind) -> bool
 }
 
 /// The pieces of a text with these tokens.
-pub fn scan(alloc: Global, text: &[u8], tokens: &[Token]) -> Result<List<Piece>, Stop>
-    requires { All (LiesIn text.now) tokens.now }
+pub fn scan(alloc: Global, text: &[u8], tokens: &[Token]) -> Result<List<Piece>, Unread>
+    requires lies { All (LiesIn text.now) tokens.now }
+    requires short { length text.now < 2 ^ 32 }
     ensures ok { IfOk result (λ list. pieces.ArePieces text.now tokens.now pieces.no_mark list) }
     ensures err { IfErr result (λ stop. stop ≡ Memory) }
 {
-    let mut list = List::new(alloc);
+    let mut list = with_room(alloc, tokens.len())?;
     let mut mark = Mark {
         place: 0,
         weight: 1,
@@ -146,7 +149,7 @@ pub fn bad_weight(text: &[u8], tokens: &[Token]) -> Option<u64>
 {
     'turns: for token in tokens {
         if is_bad_weight(text, *token) {
-            return Some(token.span.from + 1);
+            return Some(token.span.place());
         }
     }
     None
@@ -160,7 +163,7 @@ pub fn start_behind_1000(list: &[Piece]) -> Option<u64>
     'turns: for piece in list {
         if has(&STARTS, piece.kind) {
             if left == 0 {
-                return Some(piece.span.from.saturating_add(1));
+                return Some(piece.span.place());
             }
             left -= 1;
         }

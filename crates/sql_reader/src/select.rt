@@ -1,12 +1,12 @@
 //! Reads a SELECT.
 ghost use Rattle.sql_reader.specs.Grammar as rule;
-ghost use Rattle.sql_reader.specs.Reads.{AddsBy, ReadsBy};
+ghost use Rattle.sql_reader.specs.inner.Reads.{AddsBy, ReadsBy};
 ghost use Rattle.std.specs.Prelude.{◌≡◌};
 
-use crate::cursor::{Cursor, Reader, Stop};
+use crate::cursor::{Cursor, GrammarReader, Unread};
 use crate::list::push;
 use crate::literal::COMPARISONS;
-use crate::{Found, Kind, NameUse, ParsedOrder, ParsedSelect};
+use crate::{NameUse, ParsedOrder, ParsedSelect, PieceKind, Seen};
 use adv_base::List;
 use std::alloc::Global;
 
@@ -29,26 +29,27 @@ impl ParsedSelect {
     }
 }
 
-impl Reader {
+impl GrammarReader {
     /// ALL or DISTINCT, perhaps.
     #[tactic(auto, unfolding(crate::specs::Grammar::quantifier))]
-    fn quantifier(self, cursor: &mut Cursor<'_>, select: &mut ParsedSelect) -> Result<(), Stop>
+    fn quantifier(self, cursor: &mut Cursor<'_>, select: &mut ParsedSelect) -> Result<(), Unread>
         ensures { AddsBy rule.quantifier select.old self cursor.old result select.new cursor.new }
     {
-        if cursor.begins(&[Kind::All]) {
-            cursor.take(&[Kind::All])?;
+        if cursor.begins(&[PieceKind::All]) {
+            cursor.take(&[PieceKind::All])?;
             return Ok(());
         }
-        if cursor.begins(&[Kind::Distinct]) {
-            cursor.take(&[Kind::Distinct])?;
-            select.distinct = true;
+        if !cursor.begins(&[PieceKind::Distinct]) {
+            return Ok(());
         }
+        cursor.take(&[PieceKind::Distinct])?;
+        select.distinct = true;
         Ok(())
     }
 
     /// A source, put behind those before.
     #[tactic(auto, unfolding(crate::specs::Grammar::one_source))]
-    fn one_source(self, cursor: &mut Cursor<'_>, select: &mut ParsedSelect) -> Result<(), Stop>
+    fn one_source(self, cursor: &mut Cursor<'_>, select: &mut ParsedSelect) -> Result<(), Unread>
         ensures { AddsBy rule.one_source select.old self cursor.old result select.new cursor.new }
     {
         let source = self.source(cursor)?;
@@ -57,28 +58,28 @@ impl Reader {
 
     /// JOIN, perhaps behind INNER.
     #[tactic(auto, unfolding(crate::specs::Grammar::join_word))]
-    fn join_word(self, cursor: &mut Cursor<'_>, select: &ParsedSelect) -> Result<(), Stop>
+    fn join_word(self, cursor: &mut Cursor<'_>, select: &ParsedSelect) -> Result<(), Unread>
         ensures { AddsBy rule.join_word select.now self cursor.old result select.now cursor.new }
     {
-        if cursor.begins(&[Kind::Inner]) {
-            cursor.take(&[Kind::Inner])?;
+        if cursor.begins(&[PieceKind::Inner]) {
+            cursor.take(&[PieceKind::Inner])?;
         }
-        cursor.take(&[Kind::Join])?;
+        cursor.take(&[PieceKind::Join])?;
         Ok(())
     }
 
     /// ON and its tests.
     #[tactic(auto, unfolding(crate::specs::Grammar::on_part))]
-    fn on_part(self, cursor: &mut Cursor<'_>, select: &mut ParsedSelect) -> Result<(), Stop>
+    fn on_part(self, cursor: &mut Cursor<'_>, select: &mut ParsedSelect) -> Result<(), Unread>
         ensures { AddsBy rule.on_part select.old self cursor.old result select.new cursor.new }
     {
-        cursor.take(&[Kind::On])?;
+        cursor.take(&[PieceKind::On])?;
         self.conditions(cursor, &mut select.conditions)
     }
 
     /// A joined source with its tests.
     #[tactic(auto, unfolding(crate::specs::Grammar::joined_source))]
-    fn joined_source(self, cursor: &mut Cursor<'_>, select: &mut ParsedSelect) -> Result<(), Stop>
+    fn joined_source(self, cursor: &mut Cursor<'_>, select: &mut ParsedSelect) -> Result<(), Unread>
         ensures { AddsBy rule.joined_source select.old self cursor.old result select.new cursor.new }
     {
         self.join_word(cursor, select)?;
@@ -88,21 +89,25 @@ impl Reader {
 
     /// A source behind a comma, or a joined one.
     #[tactic(auto, unfolding(crate::specs::Grammar::another_source))]
-    fn another_source(self, cursor: &mut Cursor<'_>, select: &mut ParsedSelect) -> Result<(), Stop>
+    fn another_source(
+        self,
+        cursor: &mut Cursor<'_>,
+        select: &mut ParsedSelect,
+    ) -> Result<(), Unread>
         ensures { AddsBy rule.another_source select.old self cursor.old result select.new cursor.new }
     {
-        if cursor.begins(&[Kind::Comma]) {
-            cursor.take(&[Kind::Comma])?;
+        if cursor.begins(&[PieceKind::Comma]) {
+            cursor.take(&[PieceKind::Comma])?;
             return self.one_source(cursor, select);
         }
         self.joined_source(cursor, select)
     }
 
     /// More sources.
-    fn more_sources(self, cursor: &mut Cursor<'_>, select: &mut ParsedSelect) -> Result<(), Stop>
+    fn more_sources(self, cursor: &mut Cursor<'_>, select: &mut ParsedSelect) -> Result<(), Unread>
         ensures { AddsBy rule.more_sources select.old self cursor.old result select.new cursor.new }
     {
-        'turns: while cursor.begins(&[Kind::Comma, Kind::Inner, Kind::Join]) {
+        'turns: while cursor.begins(&[PieceKind::Comma, PieceKind::Inner, PieceKind::Join]) {
             self.another_source(cursor, select)?;
         }
         Ok(())
@@ -110,7 +115,7 @@ impl Reader {
 
     /// The sources behind FROM.
     #[tactic(auto, unfolding(crate::specs::Grammar::source_list))]
-    fn source_list(self, cursor: &mut Cursor<'_>, select: &mut ParsedSelect) -> Result<(), Stop>
+    fn source_list(self, cursor: &mut Cursor<'_>, select: &mut ParsedSelect) -> Result<(), Unread>
         ensures { AddsBy rule.source_list select.old self cursor.old result select.new cursor.new }
     {
         self.one_source(cursor, select)?;
@@ -119,7 +124,7 @@ impl Reader {
 
     /// The tests of WHERE, perhaps.
     #[tactic(auto, unfolding(crate::specs::Grammar::where_part))]
-    fn where_part(self, cursor: &mut Cursor<'_>, select: &mut ParsedSelect) -> Result<(), Stop>
+    fn where_part(self, cursor: &mut Cursor<'_>, select: &mut ParsedSelect) -> Result<(), Unread>
         ensures { AddsBy rule.where_part select.old self cursor.old result select.new cursor.new }
     {
         self.where_conditions(cursor, &mut select.conditions)
@@ -127,7 +132,7 @@ impl Reader {
 
     /// A column, put behind those before.
     #[tactic(auto, unfolding(crate::specs::Grammar::one_column))]
-    fn one_column(self, cursor: &mut Cursor<'_>, all: &mut List<NameUse>) -> Result<(), Stop>
+    fn one_column(self, cursor: &mut Cursor<'_>, all: &mut List<NameUse>) -> Result<(), Unread>
         ensures { AddsBy rule.one_column all.old self cursor.old result all.new cursor.new }
     {
         let column = self.column(cursor)?;
@@ -136,18 +141,18 @@ impl Reader {
 
     /// A comma and a column.
     #[tactic(auto, unfolding(crate::specs::Grammar::another_column))]
-    fn another_column(self, cursor: &mut Cursor<'_>, all: &mut List<NameUse>) -> Result<(), Stop>
+    fn another_column(self, cursor: &mut Cursor<'_>, all: &mut List<NameUse>) -> Result<(), Unread>
         ensures { AddsBy rule.another_column all.old self cursor.old result all.new cursor.new }
     {
-        cursor.take(&[Kind::Comma])?;
+        cursor.take(&[PieceKind::Comma])?;
         self.one_column(cursor, all)
     }
 
     /// More columns behind commas.
-    fn more_columns(self, cursor: &mut Cursor<'_>, all: &mut List<NameUse>) -> Result<(), Stop>
+    fn more_columns(self, cursor: &mut Cursor<'_>, all: &mut List<NameUse>) -> Result<(), Unread>
         ensures { AddsBy rule.more_columns all.old self cursor.old result all.new cursor.new }
     {
-        'turns: while cursor.begins(&[Kind::Comma]) {
+        'turns: while cursor.begins(&[PieceKind::Comma]) {
             self.another_column(cursor, all)?;
         }
         Ok(())
@@ -155,7 +160,7 @@ impl Reader {
 
     /// Columns with commas between them.
     #[tactic(auto, unfolding(crate::specs::Grammar::column_list))]
-    fn column_list(self, cursor: &mut Cursor<'_>, all: &mut List<NameUse>) -> Result<(), Stop>
+    fn column_list(self, cursor: &mut Cursor<'_>, all: &mut List<NameUse>) -> Result<(), Unread>
         ensures { AddsBy rule.column_list all.old self cursor.old result all.new cursor.new }
     {
         self.one_column(cursor, all)?;
@@ -164,20 +169,20 @@ impl Reader {
 
     /// GROUP BY and its columns, perhaps.
     #[tactic(auto, unfolding(crate::specs::Grammar::group_part))]
-    fn group_part(self, cursor: &mut Cursor<'_>, select: &mut ParsedSelect) -> Result<(), Stop>
+    fn group_part(self, cursor: &mut Cursor<'_>, select: &mut ParsedSelect) -> Result<(), Unread>
         ensures { AddsBy rule.group_part select.old self cursor.old result select.new cursor.new }
     {
-        if !cursor.begins(&[Kind::Group]) {
+        if !cursor.begins(&[PieceKind::Group]) {
             return Ok(());
         }
-        cursor.take(&[Kind::Group])?;
-        cursor.take(&[Kind::By])?;
+        cursor.take(&[PieceKind::Group])?;
+        cursor.take(&[PieceKind::By])?;
         self.column_list(cursor, &mut select.group)
     }
 
     /// A comparison of two expressions.
     #[tactic(auto, unfolding(crate::specs::Grammar::having_test))]
-    fn having_test(self, cursor: &mut Cursor<'_>, found: &mut Found) -> Result<(), Stop>
+    fn having_test(self, cursor: &mut Cursor<'_>, found: &mut Seen) -> Result<(), Unread>
         ensures { AddsBy rule.having_test found.old self cursor.old result found.new cursor.new }
     {
         self.expression(cursor, found)?;
@@ -187,18 +192,18 @@ impl Reader {
 
     /// AND and a comparison.
     #[tactic(auto, unfolding(crate::specs::Grammar::another_having_test))]
-    fn another_having_test(self, cursor: &mut Cursor<'_>, found: &mut Found) -> Result<(), Stop>
+    fn another_having_test(self, cursor: &mut Cursor<'_>, found: &mut Seen) -> Result<(), Unread>
         ensures { AddsBy rule.another_having_test found.old self cursor.old result found.new cursor.new }
     {
-        cursor.take(&[Kind::And])?;
+        cursor.take(&[PieceKind::And])?;
         self.having_test(cursor, found)
     }
 
     /// More comparisons behind AND.
-    fn more_having_tests(self, cursor: &mut Cursor<'_>, found: &mut Found) -> Result<(), Stop>
+    fn more_having_tests(self, cursor: &mut Cursor<'_>, found: &mut Seen) -> Result<(), Unread>
         ensures { AddsBy rule.more_having_tests found.old self cursor.old result found.new cursor.new }
     {
-        'turns: while cursor.begins(&[Kind::And]) {
+        'turns: while cursor.begins(&[PieceKind::And]) {
             self.another_having_test(cursor, found)?;
         }
         Ok(())
@@ -206,7 +211,7 @@ impl Reader {
 
     /// Comparisons with AND between them.
     #[tactic(auto, unfolding(crate::specs::Grammar::having_tests))]
-    fn having_tests(self, cursor: &mut Cursor<'_>, found: &mut Found) -> Result<(), Stop>
+    fn having_tests(self, cursor: &mut Cursor<'_>, found: &mut Seen) -> Result<(), Unread>
         ensures { AddsBy rule.having_tests found.old self cursor.old result found.new cursor.new }
     {
         self.having_test(cursor, found)?;
@@ -220,14 +225,14 @@ impl Reader {
         alloc: Global,
         cursor: &mut Cursor<'_>,
         select: &mut ParsedSelect,
-    ) -> Result<(), Stop>
+    ) -> Result<(), Unread>
         ensures { AddsBy rule.having_part select.old self cursor.old result select.new cursor.new }
     {
-        if !cursor.begins(&[Kind::Having]) {
+        if !cursor.begins(&[PieceKind::Having]) {
             return Ok(());
         }
-        cursor.take(&[Kind::Having])?;
-        let mut found = Found::new(alloc);
+        cursor.take(&[PieceKind::Having])?;
+        let mut found = Seen::new(alloc);
         self.having_tests(cursor, &mut found)?;
         select.having = found.into_uses();
         Ok(())
@@ -235,14 +240,14 @@ impl Reader {
 
     /// ASC or DESC, perhaps, behind an expression.
     #[tactic(auto, unfolding(crate::specs::Grammar::direction))]
-    fn direction(self, cursor: &mut Cursor<'_>, found: Found) -> Result<ParsedOrder, Stop>
+    fn direction(self, cursor: &mut Cursor<'_>, found: Seen) -> Result<ParsedOrder, Unread>
         ensures { ReadsBy rule.direction found self cursor.old result cursor.new }
     {
-        let down = cursor.begins(&[Kind::Desc]);
+        let down = cursor.begins(&[PieceKind::Desc]);
         if down {
-            cursor.take(&[Kind::Desc])?;
-        } else if cursor.begins(&[Kind::Asc]) {
-            cursor.take(&[Kind::Asc])?;
+            cursor.take(&[PieceKind::Desc])?;
+        } else if cursor.begins(&[PieceKind::Asc]) {
+            cursor.take(&[PieceKind::Asc])?;
         }
         Ok(ParsedOrder {
             expr: found.expr(),
@@ -252,10 +257,10 @@ impl Reader {
 
     /// An item of ORDER BY.
     #[tactic(auto, unfolding(crate::specs::Grammar::order_value))]
-    fn order_value(self, alloc: Global, cursor: &mut Cursor<'_>) -> Result<ParsedOrder, Stop>
+    fn order_value(self, alloc: Global, cursor: &mut Cursor<'_>) -> Result<ParsedOrder, Unread>
         ensures { ReadsBy rule.order_value tt self cursor.old result cursor.new }
     {
-        let mut found = Found::new(alloc);
+        let mut found = Seen::new(alloc);
         self.expression(cursor, &mut found)?;
         self.direction(cursor, found)
     }
@@ -267,7 +272,7 @@ impl Reader {
         alloc: Global,
         cursor: &mut Cursor<'_>,
         all: &mut List<ParsedOrder>,
-    ) -> Result<(), Stop>
+    ) -> Result<(), Unread>
         ensures { AddsBy rule.one_order all.old self cursor.old result all.new cursor.new }
     {
         let order = self.order_value(alloc, cursor)?;
@@ -281,10 +286,10 @@ impl Reader {
         alloc: Global,
         cursor: &mut Cursor<'_>,
         all: &mut List<ParsedOrder>,
-    ) -> Result<(), Stop>
+    ) -> Result<(), Unread>
         ensures { AddsBy rule.another_order all.old self cursor.old result all.new cursor.new }
     {
-        cursor.take(&[Kind::Comma])?;
+        cursor.take(&[PieceKind::Comma])?;
         self.one_order(alloc, cursor, all)
     }
 
@@ -294,10 +299,10 @@ impl Reader {
         alloc: Global,
         cursor: &mut Cursor<'_>,
         all: &mut List<ParsedOrder>,
-    ) -> Result<(), Stop>
+    ) -> Result<(), Unread>
         ensures { AddsBy rule.more_orders all.old self cursor.old result all.new cursor.new }
     {
-        'turns: while cursor.begins(&[Kind::Comma]) {
+        'turns: while cursor.begins(&[PieceKind::Comma]) {
             self.another_order(alloc, cursor, all)?;
         }
         Ok(())
@@ -310,7 +315,7 @@ impl Reader {
         alloc: Global,
         cursor: &mut Cursor<'_>,
         all: &mut List<ParsedOrder>,
-    ) -> Result<(), Stop>
+    ) -> Result<(), Unread>
         ensures { AddsBy rule.order_list all.old self cursor.old result all.new cursor.new }
     {
         self.one_order(alloc, cursor, all)?;
@@ -324,48 +329,48 @@ impl Reader {
         alloc: Global,
         cursor: &mut Cursor<'_>,
         select: &mut ParsedSelect,
-    ) -> Result<(), Stop>
+    ) -> Result<(), Unread>
         ensures { AddsBy rule.order_part select.old self cursor.old result select.new cursor.new }
     {
-        if !cursor.begins(&[Kind::Order]) {
+        if !cursor.begins(&[PieceKind::Order]) {
             return Ok(());
         }
-        cursor.take(&[Kind::Order])?;
-        cursor.take(&[Kind::By])?;
+        cursor.take(&[PieceKind::Order])?;
+        cursor.take(&[PieceKind::By])?;
         self.order_list(alloc, cursor, &mut select.order)
     }
 
     /// OFFSET and a count, perhaps.
     #[tactic(auto, unfolding(crate::specs::Grammar::offset_part))]
-    fn offset_part(self, cursor: &mut Cursor<'_>) -> Result<(), Stop>
+    fn offset_part(self, cursor: &mut Cursor<'_>) -> Result<(), Unread>
         ensures { ReadsBy rule.offset_part tt self cursor.old result cursor.new }
     {
-        if cursor.begins(&[Kind::Offset]) {
-            cursor.take(&[Kind::Offset])?;
-            cursor.take(&[Kind::Whole, Kind::Question])?;
+        if cursor.begins(&[PieceKind::Offset]) {
+            cursor.take(&[PieceKind::Offset])?;
+            cursor.take(&[PieceKind::Whole, PieceKind::Question])?;
         }
         Ok(())
     }
 
     /// LIMIT and a count, perhaps, and then perhaps OFFSET and a count.
     #[tactic(auto, unfolding(crate::specs::Grammar::limit_part))]
-    fn limit_part(self, cursor: &mut Cursor<'_>) -> Result<(), Stop>
+    fn limit_part(self, cursor: &mut Cursor<'_>) -> Result<(), Unread>
         ensures { ReadsBy rule.limit_part tt self cursor.old result cursor.new }
     {
-        if !cursor.begins(&[Kind::Limit]) {
+        if !cursor.begins(&[PieceKind::Limit]) {
             return Ok(());
         }
-        cursor.take(&[Kind::Limit])?;
-        cursor.take(&[Kind::Whole, Kind::Question])?;
+        cursor.take(&[PieceKind::Limit])?;
+        cursor.take(&[PieceKind::Whole, PieceKind::Question])?;
         self.offset_part(cursor)
     }
 
     /// FROM and the sources.
     #[tactic(auto, unfolding(crate::specs::Grammar::from_part))]
-    fn from_part(self, cursor: &mut Cursor<'_>, select: &mut ParsedSelect) -> Result<(), Stop>
+    fn from_part(self, cursor: &mut Cursor<'_>, select: &mut ParsedSelect) -> Result<(), Unread>
         ensures { AddsBy rule.from_part select.old self cursor.old result select.new cursor.new }
     {
-        cursor.take(&[Kind::From])?;
+        cursor.take(&[PieceKind::From])?;
         self.source_list(cursor, select)
     }
 
@@ -376,7 +381,7 @@ impl Reader {
         alloc: Global,
         cursor: &mut Cursor<'_>,
         select: &mut ParsedSelect,
-    ) -> Result<(), Stop>
+    ) -> Result<(), Unread>
         ensures { AddsBy rule.select_head select.old self cursor.old result select.new cursor.new }
     {
         self.quantifier(cursor, select)?;
@@ -391,7 +396,7 @@ impl Reader {
         alloc: Global,
         cursor: &mut Cursor<'_>,
         select: &mut ParsedSelect,
-    ) -> Result<(), Stop>
+    ) -> Result<(), Unread>
         ensures { AddsBy rule.order_and_limit select.old self cursor.old result select.new cursor.new }
     {
         self.order_part(alloc, cursor, select)?;
@@ -405,7 +410,7 @@ impl Reader {
         alloc: Global,
         cursor: &mut Cursor<'_>,
         select: &mut ParsedSelect,
-    ) -> Result<(), Stop>
+    ) -> Result<(), Unread>
         ensures { AddsBy rule.group_and_having select.old self cursor.old result select.new cursor.new }
     {
         self.group_part(cursor, select)?;
@@ -419,7 +424,7 @@ impl Reader {
         alloc: Global,
         cursor: &mut Cursor<'_>,
         select: &mut ParsedSelect,
-    ) -> Result<(), Stop>
+    ) -> Result<(), Unread>
         ensures { AddsBy rule.select_tail select.old self cursor.old result select.new cursor.new }
     {
         self.where_part(cursor, select)?;
@@ -429,7 +434,7 @@ impl Reader {
 
     /// A SELECT behind its first word.
     #[tactic(auto, unfolding(crate::specs::Grammar::select_rest))]
-    pub fn select_rest(self, alloc: Global, cursor: &mut Cursor<'_>) -> Result<ParsedSelect, Stop>
+    pub fn select_rest(self, alloc: Global, cursor: &mut Cursor<'_>) -> Result<ParsedSelect, Unread>
         ensures { ReadsBy rule.select_rest tt self cursor.old result cursor.new }
     {
         let mut select = ParsedSelect::new(alloc);

@@ -1,26 +1,31 @@
 //! Reads statements and workloads.
 ghost use Rattle.sql_reader.specs.Grammar as rule;
-ghost use Rattle.sql_reader.specs.Reads.{AddsBy, ReadsBy};
+ghost use Rattle.sql_reader.specs.inner.Reads.{AddsBy, ReadsBy};
 ghost use Rattle.std.specs.Prelude.{◌≡◌};
 ghost use Rattle.sql_reader.specs.Values as values;
 ghost use Rattle.std.specs.Prelude.{OnOk, IfErr};
-ghost use Rattle.sql_reader.specs.declared.cursor.Stop.TheVariants.{Memory};
+ghost use Rattle.sql_reader.specs.declared.cursor.Unread.TheVariants.{Memory};
 
-use crate::cursor::{Cursor, Reader, Stop};
+use crate::cursor::{Cursor, GrammarReader, Unread};
 use crate::list::push;
-use crate::{Body, Kind, ParsedStatement, Piece, Progress};
+use crate::{Body, ParsedStatement, Piece, PieceKind, Progress};
 use std::alloc::Global;
 
 /// The words with which statements begin.
-pub const STARTS: [Kind; 4] = [Kind::Select, Kind::Insert, Kind::Update, Kind::Delete];
+pub const STARTS: [PieceKind; 4] = [
+    PieceKind::Select,
+    PieceKind::Insert,
+    PieceKind::Update,
+    PieceKind::Delete,
+];
 
 impl Progress {
     /// Adds the statement that begins with this piece.
-    fn add(&mut self, first: Piece, body: Body) -> Result<(), Stop>
+    fn add(&mut self, first: Piece, body: Body) -> Result<(), Unread>
         ensures ok { OnOk result (self.new ≡ values.with_statement self.old first body) }
         ensures err { IfErr result (λ stop. stop ≡ Memory) }
     {
-        let place = first.span.from.saturating_add(1);
+        let place = first.span.place();
         let weight = if self.before < first.mark.place {
             first.mark.weight
         } else {
@@ -39,10 +44,10 @@ impl Progress {
     }
 }
 
-impl Reader {
+impl GrammarReader {
     /// A SELECT behind its first word, as a body.
     #[tactic(auto, unfolding(crate::specs::Grammar::select))]
-    fn select(self, alloc: Global, cursor: &mut Cursor<'_>) -> Result<Body, Stop>
+    fn select(self, alloc: Global, cursor: &mut Cursor<'_>) -> Result<Body, Unread>
         ensures { ReadsBy rule.select tt self cursor.old result cursor.new }
     {
         let select = self.select_rest(alloc, cursor)?;
@@ -56,10 +61,10 @@ impl Reader {
         alloc: Global,
         cursor: &mut Cursor<'_>,
         progress: &mut Progress,
-    ) -> Result<(), Stop>
+    ) -> Result<(), Unread>
         ensures { AddsBy rule.select_statement progress.old self cursor.old result progress.new cursor.new }
     {
-        let first = cursor.take(&[Kind::Select])?;
+        let first = cursor.take(&[PieceKind::Select])?;
         let body = self.select(alloc, cursor)?;
         progress.add(first, body)
     }
@@ -71,10 +76,10 @@ impl Reader {
         alloc: Global,
         cursor: &mut Cursor<'_>,
         progress: &mut Progress,
-    ) -> Result<(), Stop>
+    ) -> Result<(), Unread>
         ensures { AddsBy rule.insert_statement progress.old self cursor.old result progress.new cursor.new }
     {
-        let first = cursor.take(&[Kind::Insert])?;
+        let first = cursor.take(&[PieceKind::Insert])?;
         let body = self.insert(alloc, cursor)?;
         progress.add(first, body)
     }
@@ -86,10 +91,10 @@ impl Reader {
         alloc: Global,
         cursor: &mut Cursor<'_>,
         progress: &mut Progress,
-    ) -> Result<(), Stop>
+    ) -> Result<(), Unread>
         ensures { AddsBy rule.update_statement progress.old self cursor.old result progress.new cursor.new }
     {
-        let first = cursor.take(&[Kind::Update])?;
+        let first = cursor.take(&[PieceKind::Update])?;
         let body = self.update(alloc, cursor)?;
         progress.add(first, body)
     }
@@ -101,10 +106,10 @@ impl Reader {
         alloc: Global,
         cursor: &mut Cursor<'_>,
         progress: &mut Progress,
-    ) -> Result<(), Stop>
+    ) -> Result<(), Unread>
         ensures { AddsBy rule.delete_statement progress.old self cursor.old result progress.new cursor.new }
     {
-        let first = cursor.take(&[Kind::Delete])?;
+        let first = cursor.take(&[PieceKind::Delete])?;
         let body = self.delete_rest(alloc, cursor)?;
         progress.add(first, body)
     }
@@ -116,16 +121,16 @@ impl Reader {
         alloc: Global,
         cursor: &mut Cursor<'_>,
         progress: &mut Progress,
-    ) -> Result<(), Stop>
+    ) -> Result<(), Unread>
         ensures { AddsBy rule.statement progress.old self cursor.old result progress.new cursor.new }
     {
-        if cursor.begins(&[Kind::Select]) {
+        if cursor.begins(&[PieceKind::Select]) {
             return self.select_statement(alloc, cursor, progress);
         }
-        if cursor.begins(&[Kind::Insert]) {
+        if cursor.begins(&[PieceKind::Insert]) {
             return self.insert_statement(alloc, cursor, progress);
         }
-        if cursor.begins(&[Kind::Update]) {
+        if cursor.begins(&[PieceKind::Update]) {
             return self.update_statement(alloc, cursor, progress);
         }
         self.delete_statement(alloc, cursor, progress)
@@ -138,7 +143,7 @@ impl Reader {
         alloc: Global,
         cursor: &mut Cursor<'_>,
         progress: &mut Progress,
-    ) -> Result<(), Stop>
+    ) -> Result<(), Unread>
         ensures { AddsBy rule.maybe_statement progress.old self cursor.old result progress.new cursor.new }
     {
         if !cursor.begins(&STARTS) {
@@ -154,10 +159,10 @@ impl Reader {
         alloc: Global,
         cursor: &mut Cursor<'_>,
         progress: &mut Progress,
-    ) -> Result<(), Stop>
+    ) -> Result<(), Unread>
         ensures { AddsBy rule.another_statement progress.old self cursor.old result progress.new cursor.new }
     {
-        cursor.take(&[Kind::Semicolon])?;
+        cursor.take(&[PieceKind::Semicolon])?;
         self.maybe_statement(alloc, cursor, progress)
     }
 
@@ -167,10 +172,10 @@ impl Reader {
         alloc: Global,
         cursor: &mut Cursor<'_>,
         progress: &mut Progress,
-    ) -> Result<(), Stop>
+    ) -> Result<(), Unread>
         ensures { AddsBy rule.more_statements progress.old self cursor.old result progress.new cursor.new }
     {
-        'turns: while cursor.begins(&[Kind::Semicolon]) {
+        'turns: while cursor.begins(&[PieceKind::Semicolon]) {
             self.another_statement(alloc, cursor, progress)?;
         }
         Ok(())
@@ -183,7 +188,7 @@ impl Reader {
         alloc: Global,
         cursor: &mut Cursor<'_>,
         progress: &mut Progress,
-    ) -> Result<(), Stop>
+    ) -> Result<(), Unread>
         ensures { AddsBy rule.workload progress.old self cursor.old result progress.new cursor.new }
     {
         self.maybe_statement(alloc, cursor, progress)?;

@@ -2,247 +2,97 @@
 ghost use Rattle.sql_reader.specs.Words as words;
 ghost use Rattle.std.specs.Prelude.{◌≡◌, ◌≤◌, ◌<◌, ◌^◌, ◌<ℤ◌, length, neg_ℤ, pos};
 ghost use Rattle.std.specs.Option.{ForSome};
+ghost use Rattle.std.specs.Str.{str_eq_ignore_ascii_case};
 
-use crate::Kind;
+use crate::PieceKind;
 use adv_base::day_of;
 
-/// The reserved word with a first letter from A to C that this is.
-fn a_to_c(word: &[u8]) -> Option<Kind>
-    ensures { result ≡ words.look_up words.words_a_to_c word.now }
+/// A word that the grammar knows, in capital letters, and its kind.
+#[derive(Clone, Copy)]
+pub struct Word(pub &'static [u8], pub PieceKind);
+
+/// The words that the grammar knows: the reserved ones, the aggregates and DATE.
+const WORDS: [Word; 52] = [
+    Word(b"ALL", PieceKind::All),
+    Word(b"AND", PieceKind::And),
+    Word(b"AS", PieceKind::As),
+    Word(b"ASC", PieceKind::Asc),
+    Word(b"BETWEEN", PieceKind::Between),
+    Word(b"BY", PieceKind::By),
+    Word(b"CASE", PieceKind::LeftOut),
+    Word(b"CROSS", PieceKind::LeftOut),
+    Word(b"DELETE", PieceKind::Delete),
+    Word(b"DESC", PieceKind::Desc),
+    Word(b"DISTINCT", PieceKind::Distinct),
+    Word(b"EXCEPT", PieceKind::LeftOut),
+    Word(b"EXISTS", PieceKind::LeftOut),
+    Word(b"FROM", PieceKind::From),
+    Word(b"FULL", PieceKind::LeftOut),
+    Word(b"GROUP", PieceKind::Group),
+    Word(b"HAVING", PieceKind::Having),
+    Word(b"IN", PieceKind::In),
+    Word(b"INNER", PieceKind::Inner),
+    Word(b"INSERT", PieceKind::Insert),
+    Word(b"INTERSECT", PieceKind::LeftOut),
+    Word(b"INTO", PieceKind::Into),
+    Word(b"IS", PieceKind::Is),
+    Word(b"JOIN", PieceKind::Join),
+    Word(b"LEFT", PieceKind::LeftOut),
+    Word(b"LIKE", PieceKind::Like),
+    Word(b"LIMIT", PieceKind::Limit),
+    Word(b"NATURAL", PieceKind::LeftOut),
+    Word(b"NOT", PieceKind::Not),
+    Word(b"NULL", PieceKind::Null),
+    Word(b"OFFSET", PieceKind::Offset),
+    Word(b"ON", PieceKind::On),
+    Word(b"OR", PieceKind::LeftOut),
+    Word(b"ORDER", PieceKind::Order),
+    Word(b"OUTER", PieceKind::LeftOut),
+    Word(b"OVER", PieceKind::LeftOut),
+    Word(b"RETURNING", PieceKind::LeftOut),
+    Word(b"RIGHT", PieceKind::LeftOut),
+    Word(b"SELECT", PieceKind::Select),
+    Word(b"SET", PieceKind::Set),
+    Word(b"UNION", PieceKind::LeftOut),
+    Word(b"UPDATE", PieceKind::Update),
+    Word(b"USING", PieceKind::LeftOut),
+    Word(b"VALUES", PieceKind::Values),
+    Word(b"WHERE", PieceKind::Where),
+    Word(b"WITH", PieceKind::LeftOut),
+    Word(b"COUNT", PieceKind::Aggregate),
+    Word(b"SUM", PieceKind::Aggregate),
+    Word(b"MIN", PieceKind::Aggregate),
+    Word(b"MAX", PieceKind::Aggregate),
+    Word(b"AVG", PieceKind::Aggregate),
+    Word(b"DATE", PieceKind::Date),
+];
+
+/// Whether a word is spelled so, in any case of letters.
+fn is_spelled(word: &[u8], spelled: &[u8]) -> bool
+    ensures { result ≡ str_eq_ignore_ascii_case word.now spelled.now }
 {
-    if word.eq_ignore_ascii_case(b"ALL") {
-        return Some(Kind::All);
-    }
-    if word.eq_ignore_ascii_case(b"AND") {
-        return Some(Kind::And);
-    }
-    if word.eq_ignore_ascii_case(b"AS") {
-        return Some(Kind::As);
-    }
-    if word.eq_ignore_ascii_case(b"ASC") {
-        return Some(Kind::Asc);
-    }
-    if word.eq_ignore_ascii_case(b"BETWEEN") {
-        return Some(Kind::Between);
-    }
-    if word.eq_ignore_ascii_case(b"BY") {
-        return Some(Kind::By);
-    }
-    if word.eq_ignore_ascii_case(b"CASE") {
-        return Some(Kind::LeftOut);
-    }
-    if word.eq_ignore_ascii_case(b"CROSS") {
-        return Some(Kind::LeftOut);
-    }
-    None
+    word.eq_ignore_ascii_case(spelled)
 }
 
-/// The reserved word with a first letter from D to F that this is.
-fn d_to_f(word: &[u8]) -> Option<Kind>
-    ensures { result ≡ words.look_up words.words_d_to_f word.now }
+/// The kind of the first of these words that this is, in any case of letters.
+fn look_up(table: &[Word], word: &[u8]) -> Option<PieceKind>
+    ensures { result ≡ words.kind_in (words.entries table.now) word.now }
 {
-    if word.eq_ignore_ascii_case(b"DELETE") {
-        return Some(Kind::Delete);
+    let Some((entry, rest)) = table.split_first() else {
+        return None;
+    };
+    if is_spelled(word, entry.0) {
+        return Some(entry.1);
     }
-    if word.eq_ignore_ascii_case(b"DESC") {
-        return Some(Kind::Desc);
-    }
-    if word.eq_ignore_ascii_case(b"DISTINCT") {
-        return Some(Kind::Distinct);
-    }
-    if word.eq_ignore_ascii_case(b"EXCEPT") {
-        return Some(Kind::LeftOut);
-    }
-    if word.eq_ignore_ascii_case(b"EXISTS") {
-        return Some(Kind::LeftOut);
-    }
-    if word.eq_ignore_ascii_case(b"FROM") {
-        return Some(Kind::From);
-    }
-    if word.eq_ignore_ascii_case(b"FULL") {
-        return Some(Kind::LeftOut);
-    }
-    None
+    look_up(rest, word)
 }
 
-/// The reserved word with a first letter from G to I that this is.
-fn g_to_i(word: &[u8]) -> Option<Kind>
-    ensures { result ≡ words.look_up words.words_g_to_i word.now }
-{
-    if word.eq_ignore_ascii_case(b"GROUP") {
-        return Some(Kind::Group);
-    }
-    if word.eq_ignore_ascii_case(b"HAVING") {
-        return Some(Kind::Having);
-    }
-    if word.eq_ignore_ascii_case(b"IN") {
-        return Some(Kind::In);
-    }
-    if word.eq_ignore_ascii_case(b"INNER") {
-        return Some(Kind::Inner);
-    }
-    if word.eq_ignore_ascii_case(b"INSERT") {
-        return Some(Kind::Insert);
-    }
-    if word.eq_ignore_ascii_case(b"INTERSECT") {
-        return Some(Kind::LeftOut);
-    }
-    if word.eq_ignore_ascii_case(b"INTO") {
-        return Some(Kind::Into);
-    }
-    if word.eq_ignore_ascii_case(b"IS") {
-        return Some(Kind::Is);
-    }
-    None
-}
-
-/// The reserved word with a first letter from J to N that this is.
-fn j_to_n(word: &[u8]) -> Option<Kind>
-    ensures { result ≡ words.look_up words.words_j_to_n word.now }
-{
-    if word.eq_ignore_ascii_case(b"JOIN") {
-        return Some(Kind::Join);
-    }
-    if word.eq_ignore_ascii_case(b"LEFT") {
-        return Some(Kind::LeftOut);
-    }
-    if word.eq_ignore_ascii_case(b"LIKE") {
-        return Some(Kind::Like);
-    }
-    if word.eq_ignore_ascii_case(b"LIMIT") {
-        return Some(Kind::Limit);
-    }
-    if word.eq_ignore_ascii_case(b"NATURAL") {
-        return Some(Kind::LeftOut);
-    }
-    if word.eq_ignore_ascii_case(b"NOT") {
-        return Some(Kind::Not);
-    }
-    if word.eq_ignore_ascii_case(b"NULL") {
-        return Some(Kind::Null);
-    }
-    None
-}
-
-/// The reserved word with a first letter from O to R that this is.
-fn o_to_r(word: &[u8]) -> Option<Kind>
-    ensures { result ≡ words.look_up words.words_o_to_r word.now }
-{
-    if word.eq_ignore_ascii_case(b"OFFSET") {
-        return Some(Kind::Offset);
-    }
-    if word.eq_ignore_ascii_case(b"ON") {
-        return Some(Kind::On);
-    }
-    if word.eq_ignore_ascii_case(b"OR") {
-        return Some(Kind::LeftOut);
-    }
-    if word.eq_ignore_ascii_case(b"ORDER") {
-        return Some(Kind::Order);
-    }
-    if word.eq_ignore_ascii_case(b"OUTER") {
-        return Some(Kind::LeftOut);
-    }
-    if word.eq_ignore_ascii_case(b"OVER") {
-        return Some(Kind::LeftOut);
-    }
-    if word.eq_ignore_ascii_case(b"RETURNING") {
-        return Some(Kind::LeftOut);
-    }
-    if word.eq_ignore_ascii_case(b"RIGHT") {
-        return Some(Kind::LeftOut);
-    }
-    None
-}
-
-/// The reserved word with a first letter from S to W that this is.
-fn s_to_w(word: &[u8]) -> Option<Kind>
-    ensures { result ≡ words.look_up words.words_s_to_w word.now }
-{
-    if word.eq_ignore_ascii_case(b"SELECT") {
-        return Some(Kind::Select);
-    }
-    if word.eq_ignore_ascii_case(b"SET") {
-        return Some(Kind::Set);
-    }
-    if word.eq_ignore_ascii_case(b"UNION") {
-        return Some(Kind::LeftOut);
-    }
-    if word.eq_ignore_ascii_case(b"UPDATE") {
-        return Some(Kind::Update);
-    }
-    if word.eq_ignore_ascii_case(b"USING") {
-        return Some(Kind::LeftOut);
-    }
-    if word.eq_ignore_ascii_case(b"VALUES") {
-        return Some(Kind::Values);
-    }
-    if word.eq_ignore_ascii_case(b"WHERE") {
-        return Some(Kind::Where);
-    }
-    if word.eq_ignore_ascii_case(b"WITH") {
-        return Some(Kind::LeftOut);
-    }
-    None
-}
-
-/// The aggregate that this is.
-fn aggregate(word: &[u8]) -> Option<Kind>
-    ensures { result ≡ words.look_up words.aggregates word.now }
-{
-    if word.eq_ignore_ascii_case(b"COUNT") {
-        return Some(Kind::Aggregate);
-    }
-    if word.eq_ignore_ascii_case(b"SUM") {
-        return Some(Kind::Aggregate);
-    }
-    if word.eq_ignore_ascii_case(b"MIN") {
-        return Some(Kind::Aggregate);
-    }
-    if word.eq_ignore_ascii_case(b"MAX") {
-        return Some(Kind::Aggregate);
-    }
-    if word.eq_ignore_ascii_case(b"AVG") {
-        return Some(Kind::Aggregate);
-    }
-    None
-}
-
-/// DATE.
-fn date(word: &[u8]) -> Option<Kind>
-    ensures { result ≡ words.look_up words.date_word word.now }
-{
-    if word.eq_ignore_ascii_case(b"DATE") {
-        return Some(Kind::Date);
-    }
-    None
-}
-
-/// The first choice, or else the second.
-fn or_else(first: Option<Kind>, second: Option<Kind>) -> Option<Kind>
-    ensures { result ≡ words.or_else first second }
-{
-    match first {
-        Some(kind) => Some(kind),
-        None => second,
-    }
-}
-
-/// The kind of a word.
+/// The kind of a word: that of a word that the grammar knows, or a name.
 #[tactic(auto, unfolding(crate::specs::Words::word_kind))]
-pub fn word_kind(word: &[u8]) -> Kind
+pub fn word_kind(word: &[u8]) -> PieceKind
     ensures { result ≡ words.word_kind word.now }
 {
-    let special = or_else(aggregate(word), date(word));
-    let late = or_else(
-        j_to_n(word),
-        or_else(o_to_r(word), or_else(s_to_w(word), special)),
-    );
-    let early = or_else(
-        a_to_c(word),
-        or_else(d_to_f(word), or_else(g_to_i(word), late)),
-    );
-    early.unwrap_or(Kind::Name)
+    look_up(&WORDS, word).unwrap_or(PieceKind::Name)
 }
 
 /// The bytes between the quotes.
@@ -255,41 +105,44 @@ fn inside(bytes: &[u8]) -> &[u8]
     &bytes[1..bytes.len() - 1]
 }
 
-/// The kind of a quoted name.
+/// The kind of a quoted name: an aggregate, or another name.
 #[tactic(auto, unfolding(crate::specs::Words::quoted_kind))]
-pub fn quoted_kind(bytes: &[u8]) -> Kind
+pub fn quoted_kind(bytes: &[u8]) -> PieceKind
     ensures { result ≡ words.quoted_kind bytes.now }
 {
-    aggregate(inside(bytes)).unwrap_or(Kind::Name)
+    match look_up(&WORDS, inside(bytes)) {
+        Some(PieceKind::Aggregate) => PieceKind::Aggregate,
+        _ => PieceKind::Name,
+    }
 }
 
 /// The kind of a symbol, by its first byte and, for `<`, its second.
 #[tactic(auto, unfolding(crate::specs::Words::symbol_kind))]
-pub fn symbol_kind(first: u8, second: u8) -> Kind
+pub fn symbol_kind(first: u8, second: u8) -> PieceKind
     ensures { result ≡ words.symbol_kind first second }
 {
     match first {
-        b'(' => Kind::Open,
-        b')' => Kind::Close,
-        b',' => Kind::Comma,
-        b'.' => Kind::Point,
-        b';' => Kind::Semicolon,
-        b'*' => Kind::Star,
-        b'+' => Kind::Plus,
-        b'-' => Kind::Minus,
-        b'=' => Kind::Equal,
+        b'(' => PieceKind::Open,
+        b')' => PieceKind::Close,
+        b',' => PieceKind::Comma,
+        b'.' => PieceKind::Point,
+        b';' => PieceKind::Semicolon,
+        b'*' => PieceKind::Star,
+        b'+' => PieceKind::Plus,
+        b'-' => PieceKind::Minus,
+        b'=' => PieceKind::Equal,
         b'<' => {
             if second == b'>' {
-                Kind::NotEqual
+                PieceKind::NotEqual
             } else {
-                Kind::Below
+                PieceKind::Below
             }
         }
-        b'!' => Kind::NotEqual,
-        b'>' => Kind::Above,
-        b'?' => Kind::Question,
-        b'$' => Kind::Question,
-        _ => Kind::Operator,
+        b'!' => PieceKind::NotEqual,
+        b'>' => PieceKind::Above,
+        b'?' => PieceKind::Question,
+        b'$' => PieceKind::Question,
+        _ => PieceKind::Operator,
     }
 }
 

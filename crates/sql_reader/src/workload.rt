@@ -1,23 +1,23 @@
 //! Reads a workload.
 ghost use Rattle.sql_reader.specs.Pieces.{ArePieces, bad_weight, no_mark, start_behind};
 ghost use Rattle.sql_reader.specs.Values.{no_statements};
+ghost use Rattle.sql_reader.specs.Valid.{statements_in};
 ghost use Rattle.sql_reader.specs.Workload as workload;
-ghost use Rattle.sql_reader.specs.declared.cursor.Stop.TheVariants.{Here, Memory};
+ghost use Rattle.sql_reader.specs.declared.cursor.Unread.TheVariants.{Here, Memory};
 ghost use Rattle.sql_reader.specs.declared.parsed.ParsedStatement.{ParsedStatement};
 ghost use Rattle.sql_reader.specs.declared.parsed.SqlFault.{SqlFault};
 ghost use Rattle.sql_tokens.specs.Cut.{AreTokens};
-ghost use Rattle.std.specs.Prelude.{◌≡◌, ◌+◌, ◌<◌, ◌^◌, ◌⊎◌, IfErr, IfOk, List, MatchResult, length, option_map};
+ghost use Rattle.std.specs.Prelude.{◌≡◌, ◌+◌, ◌<◌, ◌^◌, ◌⊎◌, IfErr, IfOk, List, IsTrue, MatchResult, length, option_map};
 
-use crate::cursor::{Cursor, Reader, Stop, has};
+use crate::cursor::{Cursor, GrammarReader, Unread, has};
 use crate::scan::{bad_weight, scan, start_behind_1000};
-use crate::valid::statements_in;
-use crate::{Kind, Parsed, ParsedStatement, Piece, Progress, SqlFault};
+use crate::{Parsed, ParsedStatement, Piece, PieceKind, Progress, SqlFault};
 use adv_base::List;
 use sql_tokens::{TokenFault, Tokens, tokens};
 use std::alloc::Global;
 
 /// The kinds of words that begin a form that is left out.
-const LEFT_OUT: [Kind; 3] = [Kind::LeftOut, Kind::Not, Kind::Select];
+const LEFT_OUT: [PieceKind; 3] = [PieceKind::LeftOut, PieceKind::Not, PieceKind::Select];
 
 /// How many levels nest.
 const LEVELS: u8 = 200;
@@ -58,7 +58,7 @@ fn grammar_fault(end: u64, rest: &[Piece]) -> SqlFault
     match rest.first() {
         None => SqlFault::Syntax(end),
         Some(piece) => {
-            let place = piece.span.from.saturating_add(1);
+            let place = piece.span.place();
             if has(&LEFT_OUT, piece.kind) {
                 SqlFault::Unsupported(place)
             } else {
@@ -92,13 +92,13 @@ fn read_pieces(
     alloc: Global,
     end: u64,
     list: &[Piece],
-) -> Result<(Progress, Option<SqlFault>), Stop>
+) -> Result<(Progress, Option<SqlFault>), Unread>
     ensures ok { IfOk result (λ r. workload.GrammarSays end list.now r.0 r.1) }
     ensures err { IfErr result (λ stop. stop ≡ Memory) }
 {
     let mut cursor = Cursor { rest: list };
     let mut progress = Progress::new(alloc);
-    let reader = Reader { levels: LEVELS };
+    let reader = GrammarReader { levels: LEVELS };
     let outcome = reader.workload(alloc, &mut cursor, &mut progress);
     match outcome {
         Ok(()) => {
@@ -113,13 +113,13 @@ fn read_pieces(
 }
 
 /// The fault where reading stops before these pieces, unless it was for want of memory.
-fn stop_fault(end: u64, rest: &[Piece], stop: Stop) -> Result<SqlFault, Stop>
+fn stop_fault(end: u64, rest: &[Piece], stop: Unread) -> Result<SqlFault, Unread>
     ensures ok { IfOk result (λ fault. (stop ≡ Here) × (fault ≡ workload.grammar_fault end rest.now)) }
     ensures err { IfErr result (λ stop. stop ≡ Memory) }
 {
     match stop {
-        Stop::Here => Ok(grammar_fault(end, rest)),
-        Stop::Memory => Err(Stop::Memory),
+        Unread::Here => Ok(grammar_fault(end, rest)),
+        Unread::Memory => Err(Unread::Memory),
     }
 }
 
@@ -149,17 +149,13 @@ fn first_fault(tokens: &Tokens<'_>, list: &[Piece], fault: Option<SqlFault>) -> 
 }
 
 /// A text and its statements, which keep what a Parsed keeps.
-fn parsed<'a>(text: &'a [u8], statements: List<ParsedStatement>) -> Result<Parsed<'a>, SqlFault>
-    requires { length text.now < 2 ^ 32 }
-    ensures text { IfOk result (λ parsed. parsed.text.now ≡ text.now) }
-    ensures statements { IfOk result (λ parsed. parsed.statements ≡ statements) }
-    ensures err { IfErr result (λ e. e ≡ SqlFault.Memory) }
+fn parsed<'a>(text: &'a [u8], statements: List<ParsedStatement>) -> Parsed<'a>
+    requires short { length text.now < 2 ^ 32 }
+    requires within { IsTrue (statements_in (length text.now) statements) }
+    ensures text { result.text.now ≡ text.now }
+    ensures statements { result.statements ≡ statements }
 {
-    // What was read always keeps this: each span is that of a token, and each count is at most that of the tokens.
-    if !statements_in(text.len() as u64, statements.as_slice()) {
-        return Err(SqlFault::Memory);
-    }
-    Ok(Parsed { text, statements })
+    Parsed { text, statements }
 }
 
 /// What a text says with these tokens and pieces, of which the grammar says this.
@@ -185,7 +181,7 @@ fn conclude<'a>(
                 statements,
                 before: _,
             } = progress;
-            parsed(tokens.text, statements)
+            Ok(parsed(tokens.text, statements))
         }
     }
 }

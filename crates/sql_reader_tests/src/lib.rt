@@ -1,5 +1,7 @@
-//! Texts with their answers, and what they mean, as tables: tests of the reader of workloads.
+//! Texts with their tokens, their statements or their faults, as tables: tests of `sql_tokens` and `sql_reader`.
 #![tactic(auto)]
 
 #[cfg(test)]
-mod tests;
+mod tokens;
+#[cfg(test)]
+mod workloads;

@@ -1,29 +1,29 @@
--- Where a piece stands at the front of a text, the front that is computed is at least as long.
+-- Where a lexeme stands at the front of a text, the front that is computed is at least as long.
 use Rattle.std.proofs.Common.{◌≡◌, ℕ, ◌+◌, ◌<◌, ◌≤◌, Bool, true, false, ◌||◌, ◌&&◌, eqb, cond, List, [], ◌∷◌, ◌++◌, length, drop, Option, Some, None, Result, Ok, Err, refl, ap, ◌∙◌, ◌⊎◌, inl, inr, arith}
 use Rattle.std.specs.List.{prefix_len, list_all}
 use Rattle.std.proofs.lemmas.Bool.Decides.{nat_tests}
 use Rattle.std.proofs.lemmas.List.{length-append, append_assoc}
 use Rattle.sql_tokens.specs.Byte.{begins, class_of, is_letter, is_word_byte, is_digit, is_mark, is_pair, is_name_byte, is_line_byte, ends_comment}
 use Rattle.sql_tokens.specs.Form.{IsWord, IsWhole, IsDecimal, IsQuoted, IsText, IsSymbol, IsParameter, IsBlank, IsLineComment, IsBlockComment, IsForm, doubled, holds_end}
-use Rattle.sql_tokens.specs.Front.{front, front_by, number, number_piece, number_behind, apart, begins_fraction, quoted, quoted_behind, closing, comment_end, comment_piece, symbol, piece, token, further, further_or}
+use Rattle.sql_tokens.specs.Front.{front, front_by, number, number_lexeme, number_behind, apart, begins_fraction, quoted, quoted_behind, closing, comment_end, comment_lexeme, symbol, lexeme, token, further, further_or}
 use Rattle.sql_tokens.specs.declared.byte.Class.{Class}
 use Rattle.sql_tokens.specs.declared.byte.Class.TheVariants as class
 use Rattle.sql_tokens.specs.declared.token.TokenKind.TheVariants as kind
-use Rattle.sql_tokens.specs.declared.piece.Form.{Form}
-use Rattle.sql_tokens.specs.declared.piece.Form.TheVariants as form
-use Rattle.sql_tokens.specs.declared.piece.Piece.{Piece}
-use Rattle.sql_tokens.specs.declared.piece.Stop.{Stop}
-use Rattle.sql_tokens.specs.declared.piece.Stop.TheVariants as stop
+use Rattle.sql_tokens.specs.declared.lexeme.Form.{Form}
+use Rattle.sql_tokens.specs.declared.lexeme.Form.TheVariants as form
+use Rattle.sql_tokens.specs.declared.lexeme.Lexeme.{Lexeme}
+use Rattle.sql_tokens.specs.declared.lexeme.NoLexeme.{NoLexeme}
+use Rattle.sql_tokens.specs.declared.lexeme.NoLexeme.TheVariants as stop
 use Rattle.sql_tokens.proofs.Runs.{and_true, run-append, run-stops, drop-front, class_of-letter, class_of-digit, class_of-blank, class_tells, IsOfClass}
 use Rattle.sql_tokens.proofs.Scan.{closing-other, comment_end-other}
 
--- the piece is longer than so many bytes, or has just these and the form; a bad byte comes later
-abbrev pub AtLeast : Result Piece Stop → Form → ℕ → Type 0
+-- the lexeme is longer than so many bytes, or has just these and the form; a bad byte comes later
+abbrev pub AtLeast : Result Lexeme NoLexeme → Form → ℕ → Type 0
 AtLeast (Ok p) f n = (n < p.length) ⊎ ((n ≡ p.length) × (f ≡ p.form))
 AtLeast (Err (stop.BadByte k)) f n = 0 < k
 AtLeast (Err stop.OpenText) f n = Unit {0}
 
-same_form : (f : Form) (n m : ℕ) → n ≤ m → AtLeast (Ok (piece f m)) f n
+same_form : (f : Form) (n m : ℕ) → n ≤ m → AtLeast (Ok (lexeme f m)) f n
 same_form f n m l = elim (cases n m l) as (λ v. (n < m) ⊎ ((n ≡ m) × (f ≡ f))) [ inl e ↦ inr (e, refl) | inr k ↦ inl k ]
   where
     cases : (n m : ℕ) → n ≤ m → (n ≡ m) ⊎ (n < m)
@@ -99,27 +99,27 @@ pub front-number : (bs : List ℕ) → begins is_digit bs ≡ true → front bs 
 front-number [] h = absurd (cc)
 front-number (b ∷ bs) h = ap (λ k. front_by k b bs) (class_of-digit b h)
 
-at_least-apart : (p : Piece) (bytes : List ℕ) (f : Form) (n : ℕ) → 0 < p.length → AtLeast (Ok p) f n → AtLeast (apart p bytes) f n
+at_least-apart : (p : Lexeme) (bytes : List ℕ) (f : Form) (n : ℕ) → 0 < p.length → AtLeast (Ok p) f n → AtLeast (apart p bytes) f n
 at_least-apart p bytes f n l h =
     elim (begins is_letter (drop p.length bytes)) as (λ v. AtLeast (cond v (Err (stop.BadByte p.length)) (Ok p)) f n) [ true ↦ l | false ↦ h ]
 
 -- so many digits, and what may stand behind them
 number_behind-whole : (w n : ℕ) (behind : List ℕ) → n ≤ w → AtLeast (Ok (number_behind w behind)) (form.Token kind.Whole) n
 number_behind-whole w n behind l =
-    elim (begins_fraction behind) as (λ v. AtLeast (Ok (cond v (piece (form.Token kind.Decimal) (w + (1 + prefix_len is_digit (drop 1 behind)))) (piece (form.Token kind.Whole) w))) (form.Token kind.Whole) n) [
+    elim (begins_fraction behind) as (λ v. AtLeast (Ok (cond v (lexeme (form.Token kind.Decimal) (w + (1 + prefix_len is_digit (drop 1 behind)))) (lexeme (form.Token kind.Whole) w))) (form.Token kind.Whole) n) [
       | true ↦ inl (omega arith)
       | false ↦ same_form (form.Token kind.Whole) n w l
     ]
 
 number_behind-some : (w : ℕ) (behind : List ℕ) → w ≤ (number_behind w behind).length
 number_behind-some w behind =
-    elim (begins_fraction behind) as (λ v. w ≤ (cond v (piece (form.Token kind.Decimal) (w + (1 + prefix_len is_digit (drop 1 behind)))) (piece (form.Token kind.Whole) w)).length) [
+    elim (begins_fraction behind) as (λ v. w ≤ (cond v (lexeme (form.Token kind.Decimal) (w + (1 + prefix_len is_digit (drop 1 behind)))) (lexeme (form.Token kind.Whole) w)).length) [
       | true ↦ omega arith
       | false ↦ omega arith
     ]
 
 number-at_least : (bytes : List ℕ) (n : ℕ) → 0 < n → n ≤ prefix_len is_digit bytes → AtLeast (number bytes) (form.Token kind.Whole) n
-unfolding number number_piece
+unfolding number number_lexeme
 number-at_least bytes n s l =
     let w : ℕ = prefix_len is_digit bytes in
     let k = number_behind-some w (drop w bytes) in
@@ -131,18 +131,18 @@ at_least-whole xs ys h =
     rw (front-number (xs ++ ys) (begins-all is_digit xs ys h.0 h.1)) (number-at_least (xs ++ ys) (length xs) h.0 (omega (arith, r)))
 
 -- digits, a point and digits are read as a decimal
-pub number_piece-decimal : (whole rest : List ℕ) → list_all is_digit whole ≡ true → begins is_digit rest ≡ true → number_piece (whole ++ 46 ∷ rest) ≡ piece (form.Token kind.Decimal) (length whole + (1 + prefix_len is_digit rest))
-unfolding number_piece
-number_piece-decimal whole rest w d =
+pub number_lexeme-decimal : (whole rest : List ℕ) → list_all is_digit whole ≡ true → begins is_digit rest ≡ true → number_lexeme (whole ++ 46 ∷ rest) ≡ lexeme (form.Token kind.Decimal) (length whole + (1 + prefix_len is_digit rest))
+unfolding number_lexeme
+number_lexeme-decimal whole rest w d =
     let r : prefix_len is_digit (whole ++ 46 ∷ rest) ≡ length whole = run-stops is_digit whole 46 rest w refl in
     ap (λ n. number_behind n (drop n (whole ++ 46 ∷ rest))) r
     ∙ (ap (number_behind (length whole)) (drop-front whole (46 ∷ rest)) ∙ rw d refl)
 
-decimal-at_least : (whole rest : List ℕ) (f : Form) (n : ℕ) → list_all is_digit whole ≡ true → begins is_digit rest ≡ true → AtLeast (Ok (piece (form.Token kind.Decimal) (length whole + (1 + prefix_len is_digit rest)))) f n → AtLeast (number (whole ++ 46 ∷ rest)) f n
+decimal-at_least : (whole rest : List ℕ) (f : Form) (n : ℕ) → list_all is_digit whole ≡ true → begins is_digit rest ≡ true → AtLeast (Ok (lexeme (form.Token kind.Decimal) (length whole + (1 + prefix_len is_digit rest)))) f n → AtLeast (number (whole ++ 46 ∷ rest)) f n
 unfolding number
 decimal-at_least whole rest f n w d h =
-    rw (number_piece-decimal whole rest w d)
-    (at_least-apart (piece (form.Token kind.Decimal) (length whole + (1 + prefix_len is_digit rest))) (whole ++ 46 ∷ rest) f n (omega arith) h)
+    rw (number_lexeme-decimal whole rest w d)
+    (at_least-apart (lexeme (form.Token kind.Decimal) (length whole + (1 + prefix_len is_digit rest))) (whole ++ 46 ∷ rest) f n (omega arith) h)
 
 pub front-decimal : (whole rest : List ℕ) → list_all is_digit whole ≡ true → begins is_digit rest ≡ true → front (whole ++ 46 ∷ rest) ≡ number (whole ++ 46 ∷ rest)
 front-decimal [] rest w d = rw d refl
@@ -227,15 +227,15 @@ mark_by class.Point a ys c m =
 mark_by class.Quote a ys c m = absurd (grind (arith, nat_tests))
 mark_by class.Apostrophe a ys c m = absurd (grind (arith, nat_tests))
 mark_by class.Minus a ys c m =
-    let minus : (v : Bool) → begins (λ d. eqb d 45) ys ≡ v → AtLeast (cond v (Ok (piece form.LineComment (1 + prefix_len is_line_byte ys))) (token kind.Symbol 1)) (form.Token kind.Symbol) 1 =
-    λ v. elim v as (λ v. begins (λ d. eqb d 45) ys ≡ v → AtLeast (cond v (Ok (piece form.LineComment (1 + prefix_len is_line_byte ys))) (token kind.Symbol 1)) (form.Token kind.Symbol) 1) [
+    let minus : (v : Bool) → begins (λ d. eqb d 45) ys ≡ v → AtLeast (cond v (Ok (lexeme form.LineComment (1 + prefix_len is_line_byte ys))) (token kind.Symbol 1)) (form.Token kind.Symbol) 1 =
+    λ v. elim v as (λ v. begins (λ d. eqb d 45) ys ≡ v → AtLeast (cond v (Ok (lexeme form.LineComment (1 + prefix_len is_line_byte ys))) (token kind.Symbol 1)) (form.Token kind.Symbol) 1) [
       | true ↦ λ d. inl (let s : 0 < prefix_len is_line_byte ys = run-some (λ e. eqb e 45) is_line_byte ys minus_in_line d in omega arith)
       | false ↦ λ _. inr (refl, refl)
     ] in
     minus (begins (λ d. eqb d 45) ys) refl
 mark_by class.Slash a ys c m =
-    elim (begins (λ d. eqb d 42) ys) as (λ v. AtLeast (cond v (comment_piece (comment_end (drop 1 ys))) (token kind.Symbol 1)) (form.Token kind.Symbol) 1) [
-      | true ↦ elim (comment_end (drop 1 ys)) as (λ o. AtLeast (comment_piece o) (form.Token kind.Symbol) 1) [ None ↦ tt | Some n ↦ inl (omega arith) ]
+    elim (begins (λ d. eqb d 42) ys) as (λ v. AtLeast (cond v (comment_lexeme (comment_end (drop 1 ys))) (token kind.Symbol 1)) (form.Token kind.Symbol) 1) [
+      | true ↦ elim (comment_end (drop 1 ys)) as (λ o. AtLeast (comment_lexeme o) (form.Token kind.Symbol) 1) [ None ↦ tt | Some n ↦ inl (omega arith) ]
       | false ↦ inr (refl, refl)
     ]
 mark_by class.Other a ys c m = symbol-mark a ys m

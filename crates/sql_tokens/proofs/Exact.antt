@@ -1,32 +1,32 @@
--- The front that is computed is the piece that stands there, and the fault that stands there.
+-- The front that is computed is the lexeme that stands there, and the fault that stands there.
 use Rattle.std.proofs.Common.{◌≡◌, ◌≢◌, ℕ, ◌+◌, ◌<◌, ◌≤◌, Bool, true, false, eqb, cond, List, [], ◌∷◌, ◌++◌, length, drop, Option, Some, None, Result, Ok, Err, refl, ap, sym, ◌∙◌, subst, inl, inr, arith}
 use Rattle.std.specs.List.{prefix_len, list_all}
 use Rattle.std.proofs.lemmas.Bool.Decides.{nat_tests}
 use Rattle.std.proofs.lemmas.List.{length-append, append_assoc, drop_at}
 use Rattle.sql_tokens.specs.Byte.{begins, is_letter, is_digit, is_name_byte, is_mark}
 use Rattle.sql_tokens.specs.Form.{IsForm, IsWhole, IsDecimal, IsQuoted, IsText, IsBlockComment}
-use Rattle.sql_tokens.specs.Front.{front, number, number_piece, number_behind, apart, quoted, closing, text_piece, comment_end, comment_piece, piece, token}
+use Rattle.sql_tokens.specs.Front.{front, number, number_lexeme, number_behind, apart, quoted, closing, text_lexeme, comment_end, comment_lexeme, lexeme, token}
 use Rattle.sql_tokens.specs.Cut.{NoFront, IsOpen, IsBad, OpensText, OpensName, OpensComment, EmptyName, LetterBehind, BeginsNothing, Stands}
-use Rattle.sql_tokens.specs.declared.piece.Form.{Form}
-use Rattle.sql_tokens.specs.declared.piece.Form.TheVariants as form
+use Rattle.sql_tokens.specs.declared.lexeme.Form.{Form}
+use Rattle.sql_tokens.specs.declared.lexeme.Form.TheVariants as form
 use Rattle.sql_tokens.specs.declared.token.TokenKind.TheVariants as kind
-use Rattle.sql_tokens.specs.declared.piece.Piece.{Piece}
-use Rattle.sql_tokens.specs.declared.piece.Stop.{Stop}
-use Rattle.sql_tokens.specs.declared.piece.Stop.TheVariants as stop
+use Rattle.sql_tokens.specs.declared.lexeme.Lexeme.{Lexeme}
+use Rattle.sql_tokens.specs.declared.lexeme.NoLexeme.{NoLexeme}
+use Rattle.sql_tokens.specs.declared.lexeme.NoLexeme.TheVariants as stop
 use Rattle.sql_tokens.proofs.Runs.{run-stops, drop-front}
-use Rattle.sql_tokens.proofs.AtLeast.{AtLeast, at_least, front-number, front-decimal, begins-all, number_piece-decimal}
+use Rattle.sql_tokens.proofs.AtLeast.{AtLeast, at_least, front-number, front-decimal, begins-all, number_lexeme-decimal}
 use Rattle.sql_tokens.proofs.Sound.{Tells, tells, HasFront, has_quoted, is_that, first_of_begins}
 
-text_open : (bs : List ℕ) (o : Option ℕ) → closing bs ≡ o → NoFront IsText (39 ∷ bs) → text_piece o ≡ Err stop.OpenText
+text_open : (bs : List ℕ) (o : Option ℕ) → closing bs ≡ o → NoFront IsText (39 ∷ bs) → text_lexeme o ≡ Err stop.OpenText
 text_open bs None e n = refl
 text_open bs (Some m) e n =
-    let h : HasFront (form.Token kind.Text) (1 + m) (39 ∷ bs) = subst (λ o. Tells (39 ∷ bs) (text_piece o)) e (tells 39 bs) in
+    let h : HasFront (form.Token kind.Text) (1 + m) (39 ∷ bs) = subst (λ o. Tells (39 ∷ bs) (text_lexeme o)) e (tells 39 bs) in
     absurd (n h.bytes h.rest h.spelled h.is_form)
 
-comment_open : (bs : List ℕ) (o : Option ℕ) → comment_end bs ≡ o → NoFront IsBlockComment (47 ∷ 42 ∷ bs) → comment_piece o ≡ Err stop.OpenText
+comment_open : (bs : List ℕ) (o : Option ℕ) → comment_end bs ≡ o → NoFront IsBlockComment (47 ∷ 42 ∷ bs) → comment_lexeme o ≡ Err stop.OpenText
 comment_open bs None e n = refl
 comment_open bs (Some m) e n =
-    let h : HasFront form.BlockComment (2 + m) (47 ∷ 42 ∷ bs) = subst (λ o. Tells (47 ∷ 42 ∷ bs) (comment_piece o)) e (tells 47 (42 ∷ bs)) in
+    let h : HasFront form.BlockComment (2 + m) (47 ∷ 42 ∷ bs) = subst (λ o. Tells (47 ∷ 42 ∷ bs) (comment_lexeme o)) e (tells 47 (42 ∷ bs)) in
     absurd (n h.bytes h.rest h.spelled h.is_form)
 
 neither : {A : Type 0} (t z : Bool) (x y w : A) → (t ≡ true → z ≡ true → ⊥) → (t ≡ true → z ≡ false → ⊥) → cond t (cond z x y) w ≡ w
@@ -83,14 +83,14 @@ letter_no_digit c e = grind (arith, nat_tests)
 letter_no_point : (c : ℕ) → is_letter c ≡ true → eqb c 46 ≡ false
 letter_no_point c e = grind (arith, nat_tests)
 
-bad_apart : (p : Piece) (front rest : List ℕ) → length front ≡ p.length → begins is_letter rest ≡ true → apart p (front ++ rest) ≡ Err (stop.BadByte p.length)
+bad_apart : (p : Lexeme) (front rest : List ℕ) → length front ≡ p.length → begins is_letter rest ≡ true → apart p (front ++ rest) ≡ Err (stop.BadByte p.length)
 bad_apart p front rest l h =
     let e : begins is_letter (drop p.length (front ++ rest)) ≡ true = ap (begins is_letter) (drop_at front rest p.length l) ∙ h in
     rw e refl
 
-number_piece-whole : (xs : List ℕ) (c : ℕ) (rs : List ℕ) → list_all is_digit xs ≡ true → is_letter c ≡ true → number_piece (xs ++ c ∷ rs) ≡ piece (form.Token kind.Whole) (length xs)
-unfolding number_piece
-number_piece-whole xs c rs d h =
+number_lexeme-whole : (xs : List ℕ) (c : ℕ) (rs : List ℕ) → list_all is_digit xs ≡ true → is_letter c ≡ true → number_lexeme (xs ++ c ∷ rs) ≡ lexeme (form.Token kind.Whole) (length xs)
+unfolding number_lexeme
+number_lexeme-whole xs c rs d h =
     let r : prefix_len is_digit (xs ++ c ∷ rs) ≡ length xs = run-stops is_digit xs c rs d (letter_no_digit c h) in
     let p : eqb c 46 ≡ false = letter_no_point c h in
     ap (λ n. number_behind n (drop n (xs ++ c ∷ rs))) r
@@ -100,8 +100,8 @@ letter_whole : (xs : List ℕ) (c : ℕ) (rs : List ℕ) → IsWhole xs → is_l
 unfolding number
 letter_whole xs c rs w h =
     front-number (xs ++ c ∷ rs) (begins-all is_digit xs (c ∷ rs) w.0 w.1)
-    ∙ (ap (λ p. apart p (xs ++ c ∷ rs)) (number_piece-whole xs c rs w.1 h)
-    ∙ bad_apart (piece (form.Token kind.Whole) (length xs)) xs (c ∷ rs) refl h)
+    ∙ (ap (λ p. apart p (xs ++ c ∷ rs)) (number_lexeme-whole xs c rs w.1 h)
+    ∙ bad_apart (lexeme (form.Token kind.Whole) (length xs)) xs (c ∷ rs) refl h)
 
 letter_decimal : (xs : List ℕ) (c : ℕ) (rs : List ℕ) → IsDecimal xs → is_letter c ≡ true → front (xs ++ c ∷ rs) ≡ Err (stop.BadByte (length xs))
 unfolding number
@@ -113,9 +113,9 @@ letter_decimal xs c rs w h =
     let e : xs ++ c ∷ rs ≡ text = ap (λ ys. ys ++ c ∷ rs) w.spelled ∙ append_assoc w.whole (46 ∷ w.fraction) (c ∷ rs) in
     let l : length xs ≡ length w.whole + (1 + prefix_len is_digit rest) =
     ap length w.spelled ∙ omega (arith, length-append w.whole (46 ∷ w.fraction), r) in
-    let p : Piece = piece (form.Token kind.Decimal) (length w.whole + (1 + prefix_len is_digit rest)) in
+    let p : Lexeme = lexeme (form.Token kind.Decimal) (length w.whole + (1 + prefix_len is_digit rest)) in
     let n : number text ≡ Err (stop.BadByte (length w.whole + (1 + prefix_len is_digit rest))) =
-    ap (λ q. apart q text) (number_piece-decimal w.whole rest w.whole_digits d)
+    ap (λ q. apart q text) (number_lexeme-decimal w.whole rest w.whole_digits d)
     ∙ (ap (apart p) (sym e) ∙ bad_apart p xs (c ∷ rs) l h) in
     ap front e ∙ (front-decimal w.whole rest w.whole_digits d ∙ (n ∙ ap (λ m. Err (stop.BadByte m)) (sym l)))
 
@@ -133,14 +133,14 @@ opens_no_comment b (c ∷ bs) n h =
     let m : is_mark b ≡ true = rw (h.0) refl in
     n (form.Token kind.Symbol) (b ∷ []) (c ∷ bs) refl m
 
-nothing_by : (b : ℕ) (bs : List ℕ) (r : Result Piece Stop) → b ≢ 39 → b ≢ 34 → ((f : Form) → NoFront (IsForm f) (b ∷ bs)) → Tells (b ∷ bs) r → r ≡ Err (stop.BadByte 0)
+nothing_by : (b : ℕ) (bs : List ℕ) (r : Result Lexeme NoLexeme) → b ≢ 39 → b ≢ 34 → ((f : Form) → NoFront (IsForm f) (b ∷ bs)) → Tells (b ∷ bs) r → r ≡ Err (stop.BadByte 0)
 nothing_by b bs (Ok p) q m n t = absurd (n p.form t.bytes t.rest t.spelled t.is_form)
 nothing_by b bs (Err stop.OpenText) q m n t =
     absurd (elim t as (λ _. ⊥) [ inl a ↦ q (a.0) | inr k ↦ elim k as (λ _. ⊥) [ inl c ↦ m (c.0) | inr c ↦ opens_no_comment b bs n c ] ])
 nothing_by b bs (Err (stop.BadByte k)) q m n t =
-    elim t as (λ _. ◌≡◌ {A = Result Piece Stop} (Err (stop.BadByte k)) (Err (stop.BadByte 0))) [
+    elim t as (λ _. ◌≡◌ {A = Result Lexeme NoLexeme} (Err (stop.BadByte k)) (Err (stop.BadByte 0))) [
       | inl a ↦ absurd (m (a.0))
-      | inr w ↦ elim w as (λ _. ◌≡◌ {A = Result Piece Stop} (Err (stop.BadByte k)) (Err (stop.BadByte 0))) [
+      | inr w ↦ elim w as (λ _. ◌≡◌ {A = Result Lexeme NoLexeme} (Err (stop.BadByte k)) (Err (stop.BadByte 0))) [
         | inl c ↦ absurd (elim c.is_number as (λ _. ⊥) [
           | inl x ↦ n (form.Token kind.Whole) c.number c.rest c.spelled x
           | inr x ↦ n (form.Token kind.Decimal) c.number c.rest c.spelled x
@@ -157,7 +157,7 @@ begins_nothing (b ∷ bs) n h = rw (h.3) (nothing_by b bs (front (b ∷ bs)) h.0
 pub bad_front : (text : List ℕ) (n : ℕ) → IsBad text n → front text ≡ Err (stop.BadByte n)
 bad_front text n h = elim h [ inl a ↦ empty_name text n a | inr k ↦ elim k [ inl b ↦ letter_behind text n b | inr c ↦ begins_nothing text n c ] ]
 
--- a piece has a byte
+-- a lexeme has a byte
 pub form_some : (f : Form) (bytes : List ℕ) → IsForm f bytes → 0 < length bytes
 form_some form.Blank [] h = absurd h
 form_some form.LineComment [] h = absurd h
@@ -175,31 +175,31 @@ pub tells_some : (text : List ℕ) → 0 < length text → Tells text (front tex
 tells_some [] l = absurd (omega arith)
 tells_some (b ∷ bs) l = tells b bs
 
-same_piece : (f g : Form) (m n : ℕ) → f ≡ g → m ≡ n → piece f m ≡ piece g n
-same_piece f g m n a b = ap (λ h. piece h m) a ∙ ap (λ k. piece g k) b
+same_lexeme : (f g : Form) (m n : ℕ) → f ≡ g → m ≡ n → lexeme f m ≡ lexeme g n
+same_lexeme f g m n a b = ap (λ h. lexeme h m) a ∙ ap (λ k. lexeme g k) b
 
-stands_by : (r : Result Piece Stop) (f : Form) (bytes rest : List ℕ) → Stands f bytes rest → AtLeast r f (length bytes) → Tells (bytes ++ rest) r → r ≡ Ok (piece f (length bytes))
+stands_by : (r : Result Lexeme NoLexeme) (f : Form) (bytes rest : List ℕ) → Stands f bytes rest → AtLeast r f (length bytes) → Tells (bytes ++ rest) r → r ≡ Ok (lexeme f (length bytes))
 stands_by (Err stop.OpenText) f bytes rest h a t = absurd (h.closed t)
 stands_by (Err (stop.BadByte n)) f bytes rest h a t = absurd (h.good n t)
 stands_by (Ok p) f bytes rest h a t =
     let l : length t.bytes ≤ length bytes = h.longest p.form t.bytes t.rest t.spelled t.is_form in
-    elim a as (λ _. ◌≡◌ {A = Result Piece Stop} (Ok p) (Ok (piece f (length bytes)))) [
+    elim a as (λ _. ◌≡◌ {A = Result Lexeme NoLexeme} (Ok p) (Ok (lexeme f (length bytes)))) [
       | inl k ↦ absurd (omega (arith, k, l, t.long))
-      | inr e ↦ ap Ok (same_piece p.form f p.length (length bytes) (sym e.1) (sym e.0))
+      | inr e ↦ ap Ok (same_lexeme p.form f p.length (length bytes) (sym e.1) (sym e.0))
     ]
 
 -- what stands at the front is computed
-pub stands_front : (f : Form) (bytes rest : List ℕ) → Stands f bytes rest → front (bytes ++ rest) ≡ Ok (piece f (length bytes))
+pub stands_front : (f : Form) (bytes rest : List ℕ) → Stands f bytes rest → front (bytes ++ rest) ≡ Ok (lexeme f (length bytes))
 stands_front f bytes rest h =
     let s : 0 < length bytes = form_some f bytes h.is_form in
     stands_by (front (bytes ++ rest)) f bytes rest h (at_least f bytes rest h.is_form)
     (tells_some (bytes ++ rest) (omega (arith, length-append bytes rest)))
 
-at_most : (p : Piece) (f : Form) (n : ℕ) → AtLeast (Ok p) f n → n ≤ p.length
+at_most : (p : Lexeme) (f : Form) (n : ℕ) → AtLeast (Ok p) f n → n ≤ p.length
 at_most p f n a = elim a [ inl k ↦ omega arith | inr e ↦ omega (arith, e.0) ]
 
 -- what is computed stands at the front
-pub front_stands : (p : Piece) (text : List ℕ) (h : HasFront p.form p.length text) → front text ≡ Ok p → Stands p.form h.bytes h.rest
+pub front_stands : (p : Lexeme) (text : List ℕ) (h : HasFront p.form p.length text) → front text ≡ Ok p → Stands p.form h.bytes h.rest
 front_stands p text h e =
     let same : front (h.bytes ++ h.rest) ≡ Ok p = ap front (sym h.spelled) ∙ e in
     record {

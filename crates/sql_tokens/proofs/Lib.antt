@@ -1,3 +1,4 @@
+pub mod Answered
 pub mod AtLeast
 pub mod Exact
 pub mod OneCut

@@ -1,16 +1,16 @@
 -- A text has one cut, and so one list of tokens or one fault.
 use Rattle.std.proofs.Common.{◌≡◌, ℕ, List, [], ◌∷◌, ◌++◌, length, take, drop, Ok, refl, ap, sym, ◌∙◌, subst}
 use Rattle.std.proofs.lemmas.List.{take_at, drop_at}
-use Rattle.sql_tokens.specs.Front.{front, piece}
+use Rattle.sql_tokens.specs.Front.{front, lexeme}
 use Rattle.sql_tokens.specs.Cut.{IsOpen, IsBad, Stands, Part, IsCut, tokens_of, AreTokens}
 use Rattle.sql_tokens.specs.declared.token.Token.{Token}
-use Rattle.sql_tokens.specs.declared.piece.Form.{Form}
-use Rattle.sql_tokens.specs.declared.piece.Piece.{Piece}
+use Rattle.sql_tokens.specs.declared.lexeme.Form.{Form}
+use Rattle.sql_tokens.specs.declared.lexeme.Lexeme.{Lexeme}
 use Rattle.sql_tokens.proofs.Exact.{stands_front, open_front, bad_front}
 
--- no piece stands there
+-- no lexeme stands there
 abbrev pub IsStopped : List ℕ → Type 0
-IsStopped rest = (p : Piece) → front rest ≡ Ok p → ⊥
+IsStopped rest = (p : Lexeme) → front rest ≡ Ok p → ⊥
 
 pub stopped_end : IsStopped []
 stopped_end p e = cc
@@ -33,21 +33,21 @@ pub record Same (ps qs : List Part) (r s : List ℕ) : Type 0 where
   pub parts : ps ≡ qs
   pub rest : r ≡ s
 
-front_of : (p : Part) (behind text : List ℕ) → text ≡ p.bytes ++ behind → Stands p.form p.bytes behind → front text ≡ Ok (piece p.form (length p.bytes))
+front_of : (p : Part) (behind text : List ℕ) → text ≡ p.bytes ++ behind → Stands p.form p.bytes behind → front text ≡ Ok (lexeme p.form (length p.bytes))
 front_of p behind text e h = ap front e ∙ stands_front p.form p.bytes behind h
 
 pub one_cut : (ps qs : List Part) (text r s : List ℕ) → IsCut ps text r → IsCut qs text s → IsStopped r → IsStopped s → Same ps qs r s
 one_cut [] [] text r s a b x y = record { parts = refl; rest = sym a ∙ b }
 one_cut [] (q ∷ qs) text r s a b x y =
-    absurd (x (piece q.form (length q.bytes)) (ap front (sym a) ∙ front_of q b.0 text b.1 b.2))
+    absurd (x (lexeme q.form (length q.bytes)) (ap front (sym a) ∙ front_of q b.0 text b.1 b.2))
 one_cut (p ∷ ps) [] text r s a b x y =
-    absurd (y (piece p.form (length p.bytes)) (ap front (sym b) ∙ front_of p a.0 text a.1 a.2))
+    absurd (y (lexeme p.form (length p.bytes)) (ap front (sym b) ∙ front_of p a.0 text a.1 a.2))
 one_cut (p ∷ ps) (q ∷ qs) text r s a b x y =
-    let f : front text ≡ Ok (piece p.form (length p.bytes)) = front_of p a.0 text a.1 a.2 in
-    let g : front text ≡ Ok (piece q.form (length q.bytes)) = front_of q b.0 text b.1 b.2 in
-    let e : piece p.form (length p.bytes) ≡ piece q.form (length q.bytes) = cc in
-    let forms : p.form ≡ q.form = ap (λ (z : Piece). z.form) e in
-    let lengths : length p.bytes ≡ length q.bytes = ap (λ (z : Piece). z.length) e in
+    let f : front text ≡ Ok (lexeme p.form (length p.bytes)) = front_of p a.0 text a.1 a.2 in
+    let g : front text ≡ Ok (lexeme q.form (length q.bytes)) = front_of q b.0 text b.1 b.2 in
+    let e : lexeme p.form (length p.bytes) ≡ lexeme q.form (length q.bytes) = cc in
+    let forms : p.form ≡ q.form = ap (λ (z : Lexeme). z.form) e in
+    let lengths : length p.bytes ≡ length q.bytes = ap (λ (z : Lexeme). z.length) e in
     let t : p.bytes ++ a.0 ≡ q.bytes ++ b.0 = sym a.1 ∙ b.1 in
     let bytes : p.bytes ≡ q.bytes =
     sym (take_at p.bytes a.0 (length p.bytes) refl) ∙ (ap (take (length p.bytes)) t ∙ take_at q.bytes b.0 (length p.bytes) (sym lengths)) in

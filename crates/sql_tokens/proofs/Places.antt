@@ -11,10 +11,10 @@ use Rattle.sql_tokens.specs.Byte.{is_digit, is_space, is_margin}
 use Rattle.sql_tokens.specs.Front.{further}
 use Rattle.sql_tokens.specs.Span.{LiesIn, StandsBefore}
 use Rattle.sql_tokens.specs.Weight.{weight_word, is_margins, number_end, weight_end, weight_length}
-use Rattle.sql_tokens.specs.Cut.{Part, IsCut, weight_token, tokens_of, tokens_of_piece}
+use Rattle.sql_tokens.specs.Cut.{Part, IsCut, weight_token, tokens_of, tokens_of_lexeme}
 use Rattle.sql_tokens.specs.declared.token.Token.{Token}
-use Rattle.sql_tokens.specs.declared.piece.Form.{Form}
-use Rattle.sql_tokens.specs.declared.piece.Form.TheVariants as form
+use Rattle.sql_tokens.specs.declared.lexeme.Form.{Form}
+use Rattle.sql_tokens.specs.declared.lexeme.Form.TheVariants as form
 use Rattle.sql_tokens.proofs.Runs.{and_true}
 use Rattle.sql_tokens.proofs.Exact.{form_some}
 
@@ -96,11 +96,11 @@ in_order-weight : (at n : ℕ) (o : Option ℕ) → Within o n → InOrder at (a
 in_order-weight at n None h = omega arith
 in_order-weight at n (Some m) h = (omega arith, omega (arith, h.0), omega (arith, h.1))
 
-in_order-piece : (at : ℕ) (f : Form) (bytes : List ℕ) → 0 < length bytes → InOrder at (at + length bytes) (tokens_of_piece at f bytes)
-in_order-piece at form.Blank bytes l = omega arith
-in_order-piece at form.LineComment bytes l = in_order-weight at (length bytes) (weight_length bytes) (weight_length-within bytes)
-in_order-piece at form.BlockComment bytes l = omega arith
-in_order-piece at (form.Token k) bytes l = (omega arith, omega arith, omega arith)
+in_order-lexeme : (at : ℕ) (f : Form) (bytes : List ℕ) → 0 < length bytes → InOrder at (at + length bytes) (tokens_of_lexeme at f bytes)
+in_order-lexeme at form.Blank bytes l = omega arith
+in_order-lexeme at form.LineComment bytes l = in_order-weight at (length bytes) (weight_length bytes) (weight_length-within bytes)
+in_order-lexeme at form.BlockComment bytes l = omega arith
+in_order-lexeme at (form.Token k) bytes l = (omega arith, omega arith, omega arith)
 
 in_order-cut : (ps : List Part) (at : ℕ) (text rest : List ℕ) → IsCut ps text rest → InOrder at (at + length text) (tokens_of at ps)
 in_order-cut [] at text rest h = omega arith
@@ -109,8 +109,8 @@ in_order-cut (p ∷ ps) at text rest h =
     let e : at + length p.bytes + length h.0 ≡ at + length text = omega (arith, l) in
     let i : InOrder (at + length p.bytes) (at + length p.bytes + length h.0) (tokens_of (at + length p.bytes) ps) =
     in_order-cut ps (at + length p.bytes) h.0 rest h.3 in
-    in_order-append at (at + length p.bytes) (at + length text) (tokens_of_piece at p.form p.bytes) (tokens_of (at + length p.bytes) ps)
-    (in_order-piece at p.form p.bytes (form_some p.form p.bytes h.2.is_form))
+    in_order-append at (at + length p.bytes) (at + length text) (tokens_of_lexeme at p.form p.bytes) (tokens_of (at + length p.bytes) ps)
+    (in_order-lexeme at p.form p.bytes (form_some p.form p.bytes h.2.is_form))
     (subst (λ n. InOrder (at + length p.bytes) n (tokens_of (at + length p.bytes) ps)) e i)
 
 in_order-to : (a b : ℕ) (ts : List Token) → InOrder a b ts → a ≤ b

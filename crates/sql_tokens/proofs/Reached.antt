@@ -5,20 +5,20 @@ use Rattle.std.specs.List.{All, AllPairs}
 use Rattle.sql_tokens.specs.Span.{LiesIn, StandsBefore}
 use Rattle.sql_tokens.specs.Front.{front}
 use Rattle.sql_tokens.specs.Form.{IsForm, IsLineComment}
-use Rattle.sql_tokens.specs.Cut.{IsOpen, IsBad, Stands, Part, IsCut, tokens_of, tokens_of_piece, AreTokens, HasBadByte, HasOpenText, HasFault, fault_at}
+use Rattle.sql_tokens.specs.Cut.{IsOpen, IsBad, Stands, Part, IsCut, tokens_of, tokens_of_lexeme, AreTokens, HasBadByte, HasOpenText, HasFault, fault_at}
 use Rattle.sql_tokens.specs.declared.token.Token.{Token}
 use Rattle.sql_tokens.specs.declared.token_list.TokenFault.{TokenFault}
 use Rattle.sql_tokens.specs.declared.token_list.TokenFault.TheVariants as fault
-use Rattle.sql_tokens.specs.declared.piece.Form.TheVariants as form
-use Rattle.sql_tokens.specs.declared.piece.Piece.{Piece}
-use Rattle.sql_tokens.specs.declared.piece.Stop.{Stop}
-use Rattle.sql_tokens.specs.declared.piece.Stop.TheVariants as stop
+use Rattle.sql_tokens.specs.declared.lexeme.Form.TheVariants as form
+use Rattle.sql_tokens.specs.declared.lexeme.Lexeme.{Lexeme}
+use Rattle.sql_tokens.specs.declared.lexeme.NoLexeme.{NoLexeme}
+use Rattle.sql_tokens.specs.declared.lexeme.NoLexeme.TheVariants as stop
 use Rattle.sql_tokens.proofs.Sound.{Tells, HasFront}
 use Rattle.sql_tokens.proofs.Exact.{front_stands, tells_some, open_front, bad_front, form_some}
 use Rattle.sql_tokens.proofs.Places.{lies-cut, pairs-cut}
 use Rattle.sql_tokens.proofs.OneCut.{one_cut, stopped_end, stopped_open, stopped_bad}
 
--- how many bytes the pieces have
+-- how many bytes the lexemes have
 abbrev pub total : List Part → ℕ
 total [] = 0
 total (p ∷ ps) = length p.bytes + total ps
@@ -33,15 +33,15 @@ cut-push : (ps : List Part) (q : Part) (text rest behind : List ℕ) → IsCut p
 cut-push [] q text rest behind h e s = (behind, h ∙ e, s, refl)
 cut-push (p ∷ ps) q text rest behind h e s = (h.0, h.1, h.2, cut-push ps q h.0 rest behind h.3 e s)
 
-tokens-push : (ps : List Part) (q : Part) (at : ℕ) → tokens_of at (ps ++ q ∷ []) ≡ tokens_of at ps ++ tokens_of_piece (at + total ps) q.form q.bytes
+tokens-push : (ps : List Part) (q : Part) (at : ℕ) → tokens_of at (ps ++ q ∷ []) ≡ tokens_of at ps ++ tokens_of_lexeme (at + total ps) q.form q.bytes
 tokens-push [] q at =
     let z : at + 0 ≡ at = omega arith in
-    append-nil (tokens_of_piece at q.form q.bytes) ∙ ap (λ n. tokens_of_piece n q.form q.bytes) (sym z)
+    append-nil (tokens_of_lexeme at q.form q.bytes) ∙ ap (λ n. tokens_of_lexeme n q.form q.bytes) (sym z)
 tokens-push (p ∷ ps) q at =
     let i = tokens-push ps q (at + length p.bytes) in
     let z : at + length p.bytes + total ps ≡ at + (length p.bytes + total ps) = omega arith in
-    ap (λ ts. tokens_of_piece at p.form p.bytes ++ ts) (i ∙ ap (λ n. tokens_of (at + length p.bytes) ps ++ tokens_of_piece n q.form q.bytes) z)
-    ∙ sym (append_assoc (tokens_of_piece at p.form p.bytes) (tokens_of (at + length p.bytes) ps) (tokens_of_piece (at + (length p.bytes + total ps)) q.form q.bytes))
+    ap (λ ts. tokens_of_lexeme at p.form p.bytes ++ ts) (i ∙ ap (λ n. tokens_of (at + length p.bytes) ps ++ tokens_of_lexeme n q.form q.bytes) z)
+    ∙ sym (append_assoc (tokens_of_lexeme at p.form p.bytes) (tokens_of (at + length p.bytes) ps) (tokens_of_lexeme (at + (length p.bytes + total ps)) q.form q.bytes))
 
 -- the text is cut up to the rest, and these are the tokens so far
 pub record Reached (text rest : List ℕ) (at : ℕ) (list : List Token) : Type 0 where
@@ -53,15 +53,15 @@ pub record Reached (text rest : List ℕ) (at : ℕ) (list : List Token) : Type 
 pub reached_none : (text : List ℕ) → Reached text text 0 []
 reached_none text = record { parts = []; cut = refl; tokens = refl; counted = omega arith }
 
-front_some : (rest : List ℕ) (p : Piece) → front rest ≡ Ok p → 0 < length rest
+front_some : (rest : List ℕ) (p : Lexeme) → front rest ≡ Ok p → 0 < length rest
 front_some [] p e = absurd (cc)
 front_some (b ∷ bs) p e = omega arith
 
-has_front : (rest : List ℕ) (p : Piece) → front rest ≡ Ok p → HasFront p.form p.length rest
+has_front : (rest : List ℕ) (p : Lexeme) → front rest ≡ Ok p → HasFront p.form p.length rest
 has_front rest p e = subst (Tells rest) e (tells_some rest (front_some rest p e))
 
--- one piece more
-pub reached_more : (text rest : List ℕ) (at : ℕ) (list : List Token) (p : Piece) → Reached text rest at list → front rest ≡ Ok p → Reached text (drop p.length rest) (at + p.length) (list ++ tokens_of_piece at p.form (take p.length rest))
+-- one lexeme more
+pub reached_more : (text rest : List ℕ) (at : ℕ) (list : List Token) (p : Lexeme) → Reached text rest at list → front rest ≡ Ok p → Reached text (drop p.length rest) (at + p.length) (list ++ tokens_of_lexeme at p.form (take p.length rest))
 reached_more text rest at list p r e =
     let h = has_front rest p e in
     let t : take p.length rest ≡ h.bytes = ap (take p.length) h.spelled ∙ take_at h.bytes h.rest p.length h.long in
@@ -74,8 +74,8 @@ reached_more text rest at list p r e =
       parts = r.parts ++ q ∷ [];
       cut = cut-push r.parts q text rest h.rest r.cut h.spelled (front_stands p rest h e);
       tokens =
-          ap (λ ts. ts ++ tokens_of_piece at p.form h.bytes) r.tokens
-          ∙ (ap (λ m. tokens_of 0 r.parts ++ tokens_of_piece m p.form h.bytes) (sym z) ∙ sym (tokens-push r.parts q 0));
+          ap (λ ts. ts ++ tokens_of_lexeme at p.form h.bytes) r.tokens
+          ∙ (ap (λ m. tokens_of 0 r.parts ++ tokens_of_lexeme m p.form h.bytes) (sym z) ∙ sym (tokens-push r.parts q 0));
       counted = omega (arith, r.counted, c);
     })
 
@@ -84,8 +84,8 @@ pub reached_all : (text rest : List ℕ) (at : ℕ) (list : List Token) → Reac
 reached_all text rest at list r l =
     record { parts = r.parts; cut = subst (IsCut r.parts text) (nil_from_length rest l) r.cut; tokens = r.tokens }
 
--- no piece is there
-pub reached_fault : (text rest : List ℕ) (at : ℕ) (list : List Token) (s : Stop) → Reached text rest at list → 0 < length rest → front rest ≡ Err s → HasFault text (fault_at at s)
+-- no lexeme is there
+pub reached_fault : (text rest : List ℕ) (at : ℕ) (list : List Token) (s : NoLexeme) → Reached text rest at list → 0 < length rest → front rest ≡ Err s → HasFault text (fault_at at s)
 reached_fault text rest at list (stop.BadByte n) r l e = record {
   parts = r.parts;
   rest = rest;
@@ -102,9 +102,9 @@ reached_fault text rest at list stop.OpenText r l e = record {
   counted = omega (arith, r.counted);
 }
 
--- a piece has a byte
-pub piece_some : (rest : List ℕ) (p : Piece) → front rest ≡ Ok p → 0 < p.length
-piece_some rest p e =
+-- a lexeme has a byte
+pub lexeme_some : (rest : List ℕ) (p : Lexeme) → front rest ≡ Ok p → 0 < p.length
+lexeme_some rest p e =
     let h = has_front rest p e in
     omega (arith, h.long, form_some p.form h.bytes h.is_form)
 
@@ -121,7 +121,7 @@ line_two [] h = absurd h
 line_two (b ∷ []) h = absurd h
 line_two (b ∷ c ∷ bs) h = omega arith
 
-pub comment_long : (rest : List ℕ) (p : Piece) → front rest ≡ Ok p → p.form ≡ form.LineComment → 2 ≤ p.length
+pub comment_long : (rest : List ℕ) (p : Lexeme) → front rest ≡ Ok p → p.form ≡ form.LineComment → 2 ≤ p.length
 comment_long rest p e f =
     let h = has_front rest p e in
     omega (arith, h.long, line_two h.bytes (subst (λ g. IsForm g h.bytes) f h.is_form))

@@ -1,4 +1,4 @@
--- What the front that is computed tells of the text: a piece stands there, or a fault.
+-- What the front that is computed tells of the text: a lexeme stands there, or a fault.
 use Rattle.std.proofs.Common.{◌≡◌, ◌≢◌, ℕ, ◌+◌, ◌<◌, Bool, true, false, ◌||◌, ◌&&◌, eqb, cond, List, [], ◌∷◌, ◌++◌, length, take, drop, Option, Some, None, Result, Ok, Err, refl, ap, sym, ◌∙◌, subst, ◌⊎◌, inl, inr, arith}
 use Rattle.std.specs.List.{prefix_len, list_all}
 use Rattle.std.proofs.lemmas.Bool.Decides.{nat_tests}
@@ -6,20 +6,20 @@ use Rattle.std.proofs.lemmas.List.{length-append, append_assoc, length-take-le, 
 use Rattle.std.proofs.lemmas.List.Sums.{prefix_len-le-length}
 use Rattle.sql_tokens.specs.Byte.{begins, class_of, is_letter, is_word_byte, is_digit, is_mark, is_pair, is_name_byte, is_line_byte, ends_comment}
 use Rattle.sql_tokens.specs.Form.{IsWhole, IsDecimal, IsQuoted, IsText, IsSymbol, IsParameter, IsBlockComment, IsForm, doubled, holds_end}
-use Rattle.sql_tokens.specs.Front.{front, front_by, number, number_piece, number_behind, apart, begins_fraction, quoted, closing, text_piece, comment_end, comment_piece, symbol, piece, token, further, further_or}
+use Rattle.sql_tokens.specs.Front.{front, front_by, number, number_lexeme, number_behind, apart, begins_fraction, quoted, closing, text_lexeme, comment_end, comment_lexeme, symbol, lexeme, token, further, further_or}
 use Rattle.sql_tokens.specs.Cut.{NoFront, IsOpen, IsBad}
 use Rattle.sql_tokens.specs.declared.byte.Class.{Class}
 use Rattle.sql_tokens.specs.declared.byte.Class.TheVariants as class
 use Rattle.sql_tokens.specs.declared.token.TokenKind.TheVariants as kind
-use Rattle.sql_tokens.specs.declared.piece.Form.{Form}
-use Rattle.sql_tokens.specs.declared.piece.Form.TheVariants as form
-use Rattle.sql_tokens.specs.declared.piece.Piece.{Piece}
-use Rattle.sql_tokens.specs.declared.piece.Stop.{Stop}
-use Rattle.sql_tokens.specs.declared.piece.Stop.TheVariants as stop
+use Rattle.sql_tokens.specs.declared.lexeme.Form.{Form}
+use Rattle.sql_tokens.specs.declared.lexeme.Form.TheVariants as form
+use Rattle.sql_tokens.specs.declared.lexeme.Lexeme.{Lexeme}
+use Rattle.sql_tokens.specs.declared.lexeme.NoLexeme.{NoLexeme}
+use Rattle.sql_tokens.specs.declared.lexeme.NoLexeme.TheVariants as stop
 use Rattle.sql_tokens.proofs.Runs.{and_true, list_all-run, class_tells, IsOfClass}
-use Rattle.sql_tokens.proofs.AtLeast.{AtLeast, at_least, closing-found, quoted-found, comment_end-found, number_piece-decimal, run-some}
+use Rattle.sql_tokens.proofs.AtLeast.{AtLeast, at_least, closing-found, quoted-found, comment_end-found, number_lexeme-decimal, run-some}
 
--- a piece of so many bytes at the front
+-- a lexeme of so many bytes at the front
 pub record HasFront (f : Form) (n : ℕ) (text : List ℕ) : Type 0 where
   pub bytes : List ℕ
   pub rest : List ℕ
@@ -28,12 +28,12 @@ pub record HasFront (f : Form) (n : ℕ) (text : List ℕ) : Type 0 where
   pub is_form : IsForm f bytes
 
 -- what a front that is computed says
-abbrev pub Tells : List ℕ → Result Piece Stop → Type 0
+abbrev pub Tells : List ℕ → Result Lexeme NoLexeme → Type 0
 Tells text (Ok p) = HasFront p.form p.length text
 Tells text (Err (stop.BadByte n)) = IsBad text n
 Tells text (Err stop.OpenText) = IsOpen text
 
-tells_if : (text : List ℕ) (t : Bool) (x y : Result Piece Stop) → (t ≡ true → Tells text x) → (t ≡ false → Tells text y) → Tells text (cond t x y)
+tells_if : (text : List ℕ) (t : Bool) (x y : Result Lexeme NoLexeme) → (t ≡ true → Tells text x) → (t ≡ false → Tells text y) → Tells text (cond t x y)
 tells_if text true x y f g = f refl
 tells_if text false x y f g = g refl
 
@@ -205,7 +205,7 @@ text_ends (b ∷ c ∷ bs) =
     found (eqb b 39) refl
 
 -- a number, which a letter may follow
-tells-apart : (p : Piece) (text : List ℕ) (h : HasFront p.form p.length text) → IsWhole h.bytes ⊎ IsDecimal h.bytes → Tells text (apart p text)
+tells-apart : (p : Lexeme) (text : List ℕ) (h : HasFront p.form p.length text) → IsWhole h.bytes ⊎ IsDecimal h.bytes → Tells text (apart p text)
 tells-apart p text h k =
     let e : drop p.length text ≡ h.rest = ap (drop p.length) h.spelled ∙ drop_at h.bytes h.rest p.length h.long in
     tells_if text (begins is_letter (drop p.length text)) (Err (stop.BadByte p.length)) (Ok p)
@@ -220,11 +220,11 @@ tells-apart p text h k =
     (λ _. h)
 
 -- a number at the front
-pub record HasNumber (p : Piece) (text : List ℕ) : Type 0 where
+pub record HasNumber (p : Lexeme) (text : List ℕ) : Type 0 where
   pub front : HasFront p.form p.length text
   pub is_number : IsWhole front.bytes ⊎ IsDecimal front.bytes
 
-has_decimal : (text whole rest : List ℕ) (n : ℕ) → text ≡ whole ++ 46 ∷ rest → list_all is_digit whole ≡ true → begins is_digit rest ≡ true → n ≡ length whole + (1 + prefix_len is_digit rest) → HasNumber (piece (form.Token kind.Decimal) n) text
+has_decimal : (text whole rest : List ℕ) (n : ℕ) → text ≡ whole ++ 46 ∷ rest → list_all is_digit whole ≡ true → begins is_digit rest ≡ true → n ≡ length whole + (1 + prefix_len is_digit rest) → HasNumber (lexeme (form.Token kind.Decimal) n) text
 has_decimal text whole rest n e w d l =
     let r = run_of is_digit rest in
     let s : 0 < prefix_len is_digit rest = run-some is_digit is_digit rest (λ _ h. h) d in
@@ -246,7 +246,7 @@ has_decimal text whole rest n e w d l =
       is_number = inr decimal;
     }
 
-has_whole : (text : List ℕ) → begins is_digit text ≡ true → HasNumber (piece (form.Token kind.Whole) (prefix_len is_digit text)) text
+has_whole : (text : List ℕ) → begins is_digit text ≡ true → HasNumber (lexeme (form.Token kind.Whole) (prefix_len is_digit text)) text
 has_whole text d =
     let r = run_of is_digit text in
     let s : 0 < prefix_len is_digit text = run-some is_digit is_digit text (λ _ h. h) d in
@@ -266,8 +266,8 @@ has_number_behind text d =
     let r = run_of is_digit text in
     let w : ℕ = prefix_len is_digit text in
     let behind : List ℕ = drop w text in
-    let found : (v : Bool) → begins_fraction behind ≡ v → HasNumber (cond v (piece (form.Token kind.Decimal) (w + (1 + prefix_len is_digit (drop 1 behind)))) (piece (form.Token kind.Whole) w)) text =
-    λ v. elim v as (λ v. begins_fraction behind ≡ v → HasNumber (cond v (piece (form.Token kind.Decimal) (w + (1 + prefix_len is_digit (drop 1 behind)))) (piece (form.Token kind.Whole) w)) text) [
+    let found : (v : Bool) → begins_fraction behind ≡ v → HasNumber (cond v (lexeme (form.Token kind.Decimal) (w + (1 + prefix_len is_digit (drop 1 behind)))) (lexeme (form.Token kind.Whole) w)) text =
+    λ v. elim v as (λ v. begins_fraction behind ≡ v → HasNumber (cond v (lexeme (form.Token kind.Decimal) (w + (1 + prefix_len is_digit (drop 1 behind)))) (lexeme (form.Token kind.Whole) w)) text) [
       | true ↦ λ e.
           (let both = and_true (begins (λ b. eqb b 46) behind) (begins is_digit (drop 1 behind)) e in
           let f = first_of_begins (λ b. eqb b 46) behind both.0 in
@@ -278,7 +278,7 @@ has_number_behind text d =
     found (begins_fraction behind) refl
 
 tells-number : (text : List ℕ) → begins is_digit text ≡ true → Tells text (number text)
-unfolding number number_piece
+unfolding number number_lexeme
 tells-number text d =
     let h = has_number_behind text d in
     tells-apart (number_behind (prefix_len is_digit text) (drop (prefix_len is_digit text) text)) text h.front h.is_number
@@ -287,7 +287,7 @@ tells-fraction : (bs : List ℕ) → begins is_digit bs ≡ true → Tells (46 �
 unfolding number
 tells-fraction bs d =
     let h = has_decimal (46 ∷ bs) [] bs (0 + (1 + prefix_len is_digit bs)) refl refl d refl in
-    rw (number_piece-decimal [] bs refl d) (tells-apart (piece (form.Token kind.Decimal) (0 + (1 + prefix_len is_digit bs))) (46 ∷ bs) h.front h.is_number)
+    rw (number_lexeme-decimal [] bs refl d) (tells-apart (lexeme (form.Token kind.Decimal) (0 + (1 + prefix_len is_digit bs))) (46 ∷ bs) h.front h.is_number)
 
 quote_first : (bs : List ℕ) → begins (λ b. eqb b 34) bs ≡ true → begins (λ b. eqb b 34) (drop (prefix_len is_name_byte bs) bs) ≡ true
 quote_first [] h = absurd (cc)
@@ -343,7 +343,7 @@ no_text bs q xs ys e h =
     let f : closing bs ≡ Some i.end = ap closing (t ∙ append_assoc (doubled h.content) (39 ∷ []) ys) ∙ i.is in
     cc
 
-tells-text : (bs : List ℕ) (o : Option ℕ) → closing bs ≡ o → TextEnds o bs → Tells (39 ∷ bs) (text_piece o)
+tells-text : (bs : List ℕ) (o : Option ℕ) → closing bs ≡ o → TextEnds o bs → Tells (39 ∷ bs) (text_lexeme o)
 tells-text bs None e i = inl (refl, no_text bs e)
 tells-text bs (Some n) e i = record {
   bytes = 39 ∷ (doubled i.content ++ 39 ∷ []);
@@ -360,7 +360,7 @@ no_block bs q xs ys e h =
     ap comment_end (t ∙ append_assoc h.inside (42 ∷ 47 ∷ []) ys) ∙ comment_end-found h.inside ys h.first_end in
     cc
 
-tells-block : (bs : List ℕ) (o : Option ℕ) → comment_end bs ≡ o → CommentEnds o bs → Tells (47 ∷ 42 ∷ bs) (comment_piece o)
+tells-block : (bs : List ℕ) (o : Option ℕ) → comment_end bs ≡ o → CommentEnds o bs → Tells (47 ∷ 42 ∷ bs) (comment_lexeme o)
 tells-block bs None e i = inr (inr (refl, refl, no_block bs e))
 tells-block bs (Some n) e i = record {
   bytes = 47 ∷ 42 ∷ (i.inside ++ 42 ∷ 47 ∷ []);
@@ -370,7 +370,7 @@ tells-block bs (Some n) e i = record {
   is_form = record { inside = i.inside; spelled = refl; first_end = i.first_end };
 }
 
-tells-slash : (bs : List ℕ) → begins (λ c. eqb c 42) bs ≡ true → Tells (47 ∷ bs) (comment_piece (comment_end (drop 1 bs)))
+tells-slash : (bs : List ℕ) → begins (λ c. eqb c 42) bs ≡ true → Tells (47 ∷ bs) (comment_lexeme (comment_end (drop 1 bs)))
 tells-slash [] h = absurd (cc)
 tells-slash (c ∷ bs) h = rw (is_that 42 c h) (tells-block bs (comment_end bs) refl (comment_ends bs))
 
@@ -406,9 +406,9 @@ no_front text e f xs ys q h =
 tells-symbol : (b : ℕ) (bs : List ℕ) → class_of b ≡ class.Other → b ≢ 39 → b ≢ 34 → Tells (b ∷ bs) (symbol b bs)
 unfolding symbol
 tells-symbol b bs k n m =
-    let none : Result Piece Stop = Err (stop.BadByte 0) in
-    let third : Result Piece Stop = cond (eqb b 36 && begins is_digit bs) (token kind.Symbol (1 + prefix_len is_digit bs)) none in
-    let second : Result Piece Stop = cond (is_mark b) (token kind.Symbol 1) third in
+    let none : Result Lexeme NoLexeme = Err (stop.BadByte 0) in
+    let third : Result Lexeme NoLexeme = cond (eqb b 36 && begins is_digit bs) (token kind.Symbol (1 + prefix_len is_digit bs)) none in
+    let second : Result Lexeme NoLexeme = cond (is_mark b) (token kind.Symbol 1) third in
     tells_if (b ∷ bs) (begins (is_pair b) bs) (token kind.Symbol 2) second
     (λ t. let f = first_of_begins (is_pair b) bs t in
     record { bytes = b ∷ f.first ∷ []; rest = f.rest; spelled = ap (λ ys. b ∷ ys) f.spelled; long = refl; is_form = inl f.passes })
@@ -429,10 +429,10 @@ tells_by class.Point b bs k c =
 tells_by class.Quote b bs k c = rw c (tells-quoted bs)
 tells_by class.Apostrophe b bs k c = rw c (tells-text bs (closing bs) refl (text_ends bs))
 tells_by class.Minus b bs k c =
-    rw c (tells_if (45 ∷ bs) (begins (λ d. eqb d 45) bs) (Ok (piece form.LineComment (1 + prefix_len is_line_byte bs))) (token kind.Symbol 1)
+    rw c (tells_if (45 ∷ bs) (begins (λ d. eqb d 45) bs) (Ok (lexeme form.LineComment (1 + prefix_len is_line_byte bs))) (token kind.Symbol 1)
     (λ d. tells-line bs d) (λ _. tells-mark 45 bs refl))
 tells_by class.Slash b bs k c =
-    rw c (tells_if (47 ∷ bs) (begins (λ d. eqb d 42) bs) (comment_piece (comment_end (drop 1 bs))) (token kind.Symbol 1)
+    rw c (tells_if (47 ∷ bs) (begins (λ d. eqb d 42) bs) (comment_lexeme (comment_end (drop 1 bs))) (token kind.Symbol 1)
     (λ d. tells-slash bs d) (λ _. tells-mark 47 bs refl))
 tells_by class.Other b bs k c = tells-symbol b bs k c.0 c.1
 

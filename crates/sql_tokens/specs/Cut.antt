@@ -1,4 +1,4 @@
--- A text cut into its longest pieces, its tokens, and the first fault of a text that has none.
+-- A text cut into its longest lexemes, its tokens, and the first fault of a text that has none.
 use Rattle.std.specs.Prelude.{◌≡◌, ◌≢◌, ℕ, ◌+◌, ◌≤◌, true, false, ◌==◌, ◌⊎◌, List, [], ◌∷◌, ◌++◌, length, Option, Some, None}
 use Rattle.sql_tokens.specs.Byte.{is_letter, begins}
 use Rattle.sql_tokens.specs.Form.{IsForm, IsText, IsQuoted, IsBlockComment, IsWhole, IsDecimal}
@@ -8,16 +8,16 @@ use Rattle.sql_tokens.specs.declared.token.TokenKind.TheVariants as kind
 use Rattle.sql_tokens.specs.declared.token.Token.{Token}
 use Rattle.sql_tokens.specs.declared.token_list.TokenFault.{TokenFault}
 use Rattle.sql_tokens.specs.declared.token_list.TokenFault.TheVariants as fault
-use Rattle.sql_tokens.specs.declared.piece.Stop.{Stop}
-use Rattle.sql_tokens.specs.declared.piece.Stop.TheVariants as stop
-use Rattle.sql_tokens.specs.declared.piece.Form.{Form}
-use Rattle.sql_tokens.specs.declared.piece.Form.TheVariants as form
+use Rattle.sql_tokens.specs.declared.lexeme.NoLexeme.{NoLexeme}
+use Rattle.sql_tokens.specs.declared.lexeme.NoLexeme.TheVariants as stop
+use Rattle.sql_tokens.specs.declared.lexeme.Form.{Form}
+use Rattle.sql_tokens.specs.declared.lexeme.Form.TheVariants as form
 
 -- no front of the text is one
 abbrev pub NoFront : (List ℕ → Type 0) → List ℕ → Type 0
 NoFront P text = (front rest : List ℕ) → text ≡ front ++ rest → P front → ⊥
 
--- no front of the text that is a piece is longer
+-- no front of the text that is a lexeme is longer
 abbrev pub IsLongest : List ℕ → List ℕ → Type 0
 IsLongest bytes text = (f : Form) (front rest : List ℕ) → text ≡ front ++ rest → IsForm f front → length front ≤ length bytes
 
@@ -55,7 +55,7 @@ pub record LetterBehind (text : List ℕ) (n : ℕ) : Type 0 where
   pub letter : begins is_letter rest ≡ true
   pub place : n ≡ length number
 
--- the first byte is no quote, and no front is a piece
+-- the first byte is no quote, and no front is a lexeme
 abbrev pub BeginsNothing : List ℕ → ℕ → Type 0
 BeginsNothing [] n = ⊥
 BeginsNothing (b ∷ bs) n = (b ≢ 39) × (b ≢ 34) × ((f : Form) → NoFront (IsForm f) (b ∷ bs)) × (n ≡ 0)
@@ -64,19 +64,19 @@ BeginsNothing (b ∷ bs) n = (b ≢ 39) × (b ≢ 34) × ((f : Form) → NoFront
 abbrev pub IsBad : List ℕ → ℕ → Type 0
 IsBad text n = EmptyName text n ⊎ (LetterBehind text n ⊎ BeginsNothing text n)
 
--- the bytes are the longest piece that stands at the front of bytes ++ rest, and no fault stands there
+-- the bytes are the longest lexeme that stands at the front of bytes ++ rest, and no fault stands there
 pub record Stands (f : Form) (bytes rest : List ℕ) : Type 0 where
   pub is_form : IsForm f bytes
   pub longest : IsLongest bytes (bytes ++ rest)
   pub closed : IsOpen (bytes ++ rest) → ⊥
   pub good : (n : ℕ) → IsBad (bytes ++ rest) n → ⊥
 
--- one piece of a text
+-- one lexeme of a text
 pub record Part : Type 0 where
   pub form : Form
   pub bytes : List ℕ
 
--- the text is cut into these pieces from the left, and the rest is left
+-- the text is cut into these lexemes from the left, and the rest is left
 abbrev pub IsCut : List Part → List ℕ → List ℕ → Type 0
 IsCut [] text rest = text ≡ rest
 IsCut (p ∷ ps) text rest =
@@ -91,17 +91,17 @@ abbrev pub weight_token : ℕ → Option ℕ → List Token
 weight_token at None = []
 weight_token at (Some n) = token_at kind.Weight at n ∷ []
 
--- the tokens of one piece behind so many bytes: a token is itself, a line comment may give a weight
-abbrev pub tokens_of_piece : ℕ → Form → List ℕ → List Token
-tokens_of_piece at form.Blank bytes = []
-tokens_of_piece at form.LineComment bytes = weight_token at (weight_length bytes)
-tokens_of_piece at form.BlockComment bytes = []
-tokens_of_piece at (form.Token k) bytes = token_at k at (length bytes) ∷ []
+-- the tokens of one lexeme behind so many bytes: a token is itself, a line comment may give a weight
+abbrev pub tokens_of_lexeme : ℕ → Form → List ℕ → List Token
+tokens_of_lexeme at form.Blank bytes = []
+tokens_of_lexeme at form.LineComment bytes = weight_token at (weight_length bytes)
+tokens_of_lexeme at form.BlockComment bytes = []
+tokens_of_lexeme at (form.Token k) bytes = token_at k at (length bytes) ∷ []
 
--- the tokens of pieces behind so many bytes
+-- the tokens of lexemes behind so many bytes
 abbrev pub tokens_of : ℕ → List Part → List Token
 tokens_of at [] = []
-tokens_of at (p ∷ ps) = tokens_of_piece at p.form p.bytes ++ tokens_of (at + length p.bytes) ps
+tokens_of at (p ∷ ps) = tokens_of_lexeme at p.form p.bytes ++ tokens_of (at + length p.bytes) ps
 
 -- the text has these tokens
 pub record AreTokens (text : List ℕ) (list : List Token) : Type 0 where
@@ -133,11 +133,11 @@ HasFault text (fault.BadByte place) = HasBadByte text place
 HasFault text (fault.OpenText place) = HasOpenText text place
 
 -- how many bytes stand between a rest and the byte that is no good
-abbrev pub stop_length : Stop → ℕ
+abbrev pub stop_length : NoLexeme → ℕ
 stop_length (stop.BadByte behind) = behind
 stop_length stop.OpenText = 0
 
 -- the fault behind so many bytes
-abbrev pub fault_at : ℕ → Stop → TokenFault
+abbrev pub fault_at : ℕ → NoLexeme → TokenFault
 fault_at at (stop.BadByte behind) = fault.BadByte (at + behind + 1)
 fault_at at stop.OpenText = fault.OpenText (at + 1)

@@ -1,11 +1,11 @@
--- The forms of pieces. Each is a test of all the bytes of a piece.
+-- The forms of lexemes. Each is a test of all the bytes of a lexeme.
 use Rattle.std.specs.Prelude.{◌≡◌, ℕ, ◌<◌, Bool, false, ◌||◌, ◌⊎◌, if◌then◌else◌, ◌==◌, List, [], ◌∷◌, ◌++◌, length, IsTrue}
 use Rattle.std.specs.List.{list_all}
 use Rattle.sql_tokens.specs.Byte.{is_letter, is_word_byte, is_digit, is_blank, is_line_byte, is_name_byte, is_mark, is_pair, ends_comment}
 use Rattle.sql_tokens.specs.declared.token.TokenKind.{TokenKind}
 use Rattle.sql_tokens.specs.declared.token.TokenKind.TheVariants as kind
-use Rattle.sql_tokens.specs.declared.piece.Form.{Form}
-use Rattle.sql_tokens.specs.declared.piece.Form.TheVariants as form
+use Rattle.sql_tokens.specs.declared.lexeme.Form.{Form}
+use Rattle.sql_tokens.specs.declared.lexeme.Form.TheVariants as form
 
 -- a letter or `_`, then letters, digits and `_`
 abbrev pub IsWord : List ℕ → Type 0
@@ -87,7 +87,7 @@ IsToken kind.Text bytes = IsText bytes
 IsToken kind.Symbol bytes = IsSymbol bytes
 IsToken kind.Weight bytes = ⊥
 
--- the bytes are a piece of the form
+-- the bytes are a lexeme of the form
 abbrev pub IsForm : Form → List ℕ → Type 0
 IsForm form.Blank bytes = IsBlank bytes
 IsForm form.LineComment bytes = IsLineComment bytes

@@ -3,23 +3,23 @@ ghost use Rattle.std.specs.Prelude.{◌≡◌, ◌+◌, ◌<◌, ◌≤◌, ◌^
 ghost use Rattle.std.specs.Option.{option_to_list};
 ghost use Rattle.sql_tokens.specs.declared.token.Token.{Token};
 ghost use Rattle.sql_tokens.specs.declared.token_list.TokenFault.{TokenFault};
-ghost use Rattle.sql_tokens.specs.Cut.{AreTokens, HasFault, tokens_of_piece, fault_at, token_at, stop_length};
+ghost use Rattle.sql_tokens.specs.Cut.{AreTokens, HasFault, tokens_of_lexeme, fault_at, token_at, stop_length};
 
 use crate::byte::after;
 use crate::front::front;
-use crate::piece::{Form, Stop};
+use crate::lexeme::{Form, NoLexeme};
 use crate::weight::weight_length;
 use crate::{Span, Token, TokenFault, TokenKind, Tokens};
 use std::alloc::Global;
 
 /// The fault behind so many bytes.
-fn fault_at(at: u64, stop: Stop) -> TokenFault
+fn fault_at(at: u64, stop: NoLexeme) -> TokenFault
     requires { at + stop_length stop + 1 < 2 ^ 64 }
     ensures { result ≡ fault_at at stop }
 {
     match stop {
-        Stop::BadByte(behind) => TokenFault::BadByte(at + behind as u64 + 1),
-        Stop::OpenText => TokenFault::OpenText(at + 1),
+        NoLexeme::BadByte(behind) => TokenFault::BadByte(at + behind as u64 + 1),
+        NoLexeme::OpenText => TokenFault::OpenText(at + 1),
     }
 }
 
@@ -37,11 +37,11 @@ fn token_at(kind: TokenKind, at: u64, length: usize) -> Token
     }
 }
 
-/// The token that a piece gives, if it gives one.
+/// The token that a lexeme gives, if it gives one.
 fn token_of(at: u64, form: Form, bytes: &[u8]) -> Option<Token>
     requires fits { at + length bytes.now < 2 ^ 64 }
     requires comment { form ≡ Form.LineComment → 2 ≤ length bytes.now }
-    ensures { option_to_list result ≡ tokens_of_piece at form bytes.now }
+    ensures { option_to_list result ≡ tokens_of_lexeme at form bytes.now }
 {
     match form {
         Form::Blank => None,
@@ -67,8 +67,8 @@ fn add(list: &mut Vec<Token>, token: Option<Token>) -> Result<(), TokenFault>
     }
 }
 
-/// Cuts a text, as the workload of SQL statements is given, into its tokens: from the left, each piece the
-/// longest that stands there, where blanks and comments are pieces too and give no token, except that a line
+/// Cuts a text, as the workload of SQL statements is given, into its tokens: from the left, each lexeme the
+/// longest that stands there, where blanks and comments are lexemes too and give no token, except that a line
 /// comment may give the weight of a statement. The text is any bytes, of any length. Memory is taken for the
 /// list alone, and each byte is read a fixed number of times.
 ///
@@ -94,13 +94,13 @@ pub fn tokens<'a>(alloc: Global, text: &'a [u8]) -> Result<Tokens<'a>, TokenFaul
     let mut rest = text;
     let mut at: u64 = 0;
     while !rest.is_empty() {
-        let piece = match front(rest) {
-            Ok(piece) => piece,
+        let lexeme = match front(rest) {
+            Ok(lexeme) => lexeme,
             Err(stop) => return Err(fault_at(at, stop)),
         };
-        let (bytes, behind) = rest.split_at(piece.length);
-        add(&mut list, token_of(at, piece.form, bytes))?;
-        at += piece.length as u64;
+        let (bytes, behind) = rest.split_at(lexeme.length);
+        add(&mut list, token_of(at, lexeme.form, bytes))?;
+        at += lexeme.length as u64;
         rest = behind;
     }
     Ok(Tokens {

@@ -1,12 +1,12 @@
-//! The piece at the front of a text.
+//! The lexeme at the front of a text.
 ghost use Rattle.std.specs.Prelude.{◌≡◌, ◌+◌, ◌<◌, ◌≤◌, length, IsTrue, IfOk, IfErr, IfSome};
-ghost use Rattle.sql_tokens.specs.Front.{begins_fraction, number_piece, number, quoted, closing, text_piece, comment_end, comment_piece, symbol, front};
+ghost use Rattle.sql_tokens.specs.Front.{begins_fraction, number_lexeme, number, quoted, closing, text_lexeme, comment_end, comment_lexeme, symbol, front};
 ghost use Rattle.sql_tokens.specs.Cut.{stop_length};
 ghost use Rattle.sql_tokens.specs.Byte.{begins, is_mark, is_pair, ends_comment};
 
 use crate::TokenKind;
 use crate::byte::{ByteSet, Class, after, class_of};
-use crate::piece::{Form, Piece, Stop};
+use crate::lexeme::{Form, Lexeme, NoLexeme};
 
 /// Whether the bytes begin with a point and a digit.
 fn begins_fraction(bytes: &[u8]) -> bool
@@ -17,21 +17,21 @@ fn begins_fraction(bytes: &[u8]) -> bool
 }
 
 /// Digits, and where a point and a digit follow, the point and its digits.
-#[tactic(auto, unfolding(crate::specs::Front::number_piece))]
-fn number_piece(bytes: &[u8]) -> Piece
-    ensures value { result ≡ number_piece bytes.now }
+#[tactic(auto, unfolding(crate::specs::Front::number_lexeme))]
+fn number_lexeme(bytes: &[u8]) -> Lexeme
+    ensures value { result ≡ number_lexeme bytes.now }
     ensures within { result.length ≤ length bytes.now }
 {
     let whole = ByteSet::Digit.run(bytes);
     let behind = after(bytes, whole);
     if begins_fraction(behind) {
         let fraction = ByteSet::Digit.run(after(behind, 1));
-        Piece {
+        Lexeme {
             form: Form::Token(TokenKind::Decimal),
             length: whole + (1 + fraction),
         }
     } else {
-        Piece {
+        Lexeme {
             form: Form::Token(TokenKind::Whole),
             length: whole,
         }
@@ -40,33 +40,33 @@ fn number_piece(bytes: &[u8]) -> Piece
 
 /// A number that no letter follows directly.
 #[tactic(auto, unfolding(crate::specs::Front::number))]
-fn number(bytes: &[u8]) -> Result<Piece, Stop>
+fn number(bytes: &[u8]) -> Result<Lexeme, NoLexeme>
     ensures value { result ≡ number bytes.now }
     ensures within { IfOk result (λ p. p.length ≤ length bytes.now) }
     ensures reach { IfErr result (λ s. stop_length s ≤ length bytes.now) }
 {
-    let piece = number_piece(bytes);
-    if ByteSet::Letter.begins(after(bytes, piece.length)) {
-        return Err(Stop::BadByte(piece.length));
+    let lexeme = number_lexeme(bytes);
+    if ByteSet::Letter.begins(after(bytes, lexeme.length)) {
+        return Err(NoLexeme::BadByte(lexeme.length));
     }
-    Ok(piece)
+    Ok(lexeme)
 }
 
 /// A quoted name, by what stands behind its first quote.
 #[tactic(auto, unfolding(crate::specs::Front::quoted))]
-fn quoted(behind: &[u8]) -> Result<Piece, Stop>
+fn quoted(behind: &[u8]) -> Result<Lexeme, NoLexeme>
     ensures value { result ≡ quoted behind.now }
     ensures within { IfOk result (λ p. p.length ≤ 1 + length behind.now) }
     ensures reach { IfErr result (λ s. stop_length s ≤ 1) }
 {
     let name = ByteSet::Name.run(behind);
     if !ByteSet::Quote.begins(after(behind, name)) {
-        return Err(Stop::OpenText);
+        return Err(NoLexeme::OpenText);
     }
     if name == 0 {
-        return Err(Stop::BadByte(1));
+        return Err(NoLexeme::BadByte(1));
     }
-    Ok(Piece {
+    Ok(Lexeme {
         form: Form::Token(TokenKind::Quoted),
         length: name + 2,
     })
@@ -134,21 +134,21 @@ fn is_pair(first: u8, second: u8) -> bool
 
 /// A symbol: two bytes, one byte, or `$` and digits.
 #[tactic(auto, unfolding(crate::specs::Front::symbol))]
-fn symbol(first: u8, behind: &[u8]) -> Result<Piece, Stop>
+fn symbol(first: u8, behind: &[u8]) -> Result<Lexeme, NoLexeme>
     ensures value { result ≡ symbol first behind.now }
     ensures within { IfOk result (λ p. p.length ≤ 1 + length behind.now) }
     ensures reach { IfErr result (λ s. stop_length s ≤ 1) }
 {
     let form = Form::Token(TokenKind::Symbol);
     if begins_pair(first, behind) {
-        Ok(Piece { form, length: 2 })
+        Ok(Lexeme { form, length: 2 })
     } else if is_mark(first) {
-        Ok(Piece { form, length: 1 })
+        Ok(Lexeme { form, length: 1 })
     } else if first == b'$' && ByteSet::Digit.begins(behind) {
         let length = 1 + ByteSet::Digit.run(behind);
-        Ok(Piece { form, length })
+        Ok(Lexeme { form, length })
     } else {
-        Err(Stop::BadByte(0))
+        Err(NoLexeme::BadByte(0))
     }
 }
 
@@ -161,37 +161,37 @@ fn begins_pair(first: u8, behind: &[u8]) -> bool
 }
 
 /// A text, by what stands behind its first quote.
-fn text(behind: &[u8]) -> Result<Piece, Stop>
-    ensures value { result ≡ text_piece (closing behind.now) }
+fn text(behind: &[u8]) -> Result<Lexeme, NoLexeme>
+    ensures value { result ≡ text_lexeme (closing behind.now) }
     ensures within { IfOk result (λ p. p.length ≤ 1 + length behind.now) }
     ensures reach { IfErr result (λ s. stop_length s ≤ 1) }
 {
     match closing(behind) {
-        Some(end) => Ok(Piece {
+        Some(end) => Ok(Lexeme {
             form: Form::Token(TokenKind::Text),
             length: 1 + end,
         }),
-        None => Err(Stop::OpenText),
+        None => Err(NoLexeme::OpenText),
     }
 }
 
 /// A block comment, by what stands behind its `/*`.
-fn block_comment(behind: &[u8]) -> Result<Piece, Stop>
-    ensures value { result ≡ comment_piece (comment_end behind.now) }
+fn block_comment(behind: &[u8]) -> Result<Lexeme, NoLexeme>
+    ensures value { result ≡ comment_lexeme (comment_end behind.now) }
     ensures within { IfOk result (λ p. p.length ≤ 2 + length behind.now) }
     ensures reach { IfErr result (λ s. stop_length s ≤ 1) }
 {
     match comment_end(behind) {
-        Some(end) => Ok(Piece {
+        Some(end) => Ok(Lexeme {
             form: Form::BlockComment,
             length: 2 + end,
         }),
-        None => Err(Stop::OpenText),
+        None => Err(NoLexeme::OpenText),
     }
 }
 
-/// The piece at the front of a text that has a byte, or why there is none.
-pub fn front(bytes: &[u8]) -> Result<Piece, Stop>
+/// The lexeme at the front of a text that has a byte, or why there is none.
+pub fn front(bytes: &[u8]) -> Result<Lexeme, NoLexeme>
     requires { 0 < length bytes.now }
     ensures value { result ≡ front bytes.now }
     ensures within { IfOk result (λ p. p.length ≤ length bytes.now) }
@@ -199,16 +199,16 @@ pub fn front(bytes: &[u8]) -> Result<Piece, Stop>
 {
     let first = bytes[0];
     let behind = after(bytes, 1);
-    let mark = Ok(Piece {
+    let mark = Ok(Lexeme {
         form: Form::Token(TokenKind::Symbol),
         length: 1,
     });
     match class_of(first) {
-        Class::Blank => Ok(Piece {
+        Class::Blank => Ok(Lexeme {
             form: Form::Blank,
             length: 1,
         }),
-        Class::Letter => Ok(Piece {
+        Class::Letter => Ok(Lexeme {
             form: Form::Token(TokenKind::Word),
             length: 1 + ByteSet::Word.run(behind),
         }),
@@ -216,7 +216,7 @@ pub fn front(bytes: &[u8]) -> Result<Piece, Stop>
         Class::Point if ByteSet::Digit.begins(behind) => number(bytes),
         Class::Quote => quoted(behind),
         Class::Apostrophe => text(behind),
-        Class::Minus if ByteSet::Minus.begins(behind) => Ok(Piece {
+        Class::Minus if ByteSet::Minus.begins(behind) => Ok(Lexeme {
             form: Form::LineComment,
             length: 1 + ByteSet::Line.run(behind),
         }),

@@ -1,5 +1,5 @@
 //! Laws of the tokens of a text, each proved of all texts.
-ghost use Rattle.std.specs.Prelude.{◌≡◌, ◌↔◌, ℕ, List, Some};
+ghost use Rattle.std.specs.Prelude.{◌≡◌, ◌↔◌, ◌⊎◌, ℕ, List, Some};
 ghost use Rattle.sql_tokens.specs.Form.{IsLineComment};
 ghost use Rattle.sql_tokens.specs.Weight.{HoldsWeight, weight_length};
 ghost use Rattle.sql_tokens.specs.declared.token.Token.{Token};
@@ -14,6 +14,11 @@ pub fn one_list()
 /// A text has one first fault.
 pub fn one_fault()
     ensures { (text : List ℕ) (e f : TokenFault) → HasFault text e → HasFault text f → e ≡ f }
+{}
+
+/// A text has tokens or a fault.
+pub fn some_answer()
+    ensures { (text : List ℕ) → ((list : List Token) × AreTokens text list) ⊎ ((e : TokenFault) × HasFault text e) }
 {}
 
 /// A text that has tokens has no fault.

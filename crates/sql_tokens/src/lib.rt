@@ -5,15 +5,12 @@ mod byte;
 mod cut;
 mod front;
 mod laws;
-mod piece;
+mod lexeme;
 mod token;
 mod token_list;
 mod weight;
 
 pub use cut::tokens;
-pub use laws::{one_fault, one_list, one_weight, tokens_or_fault};
+pub use laws::{one_fault, one_list, one_weight, some_answer, tokens_or_fault};
 pub use token::{Span, Token, TokenKind};
 pub use token_list::{TokenFault, Tokens};
-
-#[cfg(test)]
-mod tests;

@@ -1,11 +1,23 @@
 //! One token of a text.
 
-/// A piece of a text: the bytes `text[from..to]`, counted from 0. The place of its first byte, as
+/// A part of a text: the bytes `text[from..to]`, counted from 0. The place of its first byte, as
 /// faults name places, counts from 1: it is `from + 1`.
 #[derive(Clone, Copy, Debug, PartialEq, Eq)]
 pub struct Span {
     pub from: u64,
     pub to: u64,
+}
+
+impl Span {
+    ghost use Rattle.std.specs.Prelude.{◌≡◌, ◌+◌, ◌<◌, ◌^◌};
+
+    /// The place of the first byte, counted from 1.
+    pub fn place(self) -> u64
+        requires { self.from + 1 < 2 ^ 64 }
+        ensures { result ≡ self.from + 1 }
+    {
+        self.from + 1
+    }
 }
 
 /// What a token is.

@@ -3,6 +3,7 @@ ghost use Rattle.std.specs.Prelude.{◌≡◌, ℕ, ◌<◌, ◌≤◌, IsTrue, 
 ghost use Rattle.std.specs.Option.{ForSome};
 ghost use Rattle.adv_base.specs.Limits.Numbers.{EndLimits};
 ghost use Rattle.adv_base.specs.declared.workload.predicate.Test.TheVariants.{Same, OneOf};
+ghost use Rattle.adv_base.specs.declared.limits.TheConstants.{MOST_ROWS};
 
 use crate::parts::test_part;
 use adv_base::{Block, Catalogue, Column, Edge, Kind, List, Name, Pred, Rates, Slot, Table, Test};
@@ -26,7 +27,7 @@ fn no_name(alloc: Global) -> Name {
 /// Whether a number of distinct values keeps its limits.
 fn is_count(count: Option<u64>) -> bool
     ensures least { IsTrue result → ForSome count (λ d. 1 ≤ d) }
-    ensures most { IsTrue result → ForSome count (λ d. d ≤ 1000000000000) }
+    ensures most { IsTrue result → ForSome count (λ d. d ≤ MOST_ROWS) }
 {
     match count {
         None => true,

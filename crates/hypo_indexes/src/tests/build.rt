@@ -1,10 +1,14 @@
 //! Catalogues and shapes for tests.
 ghost use Rattle.std.specs.Prelude.{◌≡◌, ℕ, ◌<◌, ◌≤◌, IsTrue, IfSome, All, length, IfOk};
-ghost use Rattle.adv_base.specs.Lookups.{column_count as columns_of_table};
-ghost use Rattle.adv_base.specs.Named.{NamesShape};
+ghost use Rattle.adv_base.specs.Lookups.{column_count};
+ghost use Rattle.adv_base.specs.Named.{NamesBlock, NamesShape, NamesWork};
+ghost use Rattle.adv_base.specs.declared.catalogue.Catalogue.{Catalogue};
 
 use crate::index_pages;
-use adv_base::{Catalogue, Column, Config, IndexShape, Kind, List, Name, Rates, Table};
+use adv_base::{
+    Block, Catalogue, Column, Config, IndexShape, Kind, List, Name, Rates, Slot, Statement, Table,
+    Work,
+};
 use std::alloc::{AllocError, Global};
 
 /// A name without bytes.
@@ -73,19 +77,13 @@ fn first_numbers(alloc: Global, count: u16) -> Result<Vec<u16>, AllocError>
 }
 
 /// A catalogue of one such table.
-pub fn one_table(alloc: Global, rows: u64, widths: &[u16]) -> Option<Catalogue> {
+pub fn one_table(alloc: Global, rows: u64, widths: &[u16]) -> Option<Catalogue>
+    ensures tables { IfSome result (λ cat. length cat.tables ≡ 1) }
+    ensures columns { IfSome result (λ cat. 0 < column_count cat 0) }
+{
     let tables = Vec::from_array(alloc, [table(alloc, rows, widths)?]).ok()?;
-    let rates = Rates {
-        seq_page: 1000,
-        rand_page: 4000,
-        row_cpu: 10,
-        sort_cpu: 5,
-        merge_cpu: 5,
-        hash_cpu: 8,
-        group_cpu: 5,
-    };
     Some(Catalogue {
-        rates,
+        rates: Rates::default(),
         tables: List { items: tables },
     })
 }
@@ -112,8 +110,8 @@ pub fn shapes(alloc: Global, count: u16) -> Result<Vec<IndexShape>, AllocError> 
 }
 
 /// How many columns the table of a number has.
-fn column_count(cat: &Catalogue, table: u16) -> usize
-    ensures { result ≡ columns_of_table cat.now table }
+fn columns_of(cat: &Catalogue, table: u16) -> usize
+    ensures { result ≡ column_count cat.now table }
 {
     match cat.tables.items.get(table as usize) {
         None => 0,
@@ -137,7 +135,7 @@ fn are_below(keys: &[u16], count: usize) -> bool
 fn names_shape(cat: &Catalogue, shape: &IndexShape) -> bool
     ensures { IsTrue result → NamesShape cat.now shape.now }
 {
-    let count = column_count(cat, shape.table);
+    let count = columns_of(cat, shape.table);
     (shape.table as usize) < cat.tables.len() && are_below(shape.keys.as_slice(), count)
 }
 
@@ -159,4 +157,62 @@ pub fn config(first: bool, second: bool) -> Config {
     on[0] = first;
     on[1] = second;
     Config { on }
+}
+
+/// A block over the first table without predicates.
+fn whole_table(alloc: Global) -> Option<Block>
+    ensures slots { IfSome result (λ block. length block.slots ≡ 1) }
+    ensures changes { IfSome result (λ block. block.may_cover ≡ false) }
+    ensures named { IfSome result (λ block. (cat : Catalogue) → 0 < length cat.tables → NamesBlock cat block) }
+{
+    let slot = Slot {
+        table: 0,
+        name: no_name(alloc),
+        needed: List::new(alloc),
+    };
+    Some(Block {
+        slots: List {
+            items: Vec::from_array(alloc, [slot]).ok()?,
+        },
+        preds: List::new(alloc),
+        edges: List::new(alloc),
+        group: None,
+        order: List::new(alloc),
+        may_cover: false,
+    })
+}
+
+/// An INSERT of two rows into the first table.
+pub fn insert() -> Statement
+    ensures { (cat : Catalogue) → 0 < length cat.tables → NamesWork cat result.work }
+{
+    Statement {
+        weight: 1,
+        work: Work::Insert { table: 0, rows: 2 },
+    }
+}
+
+/// A DELETE of all rows of the first table.
+pub fn delete(alloc: Global) -> Option<Statement>
+    ensures { IfSome result (λ s. (cat : Catalogue) → 0 < length cat.tables → NamesWork cat s.work) }
+{
+    Some(Statement {
+        weight: 1,
+        work: Work::Delete(whole_table(alloc)?),
+    })
+}
+
+/// An UPDATE of all rows of the first table that sets its first column.
+pub fn update(alloc: Global) -> Option<Statement>
+    ensures { IfSome result (λ s. (cat : Catalogue) → 0 < length cat.tables → 0 < column_count cat 0 → NamesWork cat s.work) }
+{
+    Some(Statement {
+        weight: 1,
+        work: Work::Update(
+            whole_table(alloc)?,
+            List {
+                items: Vec::from_array(alloc, [0]).ok()?,
+            },
+        ),
+    })
 }

@@ -12,18 +12,6 @@ pub fn up(slot: u8, column: u16) -> Item {
     Item::Up { slot, column }
 }
 
-pub fn rates() -> Rates {
-    Rates {
-        seq_page: 1000,
-        rand_page: 4000,
-        row_cpu: 10,
-        sort_cpu: 5,
-        merge_cpu: 5,
-        hash_cpu: 8,
-        group_cpu: 5,
-    }
-}
-
 /// An edge whose columns aren't bound.
 pub fn edge(left: u8, left_column: u16, right: u8, right_column: u16) -> TaskEdge {
     TaskEdge {
@@ -56,7 +44,16 @@ pub fn plain(
     let rows = List {
         items: Vec::from_slice(alloc, rows)?,
     };
-    Ok(checked_task(slots, edges, rows, None, 1, list(alloc, order)?, rates()).ok_or("no task")?)
+    Ok(checked_task(
+        slots,
+        edges,
+        rows,
+        None,
+        1,
+        list(alloc, order)?,
+        Rates::default(),
+    )
+    .ok_or("no task")?)
 }
 
 /// A task that groups.
@@ -83,7 +80,7 @@ pub fn grouping(
         group,
         group_rows,
         list(alloc, order)?,
-        rates(),
+        Rates::default(),
     )
     .ok_or("no task")?)
 }

@@ -2,11 +2,13 @@
 ghost use Rattle.std.specs.Prelude.{◌≡◌, ◌==◌, ◌≤◌, All, List, [], ◌∷◌, if◌then◌else◌, true};
 ghost use Rattle.std.specs.List.{find};
 ghost use Rattle.std.specs.Option.{option_map_or, option_copied};
+ghost use Rattle.adv_base.specs.declared.limits.TheConstants.{MOST_PRICE};
 ghost use Rattle.adv_base.specs.Items.{AreApart};
-ghost use Rattle.plan_model.specs.OfferTables.{is_up_of as is_up};
+ghost use Rattle.adv_base.specs.Items as rule;
 
 use crate::checked::are_apart;
 use crate::offers::Offers;
+use adv_base::limits::MOST_PRICE;
 use adv_base::{Item, List};
 
 /// The offers of a slot: the whole table, and an index, where there is one.
@@ -17,14 +19,14 @@ pub struct Reads {
     pub index: u64,
     pub keys: List<Item>,
     pub has_index: bool,
-    pub ghost heap_most: { heap ≤ 10000000000000000000 },
-    pub ghost index_most: { index ≤ 10000000000000000000 },
-    pub ghost own: { All (λ item. is_up slot item ≡ true) keys },
+    pub ghost heap_most: { heap ≤ MOST_PRICE },
+    pub ghost index_most: { index ≤ MOST_PRICE },
+    pub ghost own: { All (λ item. rule.is_up_of slot item ≡ true) keys },
     pub ghost apart: { AreApart keys },
 }
 
 fn is_key(item: &Item, slot: u8) -> bool
-    ensures { result ≡ is_up slot item.now }
+    ensures { result ≡ rule.is_up_of slot item.now }
 {
     match item {
         Item::Up { slot: own, .. } => *own == slot,
@@ -41,7 +43,7 @@ impl Reads {
         keys: List<Item>,
         has_index: bool,
     ) -> Option<Reads> {
-        if heap > 10000000000000000000 || index > 10000000000000000000 {
+        if heap > MOST_PRICE || index > MOST_PRICE {
             return None;
         }
         if !keys.as_slice().iter().all(|item| is_key(item, slot)) || !are_apart(keys.as_slice()) {

@@ -11,6 +11,7 @@ use Rattle.adv_base.specs.declared.workload.parts.Slot.{Slot}
 use Rattle.adv_base.specs.Configs.{chosen}
 use Rattle.adv_base.specs.Lookups.{table_at}
 use Rattle.adv_base.specs.Offers.{Offer, offers, offers_on, offers_of, index_offer}
+use Rattle.adv_base.proofs.OfferLaws.{offers_on-shapes}
 use Rattle.access_paths.specs.Candidates.{numbers_on}
 use Rattle.access_paths.specs.Labels.{index_words, candidate_words, reading_words, slot_words}
 use Rattle.access_paths.proofs.block_labels.labels.Goals as goal
@@ -46,6 +47,7 @@ slot_count cat block shapes config s slot (Some table) =
     length-map (existing ++ taken) read ∙ length-append existing taken
     ∙ rw (length-map table.indexes (λ (index : Index). index.shape)) refl in
     ap suc (words_are ∙ ap (λ (k : ℕ). length table.indexes + k) (number_count slot.table 1 config.on shapes) ∙ sym offers_are)
+    ∙ sym (ap length (offers_on-shapes cat block shapes config s slot table))
 
 -- and so has the slot at each place
 count_at : (cat : Catalogue) (block : Block) (shapes : List IndexShape) (config : Config) (slots : List Slot) (place s : ℕ) →

@@ -1,6 +1,6 @@
 use Rattle.std.proofs.Common.{ℕ, List, length, fold, ap, ◌∙◌}
 use Rattle.std.proofs.lemmas.List.FromFn.{length-range_with_len}
-use Rattle.binder.specs.Joins.{relabelled, labels_of}
+use Rattle.binder.specs.inner.Labels.{relabelled, labels_of}
 use Rattle.binder.specs.Plain.{plain_edges}
 use Rattle.binder.proofs.joins.labels.Goals as goal
 

@@ -1,5 +1,5 @@
 use Rattle.std.proofs.Common.{◌≡◌, drop, fold, length}
-use Rattle.binder.specs.Joins.{relabelled, labels_of}
+use Rattle.binder.specs.inner.Labels.{relabelled, labels_of}
 use Rattle.binder.specs.Plain.{plain_edges}
 use Rattle.binder.proofs.joins.labels.Given as goal
 

@@ -2,7 +2,7 @@ use Rattle.std.proofs.Common.{◌≡◌, ◌<◌, ℕ, length, get_or, arith, re
 use Rattle.std.proofs.lemmas.List.{get_or_read}
 use Rattle.std.proofs.lemmas.List.Edits.{map_over_more}
 use Rattle.std.proofs.lemmas.Grind.{common_steps}
-use Rattle.binder.specs.Joins.{renamed}
+use Rattle.binder.specs.inner.Labels.{renamed}
 use Rattle.binder.proofs.joins.relabel.Goals as goal
 
 pub loop-label-preserved : goal.loop-label-preserved

@@ -1,5 +1,5 @@
 use Rattle.std.proofs.Common.{◌≡◌, ◌++◌, map, take, drop}
-use Rattle.binder.specs.Joins.{renamed}
+use Rattle.binder.specs.inner.Labels.{renamed}
 use Rattle.binder.proofs.joins.relabel.Given as goal
 
 -- the labels so far are renamed, and the others are as they were

@@ -1,4 +1,4 @@
-use Rattle.std.proofs.Common.{◌≡◌, ◌≤◌, drop}
+use Rattle.std.proofs.Common.{◌≡◌, ◌≤◌, drop, length}
 use Rattle.binder.specs.Results.{in_turn}
 use Rattle.binder.specs.Statements.{with_statement, bound_of}
 use Rattle.binder.specs.View.{plain_bound}
@@ -9,4 +9,5 @@ abbrev pub invariant-loop-statement : goal.invariant-loop-statement
 invariant-loop-statement l = record {
   so_far : in_turn (with_statement l.directory.cat.now l.text) (plain_bound l.so_far) (drop l.statement-index l.parsed) ≡ bound_of l.directory.cat.now l.text l.parsed;
   few : l.so_far.slots ≤ 2000;
+  count : length l.so_far.statements ≡ l.statement-index;
 }

@@ -5,6 +5,7 @@ use Rattle.adv_base.specs.Lookups.{slot_table}
 use Rattle.adv_base.specs.Parts.{pred_part}
 use Rattle.adv_base.specs.Rows.{table_rows}
 use Rattle.adv_base.specs.Sums.{times_part}
+use Rattle.adv_base.specs.declared.limits.TheConstants.{MOST_ROWS}
 use Rattle.cardinality.proofs.rows.slot_rows.Given as goal
 
 abbrev pub invariant-loop-pred : goal.invariant-loop-pred
@@ -12,5 +13,5 @@ invariant-loop-pred l = record {
   rows : l.rows ≡ fold times_part (option_map_or table_rows (slot_table l.cat l.block l.slot) 1)
       (map (pred_part l.cat l.block) (filter (λ pred. pred.slot == l.slot) (take l.pred-index l.block.preds)));
   least : 1 ≤ l.rows;
-  most : l.rows ≤ 1000000000000;
+  most : l.rows ≤ MOST_ROWS;
 }

@@ -6,7 +6,8 @@ use Rattle.adv_base.specs.declared.workload.block.Block.{Block}
 use Rattle.adv_base.specs.Parts.{edge_part}
 use Rattle.adv_base.specs.Rows.{set_rows, edges_back}
 use Rattle.adv_base.specs.Sums.{times_part}
-use Rattle.cardinality.specs.Tables.{AreRows, HoldsRows}
+use Rattle.adv_base.specs.Rows.{AreRows}
+use Rattle.cardinality.specs.Tables.{HoldsRows}
 use Rattle.cardinality.proofs.RowLemmas.{set_rows-added}
 use Rattle.cardinality.proofs.TableLemmas.{HoldsRows-push}
 use Rattle.cardinality.proofs.table.add_slot.Goals as goal

@@ -1,7 +1,7 @@
 use Rattle.std.proofs.Common.{◌∷◌, [], take, fold}
 use Rattle.std.specs.List.{flat_map}
 use Rattle.plan_model.specs.Orders.{edge_orders}
-use Rattle.interesting_orders.specs.Marks.{add_order, AreMarks}
+use Rattle.interesting_orders.specs.inner.Marks.{add_order, AreMarks}
 use Rattle.interesting_orders.proofs.orders.order_count.Given as goal
 
 abbrev pub invariant-loop-edge : goal.invariant-loop-edge

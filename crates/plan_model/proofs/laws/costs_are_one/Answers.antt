@@ -1,4 +1,4 @@
-use Rattle.plan_model.proofs.Unique.{one-task, one-block_cost, one-cost, one-total}
+use Rattle.plan_model.proofs.Unique.{one-task, one-block_cost, one-cost, one-total, one-lagrangian}
 use Rattle.plan_model.proofs.laws.costs_are_one.Goals as goal
 
 pub returns-clause-task : goal.returns-clause-task
@@ -12,3 +12,6 @@ returns-clause-statement c = one-cost
 
 pub returns-clause-total : goal.returns-clause-total
 returns-clause-total c = one-total
+
+pub returns-clause-lagrangian : goal.returns-clause-lagrangian
+returns-clause-lagrangian c = one-lagrangian

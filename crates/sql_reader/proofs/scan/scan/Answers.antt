@@ -3,7 +3,7 @@ use Rattle.sql_reader.proofs.Steps.{go_start, go_on, go_end}
 use Rattle.sql_reader.proofs.scan.scan.Goals as goal
 
 pub turns-init : goal.turns-init
-turns-init c = go_start c.args.text.now c.args.tokens.now c.new-list.result (ap length c.new-list.ensures)
+turns-init c = go_start c.args.text.now c.args.tokens.now _ (ap length c.in_ok-list.ensures.ok)
 
 pub turns-preserved : goal.turns-preserved
 turns-preserved c =

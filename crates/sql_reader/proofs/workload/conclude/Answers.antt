@@ -1,12 +1,24 @@
-use Rattle.std.proofs.Common.{refl, inl, inr}
-use Rattle.std.proofs.lemmas.Result.{IfOk-weaker, IfErr-weaker}
+use Rattle.std.proofs.Common.{◌+◌, length, Option, refl, inr, subst}
+use Rattle.sql_reader.proofs.Limits.{limits}
+use Rattle.sql_reader.proofs.Unique.{no_grammar_fault, no_bad_weight, no_start}
+use Rattle.sql_reader.specs.declared.parsed.SqlFault.{SqlFault}
+use Rattle.sql_reader.specs.Workload.{GrammarSays}
 use Rattle.sql_reader.proofs.workload.conclude.Goals as goal
+
+pub parsed-requires-clause-within : goal.parsed-requires-clause-within
+parsed-requires-clause-within c =
+    let text = c.args.tokens.text.now in
+    let list = c.args.tokens.list in
+    let pieces = c.args.list.now in
+    let none = c.in-None.ensures in
+    limits text list pieces c.args.progress c.requires.short c.requires.tokens c.requires.pieces (no_bad_weight text list pieces c.args.fault none) (no_start text list pieces c.args.fault none)
+    (subst (λ (o : Option SqlFault). GrammarSays (length text + 1) pieces c.args.progress o) (no_grammar_fault text list pieces c.args.fault none) c.requires.says)
 
 pub returns : goal.returns
 returns c =
     record {
       same_text = c.parsed.ensures.text;
-      found = IfOk-weaker c.parsed.result _ _ (λ parsed same. record {
+      found = record {
         list = c.args.tokens.list;
         pieces = c.args.list.now;
         progress = c.args.progress;
@@ -15,9 +27,9 @@ returns c =
         are_pieces = c.requires.pieces;
         says = c.requires.says;
         first = c.in-None.ensures;
-        same = same;
-      }) c.parsed.ensures.statements;
-      fault = IfErr-weaker c.parsed.result _ _ (λ e memory. inl memory) c.parsed.ensures.err;
+        same = c.parsed.ensures.statements;
+      };
+      fault = tt;
     }
 
 pub returns-in-Some : goal.returns-in-Some

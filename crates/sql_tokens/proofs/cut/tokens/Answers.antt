@@ -1,7 +1,7 @@
 use Rattle.std.proofs.Common.{◌≡◌, ◌++◌, ◌<◌, length, take, sym, ap, ◌∙◌, subst, inl, inr, arith, rules}
-use Rattle.sql_tokens.specs.Cut.{HasFault, fault_at, tokens_of_piece}
+use Rattle.sql_tokens.specs.Cut.{HasFault, fault_at, tokens_of_lexeme}
 use Rattle.sql_tokens.proofs.OneCut.{one_list}
-use Rattle.sql_tokens.proofs.Reached.{reached_more, reached_all, reached_fault, reached_lies, reached_pairs, comment_long, piece_some, no_fault, one_fault}
+use Rattle.sql_tokens.proofs.Reached.{reached_more, reached_all, reached_fault, reached_lies, reached_pairs, comment_long, lexeme_some, no_fault, one_fault}
 use Rattle.sql_tokens.proofs.cut.tokens.Goals as goal
 
 pub returns-in-Err-clause-only : goal.returns-in-Err-clause-only
@@ -33,22 +33,22 @@ returns-in-Err-clause-fault_only c =
 
 pub token_of-requires-clause-comment : goal.token_of-requires-clause-comment
 token_of-requires-clause-comment c =
-    λ f. omega (arith, comment_long c.loop-rest.rest.now c.in-Ok.piece (sym c.in-Ok.ensures.value) f, c.split_at.ensures.front_len)
+    λ f. omega (arith, comment_long c.loop-rest.rest.now c.in-Ok.lexeme (sym c.in-Ok.ensures.value) f, c.split_at.ensures.front_len)
 
 pub loop-rest-smaller : goal.loop-rest-smaller
 loop-rest-smaller c =
-    omega (arith, piece_some c.loop-rest.rest.now c.in-Ok.piece (sym c.in-Ok.ensures.value), c.split_at.ensures.back_len)
+    omega (arith, lexeme_some c.loop-rest.rest.now c.in-Ok.lexeme (sym c.in-Ok.ensures.value), c.split_at.ensures.back_len)
 
 pub loop-rest-preserved : goal.loop-rest-preserved
 loop-rest-preserved c =
     let text = c.args.text.now in
     let rest = c.loop-rest.rest.now in
     let at = c.loop-rest.at in
-    let piece = c.in-Ok.piece in
+    let lexeme = c.in-Ok.lexeme in
     let list = c.loop-rest.list.items in
-    let e : c.add.new.list.items ≡ c.loop-rest.list.items ++ tokens_of_piece at piece.form (take piece.length rest) =
-    c.in_ok-add.ensures ∙ ap (λ ts. c.loop-rest.list.items ++ ts) (c.token_of.ensures ∙ ap (tokens_of_piece at piece.form) c.split_at.ensures.front) in
-    rw (c.split_at.ensures.back, e) (reached_more text rest at list piece c.loop-rest.invariant (sym c.in-Ok.ensures.value))
+    let e : c.add.new.list.items ≡ c.loop-rest.list.items ++ tokens_of_lexeme at lexeme.form (take lexeme.length rest) =
+    c.in_ok-add.ensures ∙ ap (λ ts. c.loop-rest.list.items ++ ts) (c.token_of.ensures ∙ ap (tokens_of_lexeme at lexeme.form) c.split_at.ensures.front) in
+    rw (c.split_at.ensures.back, e) (reached_more text rest at list lexeme c.loop-rest.invariant (sym c.in-Ok.ensures.value))
 
 pub invariant_of-result : goal.invariant_of-result
 invariant_of-result c =

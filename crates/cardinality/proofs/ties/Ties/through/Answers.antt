@@ -2,7 +2,7 @@ use Rattle.std.proofs.Common.{◌≡◌, ◌<◌, length, get_or, ap, ◌∙◌,
 use Rattle.std.proofs.lemmas.List.{get_or-map}
 use Rattle.adv_base.specs.declared.workload.parts.Edge.{Edge}
 use Rattle.adv_base.specs.Parts.{edge_part}
-use Rattle.cardinality.proofs.CallerLemmas.{IsPart, edge_part-bounds}
+use Rattle.adv_base.proofs.RowBounds.{IsPart, edge_part-bounds}
 use Rattle.cardinality.proofs.ties.Ties.through.Goals as goal
 
 is_part : (c : goal.After-row_known-1) → IsPart c.index.result.now

@@ -5,7 +5,8 @@ use Rattle.std.proofs.lemmas.Bool.{cases_Bool, eqb-true}
 use Rattle.std.proofs.lemmas.List.Elements.{All-cons, All-nil}
 use Rattle.adv_base.specs.declared.workload.parts.Item.{Item}
 use Rattle.plan_model.specs.declared.tests.table.Reads.{Reads}
-use Rattle.plan_model.specs.OfferTables.{is_up_of, OfferLimits}
+use Rattle.adv_base.specs.OfferTables.{OfferLimits}
+use Rattle.adv_base.specs.Items.{is_up_of}
 use Rattle.plan_model.proofs.tests.table.TableOffers.limits.Goals as goal
 
 find-passes : (p : Reads → Bool) (xs : List Reads) (x : Reads) → find p xs ≡ Some x → p x ≡ true

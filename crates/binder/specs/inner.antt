@@ -1,0 +1,2 @@
+-- What the code computes on its way, told as it computes it; no public clause rests on it.
+pub mod Labels

@@ -1,0 +1,12 @@
+use Rattle.std.proofs.Common.{◌≡◌, length}
+use Rattle.sql_reader.specs.Exact.{reads}
+use Rattle.sql_reader.specs.Grammar as rule
+use Rattle.sql_reader.proofs.cursor.GrammarReader.more_columns.Given as goal
+
+-- what is left to read is what was to be read
+abbrev pub invariant-turns : goal.invariant-turns
+invariant-turns l =
+    reads rule.grammar l.self.levels rule.more_columns l.all l.cursor.rest.now ≡ reads rule.grammar l.self.levels rule.more_columns l.fn.all l.fn.cursor.rest.now
+
+abbrev pub decreases-turns : goal.decreases-turns
+decreases-turns l = length l.cursor.rest.now

@@ -1,0 +1,2 @@
+-- How the code reads, apart from what it reads.
+pub mod Reads

@@ -1,0 +1,5 @@
+use Rattle.sql_tokens.proofs.Answered.{answered}
+use Rattle.sql_tokens.proofs.laws.some_answer.Goals as goal
+
+pub returns : goal.returns
+returns c = λ text. answered text

@@ -1,0 +1,1 @@
+"""What the tools know of the files that `cophy` reads and of the texts that it prints."""

@@ -1,0 +1,134 @@
+"""The texts that `cophy` prints, as docs/FORMATS.md gives them, taken apart."""
+from __future__ import annotations
+
+import re
+from dataclasses import dataclass, field
+
+PAGE = 8192
+_PICK = re.compile(r"(?:pick )?(\d+) ([A-Za-z0-9_]+)\(([A-Za-z0-9_]+(?:, [A-Za-z0-9_]+)*)\) (\d+) pages\Z")
+_PRICE = re.compile(r"statement (\d+) weight (\d+) cost (\d+)\Z")
+_NUMBERS = {
+    "budget": re.compile(r"budget (\d+)\Z"),
+    "size": re.compile(r"size (\d+)\Z"),
+    "cost": re.compile(r"cost (\d+)\Z"),
+    "bound": re.compile(r"bound (-?\d+)\Z"),
+    "gap": re.compile(r"gap (\d+)\Z"),
+    "total": re.compile(r"total (\d+)\Z"),
+}
+
+
+class NoAnswer(Exception):
+    """A text that isn't the one that was expected."""
+
+
+@dataclass(frozen=True)
+class Candidate:
+    """A candidate index with its number, its table and its columns by their names in the catalogue, and its pages."""
+
+    number: int
+    table: str
+    columns: tuple[str, ...]
+    pages: int
+
+    def shown(self) -> str:
+        return f"{self.table}({', '.join(self.columns)})"
+
+
+@dataclass
+class Advice:
+    """What `advise` prints. Costs are in thousandths of a page read; sizes and the budget in pages."""
+
+    budget: int
+    picks: list[Candidate] = field(default_factory=list)
+    size: int = 0
+    cost: int = 0
+    bound: int = 0
+    gap: int = 0
+    nodes: str = ""
+    is_finished: bool = False
+
+
+@dataclass(frozen=True)
+class Price:
+    """A statement's weight and its cost without the weight."""
+
+    weight: int
+    cost: int
+
+
+@dataclass
+class Prices:
+    """What `cost` and `whatif` print: a price for each statement by its number, and their weighted sum."""
+
+    statements: dict[int, Price]
+    total: int
+    size: int | None = None
+
+
+def read_advice(text: str) -> Advice:
+    """Takes the text of `advise` apart; the lines of `bench` before it are passed over."""
+    advice = None
+    for line in text.splitlines():
+        if line.startswith("budget "):
+            advice = Advice(_number("budget", line))
+        elif advice is None:
+            continue
+        elif line.startswith("pick "):
+            advice.picks.append(_candidate(line))
+        elif line.startswith("nodes "):
+            advice.nodes = line.removeprefix("nodes ")
+        elif line in ("finished", "stopped"):
+            advice.is_finished = line == "finished"
+            return advice
+        elif line.split(" ")[0] in ("size", "cost", "bound", "gap"):
+            name = line.split(" ")[0]
+            setattr(advice, name, _number(name, line))
+    raise NoAnswer("this is no advice: it lacks the line 'finished' or 'stopped'")
+
+
+def read_candidates(text: str) -> list[Candidate]:
+    """Takes the text of `candidates` apart."""
+    lines = text.splitlines()
+    if not lines or not lines[-1].startswith("left over "):
+        raise NoAnswer("this is no list of candidates: it lacks the line 'left over'")
+    return [_candidate(it) for it in lines[:-1]]
+
+
+def read_prices(text: str) -> Prices:
+    """Takes the text of `cost` or `whatif` apart."""
+    prices = Prices({}, -1)
+    for line in text.splitlines():
+        price = _PRICE.match(line)
+        if price is not None:
+            prices.statements[int(price[1])] = Price(int(price[2]), int(price[3]))
+        elif line.startswith("size "):
+            prices.size = _number("size", line)
+        elif line.startswith("total "):
+            prices.total = _number("total", line)
+    if prices.total < 0:
+        raise NoAnswer("these are no prices: the line 'total' isn't there")
+    return prices
+
+
+def megabytes(pages: int) -> str:
+    """Pages of 8192 bytes in MB of 1048576 bytes."""
+    return f"{pages * PAGE / 1048576:.1f} MB"
+
+
+def explained(cost: float) -> float:
+    """A cost in the unit of PostgreSQL's EXPLAIN, where the catalogue has the rates of an export."""
+    return cost / 1000
+
+
+def _number(name: str, line: str) -> int:
+    found = _NUMBERS[name].match(line)
+    if found is None:
+        raise NoAnswer(f"the line '{name}' has no number")
+    return int(found[1])
+
+
+def _candidate(line: str) -> Candidate:
+    found = _PICK.match(line)
+    if found is None:
+        raise NoAnswer("a line of an index can't be read")
+    return Candidate(int(found[1]), found[2], tuple(found[3].split(", ")), int(found[4]))

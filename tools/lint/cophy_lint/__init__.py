@@ -1,0 +1,1 @@
+"""Warns of what `cophy` takes in silence, and of what makes its costs guesses."""

@@ -1,0 +1,60 @@
+"""Calls of the program."""
+from __future__ import annotations
+
+import argparse
+import os
+import subprocess
+import tempfile
+from collections.abc import Iterable
+from pathlib import Path
+
+from cophy_text.answers import Advice, Prices, read_advice, read_prices
+
+SCRIPT = Path(__file__).resolve().parents[3] / "cophy"
+
+
+class ProgramFault(Exception):
+    """The program didn't answer, or answered by a refusal."""
+
+
+def add_program(parser: argparse.ArgumentParser) -> None:
+    """The word that names the program."""
+    parser.add_argument(
+        "--program",
+        default=os.environ.get("COPHY_PROGRAM", str(SCRIPT)),
+        metavar="FILE",
+        help="the program; else that of COPHY_PROGRAM, and else the script cophy of this repository",
+    )
+
+
+class Program:
+    """The program over a catalogue and a workload."""
+
+    def __init__(self, file: str, catalogue: str, workload: str) -> None:
+        self.file, self.catalogue, self.workload = file, catalogue, workload
+
+    def text(self, command: str, *more: str) -> str:
+        """What a command prints. The program gets nothing of the connection to a server."""
+        kept = {it: value for it, value in os.environ.items() if not it.startswith("PG")}
+        words = [self.file, command, self.catalogue, self.workload, *more]
+        ran = subprocess.run(
+            words, stdin=subprocess.DEVNULL, stdout=subprocess.PIPE, env={**kept, "COPHY_HINTS": "0"}, check=False
+        )
+        text = ran.stdout.decode(errors="replace")
+        if ran.returncode not in (0, 1):
+            said = text.split("\n", 1)[0] or f"status {ran.returncode}"
+            raise ProgramFault(f"cophy {command} answers: {said}")
+        return text
+
+    def cost(self) -> Prices:
+        return read_prices(self.text("cost"))
+
+    def advise(self, budget: int, nodes: int | None = None) -> Advice:
+        return read_advice(self.text("advise", str(budget), *(("--nodes", str(nodes)) if nodes else ())))
+
+    def whatif(self, picks: Iterable[int]) -> Prices:
+        """The prices under a configuration of candidates."""
+        with tempfile.NamedTemporaryFile("w", prefix="cophy-conf-") as file:
+            file.write("".join(f"{it}\n" for it in sorted(picks)))
+            file.flush()
+            return read_prices(self.text("whatif", file.name))

@@ -1,0 +1,26 @@
+"""What goes to the standard error."""
+from __future__ import annotations
+
+import contextlib
+import sys
+import time
+
+
+class Progress:
+    """Tells what is being done once it has taken over a second."""
+
+    def __init__(self) -> None:
+        self.begun = time.monotonic()
+        self.told = self.begun
+
+    def __call__(self, text: str) -> None:
+        now = time.monotonic()
+        if now - self.told > 1:
+            self.told = now
+            say(f"{text}, {now - self.begun:.0f} s so far")
+
+
+def say(text: str) -> None:
+    """Writes a line to the standard error, where somebody reads it."""
+    with contextlib.suppress(BrokenPipeError):
+        print(f"cophy-pg: {text}", file=sys.stderr, flush=True)

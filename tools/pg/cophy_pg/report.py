@@ -1,0 +1,76 @@
+"""What became of the statements, as a text that holds no literal of the database."""
+from __future__ import annotations
+
+from collections.abc import Iterable
+
+from cophy_pg.rewrite import CHANGES
+from cophy_pg.workload import Record, Workload
+
+EFFECTS = {
+    "same": "the model has no notion that tells both forms apart",
+    "near": "the model would price the forms differently",
+    "less": "a part of the work isn't priced",
+}
+
+
+class Shares:
+    """Shares of all inputs, of their calls and of their time."""
+
+    def __init__(self, records: list[Record]) -> None:
+        self.count = max(1, len(records))
+        self.calls = max(1, sum(it.input.calls for it in records))
+        self.seconds = sum(it.input.seconds or 0.0 for it in records)
+
+    def of(self, records: Iterable[Record]) -> str:
+        """The number of the records, and their shares."""
+        listed = list(records)
+        calls = 100 * sum(it.input.calls for it in listed) / self.calls
+        text = f"{len(listed):6d} {100 * len(listed) / self.count:6.1f} % {calls:6.1f} % of calls"
+        if self.seconds > 0:
+            text += f" {100 * sum(it.input.seconds or 0.0 for it in listed) / self.seconds:6.1f} % of time"
+        return text
+
+
+def summary(workload: Workload) -> list[str]:
+    """How many inputs were kept, changed and skipped, and by which changes."""
+    shares, records = Shares(workload.records), workload.records
+    lines = [f"{len(records)} statements, written as {len(workload.statements)}"]
+    for outcome in ("kept", "changed", "skipped"):
+        lines.append(f"  {outcome:8s} {shares.of(it for it in records if it.found.outcome == outcome)}")
+    if workload.divisor > 1:
+        lines.append(f"calls were divided by {workload.divisor:.1f}, so that no weight is over 1000000")
+    counts = {name: [it for it in records if name in it.found.changes] for name in CHANGES}
+    shown = sorted((it for it in counts if counts[it]), key=lambda it: (-len(counts[it]), it))
+    if shown:
+        lines.append(
+            "changes (accepted isn't equal: " + "; ".join(f"{it}: {text}" for it, text in EFFECTS.items()) + ")"
+        )
+    for name in shown:
+        lines.append(f"  {CHANGES[name].effect}  {shares.of(counts[name])}  {name}: {CHANGES[name].text}")
+    reasons: dict[str, list[Record]] = {}
+    for it in records:
+        if it.found.skipped:
+            reasons.setdefault(it.found.skipped, []).append(it)
+    if reasons:
+        lines.append("skipped")
+    for why, listed in sorted(reasons.items(), key=lambda it: (-len(it[1]), it[0])):
+        lines.append(f"        {shares.of(listed)}  {why}")
+    return lines
+
+
+def each(workload: Workload) -> list[str]:
+    """A line for each input."""
+    lines = ["each statement, in the order of the input"]
+    for number, it in enumerate(workload.records, 1):
+        found = it.found
+        calls = f"calls {it.input.calls}" + (f", {it.input.seconds:.3f} s" if it.input.seconds is not None else "")
+        if found.skipped:
+            lines.append(f"  {number} skipped ({calls}): {found.skipped}")
+            continue
+        written = ", ".join(map(str, it.numbers)) or "none"
+        lines.append(
+            f"  {number} {found.outcome} ({calls}), statement {written}"
+            + (": " if found.changes else "")
+            + ", ".join(found.changes)
+        )
+    return lines

@@ -1,0 +1,142 @@
+"""Turns INSERT, UPDATE and DELETE into statements of the grammar."""
+from __future__ import annotations
+
+from typing import TYPE_CHECKING, Any
+
+from pglast import ast
+
+from cophy_pg.rewrite.block import Block, Test, source_text, where_text
+from cophy_pg.rewrite.conditions import Conditions
+from cophy_pg.rewrite.finish import only
+from cophy_pg.rewrite.queries import Skip
+from cophy_pg.rewrite.scope import Scope
+from cophy_pg.rewrite.terms import ANY, Call, Printer, Slot, Term, Value, columns, is_value, mixed
+from cophy_pg.schema import quoted
+
+if TYPE_CHECKING:
+    from cophy_pg.rewrite.rewriter import Rewriter
+
+LONG_ROWS = 20
+MOST_ROWS = 1000
+
+
+class Writes:
+    """The part of the rewriter that reads statements which change rows."""
+
+    def __init__(self, rewriter: Rewriter) -> None:
+        self.rewriter = rewriter
+
+    def note(self, change: str) -> None:
+        self.rewriter.note(change)
+
+    def _target(self, node: Any, scope: Scope) -> tuple[Block, Slot]:
+        block = scope.block
+        assert block is not None
+        self.rewriter.queries.from_clause((node.relation,), block, scope)
+        if len(block.slots) != 1 or scope.entries[0].slot is None:
+            raise Skip("it writes to a view")
+        return block, block.slots[0]
+
+    def insert(self, node: Any, outer: Scope | None) -> None:
+        """INSERT of rows, or of what a query gives."""
+        scope = Scope(Block(), outer)
+        self.rewriter.queries.with_clause(node.withClause, scope)
+        table = self._target(node, scope)[1].table
+        if node.onConflictClause is not None:
+            self.note("on conflict")
+        if node.returningList:
+            self.note("returning")
+        listed = [it.name for it in node.cols or () if it.name in table.columns]
+        rows = self._rows(node.selectStmt, scope)
+        if len(listed) != len(node.cols or ()) or any(len(it) != len(listed) for it in rows if listed):
+            listed, rows = [], [["?"] for _ in rows]
+        if len(rows) > LONG_ROWS:
+            listed, rows = [], [["?"] for _ in rows]
+        names = ", ".join(quoted(table.columns[it].shown) for it in listed)
+        shown = ", ".join(f"({', '.join(it)})" for it in rows)
+        self.rewriter.add(f"INSERT INTO {quoted(table.shown)}{f' ({names})' if names else ''}\nVALUES {shown}")
+
+    def _rows(self, node: Any, scope: Scope) -> list[list[str]]:
+        if node is None:
+            self.note("default")
+            return [["?"]]
+        if node.valuesLists:
+            return [[self._value(it, scope) for it in row] for row in node.valuesLists]
+        self.note("insert select")
+        if node.fromClause or node.larg:
+            self.rewriter.queries.select(node, scope, scope.common)
+        return [["?"]] * self.rows_of_call(1)
+
+    def _value(self, node: Any, scope: Scope) -> str:
+        term = self.rewriter.expressions.term(node, Scope(None, scope))
+        return term.text if isinstance(term, Value) else "?"
+
+    def rows_of_call(self, otherwise: int) -> int:
+        """How many rows one call changed, from 1 to 1000; the other number where that isn't known."""
+        rows = self.rewriter.rows
+        return min(MOST_ROWS, max(1, round(rows))) if rows is not None else otherwise
+
+    def update(self, node: Any, outer: Scope | None) -> None:
+        """UPDATE, whose join with other sources is a statement of its own."""
+        scope = Scope(Block(), outer)
+        self.rewriter.queries.with_clause(node.withClause, scope)
+        block, slot = self._target(node, scope)
+        self.rewriter.queries.from_clause(node.fromClause, block, scope)
+        self._where(node, block, scope)
+        sets: list[tuple[str, Term]] = []
+        for it in node.targetList:
+            term = self.rewriter.expressions.term(it.val, scope)
+            if it.name in slot.table.columns and it.name not in dict(sets):
+                sets.append((it.name, term))
+        if not sets:
+            raise Skip("it sets no column of the catalogue")
+        block.items = [Call("count", (), star=True), *(it for _, it in sets if not is_value(it))]
+        alone = self._alone(block, slot)
+        printer = Printer(alone.slots)
+        alone.items = [it for _, it in sets]
+        texts = (f"{quoted(slot.table.columns[name].shown)} = {self._side(it, slot, printer)}" for name, it in sets)
+        lines = [f"UPDATE {source_text(slot)}", "SET " + ", ".join(texts), *where_text(alone, printer)]
+        self.rewriter.add("\n".join(lines))
+
+    def _side(self, term: Term, slot: Slot, printer: Printer) -> str:
+        """The right side of an assignment, as far as it speaks of the target."""
+        found = [*columns(term)]
+        if all(it.slot is slot for it in found):
+            return printer.term(term)
+        ours = only(found, slot)
+        return printer.term(mixed(*ours)) if ours else "?"
+
+    def delete(self, node: Any, outer: Scope | None) -> None:
+        """DELETE, whose join with other sources is a statement of its own."""
+        scope = Scope(Block(), outer)
+        self.rewriter.queries.with_clause(node.withClause, scope)
+        block, slot = self._target(node, scope)
+        self.rewriter.queries.from_clause(node.usingClause, block, scope)
+        self._where(node, block, scope)
+        block.items = [Call("count", (), star=True)]
+        alone = self._alone(block, slot)
+        lines = [f"DELETE FROM {source_text(slot)}", *where_text(alone, Printer(alone.slots))]
+        self.rewriter.add("\n".join(lines))
+
+    def _where(self, node: Any, block: Block, scope: Scope) -> None:
+        if isinstance(node.whereClause, ast.CurrentOfExpr):
+            raise Skip("it changes the row of a cursor")
+        Conditions(self.rewriter, block).add(node.whereClause, scope)
+        if node.returningList:
+            self.note("returning")
+
+    def _alone(self, block: Block, slot: Slot) -> Block:
+        """The target with its own conditions; where it is joined, the join is written as a statement of its own."""
+        if len(block.slots) == 1:
+            self.rewriter.bound(block)
+            return block
+        self.note("update from")
+        ties = [it for it in block.ties() if slot in (it.left.slot, it.right.slot)]
+        tied = [col for it in ties for col in only(it.columns(), slot)]
+        alone = block.part([slot])
+        alone.group, alone.having, alone.order = None, [], []
+        self.rewriter.finish(block)
+        self.rewriter.bound(alone)
+        if tied and not any(isinstance(it, Test) and it.form in ("=", "IN") for it in alone.conditions):
+            alone.conditions.append(Test(tied[0], "IN", (ANY,) * self.rows_of_call(10)))
+        return alone

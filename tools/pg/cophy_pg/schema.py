@@ -1,0 +1,103 @@
+"""What is known of a database: its tables with their columns, indexes and statistics, and the names that stand for them."""
+from __future__ import annotations
+
+import re
+from collections.abc import Iterable
+from dataclasses import dataclass, field
+
+from cophy_text.tokens import RESERVED
+
+LONGEST_NAME = 64
+_NAME = re.compile(r"[A-Za-z_][A-Za-z0-9_]{0,63}\Z")
+
+
+@dataclass(eq=False)
+class Column:
+    """A column: its name in PostgreSQL and in the catalogue, and its statistics, of which each may be unknown.
+
+    `low` and `high` are whole numbers: values of a column of kind `int`, days since 1970-01-01 of one of kind `date`.
+    """
+
+    name: str
+    shown: str
+    kind: str = "text"
+    width: int = 8
+    distinct: int | None = None
+    low: int | None = None
+    high: int | None = None
+    type: str = ""
+
+    def has_range(self) -> bool:
+        """Whether a literal of this column can be priced by its place between low and high."""
+        return self.kind != "text" and self.low is not None and self.high is not None and self.low < self.high
+
+
+@dataclass(eq=False)
+class Index:
+    """A btree index with all its keys, the included columns at their end."""
+
+    name: str
+    shown: str
+    keys: list[str]
+    unique: bool = False
+    clustered: bool = False
+
+
+@dataclass(eq=False)
+class Table:
+    """A table, a materialized view or a partitioned table as a whole; `columns` goes by PostgreSQL's names."""
+
+    schema: str
+    name: str
+    shown: str
+    rows: int = 0
+    pages: int = 0
+    columns: dict[str, Column] = field(default_factory=dict)
+    indexes: list[Index] = field(default_factory=list)
+    is_analysed: bool = True
+    is_partitioned: bool = False
+    oid: int = 0
+    remarks: list[str] = field(default_factory=list)
+
+
+class Schema:
+    """The tables of a database, found as PostgreSQL finds them."""
+
+    def __init__(self, tables: Iterable[Table], path: Iterable[str] = ("public",)) -> None:
+        self.tables = {(it.schema, it.name): it for it in tables}
+        self.path = [*path]
+        self.views: dict[tuple[str, str], str] = {}
+        self.parents: dict[tuple[str, str], tuple[str, str]] = {}
+        self.left_out: dict[tuple[str, str], str] = {}
+        self.aggregates: frozenset[str] = frozenset()
+
+    def key_of(self, schema: str | None, name: str) -> tuple[str, str] | None:
+        """The schema and the name of a table or a view; without a schema the path decides, and then a single match."""
+        known = [*self.tables, *self.views, *self.parents, *self.left_out]
+        if schema is not None:
+            return (schema, name) if (schema, name) in known else None
+        for it in self.path:
+            if (it, name) in known:
+                return it, name
+        others = {it for it in known if it[1] == name}
+        return others.pop() if len(others) == 1 else None
+
+
+def quoted(name: str) -> str:
+    """A name of the catalogue as a statement writes it."""
+    return f'"{name}"' if name.upper() in RESERVED or not _NAME.match(name) else name
+
+
+def cleaned(name: str, taken: set[str], prefix: str = "") -> str:
+    """A name that a catalogue may have and that isn't taken, as near to the given one as can be; it is taken then."""
+    plain = re.sub(r"[^A-Za-z0-9_]", "_", name)
+    if prefix:
+        plain = re.sub(r"[^A-Za-z0-9_]", "_", prefix) + "_" + plain
+    if not plain or plain[0].isdigit():
+        plain = "_" + plain
+    found, number = plain[:LONGEST_NAME], 1
+    while found.lower() in taken:
+        number += 1
+        found = f"{plain[: LONGEST_NAME - 1 - len(str(number))]}_{number}"
+    taken.add(found.lower())
+    return found

@@ -1,0 +1,118 @@
+"""Rewrites inputs and puts the statements together into a workload, with a record of each input."""
+from __future__ import annotations
+
+from collections.abc import Callable
+from dataclasses import dataclass, field
+
+from pglast import ast, parse_sql
+from pglast.parser import ParseError, fingerprint
+
+from cophy_pg.inputs import Input
+from cophy_pg.rewrite import Rewriter, Rewritten
+from cophy_pg.rewrite.expressions import nodes_of
+
+FROM = "from"
+MOST_STATEMENTS, MOST_SLOTS, MOST_WEIGHT, MOST_BYTES = 1000, 2000, 10**6, 16777216
+
+
+@dataclass
+class Record:
+    """An input with what became of it; `numbers` are those of its statements in the workload, from 1."""
+
+    input: Input
+    found: Rewritten
+    numbers: list[int] = field(default_factory=list)
+
+
+@dataclass
+class Workload:
+    """The statements with their weights, and the record of each input in its order."""
+
+    records: list[Record]
+    statements: list[tuple[str, int]]
+    divisor: float = 1.0
+
+    def text(self) -> str:
+        """The workload as a file. Before each statement stand the fingerprints of the inputs that it comes from."""
+        forms: dict[int, list[str]] = {}
+        for record in self.records:
+            for number in record.numbers:
+                forms.setdefault(number, []).append(form_of(record.input.text))
+        return "\n".join(
+            f"-- {FROM} {' '.join(dict.fromkeys(forms[number]))}\n-- weight {weight}\n{text};\n"
+            for number, (text, weight) in enumerate(self.statements, 1)
+        )
+
+
+def form_of(text: str) -> str:
+    """PostgreSQL's fingerprint of a statement, which its literals don't change."""
+    try:
+        return str(fingerprint(text))
+    except ParseError:
+        return "none"
+
+
+def forms_in(text: str) -> dict[str, list[int]]:
+    """The numbers of the statements in a written workload that come from the input of each fingerprint."""
+    found: dict[str, list[int]] = {}
+    for number, line in enumerate((it for it in text.splitlines() if it.startswith(f"-- {FROM} ")), 1):
+        for form in line.removeprefix(f"-- {FROM} ").split():
+            found.setdefault(form, []).append(number)
+    return found
+
+
+def mentioned(inputs: list[Input]) -> tuple[set[str], set[str]]:
+    """The names of all tables and of all columns that the inputs mention."""
+    tables: set[str] = set()
+    words: set[str] = set()
+    for it in inputs:
+        try:
+            nodes = list(nodes_of(parse_sql(it.text)))
+        except (ParseError, RecursionError):
+            continue
+        for node in nodes:
+            if isinstance(node, ast.RangeVar):
+                tables.add(node.relname)
+            elif isinstance(node, ast.ColumnRef) and isinstance(node.fields[-1], ast.String):
+                words.add(node.fields[-1].sval)
+    return tables, words
+
+
+def made(inputs: list[Input], rewriter: Rewriter, progress: Callable[[str], None]) -> Workload:
+    """Rewrites each input; statements that come out the same are taken together."""
+    records = []
+    for number, it in enumerate(inputs, 1):
+        records.append(Record(it, rewriter.rewrite(it.text, it.rows)))
+        if number % 100 == 0:
+            progress(f"rewriting statement {number} of {len(inputs)}")
+    by_worth = sorted(records, key=lambda it: (-(it.input.seconds or 0.0), -it.input.calls))
+    calls = _within_limits(by_worth)
+    most = max(calls.values(), default=1)
+    workload = Workload(records, [], max(1.0, most / MOST_WEIGHT))
+    numbers: dict[str, int] = {}
+    for record in records:
+        for text in record.found.statements:
+            if text in calls and text not in numbers:
+                numbers[text] = len(numbers) + 1
+                workload.statements.append((text, max(1, round(calls[text] / workload.divisor))))
+        record.numbers = [numbers[it] for it in record.found.statements if it in numbers]
+    return workload
+
+
+def _within_limits(records: list[Record]) -> dict[str, int]:
+    """The calls of each statement that is kept. What is beyond a limit is skipped, input by input."""
+    calls: dict[str, int] = {}
+    slots = size = 0
+    for record in records:
+        new = [it for it in record.found.statements if it not in calls]
+        more = sum(record.found.slots.get(it, 1) for it in new)
+        length = sum(len(it.encode()) + 40 for it in new)
+        if len(calls) + len(new) > MOST_STATEMENTS or slots + more > MOST_SLOTS or size + length > MOST_BYTES:
+            record.found = Rewritten(
+                skipped=f"beyond {MOST_STATEMENTS} statements or {MOST_SLOTS} sources: others cost more"
+            )
+            continue
+        slots, size = slots + more, size + length
+        for it in record.found.statements:
+            calls[it] = calls.get(it, 0) + record.input.calls
+    return calls

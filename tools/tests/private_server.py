@@ -1,0 +1,117 @@
+"""A PostgreSQL of its own for tests: in a temporary folder, on a socket there, ended when the tests are done."""
+from __future__ import annotations
+
+import glob
+import importlib.util
+import os
+import pwd
+import shutil
+import subprocess
+import tempfile
+import time
+from pathlib import Path
+
+PACKAGES = ("pglast",)
+SETTINGS = (
+    "listen_addresses=",
+    "fsync=off",
+    "autovacuum=off",
+    "shared_preload_libraries=pg_stat_statements",
+    "logging_collector=off",
+    "shared_buffers=32MB",
+    "statement_timeout=60s",
+)
+
+
+def missing() -> str:
+    """What is missing for tests with a server; nothing where all is there."""
+    if not any(map(importlib.util.find_spec, ("psycopg", "psycopg2"))):
+        return "python3-psycopg isn't installed"
+    for it in PACKAGES:
+        if importlib.util.find_spec(it) is None:
+            return f"python3-{it} isn't installed"
+    if program("initdb") is None:
+        return "PostgreSQL isn't installed"
+    if os.geteuid() == 0 and _user() is None:
+        return "PostgreSQL doesn't run as root, and there is no user postgres"
+    return ""
+
+
+def program(name: str) -> str | None:
+    """The path of one of PostgreSQL's programs."""
+    found = sorted(
+        glob.glob(f"/usr/lib/postgresql/*/bin/{name}"),
+        key=lambda it: int(it.split("/")[4]) if it.split("/")[4].isdigit() else 0,
+    )
+    return found[-1] if found else shutil.which(name)
+
+
+def has_extension(name: str) -> bool:
+    """Whether an extension's files are there."""
+    return bool(glob.glob(f"/usr/share/postgresql/*/extension/{name}.control"))
+
+
+def _user() -> str | None:
+    try:
+        return pwd.getpwnam("postgres").pw_name
+    except KeyError:
+        return None
+
+
+class PrivateServer:
+    """A server that runs from its making to `stop`."""
+
+    def __init__(self, encoding: str = "UTF8", settings: tuple[str, ...] = ()) -> None:
+        self.folder = Path(tempfile.mkdtemp(prefix="cophy-pg-"))
+        self.how: dict[str, object] = {
+            "stdin": subprocess.DEVNULL,
+            "stdout": subprocess.DEVNULL,
+            "stderr": subprocess.DEVNULL,
+        }
+        if os.geteuid() == 0:
+            shutil.chown(self.folder, _user())
+            self.how["user"] = _user()
+        self.folder.chmod(0o755)
+        data = str(self.folder / "data")
+        words = f"-D {data} -U cophy --auth=trust -E {encoding} --locale=C --no-sync".split()
+        subprocess.run([str(program("initdb")), *words], check=True, cwd="/", **self.how)  # type: ignore[call-overload]
+        given = [word for it in (*SETTINGS, *settings) for word in ("-c", it)]
+        words = [str(program("postgres")), "-D", data, "-k", str(self.folder), *given]
+        self.process = subprocess.Popen(words, cwd="/", **self.how)  # type: ignore[call-overload]
+        self._wait()
+
+    def _wait(self) -> None:
+        for _ in range(300):
+            if (self.folder / ".s.PGSQL.5432").exists() and self.psql("SELECT 1", check=False).returncode == 0:
+                return
+            time.sleep(0.1)
+        raise RuntimeError("the private server doesn't answer")
+
+    def environment(self, database: str = "postgres", **more: str) -> dict[str, str]:
+        """The environment of a client."""
+        kept = {it: value for it, value in os.environ.items() if not it.startswith("PG")}
+        return {**kept, "PGHOST": str(self.folder), "PGUSER": "cophy", "PGDATABASE": database, **more}
+
+    def psql(self, text: str, database: str = "postgres", check: bool = True) -> subprocess.CompletedProcess[str]:
+        """Runs a script of SQL."""
+        words = [str(program("psql")), "-X", "-q", "-A", "-t", "-v", "ON_ERROR_STOP=1"]
+        ran = subprocess.run(
+            words, input=text, text=True, capture_output=True, env=self.environment(database), check=False, timeout=120
+        )
+        if check and ran.returncode:
+            raise RuntimeError(f"psql: {ran.stderr}")
+        return ran
+
+    def value(self, query: str, database: str = "postgres") -> str:
+        """What a query gives, as psql prints it."""
+        return self.psql(query, database).stdout.strip()
+
+    def stop(self) -> None:
+        """Ends the server and removes its folder."""
+        self.process.terminate()
+        try:
+            self.process.wait(20)
+        except subprocess.TimeoutExpired:
+            self.process.kill()
+            self.process.wait()
+        shutil.rmtree(self.folder, ignore_errors=True)

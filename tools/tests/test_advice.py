@@ -1,0 +1,239 @@
+"""`cophy-pg ddl`, `verify`, `why` and `curve` on stored answers of the program, the first two against a server."""
+from __future__ import annotations
+
+import importlib.util
+import json
+import re
+import subprocess
+import tempfile
+import tomllib
+import unittest
+from pathlib import Path
+
+from cophy_text import answers
+from private_server import PrivateServer, has_extension, missing
+from test_export import TOOL, called, shop
+
+MISSING = missing()
+ADVICE = """budget 3000
+candidates 9 left over 0
+pick 1 customer(city) 30 pages
+pick 2 Odd_Name(select, _n_code) 2 pages
+pick 5 event(kind) 40 pages
+pick 7 sales_orders(total) 60 pages
+size 132
+cost 583783100
+bound 580000000
+gap 3783100
+nodes 20000 of 20000
+stopped
+"""
+# Answers for a workload of two statements: `whatif` looks at the numbers of the configuration, `advise` at the budget.
+PROGRAM = """#!/bin/sh
+case "$1" in
+whatif)
+    one=1000 two=5000
+    grep -qx 1 "$4" && one=200
+    grep -qx 2 "$4" && two=5100
+    echo "size 7"; echo "statement 1 weight 10 cost $one"; echo "statement 2 weight 1 cost $two"
+    echo "total $((10 * one + two))" ;;
+advise)
+    [ "$4" -gt 30 ] && size=30 || size="$4"
+    echo "budget $4"; echo "candidates 2 left over 0"
+    [ "$size" -lt 30 ] || echo "pick 1 customer(city) 30 pages"
+    echo "size $size"; echo "cost $((9000 - 100 * size))"; echo "bound $((8000 - 100 * size))"; echo "gap 1000"
+    echo "nodes 3 of 20000"; echo finished ;;
+*) echo "refused: not built"; exit 5 ;;
+esac
+"""
+TWO = "budget 9\ncandidates 2 left over 0\npick 1 a(x) 3 pages\npick 2 a(y) 4 pages\nsize 7\ncost 7100\nbound 7100\ngap 0\nnodes 1 of 2\nfinished\n"
+
+
+class Texts(unittest.TestCase):
+    def test_each_answer_is_taken_apart(self) -> None:
+        advice = answers.read_advice(ADVICE)
+        self.assertEqual(
+            (advice.budget, advice.size, advice.cost, advice.bound, advice.gap, advice.is_finished),
+            (3000, 132, 583783100, 580000000, 3783100, False),
+        )
+        self.assertEqual(advice.picks[1], answers.Candidate(2, "Odd_Name", ("select", "_n_code"), 2))
+        self.assertEqual(answers.read_advice("tables 2\nstatements 1\nslots 1\n" + TWO).picks[0].shown(), "a(x)")
+        self.assertEqual(
+            [it.number for it in answers.read_candidates("1 a(x) 3 pages\n2 a(x, y) 4 pages\nleft over 0\n")], [1, 2]
+        )
+        prices = answers.read_prices("size 3\nstatement 1 weight 2 cost 5\ntotal 10\n")
+        self.assertEqual((prices.size, prices.statements[1], prices.total), (3, answers.Price(2, 5), 10))
+
+    def test_another_text_is_no_answer(self) -> None:
+        for read in (answers.read_advice, answers.read_candidates, answers.read_prices):
+            for text in ("", "refused: not built\n", "budget 5\n", "pick 1 a(x) b pages\nfinished\n"):
+                with self.subTest(read=read.__name__, text=text):
+                    self.assertRaises(answers.NoAnswer, read, text)
+
+
+@unittest.skipIf(
+    importlib.util.find_spec("pglast") is None or not Path("/usr/bin/python3").exists(),
+    "python3-pglast isn't installed",
+)
+class Programs(unittest.TestCase):
+    """`why` and `curve`, over a program that is a script."""
+
+    def setUp(self) -> None:
+        folder = tempfile.TemporaryDirectory()
+        self.addCleanup(folder.cleanup)
+        self.folder = Path(folder.name)
+        self.program = self.folder / "program"
+        self.program.write_text(PROGRAM)
+        self.program.chmod(0o755)
+        (self.folder / "advice").write_text(TWO)
+
+    def call(self, command: str, *more: str) -> str:
+        words = [str(TOOL), command, "c.toml", "l.sql", *more, "--program", str(self.program)]
+        ran = subprocess.run(words, cwd=self.folder, capture_output=True, text=True, check=False, timeout=60)
+        self.assertEqual(ran.returncode, 0, ran.stderr)
+        return ran.stdout
+
+    def test_why_tells_who_gains_and_who_loses(self) -> None:
+        text = self.call("why", "advice")
+        self.assertIn("without any pick the workload costs 15000, with all 7100 (47.3 %)", text)
+        self.assertIn(
+            "pick 1 a(x), 3 pages (0.0 MB)\n  without it the workload costs 15100, 8000 more (212.7 %)\n  statement    1 gains 8000\n",
+            text,
+        )
+        self.assertIn(
+            "pick 2 a(y), 4 pages (0.0 MB)\n  without it the workload costs 7000, -100 more (98.6 %)\n  statement    2 loses 100\n",
+            text,
+        )
+        found = json.loads(self.call("why", "advice", "--json"))
+        self.assertEqual((found["total_without_picks"], found["total"]), (15000, 7100))
+        self.assertEqual(found["picks"][0]["statements"], {"1": 8000})
+
+    def test_curve_has_a_line_for_each_budget(self) -> None:
+        lines = self.call("curve", "--steps", "3").splitlines()
+        self.assertEqual([it.split()[0] for it in lines[1:]], ["0", "10", "20", "30"])
+        self.assertEqual(lines[4].split(), ["30", "0.2", "30", "1", "6000", "5000", "16.67", "%"])
+        found = json.loads(self.call("curve", "--budgets", "5,40", "--json"))
+        self.assertEqual(
+            [(it["budget"], it["cost"], it["picks"]) for it in found], [(5, 8500, []), (40, 6000, ["customer(city)"])]
+        )
+
+    @unittest.skipIf(importlib.util.find_spec("matplotlib") is None, "python3-matplotlib isn't installed")
+    def test_curve_draws_a_png(self) -> None:
+        self.call("curve", "--budgets", "0,10,40", "--png", "curve.png")
+        self.assertEqual((self.folder / "curve.png").read_bytes()[:4], b"\x89PNG")
+
+    def test_a_refusal_of_the_program_is_told(self) -> None:
+        self.program.write_text("#!/bin/sh\necho 'refused: not built'; exit 5\n")
+        words = [str(TOOL), "why", "c.toml", "l.sql", "advice", "--program", str(self.program)]
+        ran = subprocess.run(words, cwd=self.folder, capture_output=True, text=True, check=False, timeout=60)
+        self.assertEqual((ran.returncode, ran.stdout), (1, ""))
+        self.assertIn("cophy whatif answers: refused: not built", ran.stderr)
+
+
+@unittest.skipIf(MISSING, MISSING)
+class OnServer(unittest.TestCase):
+    server: PrivateServer
+
+    @classmethod
+    def setUpClass(cls) -> None:
+        cls.server = shop()
+
+    def setUp(self) -> None:
+        folder = tempfile.TemporaryDirectory()
+        self.addCleanup(folder.cleanup)
+        self.folder = Path(folder.name)
+        self.files = [str(self.folder / it) for it in ("catalogue.toml", "workload.sql", "advice")]
+        (self.folder / "advice").write_text(ADVICE)
+        self.call("export", *self.files[:2])
+
+    def call(self, *words: str) -> subprocess.CompletedProcess[str]:
+        ran = called(self.server, *words)
+        self.assertEqual(ran.returncode, 0, ran.stderr)
+        return ran
+
+    def test_ddl_runs_on_the_server(self) -> None:
+        text = self.call("ddl", self.files[0], self.files[2]).stdout
+        self.assertIn("-- budget 3000 pages (23.4 MB), size 132 pages (1.0 MB)", text)
+        self.assertIn("-- cost 583783100, bound 580000000, gap 3783100: the search stopped early", text)
+        self.server.psql(text, "shop")
+        made = self.server.value(
+            "SELECT string_agg(indexdef, E'\\n' ORDER BY indexname) FROM pg_indexes WHERE indexname ~ '_idx$'"
+            " AND tablename !~ '^event_'",
+            "shop",
+        )
+        for name in ("customer_city_idx", "Odd_Name_select__n_code_idx", "event_kind_idx", "sales_orders_total_idx"):
+            self.assertIn(name, made)
+        for name in (
+            "customer_city_idx",
+            '"Odd_Name_select__n_code_idx"',
+            "event_kind_idx",
+            "sales.sales_orders_total_idx",
+        ):
+            self.server.psql(f"DROP INDEX {name}", "shop")
+
+    def test_ddl_gives_json_for_scripts(self) -> None:
+        found = json.loads(self.call("ddl", self.files[0], self.files[2], "--json").stdout)
+        self.assertEqual(
+            [it["name"] for it in found["picks"]],
+            ["customer_city_idx", "Odd_Name_select__n_code_idx", "event_kind_idx", "sales_orders_total_idx"],
+        )
+        self.assertIn('"Odd Name" ("select", "\u00dcn\u00efcode")', found["picks"][1]["statement"])
+
+    @unittest.skipUnless(has_extension("hypopg"), "postgresql-15-hypopg isn't installed")
+    def test_verify_names_the_picks_that_plans_take(self) -> None:
+        self.server.psql("CREATE EXTENSION IF NOT EXISTS hypopg", "shop")
+        program = self.folder / "program"
+        program.write_text(PROGRAM)
+        program.chmod(0o755)
+        words = ("verify", *self.files, "--program", str(program))
+        text = self.call(*words).stdout
+        self.assertRegex(
+            text, r"pick 1 customer\(city\): taken by \d+ statements\n  input +\d+ \(calls 1\): a call costs"
+        )
+        self.assertIn("pick 2 Odd_Name(select, _n_code): taken by no statement", text)
+        found = json.loads(self.call(*words, "--json").stdout)
+        self.assertGreater(len(found["picks"][0]["taken_by"]), 2)
+        self.assertGreater(sum(it["after"] is not None for it in found["statements"]), 70)
+        self.assertEqual(
+            self.server.value("SELECT count(*) FROM pg_indexes WHERE indexname LIKE '%city%'", "shop"), "0"
+        )
+
+    def test_odd_names_are_quoted_in_what_is_sent_back(self) -> None:
+        self.server.psql("CREATE DATABASE quoted")
+        self.server.psql("CREATE TABLE keep (a int); CREATE EXTENSION hypopg", "quoted")
+        self.server.psql(
+            'CREATE SCHEMA "s.""x"; CREATE TABLE "s.""x"."t""; DROP TABLE keep; --" ("a"") ; DROP TABLE keep; --" int)',
+            "quoted",
+        )
+        sql = self.folder / "q.sql"
+        sql.write_text('SELECT * FROM "s.""x"."t""; DROP TABLE keep; --"')
+        ran = called(self.server, "export", *self.files[:2], "--sql", str(sql), database="quoted")
+        self.assertEqual(ran.returncode, 0, ran.stderr)
+        table = tomllib.loads(Path(self.files[0]).read_text())["table"][-1]
+        pick = f"pick 1 {table['name']}({table['column'][0]['name']}) 3 pages\n"
+        (self.folder / "advice").write_text(re.sub("pick 1 .*\n", pick, TWO).replace("pick 2 a(y) 4 pages\n", ""))
+        text = called(self.server, "ddl", self.files[0], self.files[2], database="quoted")
+        self.assertEqual(text.returncode, 0, text.stderr)
+        self.server.psql(text.stdout, "quoted")
+        self.assertEqual(self.server.value("SELECT count(*) FROM pg_indexes WHERE schemaname = 's.\"x'", "quoted"), "1")
+        ran = called(
+            self.server, "verify", *self.files, "--sql", str(sql), "--program", "/bin/false", database="quoted"
+        )
+        self.assertEqual(ran.returncode, 0, ran.stderr)
+        self.assertEqual(self.server.value("SELECT count(*) FROM pg_tables WHERE tablename = 'keep'", "quoted"), "1")
+
+    def test_verify_without_hypopg_says_so(self) -> None:
+        self.server.psql("CREATE DATABASE bare")
+        ran = called(self.server, "verify", *self.files, "--sql", str(self.folder / "workload.sql"), database="bare")
+        self.assertEqual(ran.returncode, 1)
+        self.assertIn("hypopg isn't there", ran.stderr)
+
+    def test_advice_of_another_catalogue_is_refused(self) -> None:
+        (self.folder / "advice").write_text(TWO)
+        ran = called(self.server, "ddl", self.files[0], self.files[2])
+        self.assertEqual((ran.returncode, ran.stdout), (1, ""))
+        self.assertIn("the catalogue has no table a", ran.stderr)
+
+
+if __name__ == "__main__":
+    unittest.main()

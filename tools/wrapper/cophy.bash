@@ -1,0 +1,58 @@
+# Completion of cophy, cophy-pg and cophy-lint for bash: source this file.
+
+_cophy_files() { mapfile -t COMPREPLY < <(compgen -f -- "$1"); }
+
+_cophy_words() { mapfile -t COMPREPLY < <(compgen -W "$1" -- "$2"); }
+
+_cophy() {
+    local current="${COMP_WORDS[COMP_CWORD]}" at=$COMP_CWORD command="${COMP_WORDS[1]-}"
+    if [ "$command" = --unproved ]; then
+        command="${COMP_WORDS[2]-}"
+        at=$((at - 1))
+    fi
+    COMPREPLY=()
+    case "$at:$command" in
+        0:* | 1:*)
+            local words="cost explain whatif candidates advise check bench"
+            if [ "${COMP_WORDS[1]-}" != --unproved ] || [ "$COMP_CWORD" -eq 1 ]; then words+=" help version --unproved"; fi
+            _cophy_words "$words" "$current"
+            ;;
+        [23]:cost | [23]:explain | [23]:whatif | [23]:candidates | [23]:advise | [23]:check) _cophy_files "$current" ;;
+        4:explain | 4:whatif) _cophy_files "$current" ;;
+        4:check) _cophy_files "$current" ;;
+        [5678]:advise)
+            case "${COMP_WORDS[COMP_CWORD - 1]}" in
+                --cert) _cophy_files "$current" ;;
+                --nodes) ;;
+                *) _cophy_words "--nodes --cert" "$current" ;;
+            esac
+            ;;
+    esac
+}
+
+_cophy_pg() {
+    local current="${COMP_WORDS[COMP_CWORD]}" command="${COMP_WORDS[1]-}" options="--help"
+    COMPREPLY=()
+    if [ "$COMP_CWORD" -eq 1 ]; then
+        _cophy_words "export rewrite ddl verify why curve --help" "$current"
+        return
+    fi
+    case "$command" in
+        export) options+=" --dsn --sql --log --report --no-ranges --look-ups" ;;
+        rewrite) options+=" --report --no-ranges --look-ups" ;;
+        ddl) options+=" --json" ;;
+        verify) options+=" --dsn --sql --log --json --program" ;;
+        why) options+=" --json --program" ;;
+        curve) options+=" --budgets --steps --nodes --png --json --program" ;;
+    esac
+    case "$current" in
+        -*) _cophy_words "$options" "$current" ;;
+        *) _cophy_files "$current" ;;
+    esac
+}
+
+_cophy_lint() { _cophy_files "${COMP_WORDS[COMP_CWORD]}"; }
+
+complete -o filenames -F _cophy cophy
+complete -o filenames -F _cophy_pg cophy-pg
+complete -o filenames -F _cophy_lint cophy-lint

@@ -1,0 +1,1 @@
+"""What the script `cophy` does beside the program: hints, and a first look without the proof."""

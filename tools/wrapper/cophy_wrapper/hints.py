@@ -1,0 +1,263 @@
+"""Hints on what an answer of the program may come from, written to the caller's output as plain lines.
+
+The program has already answered. Where it refused, its words are run once more to read the text, provided that all its
+files can be read twice. Nothing here changes an answer or a status, and a hint that can't be had is left out.
+"""
+from __future__ import annotations
+
+import os
+import re
+import subprocess
+import sys
+import tomllib
+from collections.abc import Iterator
+from typing import Any
+
+from cophy_text import keys
+from cophy_text.tokens import Token, has_statement, place_of, tokens
+from cophy_wrapper.forms import byte_hint, token_hint
+
+ROLES = ("catalogue", "workload", "third file")
+FORMS = {
+    "cost": "cophy cost CAT LOAD",
+    "explain": "cophy explain CAT LOAD CONF N",
+    "whatif": "cophy whatif CAT LOAD CONF",
+    "candidates": "cophy candidates CAT LOAD",
+    "check": "cophy check CAT LOAD CERT",
+    "advise": "cophy advise CAT LOAD BUDGET [--nodes N] [--cert FILE]",
+    "bench": "cophy bench SEED TABLES STATEMENTS BUDGET",
+}
+NUMBERS = {
+    "explain": "N is from 1 to 1000",
+    "advise": "BUDGET is pages from 0 to 10^12, and --nodes from 1 to 10^6",
+    "bench": "SEED is below 2^64, TABLES from 2 to 20, STATEMENTS from 1 to 500, BUDGET up to 10^12",
+}
+_PLACED = re.compile(r"refused: (.+) at (\d+)\Z")
+_PATH = re.compile(r"refused: (missing|wrong kind|out of range|name twice|unknown name) ([a-z_.\[\]0-9]+)\Z")
+_OPENS_SQL = re.compile(
+    rb"\s*(--[^\n]*\n\s*|/\*.*?\*/\s*)*(select|insert|update|delete|with)\b", re.IGNORECASE | re.DOTALL
+)
+
+
+class Call:
+    """A call of the program: its words, its files and its text."""
+
+    def __init__(self, status: int, words: list[str], text: str) -> None:
+        self.status, self.words, self.text = status, words, text
+        count = {"explain": 3, "whatif": 3, "check": 3, "bench": 0}.get(words[0] if words else "", 2)
+        self.files = words[1 : 1 + count]
+
+    def content(self, role: int) -> bytes:
+        """What a file holds; nothing where it can't be read."""
+        try:
+            with open(self.files[role], "rb") as file:
+                return file.read()
+        except (OSError, IndexError):
+            return b""
+
+    def catalogue(self) -> dict[str, Any]:
+        """The catalogue's document; empty where it is none."""
+        try:
+            return tomllib.loads(self.content(0).decode())
+        except (ValueError, RecursionError):
+            return {}
+
+
+def hints(call: Call) -> Iterator[str]:
+    """The hints for an answer, a line each."""
+    placed, path = _PLACED.match(call.text), _PATH.match(call.text)
+    if call.status == 0:
+        yield from _done(call)
+    elif call.text.startswith("usage: "):
+        yield from _usage(call)
+    elif call.text.startswith("read fault: "):
+        yield from _read_fault(call, call.text.removeprefix("read fault: "))
+    elif placed is not None:
+        yield from _placed(call, placed[1], int(placed[2]))
+    elif path is not None:
+        yield from _path(call, path[1], path[2])
+    elif call.text.startswith("refused: "):
+        yield from _refused(call, call.text.removeprefix("refused: "))
+
+
+def _done(call: Call) -> Iterator[str]:
+    if len(call.files) > 1 and not has_statement(call.content(1)):
+        yield f"{call.files[1]} holds no statement, so nothing was priced"
+    for path, hint in keys.unknown_keys(call.catalogue()):
+        yield f"{call.files[0]}: the key {path} means nothing and was passed over{': ' + hint if hint else ''}"
+
+
+def _usage(call: Call) -> Iterator[str]:
+    command = call.words[0] if call.words else ""
+    if command in FORMS:
+        yield f"usage: {FORMS[command]}"
+    elif command:
+        near = keys.nearest(command, list(FORMS))
+        yield f"did you mean {near}? " * bool(near) + f"The commands are {', '.join(FORMS)}; cophy help says more"
+    if call.text.startswith("usage: bad number") and command in NUMBERS:
+        yield f"{NUMBERS[command]}, in digits alone"
+
+
+def _read_fault(call: Call, name: str) -> Iterator[str]:
+    role = call.files.index(name) if name in call.files else -1
+    what = f"{name} ({ROLES[role]})" if role >= 0 else name
+    if not os.path.lexists(name):
+        yield f"{what}: there is no such file"
+        folder = os.path.dirname(name) or "."
+        near = keys.nearest(os.path.basename(name), os.listdir(folder)) if os.path.isdir(folder) else None
+        if near:
+            yield f"{os.path.join(os.path.dirname(name), near)} is there"
+    elif os.path.isdir(name):
+        yield f"{what} is a directory"
+    elif not os.access(name, os.R_OK):
+        yield f"{what}: you have no right to read it"
+    if role == 2 and call.words[0] in ("explain", "whatif"):
+        yield "for no candidate at all, give /dev/null as the configuration"
+
+
+def _placed(call: Call, fault: str, at: int) -> Iterator[str]:
+    text = call.content(1)
+    if call.files[1:] and not _OPENS_SQL.match(text) and _is_catalogue(text):
+        yield f"{call.files[1]} looks like a catalogue: the catalogue comes first, then the workload"
+        return
+    place = place_of(text, at)
+    yield f"{call.files[1]}, line {place.line}, column {place.column}, statement {place.statement}"
+    yield f"  {place.shown}"
+    yield f"  {place.mark}"
+    here = list(tokens(text))
+    index = next((it for it, token in enumerate(here) if token.place >= at), len(here))
+    token = here[index] if index < len(here) and here[index].place == at else None
+    if fault in ("bad byte", "open text"):
+        hint = (
+            byte_hint(text, at)
+            if fault == "bad byte"
+            else "what opens here is never closed: a ' within a text is written ''"
+        )
+    elif fault in ("syntax", "unsupported"):
+        hint = token_hint(here, index, token)
+    else:
+        hint = _name_hint(call, fault, token, here[:index])
+    if hint:
+        yield hint
+
+
+def _name_hint(call: Call, fault: str, token: Token | None, before: list[Token]) -> str | None:
+    name = token.text.decode(errors="replace").strip('"') if token is not None else ""
+    tables = [it for it in call.catalogue().get("table", []) if isinstance(it, dict)]
+    if fault == "no table":
+        near = keys.nearest(name, [str(it.get("name")) for it in tables])
+        return f"{name} is no table of {call.files[0]}" + (f"; did you mean {near}?" if near else "")
+    if fault == "no column":
+        columns = {str(it.get("name")) for table in tables for it in table.get("column", []) if isinstance(it, dict)}
+        near = keys.nearest(name, sorted(columns))
+        if near and near.lower() == name.lower():
+            return f"{name} is a column of no table that the statement names there"
+        return f"{name} is no column" + (f"; did you mean {near}?" if near else "")
+    return {
+        "ambiguous": f"several of the statement's tables have a column {name}: write TABLE.{name}",
+        "alias twice": f"{name} stands twice: give each source another alias",
+        "more than 8 slots": "a statement has at most 8 tables: leave out a small one, or split the statement",
+        "unjoined": "no equality of two columns connects all tables of this statement: there are no cross products",
+        "bad weight": "a weight is a whole number from 1 to 1000000",
+        "more than 1000 statements": "keep the 1000 statements that cost most",
+        "more than 2000 slots": "all statements together have at most 2000 tables: keep those that cost most",
+    }.get(fault)
+
+
+def _path(call: Call, fault: str, path: str) -> Iterator[str]:
+    document = call.catalogue()
+    if _OPENS_SQL.match(call.content(0)):
+        yield f"{call.files[0]} looks like a workload: the catalogue comes first, then the workload"
+        return
+    element: Any = document
+    named = []
+    walked = keys.steps(path)
+    for key, number in walked[:-1]:
+        part = element.get(key) if isinstance(element, dict) else None
+        element = part[number - 1] if isinstance(part, list) and 0 < number <= len(part) else part
+        if isinstance(element, dict) and isinstance(element.get("name"), str):
+            named.append(f"{key} {element['name']!a}")
+    key = walked[-1][0]
+    yield f"{call.files[0]}: {fault} {path}" + (f", in {', '.join(named)}" if named else "")
+    if fault == "missing" and isinstance(element, dict):
+        near = keys.nearest(
+            key, [it for it in element if it not in keys.KNOWN.get(walked[-2][0] if len(walked) > 1 else "", ())]
+        )
+        if near:
+            yield f"the key {near} means nothing; did you mean {key}?"
+    if key in keys.RANGES and fault in ("missing", "wrong kind", "out of range"):
+        yield f"{key} is {keys.RANGES[key]}"
+    if fault == "wrong kind" and key in ("low", "high"):
+        yield "a date stands in quotes"
+
+
+def _refused(call: Call, text: str) -> Iterator[str]:
+    if text == "not toml":
+        yield from _not_toml(call)
+    elif text.startswith("too long "):
+        yield "a catalogue, a workload and a configuration have at most 16777216 bytes each"
+    elif text.startswith("configuration line "):
+        yield "each line is the number of a candidate, greater than the one before it, and ends with a line feed"
+        yield "/dev/null is the empty configuration; cophy candidates lists the candidates"
+    elif text.startswith("no statement "):
+        yield "statements count from 1; empty ones between two ; don't count"
+    elif text.endswith("combinations"):
+        yield "more than 4096 combinations of orders: leave out a join condition, or split the statement"
+    elif text.endswith("not built"):
+        yield "docs/FORMATS.md says what is built today"
+
+
+def _not_toml(call: Call) -> Iterator[str]:
+    content = call.content(0)
+    if content.startswith(b"\xef\xbb\xbf"):
+        yield f"{call.files[0]} begins with a byte-order mark: save it as UTF-8 without one"
+    elif _OPENS_SQL.match(content):
+        yield f"{call.files[0]} looks like a workload: the catalogue comes first, then the workload"
+    else:
+        try:
+            tomllib.loads(content.decode())
+        except UnicodeDecodeError as fault:
+            yield f"{call.files[0]} isn't UTF-8: byte {fault.start + 1}"
+        except (ValueError, RecursionError) as fault:
+            place = re.search(r"\(at (.*)\)\Z", str(fault))
+            yield f"{call.files[0]}: not TOML" + (f" at {place[1]}" if place else "")
+
+
+def _is_catalogue(text: bytes) -> bool:
+    try:
+        return "version" in tomllib.loads(text.decode())
+    except (ValueError, RecursionError):
+        return False
+
+
+def text_again(program: str, words: list[str]) -> tuple[int, str]:
+    """Runs the program once more, for the first line of its text."""
+    ran = subprocess.run([program, *words], stdin=subprocess.DEVNULL, stdout=subprocess.PIPE, check=False)
+    return ran.returncode, ran.stdout.decode(errors="surrogateescape").split("\n", 1)[0]
+
+
+def main() -> int:
+    """Takes the status of the call, the program, and its words."""
+    status, program, words = int(sys.argv[1]), sys.argv[2], sys.argv[3:]
+    if status not in (0, 2, 3, 5) or (status == 0 and words[:1] == ["bench"]):
+        return 0
+    call = Call(status, words, "")
+    if any(
+        os.path.exists(it) and not os.path.isfile(it) and not os.path.isdir(it) and it != os.devnull
+        for it in call.files
+    ):
+        return 0
+    if status:
+        again, call.text = text_again(program, words)
+        if again != status:
+            return 0
+    for line in hints(call):
+        print(f"cophy: {line}", flush=True)
+    return 0
+
+
+if __name__ == "__main__":
+    try:
+        sys.exit(main())
+    except (OSError, LookupError, TypeError, ValueError):
+        sys.exit(0)
