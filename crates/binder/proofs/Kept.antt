@@ -13,8 +13,8 @@ use Rattle.adv_base.specs.Predicates.{is_bound as binds_column, is_bound_item}
 use Rattle.adv_base.specs.Limits.Blocks.{AreFree, ListLimits, GroupLimits}
 use Rattle.std.proofs.lemmas.Bool.Decides.{nat_tests}
 use Rattle.binder.specs.declared.column.SlotColumn.{SlotColumn}
-use Rattle.binder.specs.declared.bound_item.BoundItem.{BoundItem}
-use Rattle.binder.specs.declared.bound_item.BoundItem.TheVariants as bound
+use Rattle.binder.specs.declared.gathered.BoundItem.{BoundItem}
+use Rattle.binder.specs.declared.gathered.BoundItem.TheVariants as bound
 use Rattle.binder.specs.Items.{item_column, is_plain, plain_column, item_mentions}
 use Rattle.binder.specs.Lists.{binds, is_bound, keep, kept_items, upward, kept_columns, distinct_group, group_list, order_list}
 use Rattle.binder.specs.Plain.{PlainPred, plain_pred, plain_preds}

@@ -4,6 +4,7 @@ use Rattle.std.specs.Prelude.{All}
 use Rattle.std.proofs.lemmas.Bool.{leb-true}
 use Rattle.std.proofs.lemmas.List.Elements.{All-nil, All-cons, All-push, All-head, All-tail, All-weaker}
 use Rattle.std.proofs.lemmas.List.Sums.{sum_by-append, sum-map}
+use Rattle.adv_base.specs.declared.limits.TheConstants.{MOST_SLOTS_IN_ALL}
 use Rattle.adv_base.specs.declared.catalogue.Catalogue.{Catalogue}
 use Rattle.adv_base.specs.declared.workload.Statement.{Statement}
 use Rattle.adv_base.specs.declared.workload.Work.{Work}
@@ -25,13 +26,13 @@ use Rattle.sql_reader.specs.declared.parsed.ParsedSelect.{ParsedSelect}
 use Rattle.sql_reader.specs.declared.parsed.ParsedStatement.{ParsedStatement}
 use Rattle.sql_reader.specs.declared.parsed.Source.{Source}
 use Rattle.binder.specs.declared.column.SlotColumn.{SlotColumn}
-use Rattle.binder.specs.declared.bound_item.BoundItem.{BoundItem}
-use Rattle.binder.specs.declared.visible.Visible.{Visible}
+use Rattle.binder.specs.declared.gathered.BoundItem.{BoundItem}
+use Rattle.binder.specs.declared.scope.Visible.{Visible}
 use Rattle.binder.specs.declared.fault.BindFault.{BindFault}
 use Rattle.binder.specs.declared.fault.BindFault.TheVariants.{NoColumn, Unjoined, TooManySlotsInAll}
 use Rattle.binder.specs.Names.{word_in, place}
 use Rattle.binder.specs.Lookups.{column_of}
-use Rattle.binder.specs.Blocks.{PlainClauses, clauses_of, clause_mentions, select_block, select_of, change_block, one_source, written_column, written_columns, delete_of}
+use Rattle.binder.specs.Blocks.{PlainClauses, clauses_of, joined_clauses, clause_mentions, select_block, select_of, change_block, changed_block, one_source, written_column, written_columns, delete_of}
 use Rattle.binder.specs.Conditions.{PlainTests, tests_of}
 use Rattle.binder.specs.Items.{columns_of}
 use Rattle.binder.specs.Joins.{is_joined}
@@ -41,7 +42,7 @@ use Rattle.binder.specs.Plain.{PlainBlock, PlainWork, PlainStatement, Select, Up
 use Rattle.binder.specs.Results.{◌>>=◌, or_fault, where_holds, both}
 use Rattle.binder.specs.Scopes.{Names}
 use Rattle.binder.specs.Sources.{table_meant, visible, sources_of}
-use Rattle.binder.specs.Statements.{first_table, update_of, without_names, insert_of, work_of, PlainBound, slot_count, with_statement, bound_of, statements_of}
+use Rattle.binder.specs.Statements.{first_table, update_of, without_names, insert_of, work_of, PlainBound, slot_count, counted_work, with_statement, bound_of, statements_of}
 use Rattle.binder.proofs.Readings.{bind_ok, or_fault_ok, where_ok, ok_is, in_turn-keeps, each-All}
 use Rattle.binder.proofs.Within.{width, IsColumn, column_of-within}
 use Rattle.binder.proofs.Checked.{IsPred, IsEdge, AreTests, AreTests-tests}
@@ -66,32 +67,42 @@ pub named_block : (cat : Catalogue) (block : Block) → IsNamed cat (plain_block
 named_block cat block is =
     block-named (record { cat = cat; text = is.text; sources = is.over }) is.items is.mentions block is.slots is.sources is.preds is.edges is.group is.order
 
+-- the clauses that are given are those, and their edges connect the slots
+joined-are : (at : ℕ) (names : Names) (select : ParsedSelect) (clauses : PlainClauses) → joined_clauses at names select ≡ Ok clauses
+    → (clauses_of names select ≡ Ok clauses) × (is_joined (length names.sources) clauses.tests.edges ≡ true)
+unfolding joined_clauses
+joined-are at names select clauses e =
+    let c = bind_ok (clauses_of names select) (λ found. where_holds (Unjoined at) (is_joined (length names.sources) found.tests.edges) found) clauses e in
+    let made = where_ok (Unjoined at) (is_joined (length names.sources) c.0.tests.edges) c.0 clauses c.2 in
+    subst (λ (x : PlainClauses). (clauses_of names select ≡ Ok x) × (is_joined (length names.sources) x.tests.edges ≡ true)) made.1 (c.1, made.0)
+
 select-named : (cat : Catalogue) (text : List ℕ) (at : ℕ) (select : ParsedSelect) (b : PlainBlock) → select_of cat text at select ≡ Ok b → IsNamed cat b
 unfolding select_of
 select-named cat text at select b e =
-    let s = bind_ok (sources_of cat text select.sources) (λ sources. clauses_of (record { cat = cat; text = text; sources = sources }) select >>= λ clauses.
-    where_holds (Unjoined at) (is_joined (length sources) clauses.tests.edges) (select_block (record { cat = cat; text = text; sources = sources }) select clauses)) b e in
+    let s = bind_ok (sources_of cat text select.sources) (λ sources. joined_clauses at (record { cat = cat; text = text; sources = sources }) select >>= λ clauses.
+    Ok (select_block (record { cat = cat; text = text; sources = sources }) select clauses)) b e in
     let names : Names = record { cat = cat; text = text; sources = s.0 } in
-    let c = bind_ok (clauses_of names select) (λ clauses. where_holds (Unjoined at) (is_joined (length s.0) clauses.tests.edges) (select_block names select clauses)) b s.2 in
-    let made = where_ok (Unjoined at) (is_joined (length s.0) c.0.tests.edges) (select_block names select c.0) b c.2 in
-    let given = given_clauses names select c.0 c.1 in
-    let are = AreTests-tests names select.conditions c.0.tests given.tests in
-    let aggregate = aggregates c.0.items select.order in
-    let named : IsNamed cat (select_block names select c.0) = record {
+    let j = bind_ok (joined_clauses at names select) (λ clauses. Ok (select_block names select clauses)) b s.2 in
+    let c = joined-are at names select j.0 j.1 in
+    let made = ok_is (select_block names select j.0) b j.2 in
+    let given = given_clauses names select j.0 c.0 in
+    let are = AreTests-tests names select.conditions j.0.tests given.tests in
+    let aggregate = aggregates j.0.items select.order in
+    let named : IsNamed cat (select_block names select j.0) = record {
       text = text;
       over = s.0;
-      items = c.0.items;
-      mentions = clause_mentions c.0;
+      items = j.0.items;
+      mentions = clause_mentions j.0;
       slots = refl;
       sources = sources-are cat text select.sources s.0 s.1;
       preds = are.preds;
       edges = are.edges;
       group = λ list g.
-          let from = group_list-from names select.distinct aggregate c.0.tests.preds c.0.group c.0.items given.group given.items list g in
-          subst (All (IsItem names)) from.2 (kept_columns-are names c.0.tests.preds from.0 from.1);
-      order = order_list-are names aggregate c.0.tests.preds c.0.group c.0.order.items given.order;
+          let from = group_list-from names select.distinct aggregate j.0.tests.preds j.0.group j.0.items given.group given.items list g in
+          subst (All (IsItem names)) from.2 (kept_columns-are names j.0.tests.preds from.0 from.1);
+      order = order_list-are names aggregate j.0.tests.preds j.0.group j.0.order.items given.order;
     } in
-    subst (IsNamed cat) made.1 named
+    subst (IsNamed cat) made named
 
 -- the one source of a statement that changes rows
 record IsOne (cat : Catalogue) (text : List ℕ) (names : Names) : Type 0 where
@@ -146,31 +157,37 @@ written-are cat text t uses columns e =
     (λ name_use c found. column_of-within cat t (word_in text name_use.name) c (or_fault_ok (NoColumn (place name_use.name)) (column_of cat.tables t (word_in text name_use.name)) c found))
     uses columns e
 
+changed-named : (cat : Catalogue) (text : List ℕ) (v : Visible) (conds : List Condition) (mentions : List SlotColumn) (b : PlainBlock) → v.table < length cat.tables
+    → changed_block (record { cat = cat; text = text; sources = v ∷ [] }) conds mentions ≡ Ok b → IsNamed cat b × (first_width cat b.slots ≡ column_count cat v.table)
+unfolding changed_block
+changed-named cat text v conds mentions b lt e =
+    let names : Names = record { cat = cat; text = text; sources = v ∷ [] } in
+    let t = bind_ok (tests_of names conds) (λ tests. Ok (change_block names tests (mentions ++ tests.mentions))) b e in
+    subst (λ (x : PlainBlock). IsNamed cat x × (first_width cat x.slots ≡ column_count cat v.table)) (ok_is (change_block names t.0 (mentions ++ t.0.mentions)) b t.2)
+    (change-named cat text v conds t.0 (mentions ++ t.0.mentions) lt t.1, refl)
+
 delete-named : (cat : Catalogue) (text : List ℕ) (source : Source) (conds : List Condition) (b : PlainBlock) → delete_of cat text source conds ≡ Ok b → IsNamed cat b
 unfolding delete_of
 delete-named cat text source conds b e =
-    let s = bind_ok (one_source cat text source) (λ names. tests_of names conds >>= λ tests. Ok (change_block names tests tests.mentions)) b e in
+    let s = bind_ok (one_source cat text source) (λ names. changed_block names conds []) b e in
     let one = one-is cat text source s.0 s.1 in
-    let names : Names = record { cat = cat; text = text; sources = one.over ∷ [] } in
-    let rest : (tests_of names conds >>= λ tests. Ok (change_block names tests tests.mentions)) ≡ Ok b = subst (λ (n : Names). (tests_of n conds >>= λ tests. Ok (change_block n tests tests.mentions)) ≡ Ok b) one.is s.2 in
-    let t = bind_ok (tests_of names conds) (λ tests. Ok (change_block names tests tests.mentions)) b rest in
-    subst (IsNamed cat) (ok_is (change_block names t.0 t.0.mentions) b t.2) (change-named cat text one.over conds t.0 t.0.mentions one.table t.1)
+    (changed-named cat text one.over conds [] b one.table (subst (λ (n : Names). changed_block n conds [] ≡ Ok b) one.is s.2)).0
 
 update-named : (cat : Catalogue) (text : List ℕ) (source : Source) (columns uses : List NameUse) (conds : List Condition) (w : PlainWork) → update_of cat text source columns uses conds ≡ Ok w → IsNamedWork cat w
 unfolding update_of
 update-named cat text source columns uses conds w e =
     let s = bind_ok (one_source cat text source) (λ names. both (written_columns names.cat names.text (first_table names.sources) columns) (columns_of names uses) >>= λ set.
-    tests_of names conds >>= λ tests. Ok (Update (change_block names tests (set.1 ++ tests.mentions)) set.0)) w e in
+    changed_block names conds set.1 >>= λ block. Ok (Update block set.0)) w e in
     let one = one-is cat text source s.0 s.1 in
     let names : Names = record { cat = cat; text = text; sources = one.over ∷ [] } in
-    let rest : (both (written_columns cat text one.over.table columns) (columns_of names uses) >>= λ set. tests_of names conds >>= λ tests. Ok (Update (change_block names tests (set.1 ++ tests.mentions)) set.0)) ≡ Ok w
-    = subst (λ (n : Names). (both (written_columns n.cat n.text (first_table n.sources) columns) (columns_of n uses) >>= λ set.
-    tests_of n conds >>= λ tests. Ok (Update (change_block n tests (set.1 ++ tests.mentions)) set.0)) ≡ Ok w) one.is s.2 in
-    let set = bind_ok (both (written_columns cat text one.over.table columns) (columns_of names uses)) (λ set. tests_of names conds >>= λ tests. Ok (Update (change_block names tests (set.1 ++ tests.mentions)) set.0)) w rest in
+    let rest : (both (written_columns cat text one.over.table columns) (columns_of names uses) >>= λ set. changed_block names conds set.1 >>= λ block. Ok (Update block set.0)) ≡ Ok w
+    = subst (λ (n : Names). (both (written_columns n.cat n.text (first_table n.sources) columns) (columns_of n uses) >>= λ set. changed_block n conds set.1 >>= λ block. Ok (Update block set.0)) ≡ Ok w) one.is s.2 in
+    let set = bind_ok (both (written_columns cat text one.over.table columns) (columns_of names uses)) (λ set. changed_block names conds set.1 >>= λ block. Ok (Update block set.0)) w rest in
     let parts = both_ok (written_columns cat text one.over.table columns) (columns_of names uses) set.0 set.1 in
-    let t = bind_ok (tests_of names conds) (λ tests. Ok (Update (change_block names tests (set.0.1 ++ tests.mentions)) set.0.0)) w set.2 in
-    subst (IsNamedWork cat) (ok_is (Update (change_block names t.0 (set.0.1 ++ t.0.mentions)) set.0.0) w t.2)
-    (change-named cat text one.over conds t.0 (set.0.1 ++ t.0.mentions) one.table t.1, written-are cat text one.over.table columns set.0.0 parts.0)
+    let b = bind_ok (changed_block names conds set.0.1) (λ block. Ok (Update block set.0.0)) w set.2 in
+    let is = changed-named cat text one.over conds set.0.1 b.0 one.table b.1 in
+    subst (IsNamedWork cat) (ok_is (Update b.0 set.0.0) w b.2)
+    (is.0, subst (λ (n : ℕ). All (λ c. c < n) set.0.0) (sym is.1) (written-are cat text one.over.table columns set.0.0 parts.0))
 
 without-is : {A : Type 0} (uses : List NameUse) (x y : A) → without_names uses x ≡ Ok y → x ≡ y
 without-is [] x y e = cc
@@ -198,22 +215,30 @@ work-named cat text at (bodies.Delete source conditions) w e =
 record AreBound (cat : Catalogue) (bound : PlainBound) : Type 0 where
   named : All (λ (s : PlainStatement). IsNamedWork cat s.work) bound.statements
   count : sum_by (λ (s : PlainStatement). slot_count s.work) bound.statements ≡ bound.slots
-  few : bound.slots ≤ 2000
+  few : bound.slots ≤ MOST_SLOTS_IN_ALL
+
+counted-is : (cat : Catalogue) (text : List ℕ) (slots : ℕ) (statement : ParsedStatement) (counted : PlainWork × ℕ) → counted_work cat text slots statement ≡ Ok counted
+    → (work_of cat text statement.place statement.body ≡ Ok counted.0) × (counted.1 ≡ slots + slot_count counted.0) × (counted.1 ≤ MOST_SLOTS_IN_ALL)
+unfolding counted_work
+counted-is cat text slots statement counted e =
+    let w = bind_ok (work_of cat text statement.place statement.body) (λ work. where_holds (TooManySlotsInAll statement.place) (nat_le (slots + slot_count work) MOST_SLOTS_IN_ALL) (work, slots + slot_count work)) counted e in
+    let made = where_ok (TooManySlotsInAll statement.place) (nat_le (slots + slot_count w.0) MOST_SLOTS_IN_ALL) (w.0, slots + slot_count w.0) counted w.2 in
+    let few : slots + slot_count w.0 ≤ MOST_SLOTS_IN_ALL = leb-true (slots + slot_count w.0) MOST_SLOTS_IN_ALL made.0 in
+    subst (λ (x : PlainWork × ℕ). (work_of cat text statement.place statement.body ≡ Ok x.0) × (x.1 ≡ slots + slot_count x.0) × (x.1 ≤ MOST_SLOTS_IN_ALL)) made.1 (w.1, refl, few)
 
 statement-bound : (cat : Catalogue) (text : List ℕ) (so_far : PlainBound) (statement : ParsedStatement) (after : PlainBound) → AreBound cat so_far → with_statement cat text so_far statement ≡ Ok after → AreBound cat after
 unfolding with_statement
 statement-bound cat text so_far statement after are e =
-    let w = bind_ok (work_of cat text statement.place statement.body) (λ work. where_holds (TooManySlotsInAll statement.place) (nat_le (so_far.slots + slot_count work) 2000)
-    (record { slots = so_far.slots + slot_count work; statements = so_far.statements ++ (record { weight = statement.weight; work = work }) ∷ [] })) after e in
-    let one : PlainStatement = record { weight = statement.weight; work = w.0 } in
-    let next : PlainBound = record { slots = so_far.slots + slot_count w.0; statements = so_far.statements ++ one ∷ [] } in
-    let made = where_ok (TooManySlotsInAll statement.place) (nat_le (so_far.slots + slot_count w.0) 2000) next after w.2 in
+    let c = bind_ok (counted_work cat text so_far.slots statement) (λ counted. Ok (record { slots = counted.1; statements = so_far.statements ++ (record { weight = statement.weight; work = counted.0 }) ∷ [] })) after e in
+    let is = counted-is cat text so_far.slots statement c.0 c.1 in
+    let one : PlainStatement = record { weight = statement.weight; work = c.0.0 } in
+    let next : PlainBound = record { slots = c.0.1; statements = so_far.statements ++ one ∷ [] } in
     let grown : AreBound cat next = record {
-      named = All-push (λ (s : PlainStatement). IsNamedWork cat s.work) so_far.statements one are.named (work-named cat text statement.place statement.body w.0 w.1);
-      count = sum_by-append (λ (s : PlainStatement). slot_count s.work) so_far.statements (one ∷ []) ∙ (let c = are.count in omega arith);
-      few = leb-true (so_far.slots + slot_count w.0) 2000 made.0;
+      named = All-push (λ (s : PlainStatement). IsNamedWork cat s.work) so_far.statements one are.named (work-named cat text statement.place statement.body c.0.0 is.0);
+      count = sum_by-append (λ (s : PlainStatement). slot_count s.work) so_far.statements (one ∷ []) ∙ (let n = are.count in let k = is.1 in omega arith);
+      few = is.2;
     } in
-    subst (AreBound cat) made.1 grown
+    subst (AreBound cat) (ok_is next after c.2) grown
 
 first-width : (cat : Catalogue) (block : Block) (c : ℕ) → c < first_width cat block.slots → c < slot_columns cat block 0
 first-width cat block c lt = by block.slots lt
@@ -251,7 +276,7 @@ same_sum statements =
 
 -- the statements that a text means name what the catalogue has, and together have at most 2000 slots
 pub statements-lawful : (cat : Catalogue) (text : List ℕ) (parsed : List ParsedStatement) (statements : List Statement) → statements_of cat text parsed ≡ Ok (plain_statements statements)
-    → All (λ (s : Statement). NamesWork cat s.work) statements × (sum_by (λ (s : Statement). slots_of_work s.work) statements ≤ 2000)
+    → All (λ (s : Statement). NamesWork cat s.work) statements × (sum_by (λ (s : Statement). slots_of_work s.work) statements ≤ MOST_SLOTS_IN_ALL)
 unfolding statements_of
 statements-lawful cat text parsed statements e =
     let b = bind_ok (bound_of cat text parsed) (λ bound. Ok bound.statements) (plain_statements statements) e in

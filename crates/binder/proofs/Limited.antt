@@ -13,11 +13,11 @@ use Rattle.adv_base.specs.Sets.{IsConnected}
 use Rattle.sql_reader.specs.declared.parsed.Condition.{Condition}
 use Rattle.sql_reader.specs.declared.parsed.ParsedSelect.{ParsedSelect}
 use Rattle.binder.specs.declared.column.SlotColumn.{SlotColumn}
-use Rattle.binder.specs.declared.bound_item.BoundItem.{BoundItem}
-use Rattle.binder.specs.declared.sort_keys.SortKeys.{SortKeys}
-use Rattle.binder.specs.declared.visible.Visible.{Visible}
+use Rattle.binder.specs.declared.gathered.BoundItem.{BoundItem}
+use Rattle.binder.specs.declared.gathered.SortKeys.{SortKeys}
+use Rattle.binder.specs.declared.scope.Visible.{Visible}
 use Rattle.binder.specs.declared.fault.BindFault.{BindFault}
-use Rattle.binder.specs.Blocks.{PlainClauses, clauses_of}
+use Rattle.binder.specs.Blocks.{PlainClauses, sort_keys_of, clauses_of}
 use Rattle.binder.specs.Conditions.{PlainTests, tests_of}
 use Rattle.binder.specs.Items.{columns_of, items_of}
 use Rattle.binder.specs.Joins.{is_joined}
@@ -42,31 +42,23 @@ pub record GivenClauses (names : Names) (select : ParsedSelect) (clauses : Plain
   pub order : All (IsItem names) clauses.order.items
 
 pub given_clauses : (names : Names) (select : ParsedSelect) (clauses : PlainClauses) → clauses_of names select ≡ Ok clauses → GivenClauses names select clauses
-unfolding clauses_of
+unfolding clauses_of sort_keys_of
 given_clauses names select clauses e =
-    let a = bind_ok (items_of names select.items) (λ items. tests_of names select.conditions >>= λ tests. columns_of names select.group >>= λ group.
-    mentions_from names (record { written = select.items; bound = items }) [] select.having >>= λ having.
-    orders_from names (record { written = select.items; bound = items }) having select.order >>= λ order.
+    let a = bind_ok (items_of names select.items) (λ items. tests_of names select.conditions >>= λ tests. columns_of names select.group >>= λ group. sort_keys_of names select items >>= λ order.
     Ok (record { items = items; tests = tests; group = group; order = order })) clauses e in
-    let b = bind_ok (tests_of names select.conditions) (λ tests. columns_of names select.group >>= λ group.
-    mentions_from names (record { written = select.items; bound = a.0 }) [] select.having >>= λ having.
-    orders_from names (record { written = select.items; bound = a.0 }) having select.order >>= λ order.
+    let b = bind_ok (tests_of names select.conditions) (λ tests. columns_of names select.group >>= λ group. sort_keys_of names select a.0 >>= λ order.
     Ok (record { items = a.0; tests = tests; group = group; order = order })) clauses a.2 in
-    let g = bind_ok (columns_of names select.group) (λ group.
-    mentions_from names (record { written = select.items; bound = a.0 }) [] select.having >>= λ having.
-    orders_from names (record { written = select.items; bound = a.0 }) having select.order >>= λ order.
-    Ok (record { items = a.0; tests = b.0; group = group; order = order })) clauses b.2 in
-    let h = bind_ok (mentions_from names (record { written = select.items; bound = a.0 }) [] select.having) (λ having.
-    orders_from names (record { written = select.items; bound = a.0 }) having select.order >>= λ order.
-    Ok (record { items = a.0; tests = b.0; group = g.0; order = order })) clauses g.2 in
-    let o = bind_ok (orders_from names (record { written = select.items; bound = a.0 }) h.0 select.order) (λ order. Ok (record { items = a.0; tests = b.0; group = g.0; order = order })) clauses h.2 in
+    let g = bind_ok (columns_of names select.group) (λ group. sort_keys_of names select a.0 >>= λ order. Ok (record { items = a.0; tests = b.0; group = group; order = order })) clauses b.2 in
+    let o = bind_ok (sort_keys_of names select a.0) (λ order. Ok (record { items = a.0; tests = b.0; group = g.0; order = order })) clauses g.2 in
+    let list : SelectList = record { written = select.items; bound = a.0 } in
+    let h = bind_ok (mentions_from names list [] select.having) (λ having. orders_from names list having select.order) o.0 o.1 in
     let items = items-are names select.items a.0 a.1 in
     let made : PlainClauses = record { items = a.0; tests = b.0; group = g.0; order = o.0 } in
     let given : GivenClauses names select made = record {
       items = items;
       tests = b.1;
       group = columns-are names select.group g.0 g.1;
-      order = orders-are names (record { written = select.items; bound = a.0 }) h.0 select.order o.0 items o.1;
+      order = orders-are names list h.0 select.order o.0 items h.2;
     } in
     subst (GivenClauses names select) (ok_is made clauses o.2) given
 

@@ -19,8 +19,8 @@ use Rattle.sql_tokens.specs.declared.token.Span.{Span}
 use Rattle.sql_reader.specs.declared.parsed.Source.{Source}
 use Rattle.binder.specs.Items.{takes_whole}
 use Rattle.binder.specs.declared.column.SlotColumn.{SlotColumn}
-use Rattle.binder.specs.declared.bound_item.BoundItem.{BoundItem}
-use Rattle.binder.specs.declared.visible.Visible.{Visible}
+use Rattle.binder.specs.declared.gathered.BoundItem.{BoundItem}
+use Rattle.binder.specs.declared.scope.Visible.{Visible}
 use Rattle.binder.specs.declared.fault.BindFault.{BindFault}
 use Rattle.binder.specs.declared.fault.BindFault.TheVariants.{NoTable, TwoAliases, TooManySlots}
 use Rattle.binder.specs.Names.{word_in, place}

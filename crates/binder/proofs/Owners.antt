@@ -3,7 +3,7 @@ use Rattle.std.proofs.Common.{◌≡◌, ℕ, suc, ◌+◌, ◌<◌, ◌≤◌, 
 use Rattle.std.proofs.Math.Seq.{drop-cons}
 use Rattle.std.proofs.lemmas.List.{drop_all}
 use Rattle.adv_base.specs.declared.catalogue.Catalogue.{Catalogue}
-use Rattle.binder.specs.declared.visible.Visible.{Visible}
+use Rattle.binder.specs.declared.scope.Visible.{Visible}
 use Rattle.binder.specs.Lookups.{column_of}
 use Rattle.binder.specs.Scopes.{owner, owners, slot_column}
 

@@ -9,9 +9,9 @@ use Rattle.sql_reader.specs.declared.parsed.NameUse.{NameUse}
 use Rattle.sql_reader.specs.declared.parsed.ParsedSelect.{ParsedSelect}
 use Rattle.sql_reader.specs.declared.parsed.Source.{Source}
 use Rattle.binder.specs.declared.column.SlotColumn.{SlotColumn}
-use Rattle.binder.specs.declared.bound_item.BoundItem.{BoundItem}
-use Rattle.binder.specs.declared.sort_keys.SortKeys.{SortKeys}
-use Rattle.binder.specs.declared.visible.Visible.{Visible}
+use Rattle.binder.specs.declared.gathered.BoundItem.{BoundItem}
+use Rattle.binder.specs.declared.gathered.SortKeys.{SortKeys}
+use Rattle.binder.specs.declared.scope.Visible.{Visible}
 use Rattle.binder.specs.declared.fault.BindFault.{BindFault}
 use Rattle.binder.specs.declared.fault.BindFault.TheVariants.{NoColumn, Unjoined}
 use Rattle.binder.specs.Names.{word_in, place}
@@ -34,15 +34,26 @@ pub record PlainClauses : Type 0 where
   pub group : List SlotColumn
   pub order : SortKeys
 
+-- HAVING and then ORDER BY, behind what the select items stand for
+unfoldable pub sort_keys_of : Names → ParsedSelect → List BoundItem → Result SortKeys BindFault
+sort_keys_of names select items = do
+  having ← mentions_from names (record { written = select.items; bound = items }) [] select.having
+  orders_from names (record { written = select.items; bound = items }) having select.order
+
 -- the clauses of a SELECT, in written order: items, ON and WHERE, GROUP BY, HAVING, ORDER BY
 unfoldable pub clauses_of : Names → ParsedSelect → Result PlainClauses BindFault
 clauses_of names select = do
   items ← items_of names select.items
   tests ← tests_of names select.conditions
   group ← columns_of names select.group
-  having ← mentions_from names (record { written = select.items; bound = items }) [] select.having
-  order ← orders_from names (record { written = select.items; bound = items }) having select.order
+  order ← sort_keys_of names select items
   Ok (record { items = items; tests = tests; group = group; order = order })
+
+-- the clauses of a SELECT whose statement begins at a place, and whose join edges have to connect its slots
+unfoldable pub joined_clauses : ℕ → Names → ParsedSelect → Result PlainClauses BindFault
+joined_clauses at names select = do
+  clauses ← clauses_of names select
+  where_holds (Unjoined at) (is_joined (length names.sources) clauses.tests.edges) clauses
 
 -- the columns that the clauses of a SELECT mention by their names
 abbrev pub clause_mentions : PlainClauses → List SlotColumn
@@ -66,13 +77,19 @@ select_block names select clauses =
 unfoldable pub select_of : Catalogue → List ℕ → ℕ → ParsedSelect → Result PlainBlock BindFault
 select_of cat text at select = do
   sources ← sources_of cat text select.sources
-  clauses ← clauses_of (record { cat = cat; text = text; sources = sources }) select
-  where_holds (Unjoined at) (is_joined (length sources) clauses.tests.edges) (select_block (record { cat = cat; text = text; sources = sources }) select clauses)
+  clauses ← joined_clauses at (record { cat = cat; text = text; sources = sources }) select
+  Ok (select_block (record { cat = cat; text = text; sources = sources }) select clauses)
 
 -- the block of a statement that changes the rows of one source, which mentions these columns
 abbrev pub change_block : Names → PlainTests → List SlotColumn → PlainBlock
 change_block names tests mentions =
     record { slots = slots_from names.cat [] mentions 0 names.sources; preds = tests.preds; edges = tests.edges; group = None; order = []; may_cover = false }
+
+-- the block of such a statement with these conditions, which mentions these columns before them
+unfoldable pub changed_block : Names → List Condition → List SlotColumn → Result PlainBlock BindFault
+changed_block names conditions mentions = do
+  tests ← tests_of names conditions
+  Ok (change_block names tests (mentions ++ tests.mentions))
 
 -- the one source of a statement that changes rows
 abbrev pub one_source : Catalogue → List ℕ → Source → Result Names BindFault
@@ -89,5 +106,4 @@ written_columns cat text t uses = each (written_column cat text t) uses
 unfoldable pub delete_of : Catalogue → List ℕ → Source → List Condition → Result PlainBlock BindFault
 delete_of cat text source conditions = do
   names ← one_source cat text source
-  tests ← tests_of names conditions
-  Ok (change_block names tests tests.mentions)
+  changed_block names conditions []

@@ -7,8 +7,8 @@ use Rattle.sql_reader.specs.declared.parsed.NameUse.{NameUse}
 use Rattle.sql_reader.specs.declared.parsed.ParsedItem.{ParsedItem}
 use Rattle.sql_reader.specs.declared.parsed.ParsedItem.TheVariants as parsed
 use Rattle.binder.specs.declared.column.SlotColumn.{SlotColumn}
-use Rattle.binder.specs.declared.bound_item.BoundItem.{BoundItem}
-use Rattle.binder.specs.declared.bound_item.BoundItem.TheVariants.{Star, SlotStar, Made}
+use Rattle.binder.specs.declared.gathered.BoundItem.{BoundItem}
+use Rattle.binder.specs.declared.gathered.BoundItem.TheVariants.{Star, SlotStar, Made}
 use Rattle.binder.specs.declared.fault.BindFault.{BindFault}
 use Rattle.binder.specs.Names.{name_in}
 use Rattle.binder.specs.Lookups.{goes_by}
@@ -34,35 +34,31 @@ plain_column false columns = None
 plain_column true columns = slice_get columns 0
 
 abbrev pub item_column : BoundItem → Option SlotColumn
-item_column Star = None
-item_column (SlotStar s) = None
 item_column (Made columns plain aggregate) = plain_column plain columns
+item_column item = None
 
 -- the column that the item of a number is, counted from 0
 abbrev pub column_at : List BoundItem → ℕ → Option SlotColumn
 column_at items n = option_and_then item_column (slice_get items n)
 
 abbrev pub is_plain : BoundItem → Bool
-is_plain Star = false
-is_plain (SlotStar s) = false
 is_plain (Made columns plain aggregate) = plain
+is_plain item = false
 
 abbrev pub has_aggregate : BoundItem → Bool
-has_aggregate Star = false
-has_aggregate (SlotStar s) = false
 has_aggregate (Made columns plain aggregate) = aggregate
+has_aggregate item = false
 
 -- the columns that an item mentions by their names
 abbrev pub item_mentions : BoundItem → List SlotColumn
-item_mentions Star = []
-item_mentions (SlotStar s) = []
 item_mentions (Made columns plain aggregate) = columns
+item_mentions item = []
 
 -- an item mentions all columns of a slot
 abbrev pub takes_whole : ℕ → BoundItem → Bool
 takes_whole slot Star = true
 takes_whole slot (SlotStar s) = s == slot
-takes_whole slot (Made columns plain aggregate) = false
+takes_whole slot item = false
 
 -- an item has the folded name as its alias
 abbrev pub is_alias : List ℕ → List ℕ → Option Span → Bool
@@ -70,9 +66,8 @@ is_alias text word None = false
 is_alias text word (Some alias) = goes_by word (name_in text alias)
 
 abbrev pub has_alias : List ℕ → List ℕ → ParsedItem → Bool
-has_alias text word parsed.Star = false
-has_alias text word (parsed.SlotStar source) = false
 has_alias text word (parsed.Made expr alias) = is_alias text word alias
+has_alias text word item = false
 
 -- the number of the first item with the alias, counted from 0
 abbrev pub aliased : List ℕ → List ParsedItem → List ℕ → Option ℕ

@@ -9,6 +9,7 @@ use Rattle.sql_reader.specs.declared.parsed.ParsedSelect.{ParsedSelect}
 use Rattle.sql_reader.specs.declared.parsed.Body.{Body}
 use Rattle.sql_reader.specs.declared.parsed.Body.TheVariants.{Select, Insert, Update, Delete}
 use Rattle.sql_reader.specs.declared.parsed.ParsedStatement.{ParsedStatement}
+use Rattle.adv_base.specs.declared.limits.TheConstants.{MOST_WEIGHT}
 
 -- an IN has at least one item
 pub record ConditionLimits (condition : Condition) : Type 0 where
@@ -31,5 +32,5 @@ pub record BodyLimits (body : Body) : Type 0 where
 
 pub record StatementLimits (statement : ParsedStatement) : Type 0 where
   pub weight_least : 1 ≤ statement.weight
-  pub weight_most : statement.weight ≤ 1000000
+  pub weight_most : statement.weight ≤ MOST_WEIGHT
   pub body : BodyLimits statement.body

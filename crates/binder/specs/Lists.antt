@@ -7,7 +7,7 @@ use Rattle.adv_base.specs.Items.{is_same_column}
 use Rattle.adv_base.specs.Predicates.{is_equality}
 use Rattle.sql_reader.specs.declared.parsed.ParsedOrder.{ParsedOrder}
 use Rattle.binder.specs.declared.column.SlotColumn.{SlotColumn}
-use Rattle.binder.specs.declared.bound_item.BoundItem.{BoundItem}
+use Rattle.binder.specs.declared.gathered.BoundItem.{BoundItem}
 use Rattle.binder.specs.Items.{item_column, is_plain, has_aggregate}
 use Rattle.binder.specs.Plain.{PlainPred}
 

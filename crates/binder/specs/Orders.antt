@@ -11,11 +11,11 @@ use Rattle.sql_reader.specs.declared.parsed.NameUse.{NameUse}
 use Rattle.sql_reader.specs.declared.parsed.ParsedItem.{ParsedItem}
 use Rattle.sql_reader.specs.declared.parsed.ParsedOrder.{ParsedOrder}
 use Rattle.binder.specs.declared.column.SlotColumn.{SlotColumn}
-use Rattle.binder.specs.declared.bound_item.BoundItem.{BoundItem}
-use Rattle.binder.specs.declared.sort_keys.SortKey.{SortKey}
-use Rattle.binder.specs.declared.sort_keys.SortKeys.{SortKeys}
-use Rattle.binder.specs.declared.terms.Term.{Term}
-use Rattle.binder.specs.declared.terms.Term.TheVariants as terms
+use Rattle.binder.specs.declared.gathered.BoundItem.{BoundItem}
+use Rattle.binder.specs.declared.gathered.SortKey.{SortKey}
+use Rattle.binder.specs.declared.gathered.SortKeys.{SortKeys}
+use Rattle.binder.specs.declared.column.Term.{Term}
+use Rattle.binder.specs.declared.column.Term.TheVariants as terms
 use Rattle.binder.specs.declared.fault.BindFault.{BindFault}
 use Rattle.binder.specs.Names.{word_in}
 use Rattle.binder.specs.Items.{aliased, item_column, column_at, is_plain, has_aggregate}

@@ -2,10 +2,11 @@
 use Rattle.std.specs.Prelude.{ℕ, nat_lt, Bool, not, List, [], ◌∷◌, ◌++◌, length, Option, Some, None, slice_get, unwrap_or, Result}
 use Rattle.std.specs.Option.{option_map_or}
 use Rattle.std.specs.List.{list_any}
+use Rattle.adv_base.specs.declared.limits.TheConstants.{MOST_SLOTS}
 use Rattle.adv_base.specs.declared.catalogue.Catalogue.{Catalogue}
 use Rattle.sql_tokens.specs.declared.token.Span.{Span}
 use Rattle.sql_reader.specs.declared.parsed.Source.{Source}
-use Rattle.binder.specs.declared.visible.Visible.{Visible}
+use Rattle.binder.specs.declared.scope.Visible.{Visible}
 use Rattle.binder.specs.declared.fault.BindFault.{BindFault}
 use Rattle.binder.specs.declared.fault.BindFault.TheVariants.{NoTable, TwoAliases, TooManySlots}
 use Rattle.binder.specs.Names.{folded, name_in, word_in, place}
@@ -39,7 +40,7 @@ put_source sources at v = where_holds (TwoAliases at) (not (is_taken sources v.n
 -- a source behind the earlier ones: first there has to be room for it, then its table is looked up, and then its name has to be new
 unfoldable pub with_source : Catalogue → List ℕ → List Visible → Source → Result (List Visible) BindFault
 with_source cat text sources source = do
-  room ← where_holds (TooManySlots (place source.table)) (nat_lt (length sources) 8) sources
+  room ← where_holds (TooManySlots (place source.table)) (nat_lt (length sources) MOST_SLOTS) sources
   t ← table_meant cat text source.table
   put_source room (place (unwrap_or source.alias source.table)) (visible cat text source.alias t)
 

@@ -1,5 +1,6 @@
 -- The statements that a workload means over a catalogue.
 use Rattle.std.specs.Prelude.{ℕ, ◌+◌, nat_le, List, [], ◌∷◌, ◌++◌, length, Option, Some, None, unwrap_or, Result, Ok, Err}
+use Rattle.adv_base.specs.declared.limits.TheConstants.{MOST_SLOTS_IN_ALL}
 use Rattle.adv_base.specs.declared.catalogue.Catalogue.{Catalogue}
 use Rattle.sql_tokens.specs.declared.token.Span.{Span}
 use Rattle.sql_reader.specs.declared.parsed.Body.{Body}
@@ -10,10 +11,9 @@ use Rattle.sql_reader.specs.declared.parsed.ParsedStatement.{ParsedStatement}
 use Rattle.sql_reader.specs.declared.parsed.Source.{Source}
 use Rattle.binder.specs.declared.fault.BindFault.{BindFault}
 use Rattle.binder.specs.declared.fault.BindFault.TheVariants.{NoColumn, TooManySlotsInAll}
-use Rattle.binder.specs.declared.visible.Visible.{Visible}
+use Rattle.binder.specs.declared.scope.Visible.{Visible}
 use Rattle.binder.specs.Names.{place}
-use Rattle.binder.specs.Blocks.{select_of, delete_of, change_block, one_source, written_columns}
-use Rattle.binder.specs.Conditions.{tests_of}
+use Rattle.binder.specs.Blocks.{select_of, delete_of, changed_block, one_source, written_columns}
 use Rattle.binder.specs.Items.{columns_of}
 use Rattle.binder.specs.Plain.{PlainBlock, PlainWork, PlainStatement, Select, Update, Delete, Insert}
 use Rattle.binder.specs.Results.{◌>>=◌, where_holds, in_turn, both}
@@ -29,8 +29,8 @@ unfoldable pub update_of : Catalogue → List ℕ → Source → List NameUse �
 update_of cat text source columns uses conditions = do
   names ← one_source cat text source
   set ← both (written_columns names.cat names.text (first_table names.sources) columns) (columns_of names uses)
-  tests ← tests_of names conditions
-  Ok (Update (change_block names tests (set.1 ++ tests.mentions)) set.0)
+  block ← changed_block names conditions set.1
+  Ok (Update block set.0)
 
 -- the first of the tokens of a name
 abbrev pub first_span : NameUse → Span
@@ -65,12 +65,17 @@ slot_count (Update block columns) = length block.slots
 slot_count (Delete block) = length block.slots
 slot_count (Insert table rows) = 0
 
--- one statement more; all together have at most 2000 slots
+-- what a statement does, and how many slots there are with its own; all together have at most 2000
+unfoldable pub counted_work : Catalogue → List ℕ → ℕ → ParsedStatement → Result (PlainWork × ℕ) BindFault
+counted_work cat text slots statement = do
+  work ← work_of cat text statement.place statement.body
+  where_holds (TooManySlotsInAll statement.place) (nat_le (slots + slot_count work) MOST_SLOTS_IN_ALL) (work, slots + slot_count work)
+
+-- one statement more
 unfoldable pub with_statement : Catalogue → List ℕ → PlainBound → ParsedStatement → Result PlainBound BindFault
 with_statement cat text so_far statement = do
-  work ← work_of cat text statement.place statement.body
-  where_holds (TooManySlotsInAll statement.place) (nat_le (so_far.slots + slot_count work) 2000)
-      (record { slots = so_far.slots + slot_count work; statements = so_far.statements ++ (record { weight = statement.weight; work = work }) ∷ [] })
+  counted ← counted_work cat text so_far.slots statement
+  Ok (record { slots = counted.1; statements = so_far.statements ++ (record { weight = statement.weight; work = counted.0 }) ∷ [] })
 
 -- the statements that a text means over a catalogue, with the count of their slots, or the first fault
 abbrev pub bound_of : Catalogue → List ℕ → List ParsedStatement → Result PlainBound BindFault

@@ -8,7 +8,7 @@ use Rattle.adv_base.specs.declared.workload.predicate.Value.{Value}
 use Rattle.adv_base.specs.declared.workload.predicate.Value.TheVariants.{Number, Plain}
 use Rattle.adv_base.specs.Days.{day_number}
 use Rattle.sql_reader.specs.declared.parsed.Literal.{Literal}
-use Rattle.sql_reader.specs.declared.parsed.Literal.TheVariants.{Whole, Day, Text, Other}
+use Rattle.sql_reader.specs.declared.parsed.Literal.TheVariants.{Whole, Day, Text}
 use Rattle.binder.specs.Names.{text_in}
 
 -- a day's number, where there is a day
@@ -19,16 +19,13 @@ day_value (Some day) = Number day
 -- a whole number has a place among numbers
 abbrev pub int_value : Literal → Value
 int_value (Whole n) = Number n
-int_value (Day day) = Plain
-int_value (Text span) = Plain
-int_value Other = Plain
+int_value literal = Plain
 
 -- a day has a place among days, and so has a text that reads as one
 abbrev pub date_value : List ℕ → Literal → Value
-date_value text (Whole n) = Plain
 date_value text (Day day) = Number day
 date_value text (Text span) = day_value (day_number (text_in text span))
-date_value text Other = Plain
+date_value text literal = Plain
 
 -- the value that a literal is for a column of a kind; every other is plain
 abbrev pub value_of : List ℕ → Kind → Literal → Value

@@ -1,9 +1,9 @@
 -- What the code's values are without the parts that only proofs and look-ups need.
-use Rattle.binder.specs.declared.bound.Bound.{Bound}
-use Rattle.binder.specs.declared.clauses.Clauses.{Clauses}
+use Rattle.binder.specs.declared.gathered.Bound.{Bound}
+use Rattle.binder.specs.declared.gathered.Clauses.{Clauses}
 use Rattle.binder.specs.declared.scope.Scope.{Scope}
 use Rattle.binder.specs.declared.select_list.SelectList.{SelectList as IndexedList}
-use Rattle.binder.specs.declared.tests_so_far.Tests.{Tests}
+use Rattle.binder.specs.declared.gathered.Tests.{Tests}
 use Rattle.binder.specs.Blocks.{PlainClauses}
 use Rattle.binder.specs.Conditions.{PlainTests}
 use Rattle.binder.specs.Orders.{SelectList}

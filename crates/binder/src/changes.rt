@@ -1,25 +1,27 @@
 //! Statements that change rows.
 ghost use Rattle.std.specs.Prelude.{◌≡◌, ◌<◌, ◌≤◌, length, IfOk, Ok, All};
-ghost use Rattle.binder.specs.Limits.{ConditionsLimits};
-ghost use Rattle.binder.specs.Blocks.{change_block as block_of_change, one_source as one_source_of, written_column as column_written, written_columns as columns_written, delete_of};
-ghost use Rattle.binder.specs.Conditions.{tests_of};
 ghost use Rattle.adv_base.specs.Limits.Works.{ChangeLimits};
+ghost use Rattle.binder.specs.Blocks as blocks;
+ghost use Rattle.binder.specs.Conditions.{tests_of};
 ghost use Rattle.binder.specs.Items.{columns_of};
-ghost use Rattle.binder.specs.Plain.{plain_block, Update as PlainUpdate, Insert as PlainInsert};
-ghost use Rattle.binder.specs.Results.{Gives, both, earlier as first_of_faults, fault_place as place_of_fault};
-ghost use Rattle.binder.specs.Statements.{update_of, insert_of, first_table as table_of_first, first_span as first_of_name};
+ghost use Rattle.binder.specs.Limits.{ConditionsLimits};
+ghost use Rattle.binder.specs.Plain as plain;
+ghost use Rattle.binder.specs.Plain.{plain_block};
+ghost use Rattle.binder.specs.Results as readings;
+ghost use Rattle.binder.specs.Results.{Gives};
+ghost use Rattle.binder.specs.Statements as meant;
 ghost use Rattle.binder.specs.View.{names_of, plain_tests};
 
 use crate::column::SlotColumn;
 use crate::conditions::tests;
 use crate::directory::Directory;
 use crate::fault::BindFault;
+use crate::gathered::Tests;
 use crate::items::columns;
 use crate::names::{place, word};
 use crate::needed::slots;
 use crate::scope::Scope;
 use crate::sources::{table_meant, visible};
-use crate::tests_so_far::Tests;
 use adv_base::{Block, List};
 use sql_reader::{Condition, NameUse, Source};
 use sql_tokens::Span;
@@ -32,7 +34,7 @@ fn one_source<'a>(
     text: &'a [u8],
     source: Source,
 ) -> Result<Scope<'a>, BindFault>
-    ensures exact { Gives names_of result (one_source_of directory.now.cat.now text.now source) }
+    ensures exact { Gives names_of result (blocks.one_source directory.now.cat.now text.now source) }
     ensures one { IfOk result (λ scope. length scope.sources ≡ 1) }
 {
     let table = table_meant(alloc, directory, text, source.table)?;
@@ -54,7 +56,7 @@ fn written_column(
     table: u16,
     name: NameUse,
 ) -> Result<u16, BindFault>
-    ensures { Gives (λ c. c) result (column_written directory.now.cat.now text.now table name) }
+    ensures { Gives (λ c. c) result (blocks.written_column directory.now.cat.now text.now table name) }
 {
     let word = word(alloc, text, name.name)?;
     match directory.column(table, word.as_slice()) {
@@ -71,7 +73,7 @@ fn written_columns(
     table: u16,
     names: &[NameUse],
 ) -> Result<List<u16>, BindFault>
-    ensures { Gives (λ x. x) result (columns_written directory.now.cat.now text.now table names.now) }
+    ensures { Gives (λ x. x) result (blocks.written_columns directory.now.cat.now text.now table names.now) }
 {
     let mut items = Vec::new(alloc);
     for name in names {
@@ -92,7 +94,7 @@ fn change_block(
     requires one { length scope.now.sources ≡ 1 }
     requires limits { ConditionsLimits conditions.now }
     requires bound { tests_of (names_of scope.now) conditions.now ≡ Ok (plain_tests tests) }
-    ensures exact { IfOk result (λ block. plain_block block ≡ block_of_change (names_of scope.now) (plain_tests tests) mentions.now) }
+    ensures exact { IfOk result (λ block. plain_block block ≡ blocks.change_block (names_of scope.now) (plain_tests tests) mentions.now) }
     ensures limits { IfOk result ChangeLimits }
 {
     let cat = scope.directory.cat;
@@ -107,6 +109,24 @@ fn change_block(
     })
 }
 
+/// The block of such a statement with these conditions, which mentions these columns before them.
+#[tactic(auto, unfolding(crate::specs::Blocks::changed_block))]
+fn changed_block(
+    alloc: Global,
+    scope: &Scope<'_>,
+    conditions: &[Condition],
+    mut mentions: List<SlotColumn>,
+) -> Result<Block, BindFault>
+    requires one { length scope.now.sources ≡ 1 }
+    requires limits { ConditionsLimits conditions.now }
+    ensures exact { Gives plain_block result (blocks.changed_block (names_of scope.now) conditions.now mentions) }
+    ensures limits { IfOk result ChangeLimits }
+{
+    let tests = tests(alloc, scope, conditions)?;
+    mentions.items.extend_from_slice(tests.mentions.as_slice())?;
+    Ok(change_block(alloc, scope, conditions, tests, mentions.as_slice())?)
+}
+
 /// The block of a DELETE.
 #[tactic(auto, unfolding(crate::specs::Blocks::delete_of))]
 pub fn delete_block(
@@ -117,18 +137,16 @@ pub fn delete_block(
     conditions: &[Condition],
 ) -> Result<Block, BindFault>
     requires { ConditionsLimits conditions.now }
-    ensures exact { Gives plain_block result (delete_of directory.now.cat.now text.now source conditions.now) }
+    ensures exact { Gives plain_block result (blocks.delete_of directory.now.cat.now text.now source conditions.now) }
     ensures limits { IfOk result ChangeLimits }
 {
     let scope = one_source(alloc, directory, text, source)?;
-    let tests = tests(alloc, &scope, conditions)?;
-    let mentions = Vec::from_slice(alloc, tests.mentions.as_slice())?;
-    Ok(change_block(alloc, &scope, conditions, tests, &mentions)?)
+    changed_block(alloc, &scope, conditions, List::new(alloc))
 }
 
 /// Where a fault stands in the text.
 fn fault_place(fault: BindFault) -> u64
-    ensures { result ≡ place_of_fault fault }
+    ensures { result ≡ readings.fault_place fault }
 {
     match fault {
         BindFault::Memory => 0,
@@ -144,7 +162,7 @@ fn fault_place(fault: BindFault) -> u64
 
 /// The fault that stands first in the text; want of memory before all.
 fn earlier(d: BindFault, e: BindFault) -> BindFault
-    ensures { result ≡ first_of_faults d e }
+    ensures { result ≡ readings.earlier d e }
 {
     if fault_place(d) <= fault_place(e) {
         d
@@ -162,7 +180,7 @@ fn set_clause(
 ) -> Result<(List<u16>, List<SlotColumn>), BindFault>
     requires { length scope.now.sources ≡ 1 }
     ensures { let seen = names_of scope.now in
-        Gives (λ x. x) result (both (columns_written seen.cat seen.text (table_of_first seen.sources) names.now) (columns_of seen uses.now)) }
+        Gives (λ x. x) result (readings.both (blocks.written_columns seen.cat seen.text (meant.first_table seen.sources) names.now) (columns_of seen uses.now)) }
 {
     let table = scope.sources.items[0].table;
     let set = written_columns(alloc, scope.directory, scope.text, table, names);
@@ -187,21 +205,18 @@ pub fn update_work(
     conditions: &[Condition],
 ) -> Result<(Block, List<u16>), BindFault>
     requires { ConditionsLimits conditions.now }
-    ensures exact { Gives (λ x. PlainUpdate (plain_block x.0) x.1) result (update_of directory.now.cat.now text.now source names.now uses.now conditions.now) }
+    ensures exact { Gives (λ x. plain.Update (plain_block x.0) x.1) result (meant.update_of directory.now.cat.now text.now source names.now uses.now conditions.now) }
     ensures limits { IfOk result (λ x. ChangeLimits x.0) }
 {
     let scope = one_source(alloc, directory, text, source)?;
     let (set, used) = set_clause(alloc, &scope, names, uses)?;
-    let tests = tests(alloc, &scope, conditions)?;
-    let mut mentions = used;
-    mentions.items.extend_from_slice(tests.mentions.as_slice())?;
-    let block = change_block(alloc, &scope, conditions, tests, mentions.as_slice())?;
+    let block = changed_block(alloc, &scope, conditions, used)?;
     Ok((block, set))
 }
 
 /// The first of the tokens of a name.
 fn first_span(name: NameUse) -> Span
-    ensures { result ≡ first_of_name name }
+    ensures { result ≡ meant.first_span name }
 {
     name.qualifier.unwrap_or(name.name)
 }
@@ -217,7 +232,7 @@ pub fn insert_table(
     uses: &[NameUse],
     rows: u64,
 ) -> Result<u16, BindFault>
-    ensures { Gives (λ t. PlainInsert t rows) result (insert_of directory.now.cat.now text.now table names.now uses.now rows) }
+    ensures { Gives (λ t. plain.Insert t rows) result (meant.insert_of directory.now.cat.now text.now table names.now uses.now rows) }
 {
     let number = table_meant(alloc, directory, text, table)?;
     let _listed = written_columns(alloc, directory, text, number, names)?;

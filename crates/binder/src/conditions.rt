@@ -3,15 +3,15 @@ ghost use Rattle.std.specs.Prelude.{◌≡◌, [], length, IfOk, All};
 ghost use Rattle.adv_base.specs.declared.workload.predicate.Test.TheVariants as kinds_of_test;
 ghost use Rattle.adv_base.specs.Limits.Tests.{TestLimits};
 ghost use Rattle.binder.specs.Limits.{ConditionLimits};
-ghost use Rattle.binder.specs.Conditions.{compare_test as test_of_comparison, with_test as one_test_more, with_equality as one_equality_more, with_condition as one_condition_more, named_test as test_of_name, named_equality as equality_of_names, literal_value as value_of_literal, no_tests as none_so_far, tests_of};
+ghost use Rattle.binder.specs.Conditions as where_clause;
 ghost use Rattle.binder.specs.Results.{Gives};
 ghost use Rattle.binder.specs.View.{names_of, plain_tests};
 
 use crate::column::SlotColumn;
 use crate::fault::BindFault;
+use crate::gathered::Tests;
 use crate::meaning::meaning;
 use crate::scope::Scope;
-use crate::tests_so_far::Tests;
 use crate::values::literal_value;
 use adv_base::{Edge, List, Pred, Test, Value};
 use sql_reader::{Compare, Condition, Literal, NameUse};
@@ -19,7 +19,7 @@ use std::alloc::{AllocError, Global};
 
 /// No tests.
 fn no_tests(alloc: Global) -> Tests
-    ensures { plain_tests result ≡ none_so_far }
+    ensures { plain_tests result ≡ where_clause.no_tests }
 {
     Tests {
         preds: List::new(alloc),
@@ -30,7 +30,7 @@ fn no_tests(alloc: Global) -> Tests
 
 /// What a comparison with a value asks.
 fn compare_test(compare: Compare, value: Value) -> Test
-    ensures exact { result ≡ test_of_comparison compare value }
+    ensures exact { result ≡ where_clause.compare_test compare value }
     ensures limits { TestLimits result }
 {
     match compare {
@@ -44,7 +44,7 @@ fn compare_test(compare: Compare, value: Value) -> Test
 /// The tests with one more, of one column.
 fn with_test(mut so_far: Tests, c: SlotColumn, test: Test) -> Result<Tests, AllocError>
     requires { TestLimits test }
-    ensures { IfOk result (λ x. plain_tests x ≡ one_test_more (plain_tests so_far) c test) }
+    ensures { IfOk result (λ x. plain_tests x ≡ where_clause.with_test (plain_tests so_far) c test) }
 {
     so_far.preds.items.push(Pred {
         slot: c.slot,
@@ -57,7 +57,7 @@ fn with_test(mut so_far: Tests, c: SlotColumn, test: Test) -> Result<Tests, Allo
 
 /// The tests with an equality of two columns.
 fn with_equality(mut so_far: Tests, c: SlotColumn, d: SlotColumn) -> Result<Tests, AllocError>
-    ensures { IfOk result (λ x. plain_tests x ≡ one_equality_more (plain_tests so_far) c d) }
+    ensures { IfOk result (λ x. plain_tests x ≡ where_clause.with_equality (plain_tests so_far) c d) }
 {
     so_far.mentions.items.push(c)?;
     so_far.mentions.items.push(d)?;
@@ -87,7 +87,7 @@ fn named_test(
     test: Test,
 ) -> Result<Tests, BindFault>
     requires { TestLimits test }
-    ensures { Gives plain_tests result (test_of_name (names_of scope.now) (plain_tests so_far) name (λ _. test)) }
+    ensures { Gives plain_tests result (where_clause.named_test (names_of scope.now) (plain_tests so_far) name (λ _. test)) }
 {
     let c = meaning(alloc, scope, name)?;
     Ok(with_test(so_far, c, test)?)
@@ -103,7 +103,7 @@ fn compared(
     literal: Literal,
 ) -> Result<Tests, BindFault>
     ensures { let names = names_of scope.now in
-        Gives plain_tests result (test_of_name names (plain_tests so_far) name (λ c. test_of_comparison compare (value_of_literal names c literal))) }
+        Gives plain_tests result (where_clause.named_test names (plain_tests so_far) name (λ c. where_clause.compare_test compare (where_clause.literal_value names c literal))) }
 {
     let c = meaning(alloc, scope, name)?;
     let value = literal_value(scope, c, literal);
@@ -120,7 +120,7 @@ fn between(
     high: Literal,
 ) -> Result<Tests, BindFault>
     ensures { let names = names_of scope.now in
-        Gives plain_tests result (test_of_name names (plain_tests so_far) name (λ c. kinds_of_test.Between (value_of_literal names c low) (value_of_literal names c high))) }
+        Gives plain_tests result (where_clause.named_test names (plain_tests so_far) name (λ c. kinds_of_test.Between (where_clause.literal_value names c low) (where_clause.literal_value names c high))) }
 {
     let c = meaning(alloc, scope, name)?;
     let least = literal_value(scope, c, low);
@@ -136,7 +136,7 @@ fn tied(
     left: NameUse,
     right: NameUse,
 ) -> Result<Tests, BindFault>
-    ensures { Gives plain_tests result (equality_of_names (names_of scope.now) (plain_tests so_far) left right) }
+    ensures { Gives plain_tests result (where_clause.named_equality (names_of scope.now) (plain_tests so_far) left right) }
 {
     let c = meaning(alloc, scope, left)?;
     let d = meaning(alloc, scope, right)?;
@@ -152,7 +152,7 @@ fn with_condition(
     condition: Condition,
 ) -> Result<Tests, BindFault>
     requires { ConditionLimits condition }
-    ensures { Gives plain_tests result (one_condition_more (names_of scope.now) (plain_tests so_far) condition) }
+    ensures { Gives plain_tests result (where_clause.with_condition (names_of scope.now) (plain_tests so_far) condition) }
 {
     match condition {
         Condition::Compared(name, compare, literal) => {
@@ -172,7 +172,7 @@ fn with_condition(
 /// The tests of conditions, in written order.
 pub fn tests(alloc: Global, scope: &Scope<'_>, conditions: &[Condition]) -> Result<Tests, BindFault>
     requires { All ConditionLimits conditions.now }
-    ensures { Gives plain_tests result (tests_of (names_of scope.now) conditions.now) }
+    ensures { Gives plain_tests result (where_clause.tests_of (names_of scope.now) conditions.now) }
 {
     let mut so_far = no_tests(alloc);
     for condition in conditions {

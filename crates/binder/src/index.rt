@@ -1,6 +1,6 @@
 //! Numbers looked up by name.
 ghost use Rattle.std.specs.Prelude.{◌≡◌, ◌==◌, ℕ, List, IfOk, OnOk, None, Some, bytes_eq, if◌then◌else◌};
-ghost use Rattle.binder.specs.Names.{folded as folded_bytes};
+ghost use Rattle.binder.specs.Names as spelling;
 ghost use Rattle.binder.specs.Index.{find_in};
 
 use crate::names::folded;
@@ -26,7 +26,7 @@ impl NameIndex {
     /// Gives a name a number, in place of the one that it has.
     pub fn put(&mut self, alloc: Global, name: &[u8], number: usize) -> Result<(), AllocError>
         ensures { OnOk result ((word : List ℕ) → find_in self.new word
-            ≡ (if bytes_eq (folded_bytes name.now) word then Some number else find_in self.old word)) }
+            ≡ (if bytes_eq (spelling.folded name.now) word then Some number else find_in self.old word)) }
     {
         self.numbers.insert(folded(alloc, name)?, number)?;
         Ok(())

@@ -1,13 +1,13 @@
 //! The items of a select list.
 ghost use Rattle.std.specs.Prelude.{◌≡◌, IfOk};
 ghost use Rattle.std.specs.List.{flat_map};
-ghost use Rattle.binder.specs.Items.{columns_of, item_of, items_of, item_mentions, item_column as column_of_item, column_at as column_of_number, is_plain as plain_item, has_aggregate as aggregate_item, takes_whole as whole_slot_taken};
+ghost use Rattle.binder.specs.Items as select_items;
 ghost use Rattle.binder.specs.Results.{Gives};
 ghost use Rattle.binder.specs.View.{names_of};
 
-use crate::bound_item::BoundItem;
 use crate::column::SlotColumn;
 use crate::fault::BindFault;
+use crate::gathered::BoundItem;
 use crate::meaning::{meaning, source};
 use crate::scope::Scope;
 use adv_base::List;
@@ -20,7 +20,7 @@ pub fn columns(
     scope: &Scope<'_>,
     uses: &[NameUse],
 ) -> Result<List<SlotColumn>, BindFault>
-    ensures { Gives (λ x. x) result (columns_of (names_of scope.now) uses.now) }
+    ensures { Gives (λ x. x) result (select_items.columns_of (names_of scope.now) uses.now) }
 {
     let mut items = Vec::new(alloc);
     for name in uses {
@@ -33,7 +33,7 @@ pub fn columns(
 /// What an item stands for.
 #[tactic(auto, unfolding(crate::specs::Items::item_of))]
 fn item(alloc: Global, scope: &Scope<'_>, written: &ParsedItem) -> Result<BoundItem, BindFault>
-    ensures { Gives (λ x. x) result (item_of (names_of scope.now) written.now) }
+    ensures { Gives (λ x. x) result (select_items.item_of (names_of scope.now) written.now) }
 {
     match written {
         ParsedItem::Star => Ok(BoundItem::Star),
@@ -55,7 +55,7 @@ pub fn items(
     scope: &Scope<'_>,
     written: &[ParsedItem],
 ) -> Result<List<BoundItem>, BindFault>
-    ensures { Gives (λ x. x) result (items_of (names_of scope.now) written.now) }
+    ensures { Gives (λ x. x) result (select_items.items_of (names_of scope.now) written.now) }
 {
     let mut items = Vec::new(alloc);
     for one in written {
@@ -68,7 +68,7 @@ pub fn items(
 impl BoundItem {
     /// The column that the item is, where it is exactly a column.
     pub fn column(&self) -> Option<SlotColumn>
-        ensures { result ≡ column_of_item self.now }
+        ensures { result ≡ select_items.item_column self.now }
     {
         match self {
             BoundItem::Made {
@@ -82,7 +82,7 @@ impl BoundItem {
 
     /// Whether the item is exactly a column.
     pub fn is_plain(&self) -> bool
-        ensures { result ≡ plain_item self.now }
+        ensures { result ≡ select_items.is_plain self.now }
     {
         match self {
             BoundItem::Made { plain, .. } => *plain,
@@ -92,7 +92,7 @@ impl BoundItem {
 
     /// Whether the item calls an aggregate.
     pub fn has_aggregate(&self) -> bool
-        ensures { result ≡ aggregate_item self.now }
+        ensures { result ≡ select_items.has_aggregate self.now }
     {
         match self {
             BoundItem::Made { aggregate, .. } => *aggregate,
@@ -102,7 +102,7 @@ impl BoundItem {
 
     /// Whether the item mentions all columns of a slot.
     pub fn takes_whole(&self, slot: u8) -> bool
-        ensures { result ≡ whole_slot_taken slot self.now }
+        ensures { result ≡ select_items.takes_whole slot self.now }
     {
         match self {
             BoundItem::Star => true,
@@ -113,7 +113,7 @@ impl BoundItem {
 
     /// The columns that the item mentions by their names.
     fn mentions(&self) -> &[SlotColumn]
-        ensures { result.now ≡ item_mentions self.now }
+        ensures { result.now ≡ select_items.item_mentions self.now }
     {
         match self {
             BoundItem::Made { columns, .. } => columns.as_slice(),
@@ -124,7 +124,7 @@ impl BoundItem {
 
 /// The column that the item of a number is, counted from 0.
 pub fn column_at(items: &[BoundItem], number: usize) -> Option<SlotColumn>
-    ensures { result ≡ column_of_number items.now number }
+    ensures { result ≡ select_items.column_at items.now number }
 {
     if number >= items.len() {
         return None;
@@ -134,7 +134,7 @@ pub fn column_at(items: &[BoundItem], number: usize) -> Option<SlotColumn>
 
 /// The columns that items mention by their names.
 pub fn mentions_of(alloc: Global, items: &[BoundItem]) -> Result<Vec<SlotColumn>, AllocError>
-    ensures { IfOk result (λ v. v.items ≡ flat_map item_mentions items.now) }
+    ensures { IfOk result (λ v. v.items ≡ flat_map select_items.item_mentions items.now) }
 {
     let mut mentions = Vec::new(alloc);
     for item in items {

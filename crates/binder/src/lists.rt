@@ -3,23 +3,22 @@ ghost use Rattle.std.specs.Prelude.{◌≡◌, ◌||◌, ◌∷◌, ◌++◌, []
 ghost use Rattle.binder.specs.declared.column.SlotColumn.{SlotColumn};
 ghost use Rattle.binder.specs.Scopes.{is_same};
 ghost use Rattle.std.specs.List.{list_any, list_all, filter_map};
-ghost use Rattle.adv_base.specs.Predicates.{is_equality as equality_test};
 ghost use Rattle.binder.specs.Marks.{is_marked, Marks, KeepsMarks, BoundMarks};
-ghost use Rattle.binder.specs.Items.{item_column as column_of_bound, has_aggregate as aggregate_item, is_plain as plain_item};
-ghost use Rattle.binder.specs.Lists.{upward as item_upward, kept_items as items_kept, kept_columns as columns_kept, aggregates as has_aggregates, distinct_group as group_of_distinct, group_list as list_to_group, order_list as list_to_order};
-ghost use Rattle.binder.specs.Orders.{column_of_item as column_in_item};
+ghost use Rattle.binder.specs.Items as select_items;
+ghost use Rattle.binder.specs.Lists as lists;
+ghost use Rattle.binder.specs.Orders as order_by;
 ghost use Rattle.binder.specs.Plain.{plain_pred, plain_preds};
 
-use crate::bound_item::BoundItem;
 use crate::column::SlotColumn;
-use adv_base::{Item, List, Pred, Test};
+use crate::gathered::BoundItem;
+use adv_base::{Item, List, Pred};
 use indexmap::IndexSet;
 use sql_reader::ParsedOrder;
 use std::alloc::{AllocError, Global};
 
 /// The column of an item that isn't made.
 fn column_of(item: Item) -> Option<SlotColumn>
-    ensures { result ≡ column_in_item item }
+    ensures { result ≡ order_by.column_of_item item }
 {
     match item {
         Item::Up { slot, column } => Some(SlotColumn { slot, column }),
@@ -40,18 +39,11 @@ fn mark(
     Ok((marked, is_new))
 }
 
-/// Whether a test is `column = literal`.
-fn is_equality(test: Test) -> bool
-    ensures { result ≡ equality_test test }
-{
-    matches!(test, Test::Equal)
-}
-
 /// Marks a column where a predicate gives it a literal.
 fn mark_bound(marked: IndexSet<SlotColumn>, pred: &Pred) -> Result<IndexSet<SlotColumn>, AllocError>
     ensures { IfOk result (λ new. BoundMarks (plain_pred pred.now) marked.keys new.keys) }
 {
-    if !is_equality(pred.test) {
+    if !pred.test.is_equality() {
         return Ok(marked);
     }
     let c = SlotColumn {
@@ -110,7 +102,7 @@ fn keep(kept: Kept, item: Item) -> Result<Kept, AllocError>
 
 /// Items without bound columns, and each other column at its first place alone.
 fn kept_items(alloc: Global, preds: &[Pred], items: &[Item]) -> Result<List<Item>, AllocError>
-    ensures { IfOk result (λ x. x ≡ items_kept (plain_preds preds.now) items.now) }
+    ensures { IfOk result (λ x. x ≡ lists.kept_items (plain_preds preds.now) items.now) }
 {
     let mut kept = Kept {
         marked: bound_columns(alloc, preds)?,
@@ -125,7 +117,7 @@ fn kept_items(alloc: Global, preds: &[Pred], items: &[Item]) -> Result<List<Item
 
 /// A column upwards.
 fn upward(c: SlotColumn) -> Item
-    ensures { result ≡ item_upward c }
+    ensures { result ≡ lists.upward c }
 {
     Item::Up {
         slot: c.slot,
@@ -135,7 +127,7 @@ fn upward(c: SlotColumn) -> Item
 
 /// Columns as items that go upwards.
 fn upward_items(alloc: Global, columns: &[SlotColumn]) -> Result<Vec<Item>, AllocError>
-    ensures { IfOk result (λ v. v.items ≡ map item_upward columns.now) }
+    ensures { IfOk result (λ v. v.items ≡ map lists.upward columns.now) }
 {
     columns.iter().map(|c| upward(*c)).collect(alloc)
 }
@@ -146,7 +138,7 @@ fn kept_columns(
     preds: &[Pred],
     columns: &[SlotColumn],
 ) -> Result<List<Item>, AllocError>
-    ensures { IfOk result (λ x. x ≡ columns_kept (plain_preds preds.now) columns.now) }
+    ensures { IfOk result (λ x. x ≡ lists.kept_columns (plain_preds preds.now) columns.now) }
 {
     let items = upward_items(alloc, columns)?;
     Ok(kept_items(alloc, preds, items.as_slice())?)
@@ -154,7 +146,7 @@ fn kept_columns(
 
 /// Whether an item calls an aggregate.
 fn items_aggregate(items: &[BoundItem]) -> bool
-    ensures { result ≡ list_any aggregate_item items.now }
+    ensures { result ≡ list_any select_items.has_aggregate items.now }
 {
     items.iter().any(|item| item.has_aggregate())
 }
@@ -168,7 +160,7 @@ fn orders_aggregate(orders: &[ParsedOrder]) -> bool
 
 /// Whether an aggregate stands in a select item or an ORDER BY item.
 pub fn aggregates(items: &[BoundItem], orders: &[ParsedOrder]) -> bool
-    ensures { result ≡ has_aggregates items.now orders.now }
+    ensures { result ≡ lists.aggregates items.now orders.now }
 {
     let in_items = items_aggregate(items);
     let in_orders = orders_aggregate(orders);
@@ -177,14 +169,14 @@ pub fn aggregates(items: &[BoundItem], orders: &[ParsedOrder]) -> bool
 
 /// The columns that items exactly are.
 fn plain_columns(alloc: Global, items: &[BoundItem]) -> Result<Vec<SlotColumn>, AllocError>
-    ensures { IfOk result (λ v. v.items ≡ filter_map column_of_bound items.now) }
+    ensures { IfOk result (λ v. v.items ≡ filter_map select_items.item_column items.now) }
 {
     items.iter().filter_map(|item| item.column()).collect(alloc)
 }
 
 /// Whether all items are exactly columns.
 fn are_plain(items: &[BoundItem]) -> bool
-    ensures { result ≡ list_all plain_item items.now }
+    ensures { result ≡ list_all select_items.is_plain items.now }
 {
     items.iter().all(|item| item.is_plain())
 }
@@ -196,7 +188,7 @@ fn distinct_group(
     preds: &[Pred],
     items: &[BoundItem],
 ) -> Result<Option<List<Item>>, AllocError>
-    ensures { IfOk result (λ x. x ≡ group_of_distinct distinct (plain_preds preds.now) items.now) }
+    ensures { IfOk result (λ x. x ≡ lists.distinct_group distinct (plain_preds preds.now) items.now) }
 {
     if !distinct {
         return Ok(None);
@@ -217,7 +209,7 @@ pub fn group_list(
     group: &[SlotColumn],
     items: &[BoundItem],
 ) -> Result<Option<List<Item>>, AllocError>
-    ensures { IfOk result (λ x. x ≡ list_to_group distinct aggregate (plain_preds preds.now) group.now items.now) }
+    ensures { IfOk result (λ x. x ≡ lists.group_list distinct aggregate (plain_preds preds.now) group.now items.now) }
 {
     if !group.is_empty() {
         return Ok(Some(kept_columns(alloc, preds, group)?));
@@ -236,7 +228,7 @@ pub fn order_list(
     group: &[SlotColumn],
     orders: &[Item],
 ) -> Result<List<Item>, AllocError>
-    ensures { IfOk result (λ x. x ≡ list_to_order aggregate (plain_preds preds.now) group.now orders.now) }
+    ensures { IfOk result (λ x. x ≡ lists.order_list aggregate (plain_preds preds.now) group.now orders.now) }
 {
     if aggregate && group.is_empty() {
         return Ok(List::new(alloc));

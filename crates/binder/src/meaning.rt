@@ -1,22 +1,21 @@
 //! What names mean among the sources of a statement.
 ghost use Rattle.std.specs.Prelude.{◌≡◌, ◌<◌, ◌+◌, ◌∷◌, [], length, drop, IfOk, IfSome, MatchOption};
-ghost use Rattle.binder.specs.Names.{folded as folded_bytes};
+ghost use Rattle.binder.specs.Names as spelling;
 ghost use Rattle.binder.specs.Results.{Gives};
-ghost use Rattle.binder.specs.Scopes.{source_number, column_in, owners, unqualified as alone, qualified as behind, source_meant, meaning as the_meaning};
+ghost use Rattle.binder.specs.Scopes as scopes;
 ghost use Rattle.binder.specs.View.{names_of};
 
 use crate::column::SlotColumn;
 use crate::fault::BindFault;
 use crate::names::{is_same_name, name_bytes, place, word};
-use crate::scope::Scope;
-use crate::visible::Visible;
+use crate::scope::{Scope, Visible};
 use sql_reader::NameUse;
 use sql_tokens::Span;
 use std::alloc::Global;
 
 /// The number of the source that goes by a name.
 fn find_source(sources: &[Visible], name: &[u8]) -> Option<usize>
-    ensures exact { result ≡ source_number sources.now (folded_bytes name.now) }
+    ensures exact { result ≡ scopes.source_number sources.now (spelling.folded name.now) }
     ensures within { IfSome result (λ s. s < length sources.now) }
 {
     for (s, v) in sources.iter().enumerate() {
@@ -29,7 +28,7 @@ fn find_source(sources: &[Visible], name: &[u8]) -> Option<usize>
 
 /// The source that a name stands for.
 pub fn source(scope: &Scope<'_>, span: Span) -> Result<u8, BindFault>
-    ensures { Gives (λ s. s) result (source_meant (names_of scope.now) span) }
+    ensures { Gives (λ s. s) result (scopes.source_meant (names_of scope.now) span) }
 {
     match find_source(scope.sources.as_slice(), name_bytes(scope.text, span)) {
         Some(s) => Ok(s as u8),
@@ -39,7 +38,7 @@ pub fn source(scope: &Scope<'_>, span: Span) -> Result<u8, BindFault>
 
 /// The column of a folded name in a slot.
 fn column_of_slot(scope: &Scope<'_>, slot: u8, word: &[u8]) -> Option<u16>
-    ensures { result ≡ column_in (names_of scope.now) slot word.now }
+    ensures { result ≡ scopes.column_in (names_of scope.now) slot word.now }
 {
     if slot as usize >= scope.sources.len() {
         return None;
@@ -51,8 +50,8 @@ fn column_of_slot(scope: &Scope<'_>, slot: u8, word: &[u8]) -> Option<u16>
 /// The column of a folded name in the first slot from `from` on that has one.
 fn owner_from(scope: &Scope<'_>, from: usize, word: &[u8]) -> Option<SlotColumn>
     ensures { let sources = scope.now.sources in let cat = scope.now.directory.now.cat.now in
-        MatchOption result (owners cat from (drop from sources) word.now ≡ [])
-        (λ c. owners cat from (drop from sources) word.now ≡ c ∷ owners cat (c.slot + 1) (drop (c.slot + 1) sources) word.now) }
+        MatchOption result (scopes.owners cat from (drop from sources) word.now ≡ [])
+        (λ c. scopes.owners cat from (drop from sources) word.now ≡ c ∷ scopes.owners cat (c.slot + 1) (drop (c.slot + 1) sources) word.now) }
 {
     for slot in from..scope.sources.len() {
         let table = scope.sources.items[slot].table;
@@ -69,7 +68,7 @@ fn owner_from(scope: &Scope<'_>, from: usize, word: &[u8]) -> Option<SlotColumn>
 /// The column of a name that stands alone.
 #[tactic(auto, unfolding(crate::specs::Scopes::unqualified))]
 fn unqualified(alloc: Global, scope: &Scope<'_>, name: Span) -> Result<SlotColumn, BindFault>
-    ensures { Gives (λ c. c) result (alone (names_of scope.now) name) }
+    ensures { Gives (λ c. c) result (scopes.unqualified (names_of scope.now) name) }
 {
     let word = word(alloc, scope.text, name)?;
     let Some(first) = owner_from(scope, 0, word.as_slice()) else {
@@ -89,7 +88,7 @@ fn qualified(
     qualifier: Span,
     name: Span,
 ) -> Result<SlotColumn, BindFault>
-    ensures { Gives (λ c. c) result (behind (names_of scope.now) qualifier name) }
+    ensures { Gives (λ c. c) result (scopes.qualified (names_of scope.now) qualifier name) }
 {
     let slot = source(scope, qualifier)?;
     let word = word(alloc, scope.text, name)?;
@@ -101,7 +100,7 @@ fn qualified(
 
 /// The column that a name means.
 pub fn meaning(alloc: Global, scope: &Scope<'_>, name: NameUse) -> Result<SlotColumn, BindFault>
-    ensures { Gives (λ c. c) result (the_meaning (names_of scope.now) name) }
+    ensures { Gives (λ c. c) result (scopes.meaning (names_of scope.now) name) }
 {
     match name.qualifier {
         Some(qualifier) => qualified(alloc, scope, qualifier, name.name),

@@ -1,6 +1,6 @@
 //! The names in a text, and how they are compared.
 ghost use Rattle.std.specs.Prelude.{◌≡◌, IfOk};
-ghost use Rattle.binder.specs.Names.{span_bytes as bytes_of_span, unquoted as without_quotes, name_in, text_in, word_in, folded as folded_bytes, place as place_of};
+ghost use Rattle.binder.specs.Names as spelling;
 ghost use Rattle.binder.specs.Lookups.{goes_by};
 
 use sql_tokens::Span;
@@ -8,7 +8,7 @@ use std::alloc::{AllocError, Global};
 
 /// The bytes of a span; none where it doesn't lie in the text.
 fn span_bytes<'a>(text: &'a [u8], span: Span) -> &'a [u8]
-    ensures { result.now ≡ bytes_of_span text.now span }
+    ensures { result.now ≡ spelling.span_bytes text.now span }
 {
     if span.from <= span.to && span.to <= text.len() as u64 {
         &text[span.from as usize..span.to as usize]
@@ -20,7 +20,7 @@ fn span_bytes<'a>(text: &'a [u8], span: Span) -> &'a [u8]
 /// What stands between quotes, where bytes begin with this quote; else the bytes.
 #[tactic(auto, unfolding(crate::specs::Names::unquoted))]
 fn unquoted(quote: u8, bytes: &[u8]) -> &[u8]
-    ensures { result.now ≡ without_quotes quote bytes.now }
+    ensures { result.now ≡ spelling.unquoted quote bytes.now }
 {
     if bytes.len() >= 2 && bytes[0] == quote {
         &bytes[1..bytes.len() - 1]
@@ -31,42 +31,42 @@ fn unquoted(quote: u8, bytes: &[u8]) -> &[u8]
 
 /// The bytes of a name: those of its token, or those between the quotes of a quoted one.
 pub fn name_bytes<'a>(text: &'a [u8], span: Span) -> &'a [u8]
-    ensures { result.now ≡ name_in text.now span }
+    ensures { result.now ≡ spelling.name_in text.now span }
 {
     unquoted(b'"', span_bytes(text, span))
 }
 
 /// The bytes between the quotes of a text.
 pub fn text_bytes<'a>(text: &'a [u8], span: Span) -> &'a [u8]
-    ensures { result.now ≡ text_in text.now span }
+    ensures { result.now ≡ spelling.text_in text.now span }
 {
     unquoted(b'\'', span_bytes(text, span))
 }
 
 /// A name with its letters folded, as names are compared.
 pub fn folded(alloc: Global, name: &[u8]) -> Result<Vec<u8>, AllocError>
-    ensures { IfOk result (λ v. v.items ≡ folded_bytes name.now) }
+    ensures { IfOk result (λ v. v.items ≡ spelling.folded name.now) }
 {
     name.to_ascii_lowercase(alloc)
 }
 
 /// The name of a token with its letters folded.
 pub fn word(alloc: Global, text: &[u8], span: Span) -> Result<Vec<u8>, AllocError>
-    ensures { IfOk result (λ v. v.items ≡ word_in text.now span) }
+    ensures { IfOk result (λ v. v.items ≡ spelling.word_in text.now span) }
 {
     folded(alloc, name_bytes(text, span))
 }
 
 /// Whether two names are the same, in any case of letters.
 pub fn is_same_name(a: &[u8], b: &[u8]) -> bool
-    ensures { result ≡ goes_by (folded_bytes b.now) a.now }
+    ensures { result ≡ goes_by (spelling.folded b.now) a.now }
 {
     a.eq_ignore_ascii_case(b)
 }
 
 /// The place of a span's first byte, counted from 1.
 pub fn place(span: Span) -> u64
-    ensures { result ≡ place_of span }
+    ensures { result ≡ spelling.place span }
 {
     span.from.saturating_add(1)
 }

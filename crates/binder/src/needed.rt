@@ -1,19 +1,19 @@
 //! The columns that a statement mentions.
 ghost use Rattle.std.specs.Prelude.{◌≡◌, ◌<◌, ◌||◌, ◌∷◌, ◌++◌, [], ℕ, false, if◌then◌else◌, length, IfOk, slice_index_or, filter};
 ghost use Rattle.std.specs.List.{list_any, range_with_len};
-ghost use Rattle.adv_base.specs.Lookups.{column_count as count_of_columns};
-ghost use Rattle.binder.specs.Items.{takes_whole as whole_slot_taken};
-ghost use Rattle.binder.specs.Needed.{is_at, needed_columns as needed_of, slot_of as slot_of_source, slots_from};
+ghost use Rattle.adv_base.specs.Lookups as lookups;
+ghost use Rattle.binder.specs.Items as select_items;
+ghost use Rattle.binder.specs.Needed as needs;
 
-use crate::bound_item::BoundItem;
 use crate::column::SlotColumn;
-use crate::visible::Visible;
+use crate::gathered::BoundItem;
+use crate::scope::Visible;
 use adv_base::{Catalogue, List, Name, Slot};
 use std::alloc::{AllocError, Global};
 
 /// Sets the flag of a mention's column, where it is of this slot.
 fn mark(flags: &mut [bool], slot: u8, mention: SlotColumn)
-    ensures { (c : ℕ) → c < length flags.old → slice_index_or flags.new c false ≡ (slice_index_or flags.old c false || is_at slot c mention) }
+    ensures { (c : ℕ) → c < length flags.old → slice_index_or flags.new c false ≡ (slice_index_or flags.old c false || needs.is_at slot c mention) }
 {
     if mention.slot == slot && (mention.column as usize) < flags.len() {
         flags[mention.column as usize] = true;
@@ -29,7 +29,7 @@ fn flags(
     mentions: &[SlotColumn],
 ) -> Result<Vec<bool>, AllocError>
     ensures len { IfOk result (λ v. length v.items ≡ count) }
-    ensures each { IfOk result (λ v. (c : ℕ) → c < count → slice_index_or v.items c false ≡ (whole || list_any (is_at slot c) mentions.now)) }
+    ensures each { IfOk result (λ v. (c : ℕ) → c < count → slice_index_or v.items c false ≡ (whole || list_any (needs.is_at slot c) mentions.now)) }
 {
     let mut flags = vec![in alloc; whole; count as usize]?;
     for mention in mentions {
@@ -56,7 +56,7 @@ fn needed_columns(
     whole: bool,
     mentions: &[SlotColumn],
 ) -> Result<List<u16>, AllocError>
-    ensures { IfOk result (λ x. x ≡ needed_of count slot whole mentions.now) }
+    ensures { IfOk result (λ x. x ≡ needs.needed_columns count slot whole mentions.now) }
 {
     let flags = flags(alloc, count, slot, whole, mentions)?;
     let mut columns = List::new(alloc);
@@ -68,7 +68,7 @@ fn needed_columns(
 
 /// How many columns a table has.
 fn column_count(cat: &Catalogue, table: u16) -> u16
-    ensures { result ≡ count_of_columns cat.now table }
+    ensures { result ≡ lookups.column_count cat.now table }
 {
     let tables = cat.tables.as_slice();
     if table as usize >= tables.len() {
@@ -79,7 +79,7 @@ fn column_count(cat: &Catalogue, table: u16) -> u16
 
 /// Whether one of the items mentions all columns of a slot.
 fn is_whole(items: &[BoundItem], slot: u8) -> bool
-    ensures { result ≡ list_any (whole_slot_taken slot) items.now }
+    ensures { result ≡ list_any (select_items.takes_whole slot) items.now }
 {
     items.iter().any(|item| item.takes_whole(slot))
 }
@@ -93,7 +93,7 @@ fn slot_of(
     slot: u8,
     source: &Visible,
 ) -> Result<Slot, AllocError>
-    ensures { IfOk result (λ x. x ≡ slot_of_source cat.now items.now mentions.now slot source.now) }
+    ensures { IfOk result (λ x. x ≡ needs.slot_of cat.now items.now mentions.now slot source.now) }
 {
     let count = column_count(cat, source.table);
     let needed = needed_columns(alloc, count, slot, is_whole(items, slot), mentions)?;
@@ -116,7 +116,7 @@ pub fn slots(
     sources: &[Visible],
 ) -> Result<List<Slot>, AllocError>
     requires { length sources.now < 256 }
-    ensures { IfOk result (λ x. x ≡ slots_from cat.now items.now mentions.now 0 sources.now) }
+    ensures { IfOk result (λ x. x ≡ needs.slots_from cat.now items.now mentions.now 0 sources.now) }
 {
     let mut slots = Vec::new(alloc);
     for (slot, source) in sources.iter().enumerate() {

@@ -1,21 +1,19 @@
 //! HAVING and ORDER BY.
 ghost use Rattle.std.specs.Prelude.{◌≡◌, ◌<◌, ◌^◌, ◌+◌, length, IfOk};
 ghost use Rattle.binder.specs.Aliases.{IndexesAliases, PutsAlias};
-ghost use Rattle.binder.specs.Orders.{alias_meant as alias_of_name, term_of, with_mention as mention_added, mention as mention_of, mentions_from, term_column as column_of_term, ordinal_column as column_of_ordinal, sorted_by_name as key_of_name, sorted_by as key_of, order_item as item_of_key, with_order as one_key_more, orders_from};
+ghost use Rattle.binder.specs.Orders as order_by;
 ghost use Rattle.binder.specs.Results.{Gives};
 ghost use Rattle.binder.specs.View.{names_of, list_of};
 
-use crate::bound_item::BoundItem;
-use crate::column::SlotColumn;
+use crate::column::{SlotColumn, Term};
 use crate::fault::BindFault;
+use crate::gathered::{BoundItem, SortKey, SortKeys};
 use crate::index::NameIndex;
 use crate::items::column_at;
 use crate::meaning::meaning;
 use crate::names::{name_bytes, word};
 use crate::scope::Scope;
 use crate::select_list::SelectList;
-use crate::sort_keys::{SortKey, SortKeys};
-use crate::terms::Term;
 use adv_base::{Item, List};
 use sql_reader::{Expr, NameUse, ParsedItem, ParsedOrder};
 use std::alloc::{AllocError, Global};
@@ -77,7 +75,7 @@ fn alias_meant(
     list: &SelectList<'_>,
     name: NameUse,
 ) -> Result<Option<usize>, AllocError>
-    ensures { IfOk result (λ n. n ≡ alias_of_name list.now.scope.now.text.now (list_of list.now) name.qualifier name.name) }
+    ensures { IfOk result (λ n. n ≡ order_by.alias_meant list.now.scope.now.text.now (list_of list.now) name.qualifier name.name) }
 {
     if name.qualifier.is_some() {
         return Ok(None);
@@ -89,7 +87,7 @@ fn alias_meant(
 /// What a name in HAVING or ORDER BY stands for.
 #[tactic(auto, unfolding(crate::specs::Orders::term_of))]
 fn term(alloc: Global, list: &SelectList<'_>, name: NameUse) -> Result<Term, BindFault>
-    ensures { Gives (λ x. x) result (term_of (names_of list.now.scope.now) (list_of list.now) name) }
+    ensures { Gives (λ x. x) result (order_by.term_of (names_of list.now.scope.now) (list_of list.now) name) }
 {
     match alias_meant(alloc, list, name)? {
         Some(number) => Ok(Term::Alias(number)),
@@ -99,7 +97,7 @@ fn term(alloc: Global, list: &SelectList<'_>, name: NameUse) -> Result<Term, Bin
 
 /// The columns so far, and the one that a name mentions.
 fn with_mention(mut mentions: List<SlotColumn>, term: Term) -> Result<List<SlotColumn>, AllocError>
-    ensures { IfOk result (λ x. x ≡ mention_added mentions term) }
+    ensures { IfOk result (λ x. x ≡ order_by.with_mention mentions term) }
 {
     if let Term::Column(c) = term {
         mentions.items.push(c)?;
@@ -114,7 +112,7 @@ pub fn mentions(
     mut so_far: List<SlotColumn>,
     uses: &[NameUse],
 ) -> Result<List<SlotColumn>, BindFault>
-    ensures { Gives (λ x. x) result (mentions_from (names_of list.now.scope.now) (list_of list.now) so_far uses.now) }
+    ensures { Gives (λ x. x) result (order_by.mentions_from (names_of list.now.scope.now) (list_of list.now) so_far uses.now) }
 {
     for name in uses {
         let meant = term(alloc, list, *name)?;
@@ -125,7 +123,7 @@ pub fn mentions(
 
 /// The column that a name alone stands for.
 fn term_column(list: &SelectList<'_>, term: Term) -> Option<SlotColumn>
-    ensures { result ≡ column_of_term (list_of list.now) term }
+    ensures { result ≡ order_by.term_column (list_of list.now) term }
 {
     match term {
         Term::Column(c) => Some(c),
@@ -135,7 +133,7 @@ fn term_column(list: &SelectList<'_>, term: Term) -> Option<SlotColumn>
 
 /// The column for which the number of an item stands, counted from 1.
 fn ordinal_column(list: &SelectList<'_>, number: u32) -> Option<SlotColumn>
-    ensures { result ≡ column_of_ordinal (list_of list.now) number }
+    ensures { result ≡ order_by.ordinal_column (list_of list.now) number }
 {
     if number == 0 {
         return None;
@@ -150,7 +148,7 @@ fn sorted_by_name(
     mentions: List<SlotColumn>,
     name: Option<NameUse>,
 ) -> Result<SortKey, BindFault>
-    ensures { Gives (λ x. x) result (key_of_name (names_of list.now.scope.now) (list_of list.now) mentions name) }
+    ensures { Gives (λ x. x) result (order_by.sorted_by_name (names_of list.now.scope.now) (list_of list.now) mentions name) }
 {
     let Some(name) = name else {
         return Ok(SortKey {
@@ -172,7 +170,7 @@ fn sorted_by(
     so_far: List<SlotColumn>,
     expr: &Expr,
 ) -> Result<SortKey, BindFault>
-    ensures { Gives (λ x. x) result (key_of (names_of list.now.scope.now) (list_of list.now) so_far expr.now) }
+    ensures { Gives (λ x. x) result (order_by.sorted_by (names_of list.now.scope.now) (list_of list.now) so_far expr.now) }
 {
     if let Some(number) = expr.ordinal {
         let column = ordinal_column(list, number);
@@ -194,7 +192,7 @@ fn sorted_by(
 
 /// An item of an order: a column, or the number of the ORDER BY item, counted from 1, which is made.
 fn order_item(number: u32, down: bool, column: Option<SlotColumn>) -> Item
-    ensures { result ≡ item_of_key number down column }
+    ensures { result ≡ order_by.order_item number down column }
 {
     match column {
         None => Item::Made(number),
@@ -218,7 +216,7 @@ fn with_order(
     order: &ParsedOrder,
 ) -> Result<SortKeys, BindFault>
     requires { length so_far.items + 1 < 2 ^ 32 }
-    ensures exact { Gives (λ x. x) result (one_key_more (names_of list.now.scope.now) (list_of list.now) so_far order.now) }
+    ensures exact { Gives (λ x. x) result (order_by.with_order (names_of list.now.scope.now) (list_of list.now) so_far order.now) }
     ensures count { IfOk result (λ x. length x.items ≡ length so_far.items + 1) }
 {
     let SortKeys {
@@ -242,7 +240,7 @@ pub fn orders(
     orders: &[ParsedOrder],
 ) -> Result<SortKeys, BindFault>
     requires { length orders.now < 2 ^ 32 }
-    ensures { Gives (λ x. x) result (orders_from (names_of list.now.scope.now) (list_of list.now) mentions orders.now) }
+    ensures { Gives (λ x. x) result (order_by.orders_from (names_of list.now.scope.now) (list_of list.now) mentions orders.now) }
 {
     let mut so_far = SortKeys {
         items: List::new(alloc),

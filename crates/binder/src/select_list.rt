@@ -1,7 +1,7 @@
 //! The select list as HAVING and ORDER BY see it.
 ghost use Rattle.binder.specs.Aliases.{IndexesAliases};
 
-use crate::bound_item::BoundItem;
+use crate::gathered::BoundItem;
 use crate::index::NameIndex;
 use crate::scope::Scope;
 use sql_reader::ParsedItem;

@@ -1,12 +1,14 @@
 //! The sources of a statement.
 ghost use Rattle.std.specs.Prelude.{◌≡◌, ◌<◌, ◌≤◌, ◌+◌, length, IfOk};
+ghost use Rattle.adv_base.specs.declared.limits.TheConstants.{MOST_SLOTS};
 ghost use Rattle.binder.specs.Results.{Gives};
-ghost use Rattle.binder.specs.Sources.{table_meant as table_of_name, visible_name as name_of_source, visible as source_as_seen, is_taken as taken_by_source, with_source as one_source_more, sources_of};
+ghost use Rattle.binder.specs.Sources as from_clause;
 
 use crate::directory::Directory;
 use crate::fault::BindFault;
 use crate::names::{is_same_name, name_bytes, place, word};
-use crate::visible::Visible;
+use crate::scope::Visible;
+use adv_base::limits::MOST_SLOTS;
 use adv_base::{List, Name};
 use sql_reader::Source;
 use sql_tokens::Span;
@@ -19,7 +21,7 @@ pub fn table_meant(
     text: &[u8],
     span: Span,
 ) -> Result<u16, BindFault>
-    ensures exact { Gives (λ t. t) result (table_of_name directory.now.cat.now text.now span) }
+    ensures exact { Gives (λ t. t) result (from_clause.table_meant directory.now.cat.now text.now span) }
     ensures within { IfOk result (λ t. t < length directory.now.cat.now.tables) }
 {
     let word = word(alloc, text, span)?;
@@ -37,7 +39,7 @@ fn visible_name<'a>(
     table: u16,
 ) -> &'a [u8]
     requires { table < length directory.now.cat.now.tables }
-    ensures { result.now ≡ name_of_source directory.now.cat.now text.now alias table }
+    ensures { result.now ≡ from_clause.visible_name directory.now.cat.now text.now alias table }
 {
     match alias {
         Some(span) => name_bytes(text, span),
@@ -57,7 +59,7 @@ pub fn visible(
     table: u16,
 ) -> Result<Visible, AllocError>
     requires { table < length directory.now.cat.now.tables }
-    ensures { IfOk result (λ v. v ≡ source_as_seen directory.now.cat.now text.now alias table) }
+    ensures { IfOk result (λ v. v ≡ from_clause.visible directory.now.cat.now text.now alias table) }
 {
     let items = Vec::from_slice(alloc, visible_name(directory, text, alias, table))?;
     Ok(Visible {
@@ -68,7 +70,7 @@ pub fn visible(
 
 /// Whether one of these sources goes by a name.
 fn is_taken(sources: &[Visible], name: &[u8]) -> bool
-    ensures { result ≡ taken_by_source sources.now name.now }
+    ensures { result ≡ from_clause.is_taken sources.now name.now }
 {
     sources
         .iter()
@@ -84,11 +86,11 @@ fn with_source(
     mut sources: List<Visible>,
     source: Source,
 ) -> Result<List<Visible>, BindFault>
-    ensures exact { Gives (λ x. x) result (one_source_more directory.now.cat.now text.now sources source) }
-    ensures few { IfOk result (λ x. length x ≤ 8) }
+    ensures exact { Gives (λ x. x) result (from_clause.with_source directory.now.cat.now text.now sources source) }
+    ensures few { IfOk result (λ x. length x ≤ MOST_SLOTS) }
     ensures count { IfOk result (λ x. length x ≡ length sources + 1) }
 {
-    if sources.len() >= 8 {
+    if sources.len() >= MOST_SLOTS {
         return Err(BindFault::TooManySlots(place(source.table)));
     }
     let table = table_meant(alloc, directory, text, source.table)?;
@@ -107,8 +109,8 @@ pub fn sources(
     text: &[u8],
     written: &[Source],
 ) -> Result<List<Visible>, BindFault>
-    ensures exact { Gives (λ x. x) result (sources_of directory.now.cat.now text.now written.now) }
-    ensures few { IfOk result (λ x. length x ≤ 8) }
+    ensures exact { Gives (λ x. x) result (from_clause.sources_of directory.now.cat.now text.now written.now) }
+    ensures few { IfOk result (λ x. length x ≤ MOST_SLOTS) }
     ensures count { IfOk result (λ x. length x ≡ length written.now) }
 {
     let mut sources = List::new(alloc);

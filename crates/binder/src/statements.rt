@@ -1,19 +1,21 @@
 //! Binding whole statements.
 ghost use Rattle.std.specs.Prelude.{◌≡◌, ◌≤◌, ◌+◌, IfOk, All, sum_by, length};
-ghost use Rattle.adv_base.specs.Limits.Settings.{slot_count as slots_of_work};
+ghost use Rattle.adv_base.specs.declared.limits.TheConstants.{MOST_SLOTS, MOST_SLOTS_IN_ALL, MOST_STATEMENTS};
+ghost use Rattle.adv_base.specs.Limits.Settings as settings;
 ghost use Rattle.adv_base.specs.Named.{NamesWork};
 ghost use Rattle.binder.specs.Limits.{StatementLimits, BodyLimits};
 ghost use Rattle.binder.specs.Plain.{plain_work, plain_statements};
 ghost use Rattle.binder.specs.Results.{Gives};
-ghost use Rattle.binder.specs.Statements.{work_of, with_statement as one_statement_more, bound_of, statements_of};
+ghost use Rattle.binder.specs.Statements as meant;
 ghost use Rattle.binder.specs.View.{plain_bound};
 ghost use Rattle.binder.specs.Works.{WorkLimits};
 
-use crate::bound::Bound;
 use crate::changes::{delete_block, insert_table, update_work};
 use crate::directory::Directory;
 use crate::fault::BindFault;
+use crate::gathered::Bound;
 use crate::select::select_block;
+use adv_base::limits::MOST_SLOTS_IN_ALL;
 use adv_base::{Catalogue, List, Statement, Work};
 use sql_reader::{Body, Parsed, ParsedStatement};
 use std::alloc::Global;
@@ -28,7 +30,7 @@ fn work(
     body: &Body,
 ) -> Result<Work, BindFault>
     requires { BodyLimits body.now }
-    ensures exact { Gives plain_work result (work_of directory.now.cat.now text.now place body.now) }
+    ensures exact { Gives plain_work result (meant.work_of directory.now.cat.now text.now place body.now) }
     ensures limits { IfOk result WorkLimits }
 {
     match body {
@@ -84,8 +86,8 @@ fn work(
 
 /// How many slots a statement has.
 fn slot_count(work: &Work) -> u64
-    ensures exact { result ≡ slots_of_work work.now }
-    ensures few { result ≤ 8 }
+    ensures exact { result ≡ settings.slot_count work.now }
+    ensures few { result ≤ MOST_SLOTS }
 {
     match work {
         Work::Select(block) | Work::Update(block, _) | Work::Delete(block) => {
@@ -95,32 +97,51 @@ fn slot_count(work: &Work) -> u64
     }
 }
 
+/// What a statement does, and how many slots there are with its own, which are at most 2000.
+#[tactic(auto, unfolding(crate::specs::Statements::counted_work))]
+fn counted_work(
+    alloc: Global,
+    directory: &Directory<'_>,
+    text: &[u8],
+    slots: u64,
+    statement: &ParsedStatement,
+) -> Result<(Work, u64), BindFault>
+    requires limits { BodyLimits statement.now.body }
+    requires few { slots ≤ MOST_SLOTS_IN_ALL }
+    ensures exact { Gives (λ x. (plain_work x.0, x.1)) result (meant.counted_work directory.now.cat.now text.now slots statement.now) }
+    ensures limits { IfOk result (λ x. WorkLimits x.0) }
+    ensures few { IfOk result (λ x. x.1 ≤ MOST_SLOTS_IN_ALL) }
+{
+    let work = work(alloc, directory, text, statement.place, &statement.body)?;
+    let slots = slots + slot_count(&work);
+    if slots > MOST_SLOTS_IN_ALL as u64 {
+        return Err(BindFault::TooManySlotsInAll(statement.place));
+    }
+    Ok((work, slots))
+}
+
 /// The statements with one more.
 #[tactic(auto, unfolding(crate::specs::Statements::with_statement))]
 fn with_statement(
     alloc: Global,
     directory: &Directory<'_>,
     text: &[u8],
-    mut so_far: Bound,
+    so_far: Bound,
     statement: &ParsedStatement,
 ) -> Result<Bound, BindFault>
     requires limits { StatementLimits statement.now }
-    requires few { so_far.slots ≤ 2000 }
-    ensures exact { Gives plain_bound result (one_statement_more directory.now.cat.now text.now (plain_bound so_far) statement.now) }
-    ensures few { IfOk result (λ x. x.slots ≤ 2000) }
+    requires few { so_far.slots ≤ MOST_SLOTS_IN_ALL }
+    ensures exact { Gives plain_bound result (meant.with_statement directory.now.cat.now text.now (plain_bound so_far) statement.now) }
+    ensures few { IfOk result (λ x. x.slots ≤ MOST_SLOTS_IN_ALL) }
     ensures count { IfOk result (λ x. length x.statements ≡ length so_far.statements + 1) }
 {
-    let work = work(alloc, directory, text, statement.place, &statement.body)?;
-    let slots = so_far.slots + slot_count(&work);
-    if slots > 2000 {
-        return Err(BindFault::TooManySlotsInAll(statement.place));
-    }
-    so_far.statements.items.push(Statement {
+    let mut statements = so_far.statements;
+    let (work, slots) = counted_work(alloc, directory, text, so_far.slots, statement)?;
+    statements.items.push(Statement {
         weight: statement.weight,
         work,
     })?;
-    so_far.slots = slots;
-    Ok(so_far)
+    Ok(Bound { slots, statements })
 }
 
 /// Statements over a catalogue, in order.
@@ -131,7 +152,7 @@ fn statements(
     parsed: &[ParsedStatement],
 ) -> Result<Bound, BindFault>
     requires { All StatementLimits parsed.now }
-    ensures exact { Gives plain_bound result (bound_of directory.now.cat.now text.now parsed.now) }
+    ensures exact { Gives plain_bound result (meant.bound_of directory.now.cat.now text.now parsed.now) }
     ensures count { IfOk result (λ x. length x.statements ≡ length parsed.now) }
 {
     let mut so_far = Bound {
@@ -159,14 +180,14 @@ pub fn bind(
     cat: &Catalogue,
     parsed: &Parsed<'_>,
 ) -> Result<List<Statement>, BindFault>
-    ensures exact { Gives plain_statements result (statements_of cat.now parsed.now.text.now parsed.now.statements) }
+    ensures exact { Gives plain_statements result (meant.statements_of cat.now parsed.now.text.now parsed.now.statements) }
     // The tables and columns of each statement exist in the catalogue.
     ensures named { IfOk result (λ statements. All (λ statement. NamesWork cat.now statement.work) statements) }
     // There are as many as were read, and so at most 1000.
     ensures count { IfOk result (λ statements. length statements ≡ length parsed.now.statements) }
-    ensures most { IfOk result (λ statements. length statements ≤ 1000) }
+    ensures most { IfOk result (λ statements. length statements ≤ MOST_STATEMENTS) }
     // All statements together have at most 2000 slots.
-    ensures few { IfOk result (λ statements. sum_by (λ statement. slots_of_work statement.work) statements ≤ 2000) }
+    ensures few { IfOk result (λ statements. sum_by (λ statement. settings.slot_count statement.work) statements ≤ MOST_SLOTS_IN_ALL) }
 {
     let directory = Directory::new(alloc, cat)?;
     let bound = statements(alloc, &directory, parsed.text, parsed.statements.as_slice())?;

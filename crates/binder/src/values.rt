@@ -2,8 +2,8 @@
 ghost use Rattle.std.specs.Prelude.{◌≡◌, slice_get, option_and_then};
 ghost use Rattle.std.specs.Option.{option_map_or};
 ghost use Rattle.adv_base.specs.declared.catalogue.column.Kind.TheVariants as kinds;
-ghost use Rattle.binder.specs.Conditions.{kind_of as kind_of_column, literal_value as value_of_literal};
-ghost use Rattle.binder.specs.Values.{value_of as value_of_kind, int_value as value_of_int, date_value as value_of_date};
+ghost use Rattle.binder.specs.Conditions as where_clause;
+ghost use Rattle.binder.specs.Values as literals;
 ghost use Rattle.binder.specs.View.{names_of};
 
 use crate::column::SlotColumn;
@@ -14,7 +14,7 @@ use sql_reader::Literal;
 
 /// What a literal is among whole numbers.
 fn int_value(literal: Literal) -> Value
-    ensures { result ≡ value_of_int literal }
+    ensures { result ≡ literals.int_value literal }
 {
     match literal {
         Literal::Whole(number) => Value::Number(number),
@@ -24,7 +24,7 @@ fn int_value(literal: Literal) -> Value
 
 /// What a literal is among days, counted from 1970-01-01.
 fn date_value(text: &[u8], literal: Literal) -> Value
-    ensures { result ≡ value_of_date text.now literal }
+    ensures { result ≡ literals.date_value text.now literal }
 {
     match literal {
         Literal::Day(day) => Value::Number(day),
@@ -38,7 +38,7 @@ fn date_value(text: &[u8], literal: Literal) -> Value
 
 /// What a literal is for a column of this kind.
 fn value_of(text: &[u8], kind: Kind, literal: Literal) -> Value
-    ensures { result ≡ value_of_kind text.now kind literal }
+    ensures { result ≡ literals.value_of text.now kind literal }
 {
     match kind {
         Kind::Int => int_value(literal),
@@ -69,7 +69,7 @@ fn kind_at(tables: &[Table], table: u16, column: u16) -> Kind
 
 /// The kind of a slot's column.
 fn kind_of(scope: &Scope<'_>, c: SlotColumn) -> Kind
-    ensures { result ≡ kind_of_column (names_of scope.now) c }
+    ensures { result ≡ where_clause.kind_of (names_of scope.now) c }
 {
     if c.slot as usize >= scope.sources.len() {
         return Kind::Text;
@@ -80,7 +80,7 @@ fn kind_of(scope: &Scope<'_>, c: SlotColumn) -> Kind
 
 /// What a literal is for a slot's column.
 pub fn literal_value(scope: &Scope<'_>, c: SlotColumn, literal: Literal) -> Value
-    ensures { result ≡ value_of_literal (names_of scope.now) c literal }
+    ensures { result ≡ where_clause.literal_value (names_of scope.now) c literal }
 {
     value_of(scope.text, kind_of(scope, c), literal)
 }

@@ -1,7 +1,7 @@
 use Rattle.std.proofs.Common.{◌≡◌, ap, sym, ◌∙◌}
 use Rattle.binder.specs.Lookups.{IndexesColumns}
 use Rattle.binder.proofs.Columns.{IndexesEach-none, IndexesEach-more}
-use Rattle.binder.proofs.lookups.index_each.Goals as goal
+use Rattle.binder.proofs.directory.index_each.Goals as goal
 
 pub loop-table-init : goal.loop-table-init
 loop-table-init c = IndexesEach-none c.new-indexes.result.items c.new-indexes.ensures.items

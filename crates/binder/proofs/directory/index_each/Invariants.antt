@@ -1,6 +1,6 @@
 use Rattle.std.proofs.Common.{◌≡◌, length, take}
 use Rattle.binder.specs.Lookups.{IndexesEach}
-use Rattle.binder.proofs.lookups.index_each.Given as goal
+use Rattle.binder.proofs.directory.index_each.Given as goal
 
 -- there is an index for each table so far
 abbrev pub invariant-loop-table : goal.invariant-loop-table

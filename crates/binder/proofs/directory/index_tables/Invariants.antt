@@ -2,7 +2,7 @@ use Rattle.std.proofs.Common.{◌≡◌, ℕ, List, drop}
 use Rattle.std.specs.List.{position_from}
 use Rattle.binder.specs.Index.{find_in}
 use Rattle.binder.specs.Lookups.{goes_by}
-use Rattle.binder.proofs.lookups.index_tables.Given as goal
+use Rattle.binder.proofs.directory.index_tables.Given as goal
 
 -- the index tells the numbers of those from this one on
 abbrev pub invariant-loop-number : goal.invariant-loop-number

@@ -3,7 +3,7 @@ use Rattle.adv_base.specs.declared.catalogue.column.Column.{Column}
 use Rattle.binder.specs.Index.{find_in}
 use Rattle.binder.specs.Lookups.{goes_by}
 use Rattle.binder.proofs.Positions.{position_from-past, position_from-earlier}
-use Rattle.binder.proofs.lookups.index_columns.Goals as goal
+use Rattle.binder.proofs.directory.index_columns.Goals as goal
 
 pub loop-number-init : goal.loop-number-init
 loop-number-init c = λ word. c.new-index.ensures word ∙ sym (position_from-past (λ (x : Column). goes_by word x.name) (length c.args.columns.now) c.args.columns.now (omega arith))
