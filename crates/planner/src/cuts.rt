@@ -4,8 +4,7 @@ ghost use Rattle.planner.specs.Cuts.{merges_of, may_cut as may_be_cut, AddsCuts,
 
 use crate::cut::{Cut, Merge};
 use crate::front::{Link, crosses, side};
-use crate::price::{hash_price, merge_price};
-use plan_model::Task;
+use plan_model::{Task, hash_price, merge_price};
 use std::alloc::{AllocError, Global};
 
 /// The cuts of all sets, as they are found.

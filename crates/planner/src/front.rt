@@ -1,13 +1,12 @@
 //! Fronts of orders that the operators above a plan can want.
 ghost use Rattle.std.specs.Prelude.{◌≡◌, ◌<◌};
-ghost use Rattle.adv_base.specs.Sets.{has_slot as set_has_slot};
 ghost use Rattle.std.specs.List.{list_all};
 ghost use Rattle.plan_model.specs.Orders.{is_same_item};
-ghost use Rattle.plan_model.specs.Plans.{is_column_of};
+ghost use Rattle.plan_model.specs.Plans.{is_column_of as is_column};
 ghost use Rattle.planner.specs.Fronts.{longer_front, crosses_link, side_front, front_order, begins_test, listed as list_of};
 
 use adv_base::Item;
-use plan_model::Task;
+use plan_model::{Task, has_slot, is_column_of};
 
 /// How an order is to begin.
 #[derive(Clone, Copy, PartialEq, Eq)]
@@ -41,13 +40,6 @@ pub(crate) fn longer(need: Option<Item>, head: Option<Item>, x: usize, f: usize)
         (Some(_), None) => Some(x),
         (Some(y), Some(z)) => { if y == z { Some(f) } else { None } }
     }
-}
-
-/// Whether a set, as a number, has a slot.
-pub(crate) fn has_slot(set: usize, slot: u8) -> bool
-    ensures { result ≡ set_has_slot set slot }
-{
-    slot < 64 && set & (1 << slot) != 0
 }
 
 /// Whether a link has one end in each of two sets.
@@ -102,23 +94,12 @@ pub(crate) fn serves(order: &[Item], front: Front, list: &[Item]) -> bool
     }
 }
 
-/// Whether an item is a column of a slot in the set.
-fn is_column(set: usize, item: Item) -> bool
-    ensures { result ≡ is_column_of set item }
-{
-    match item {
-        Item::Up { slot, column: _ } => has_slot(set, slot),
-        Item::Down { slot, column: _ } => has_slot(set, slot),
-        Item::Made(_) => false,
-    }
-}
-
 /// Whether each item of an order is a column of a slot in the set.
 fn are_columns(set: usize, order: &[Item]) -> bool
-    ensures { result ≡ list_all (is_column_of set) order.now }
+    ensures { result ≡ list_all (is_column set) order.now }
 {
     for item in order {
-        if !is_column(set, *item) {
+        if !is_column_of(set, item) {
             return false;
         }
     }
@@ -127,12 +108,12 @@ fn are_columns(set: usize, order: &[Item]) -> bool
 
 /// Whether the set can be sorted by what a front asks for.
 pub(crate) fn can_sort(set: usize, front: Front, list: &[Item]) -> bool
-    ensures { result ≡ list_all (is_column_of set) (front_order list.now front) }
+    ensures { result ≡ list_all (is_column set) (front_order list.now front) }
 {
     match front {
         Front::Any => true,
         Front::Listed => are_columns(set, list),
-        Front::Need(item) => is_column(set, item),
+        Front::Need(item) => is_column_of(set, &item),
     }
 }
 

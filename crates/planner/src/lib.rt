@@ -17,7 +17,6 @@ mod front;
 mod join;
 mod make;
 mod needs;
-mod price;
 mod read;
 mod row;
 mod search;

@@ -14,10 +14,9 @@ use crate::cell::{Cell, blank, cost_of, finished};
 use crate::cut::{Cut, Merge};
 use crate::front::{Front, can_sort, listed};
 use crate::join::{hash_row, merge_rows};
-use crate::price::sort_set;
 use crate::read::read_row;
 use crate::ways::Ways;
-use plan_model::{Offers, Task};
+use plan_model::{Offers, Task, rows_of, sort_price};
 
 /// The row of a set in a table of so many rows.
 pub(crate) fn row_at(cells: &[Cell], width: usize, sets: usize, set: usize) -> &[Cell]
@@ -123,7 +122,7 @@ fn finish_row(row: &mut [Cell], task: &Task, fronts: &[Front], set: usize)
     ensures { (f : ℕ) → f < length fronts.now → cell_at row.new f ≡ finished_of (cell_at row.old f) (list_all (is_column_of set) (asked (list_of task.now) fronts.now f)) (cost_at row.old 0 + sort_cost task.now.rates (rows_in task.now set)) }
 {
     let list = listed(task);
-    let sorted = cost_of(row, 0) + sort_set(task, set);
+    let sorted = cost_of(row, 0) + sort_price(task, rows_of(task, set));
     for f in 0..fronts.len() {
         let sorts = can_sort(set, fronts[f], list);
         row[f] = finished(row[f], sorts, sorted);

@@ -9,11 +9,10 @@ ghost use Rattle.planner.specs.Shapes.{is_nil as has_none, cheaper as cheaper_of
 
 use crate::cell::{Cell, any_of, cost_of};
 use crate::front::begins_with;
-use crate::price::{rows_of, sort_price};
 use crate::row::row_in;
 use crate::ways::Ways;
 use adv_base::Item;
-use plan_model::{GroupStep, Task};
+use plan_model::{GroupStep, Task, rows_of, sort_price};
 
 /// A whole plan without its body: the front that the body serves, the steps above it, and what all costs.
 #[derive(Clone, Copy)]
