@@ -1,4 +1,4 @@
-use Rattle.std.proofs.Common.{◌≡◌, ℕ, ◌+◌, ◌*◌, ◌<◌, ◌≤◌, take, drop, ◌++◌, ◌∷◌, [], length, length-take, sym, ap, ◌∙◌, arith}
+use Rattle.std.proofs.Common.{◌≡◌, ℕ, ◌+◌, ◌*◌, ◌<◌, ◌≤◌, take, drop, get_or, ◌++◌, ◌∷◌, [], length, length-take, sym, ap, ◌∙◌, arith}
 use Rattle.std.proofs.Math.Nat.{mul-le-mul}
 use Rattle.std.proofs.lemmas.List.{take_more}
 use Rattle.std.proofs.lemmas.List.Elements.{All-append, All-cons, All-nil}
@@ -12,16 +12,19 @@ pub select_cost-requires-clause-built : goal.select_cost-requires-clause-built
 select_cost-requires-clause-built c =
     let i = c.statements.at in
     let ss = c.args.setting.now.statements.now in
-    let turn = unbuilt_from-turn (i + 1) i ss c.index-setting-at.result c.statements-test.true c.index-setting-at.is in
-    (unbuilt_from-none (i + 1) (is_select c.index-setting-at.result.work) (unbuilt_from (i + 1 + 1) (drop (i + 1) ss)) (sym turn ∙ c.statements.invariant.built)).0
+    let statement = get_or ss i c.index-setting-at.result in
+    let is : statement ≡ get_or ss i statement = ap (λ (s : Statement). get_or ss i s) c.index-setting-at.is in
+    let turn = unbuilt_from-turn (i + 1) i ss statement c.statements-test.true is in
+    (unbuilt_from-none (i + 1) (is_select statement.work) (unbuilt_from (i + 1 + 1) (drop (i + 1) ss)) (sym turn ∙ c.statements.invariant.built)).0
 
 pub statements-preserved : goal.statements-preserved
 statements-preserved c =
     let i = c.statements.at in
     let ss = c.args.setting.now.statements.now in
-    let statement = c.index-setting-at.result in
-    let turn = unbuilt_from-turn (i + 1) i ss statement c.statements-test.true c.index-setting-at.is in
-    let more = take_more ss i statement c.statements-test.true ∙ ap (λ (s : Statement). take i ss ++ s ∷ []) (sym c.index-setting-at.is) in
+    let statement = get_or ss i c.index-setting-at.result in
+    let is : statement ≡ get_or ss i statement = ap (λ (s : Statement). get_or ss i s) c.index-setting-at.is in
+    let turn = unbuilt_from-turn (i + 1) i ss statement c.statements-test.true is in
+    let more = take_more ss i statement c.statements-test.true ∙ ap (λ (s : Statement). take i ss ++ s ∷ []) (sym is) in
     let below : c.in_ok-cost.cost ≤ 1000000000000000000000 = omega (arith, c.in_ok-cost.ensures.bound) in
     let weight : statement.weight * c.in_ok-cost.cost ≤ 1000000 * 1000000000000000000000 = mul-le-mul statement.limits.weight_most below in
     let Low : ℕ → Type 0 = λ cost. cost < 1000000000000000000000 in
