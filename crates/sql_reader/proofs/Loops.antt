@@ -17,7 +17,7 @@ use Rattle.sql_reader.specs.declared.cursor.Unread.{Unread}
 use Rattle.sql_reader.specs.declared.cursor.Unread.TheVariants.{Memory, Here}
 use Rattle.sql_reader.specs.inner.Reads.{StopsAt}
 use Rattle.sql_reader.specs.Exact.{reads}
-use Rattle.sql_reader.specs.Grammar.{grammar, borders, operators, after_name, column, alias, source, plain_value, value, called_name, after_operand_name, after_operand_date, other_operand, operand, operation, operations, expression, another_expression, more_expressions, expressions, star_argument, maybe_distinct, listed_arguments, arguments, call, parenthesis, signed_operand, turned_test, tied_test, after_equal_date, equal_test, unequal_test, between_test, in_value, more_in_values, in_values, in_test, like_test, null_test, column_test, after_test_name, after_test_date, test, condition, and_condition, more_conditions, conditions, nested_conditions, where_conditions, rest_of_item, after_item_point, after_item_name, after_item_date, literal_item, item_value, one_item, another_item, more_items, item_list, quantifier, one_source, join_word, on_part, joined_source, another_source, more_sources, source_list, where_part, one_column, another_column, more_columns, column_list, group_part, having_test, another_having_test, more_having_tests, having_tests, having_part, direction, order_value, one_order, another_order, more_orders, order_list, order_part, offset_part, limit_part, from_part, select_head, group_and_having, order_and_limit, select_tail, select_rest, name_as_column, another_name, more_names, name_list, insert_columns, row_values, row, another_row, more_rows, rows, insert_table, insert_rest, set_column, assignment, another_assignment, more_assignments, assignments, update_source, update_rest, delete_conditions, delete_rest, select, insert, update, select_statement, insert_statement, update_statement, delete_statement, statement, maybe_statement, another_statement, more_statements, workload}
+use Rattle.sql_reader.specs.Grammar.{grammar, borders, operators, after_name, column, alias, source, plain_value, value, called_name, after_operand_name, after_operand_date, other_operand, operand, operation, operations, expression, another_expression, more_expressions, expressions, star_argument, maybe_distinct, listed_arguments, arguments, call, parenthesis, signed_operand, turned_test, tied_test, after_equal_date, equal_test, unequal_test, between_test, in_value, more_in_values, in_values, in_test, like_test, null_test, column_test, after_test_name, after_test_date, plain_condition, condition, and_condition, more_conditions, conditions, nested_conditions, where_conditions, rest_of_item, after_item_point, after_item_name, after_item_date, literal_item, item_value, one_item, another_item, more_items, item_list, quantifier, one_source, join_word, on_part, joined_source, another_source, more_sources, source_list, where_part, one_column, another_column, more_columns, column_list, group_part, having_test, another_having_test, more_having_tests, having_tests, having_part, direction, order_value, one_order, another_order, more_orders, order_list, order_part, offset_part, limit_part, from_part, select_head, group_and_having, order_and_limit, select_tail, select_rest, name_as_column, another_name, more_names, name_list, insert_columns, row_values, row, another_row, more_rows, rows, insert_table, insert_rest, set_column, assignment, another_assignment, more_assignments, assignments, update_source, update_rest, delete_conditions, delete_rest, select, insert, update, select_statement, insert_statement, update_statement, delete_statement, statement, maybe_statement, another_statement, more_statements, workload}
 use Rattle.sql_reader.proofs.KindSets.{not_both}
 use Rattle.sql_reader.proofs.Theory.{Explains, right, empty_only, repeated_ends}
 use Rattle.sql_reader.proofs.Exactly.{levels_sensible}
@@ -72,11 +72,11 @@ many_goes {A} kinds rule g full n a (p ∷ ps) k =
         same_turns kinds (reads grammar n rule) (takes_some rule g full n) (length ps) (length rest) m rest (omega arith) (le_refl (length rest))
 
 good-operation : good borders operation ≡ true
-unfolding grammar after_name column alias source plain_value value called_name after_operand_name after_operand_date other_operand operand operation operations expression another_expression more_expressions expressions star_argument maybe_distinct listed_arguments arguments call parenthesis signed_operand turned_test tied_test after_equal_date equal_test unequal_test between_test in_value more_in_values in_values in_test like_test null_test column_test after_test_name after_test_date test condition and_condition more_conditions conditions nested_conditions where_conditions rest_of_item after_item_point after_item_name after_item_date literal_item item_value one_item another_item more_items item_list quantifier one_source join_word on_part joined_source another_source more_sources source_list where_part one_column another_column more_columns column_list group_part having_test another_having_test more_having_tests having_tests having_part direction order_value one_order another_order more_orders order_list order_part offset_part limit_part from_part select_head group_and_having order_and_limit select_tail select_rest name_as_column another_name more_names name_list insert_columns row_values row another_row more_rows rows insert_table insert_rest set_column assignment another_assignment more_assignments assignments update_source update_rest delete_conditions delete_rest select insert update select_statement insert_statement update_statement delete_statement statement maybe_statement another_statement more_statements workload
+unfolding grammar after_name column alias source plain_value value called_name after_operand_name after_operand_date other_operand operand operation operations expression another_expression more_expressions expressions star_argument maybe_distinct listed_arguments arguments call parenthesis signed_operand turned_test tied_test after_equal_date equal_test unequal_test between_test in_value more_in_values in_values in_test like_test null_test column_test after_test_name after_test_date plain_condition condition and_condition more_conditions conditions nested_conditions where_conditions rest_of_item after_item_point after_item_name after_item_date literal_item item_value one_item another_item more_items item_list quantifier one_source join_word on_part joined_source another_source more_sources source_list where_part one_column another_column more_columns column_list group_part having_test another_having_test more_having_tests having_tests having_part direction order_value one_order another_order more_orders order_list order_part offset_part limit_part from_part select_head group_and_having order_and_limit select_tail select_rest name_as_column another_name more_names name_list insert_columns row_values row another_row more_rows rows insert_table insert_rest set_column assignment another_assignment more_assignments assignments update_source update_rest delete_conditions delete_rest select insert update select_statement insert_statement update_statement delete_statement statement maybe_statement another_statement more_statements workload
 good-operation = refl
 
 full-operation : may_be_empty operation ≡ false
-unfolding grammar after_name column alias source plain_value value called_name after_operand_name after_operand_date other_operand operand operation operations expression another_expression more_expressions expressions star_argument maybe_distinct listed_arguments arguments call parenthesis signed_operand turned_test tied_test after_equal_date equal_test unequal_test between_test in_value more_in_values in_values in_test like_test null_test column_test after_test_name after_test_date test condition and_condition more_conditions conditions nested_conditions where_conditions rest_of_item after_item_point after_item_name after_item_date literal_item item_value one_item another_item more_items item_list quantifier one_source join_word on_part joined_source another_source more_sources source_list where_part one_column another_column more_columns column_list group_part having_test another_having_test more_having_tests having_tests having_part direction order_value one_order another_order more_orders order_list order_part offset_part limit_part from_part select_head group_and_having order_and_limit select_tail select_rest name_as_column another_name more_names name_list insert_columns row_values row another_row more_rows rows insert_table insert_rest set_column assignment another_assignment more_assignments assignments update_source update_rest delete_conditions delete_rest select insert update select_statement insert_statement update_statement delete_statement statement maybe_statement another_statement more_statements workload
+unfolding grammar after_name column alias source plain_value value called_name after_operand_name after_operand_date other_operand operand operation operations expression another_expression more_expressions expressions star_argument maybe_distinct listed_arguments arguments call parenthesis signed_operand turned_test tied_test after_equal_date equal_test unequal_test between_test in_value more_in_values in_values in_test like_test null_test column_test after_test_name after_test_date plain_condition condition and_condition more_conditions conditions nested_conditions where_conditions rest_of_item after_item_point after_item_name after_item_date literal_item item_value one_item another_item more_items item_list quantifier one_source join_word on_part joined_source another_source more_sources source_list where_part one_column another_column more_columns column_list group_part having_test another_having_test more_having_tests having_tests having_part direction order_value one_order another_order more_orders order_list order_part offset_part limit_part from_part select_head group_and_having order_and_limit select_tail select_rest name_as_column another_name more_names name_list insert_columns row_values row another_row more_rows rows insert_table insert_rest set_column assignment another_assignment more_assignments assignments update_source update_rest delete_conditions delete_rest select insert update select_statement insert_statement update_statement delete_statement statement maybe_statement another_statement more_statements workload
 full-operation = refl
 
 pub takes-operation : (n : ℕ) (a : Seen) (ps : List Piece) (b : Seen) (rest : List Piece) → reads grammar n operation a ps ≡ Read b rest → length rest < length ps
@@ -100,11 +100,11 @@ pub end-operations : (n : ℕ) (x : Reading Seen) (a : Seen) (ps : List Piece) �
 end-operations n x a ps i k = sym i ∙ ends-operations n a ps k
 
 good-another_expression : good borders another_expression ≡ true
-unfolding grammar after_name column alias source plain_value value called_name after_operand_name after_operand_date other_operand operand operation operations expression another_expression more_expressions expressions star_argument maybe_distinct listed_arguments arguments call parenthesis signed_operand turned_test tied_test after_equal_date equal_test unequal_test between_test in_value more_in_values in_values in_test like_test null_test column_test after_test_name after_test_date test condition and_condition more_conditions conditions nested_conditions where_conditions rest_of_item after_item_point after_item_name after_item_date literal_item item_value one_item another_item more_items item_list quantifier one_source join_word on_part joined_source another_source more_sources source_list where_part one_column another_column more_columns column_list group_part having_test another_having_test more_having_tests having_tests having_part direction order_value one_order another_order more_orders order_list order_part offset_part limit_part from_part select_head group_and_having order_and_limit select_tail select_rest name_as_column another_name more_names name_list insert_columns row_values row another_row more_rows rows insert_table insert_rest set_column assignment another_assignment more_assignments assignments update_source update_rest delete_conditions delete_rest select insert update select_statement insert_statement update_statement delete_statement statement maybe_statement another_statement more_statements workload
+unfolding grammar after_name column alias source plain_value value called_name after_operand_name after_operand_date other_operand operand operation operations expression another_expression more_expressions expressions star_argument maybe_distinct listed_arguments arguments call parenthesis signed_operand turned_test tied_test after_equal_date equal_test unequal_test between_test in_value more_in_values in_values in_test like_test null_test column_test after_test_name after_test_date plain_condition condition and_condition more_conditions conditions nested_conditions where_conditions rest_of_item after_item_point after_item_name after_item_date literal_item item_value one_item another_item more_items item_list quantifier one_source join_word on_part joined_source another_source more_sources source_list where_part one_column another_column more_columns column_list group_part having_test another_having_test more_having_tests having_tests having_part direction order_value one_order another_order more_orders order_list order_part offset_part limit_part from_part select_head group_and_having order_and_limit select_tail select_rest name_as_column another_name more_names name_list insert_columns row_values row another_row more_rows rows insert_table insert_rest set_column assignment another_assignment more_assignments assignments update_source update_rest delete_conditions delete_rest select insert update select_statement insert_statement update_statement delete_statement statement maybe_statement another_statement more_statements workload
 good-another_expression = refl
 
 full-another_expression : may_be_empty another_expression ≡ false
-unfolding grammar after_name column alias source plain_value value called_name after_operand_name after_operand_date other_operand operand operation operations expression another_expression more_expressions expressions star_argument maybe_distinct listed_arguments arguments call parenthesis signed_operand turned_test tied_test after_equal_date equal_test unequal_test between_test in_value more_in_values in_values in_test like_test null_test column_test after_test_name after_test_date test condition and_condition more_conditions conditions nested_conditions where_conditions rest_of_item after_item_point after_item_name after_item_date literal_item item_value one_item another_item more_items item_list quantifier one_source join_word on_part joined_source another_source more_sources source_list where_part one_column another_column more_columns column_list group_part having_test another_having_test more_having_tests having_tests having_part direction order_value one_order another_order more_orders order_list order_part offset_part limit_part from_part select_head group_and_having order_and_limit select_tail select_rest name_as_column another_name more_names name_list insert_columns row_values row another_row more_rows rows insert_table insert_rest set_column assignment another_assignment more_assignments assignments update_source update_rest delete_conditions delete_rest select insert update select_statement insert_statement update_statement delete_statement statement maybe_statement another_statement more_statements workload
+unfolding grammar after_name column alias source plain_value value called_name after_operand_name after_operand_date other_operand operand operation operations expression another_expression more_expressions expressions star_argument maybe_distinct listed_arguments arguments call parenthesis signed_operand turned_test tied_test after_equal_date equal_test unequal_test between_test in_value more_in_values in_values in_test like_test null_test column_test after_test_name after_test_date plain_condition condition and_condition more_conditions conditions nested_conditions where_conditions rest_of_item after_item_point after_item_name after_item_date literal_item item_value one_item another_item more_items item_list quantifier one_source join_word on_part joined_source another_source more_sources source_list where_part one_column another_column more_columns column_list group_part having_test another_having_test more_having_tests having_tests having_part direction order_value one_order another_order more_orders order_list order_part offset_part limit_part from_part select_head group_and_having order_and_limit select_tail select_rest name_as_column another_name more_names name_list insert_columns row_values row another_row more_rows rows insert_table insert_rest set_column assignment another_assignment more_assignments assignments update_source update_rest delete_conditions delete_rest select insert update select_statement insert_statement update_statement delete_statement statement maybe_statement another_statement more_statements workload
 full-another_expression = refl
 
 pub takes-another_expression : (n : ℕ) (a : Seen) (ps : List Piece) (b : Seen) (rest : List Piece) → reads grammar n another_expression a ps ≡ Read b rest → length rest < length ps
@@ -128,11 +128,11 @@ pub end-more_expressions : (n : ℕ) (x : Reading Seen) (a : Seen) (ps : List Pi
 end-more_expressions n x a ps i k = sym i ∙ ends-more_expressions n a ps k
 
 good-in_value : good borders in_value ≡ true
-unfolding grammar after_name column alias source plain_value value called_name after_operand_name after_operand_date other_operand operand operation operations expression another_expression more_expressions expressions star_argument maybe_distinct listed_arguments arguments call parenthesis signed_operand turned_test tied_test after_equal_date equal_test unequal_test between_test in_value more_in_values in_values in_test like_test null_test column_test after_test_name after_test_date test condition and_condition more_conditions conditions nested_conditions where_conditions rest_of_item after_item_point after_item_name after_item_date literal_item item_value one_item another_item more_items item_list quantifier one_source join_word on_part joined_source another_source more_sources source_list where_part one_column another_column more_columns column_list group_part having_test another_having_test more_having_tests having_tests having_part direction order_value one_order another_order more_orders order_list order_part offset_part limit_part from_part select_head group_and_having order_and_limit select_tail select_rest name_as_column another_name more_names name_list insert_columns row_values row another_row more_rows rows insert_table insert_rest set_column assignment another_assignment more_assignments assignments update_source update_rest delete_conditions delete_rest select insert update select_statement insert_statement update_statement delete_statement statement maybe_statement another_statement more_statements workload
+unfolding grammar after_name column alias source plain_value value called_name after_operand_name after_operand_date other_operand operand operation operations expression another_expression more_expressions expressions star_argument maybe_distinct listed_arguments arguments call parenthesis signed_operand turned_test tied_test after_equal_date equal_test unequal_test between_test in_value more_in_values in_values in_test like_test null_test column_test after_test_name after_test_date plain_condition condition and_condition more_conditions conditions nested_conditions where_conditions rest_of_item after_item_point after_item_name after_item_date literal_item item_value one_item another_item more_items item_list quantifier one_source join_word on_part joined_source another_source more_sources source_list where_part one_column another_column more_columns column_list group_part having_test another_having_test more_having_tests having_tests having_part direction order_value one_order another_order more_orders order_list order_part offset_part limit_part from_part select_head group_and_having order_and_limit select_tail select_rest name_as_column another_name more_names name_list insert_columns row_values row another_row more_rows rows insert_table insert_rest set_column assignment another_assignment more_assignments assignments update_source update_rest delete_conditions delete_rest select insert update select_statement insert_statement update_statement delete_statement statement maybe_statement another_statement more_statements workload
 good-in_value = refl
 
 full-in_value : may_be_empty in_value ≡ false
-unfolding grammar after_name column alias source plain_value value called_name after_operand_name after_operand_date other_operand operand operation operations expression another_expression more_expressions expressions star_argument maybe_distinct listed_arguments arguments call parenthesis signed_operand turned_test tied_test after_equal_date equal_test unequal_test between_test in_value more_in_values in_values in_test like_test null_test column_test after_test_name after_test_date test condition and_condition more_conditions conditions nested_conditions where_conditions rest_of_item after_item_point after_item_name after_item_date literal_item item_value one_item another_item more_items item_list quantifier one_source join_word on_part joined_source another_source more_sources source_list where_part one_column another_column more_columns column_list group_part having_test another_having_test more_having_tests having_tests having_part direction order_value one_order another_order more_orders order_list order_part offset_part limit_part from_part select_head group_and_having order_and_limit select_tail select_rest name_as_column another_name more_names name_list insert_columns row_values row another_row more_rows rows insert_table insert_rest set_column assignment another_assignment more_assignments assignments update_source update_rest delete_conditions delete_rest select insert update select_statement insert_statement update_statement delete_statement statement maybe_statement another_statement more_statements workload
+unfolding grammar after_name column alias source plain_value value called_name after_operand_name after_operand_date other_operand operand operation operations expression another_expression more_expressions expressions star_argument maybe_distinct listed_arguments arguments call parenthesis signed_operand turned_test tied_test after_equal_date equal_test unequal_test between_test in_value more_in_values in_values in_test like_test null_test column_test after_test_name after_test_date plain_condition condition and_condition more_conditions conditions nested_conditions where_conditions rest_of_item after_item_point after_item_name after_item_date literal_item item_value one_item another_item more_items item_list quantifier one_source join_word on_part joined_source another_source more_sources source_list where_part one_column another_column more_columns column_list group_part having_test another_having_test more_having_tests having_tests having_part direction order_value one_order another_order more_orders order_list order_part offset_part limit_part from_part select_head group_and_having order_and_limit select_tail select_rest name_as_column another_name more_names name_list insert_columns row_values row another_row more_rows rows insert_table insert_rest set_column assignment another_assignment more_assignments assignments update_source update_rest delete_conditions delete_rest select insert update select_statement insert_statement update_statement delete_statement statement maybe_statement another_statement more_statements workload
 full-in_value = refl
 
 pub takes-in_value : (n : ℕ) (a : ℕ) (ps : List Piece) (b : ℕ) (rest : List Piece) → reads grammar n in_value a ps ≡ Read b rest → length rest < length ps
@@ -156,11 +156,11 @@ pub end-more_in_values : (n : ℕ) (x : Reading ℕ) (a : ℕ) (ps : List Piece)
 end-more_in_values n x a ps i k = sym i ∙ ends-more_in_values n a ps k
 
 good-and_condition : good borders and_condition ≡ true
-unfolding grammar after_name column alias source plain_value value called_name after_operand_name after_operand_date other_operand operand operation operations expression another_expression more_expressions expressions star_argument maybe_distinct listed_arguments arguments call parenthesis signed_operand turned_test tied_test after_equal_date equal_test unequal_test between_test in_value more_in_values in_values in_test like_test null_test column_test after_test_name after_test_date test condition and_condition more_conditions conditions nested_conditions where_conditions rest_of_item after_item_point after_item_name after_item_date literal_item item_value one_item another_item more_items item_list quantifier one_source join_word on_part joined_source another_source more_sources source_list where_part one_column another_column more_columns column_list group_part having_test another_having_test more_having_tests having_tests having_part direction order_value one_order another_order more_orders order_list order_part offset_part limit_part from_part select_head group_and_having order_and_limit select_tail select_rest name_as_column another_name more_names name_list insert_columns row_values row another_row more_rows rows insert_table insert_rest set_column assignment another_assignment more_assignments assignments update_source update_rest delete_conditions delete_rest select insert update select_statement insert_statement update_statement delete_statement statement maybe_statement another_statement more_statements workload
+unfolding grammar after_name column alias source plain_value value called_name after_operand_name after_operand_date other_operand operand operation operations expression another_expression more_expressions expressions star_argument maybe_distinct listed_arguments arguments call parenthesis signed_operand turned_test tied_test after_equal_date equal_test unequal_test between_test in_value more_in_values in_values in_test like_test null_test column_test after_test_name after_test_date plain_condition condition and_condition more_conditions conditions nested_conditions where_conditions rest_of_item after_item_point after_item_name after_item_date literal_item item_value one_item another_item more_items item_list quantifier one_source join_word on_part joined_source another_source more_sources source_list where_part one_column another_column more_columns column_list group_part having_test another_having_test more_having_tests having_tests having_part direction order_value one_order another_order more_orders order_list order_part offset_part limit_part from_part select_head group_and_having order_and_limit select_tail select_rest name_as_column another_name more_names name_list insert_columns row_values row another_row more_rows rows insert_table insert_rest set_column assignment another_assignment more_assignments assignments update_source update_rest delete_conditions delete_rest select insert update select_statement insert_statement update_statement delete_statement statement maybe_statement another_statement more_statements workload
 good-and_condition = refl
 
 full-and_condition : may_be_empty and_condition ≡ false
-unfolding grammar after_name column alias source plain_value value called_name after_operand_name after_operand_date other_operand operand operation operations expression another_expression more_expressions expressions star_argument maybe_distinct listed_arguments arguments call parenthesis signed_operand turned_test tied_test after_equal_date equal_test unequal_test between_test in_value more_in_values in_values in_test like_test null_test column_test after_test_name after_test_date test condition and_condition more_conditions conditions nested_conditions where_conditions rest_of_item after_item_point after_item_name after_item_date literal_item item_value one_item another_item more_items item_list quantifier one_source join_word on_part joined_source another_source more_sources source_list where_part one_column another_column more_columns column_list group_part having_test another_having_test more_having_tests having_tests having_part direction order_value one_order another_order more_orders order_list order_part offset_part limit_part from_part select_head group_and_having order_and_limit select_tail select_rest name_as_column another_name more_names name_list insert_columns row_values row another_row more_rows rows insert_table insert_rest set_column assignment another_assignment more_assignments assignments update_source update_rest delete_conditions delete_rest select insert update select_statement insert_statement update_statement delete_statement statement maybe_statement another_statement more_statements workload
+unfolding grammar after_name column alias source plain_value value called_name after_operand_name after_operand_date other_operand operand operation operations expression another_expression more_expressions expressions star_argument maybe_distinct listed_arguments arguments call parenthesis signed_operand turned_test tied_test after_equal_date equal_test unequal_test between_test in_value more_in_values in_values in_test like_test null_test column_test after_test_name after_test_date plain_condition condition and_condition more_conditions conditions nested_conditions where_conditions rest_of_item after_item_point after_item_name after_item_date literal_item item_value one_item another_item more_items item_list quantifier one_source join_word on_part joined_source another_source more_sources source_list where_part one_column another_column more_columns column_list group_part having_test another_having_test more_having_tests having_tests having_part direction order_value one_order another_order more_orders order_list order_part offset_part limit_part from_part select_head group_and_having order_and_limit select_tail select_rest name_as_column another_name more_names name_list insert_columns row_values row another_row more_rows rows insert_table insert_rest set_column assignment another_assignment more_assignments assignments update_source update_rest delete_conditions delete_rest select insert update select_statement insert_statement update_statement delete_statement statement maybe_statement another_statement more_statements workload
 full-and_condition = refl
 
 pub takes-and_condition : (n : ℕ) (a : (List Condition)) (ps : List Piece) (b : (List Condition)) (rest : List Piece) → reads grammar n and_condition a ps ≡ Read b rest → length rest < length ps
@@ -184,11 +184,11 @@ pub end-more_conditions : (n : ℕ) (x : Reading (List Condition)) (a : (List Co
 end-more_conditions n x a ps i k = sym i ∙ ends-more_conditions n a ps k
 
 good-another_item : good borders another_item ≡ true
-unfolding grammar after_name column alias source plain_value value called_name after_operand_name after_operand_date other_operand operand operation operations expression another_expression more_expressions expressions star_argument maybe_distinct listed_arguments arguments call parenthesis signed_operand turned_test tied_test after_equal_date equal_test unequal_test between_test in_value more_in_values in_values in_test like_test null_test column_test after_test_name after_test_date test condition and_condition more_conditions conditions nested_conditions where_conditions rest_of_item after_item_point after_item_name after_item_date literal_item item_value one_item another_item more_items item_list quantifier one_source join_word on_part joined_source another_source more_sources source_list where_part one_column another_column more_columns column_list group_part having_test another_having_test more_having_tests having_tests having_part direction order_value one_order another_order more_orders order_list order_part offset_part limit_part from_part select_head group_and_having order_and_limit select_tail select_rest name_as_column another_name more_names name_list insert_columns row_values row another_row more_rows rows insert_table insert_rest set_column assignment another_assignment more_assignments assignments update_source update_rest delete_conditions delete_rest select insert update select_statement insert_statement update_statement delete_statement statement maybe_statement another_statement more_statements workload
+unfolding grammar after_name column alias source plain_value value called_name after_operand_name after_operand_date other_operand operand operation operations expression another_expression more_expressions expressions star_argument maybe_distinct listed_arguments arguments call parenthesis signed_operand turned_test tied_test after_equal_date equal_test unequal_test between_test in_value more_in_values in_values in_test like_test null_test column_test after_test_name after_test_date plain_condition condition and_condition more_conditions conditions nested_conditions where_conditions rest_of_item after_item_point after_item_name after_item_date literal_item item_value one_item another_item more_items item_list quantifier one_source join_word on_part joined_source another_source more_sources source_list where_part one_column another_column more_columns column_list group_part having_test another_having_test more_having_tests having_tests having_part direction order_value one_order another_order more_orders order_list order_part offset_part limit_part from_part select_head group_and_having order_and_limit select_tail select_rest name_as_column another_name more_names name_list insert_columns row_values row another_row more_rows rows insert_table insert_rest set_column assignment another_assignment more_assignments assignments update_source update_rest delete_conditions delete_rest select insert update select_statement insert_statement update_statement delete_statement statement maybe_statement another_statement more_statements workload
 good-another_item = refl
 
 full-another_item : may_be_empty another_item ≡ false
-unfolding grammar after_name column alias source plain_value value called_name after_operand_name after_operand_date other_operand operand operation operations expression another_expression more_expressions expressions star_argument maybe_distinct listed_arguments arguments call parenthesis signed_operand turned_test tied_test after_equal_date equal_test unequal_test between_test in_value more_in_values in_values in_test like_test null_test column_test after_test_name after_test_date test condition and_condition more_conditions conditions nested_conditions where_conditions rest_of_item after_item_point after_item_name after_item_date literal_item item_value one_item another_item more_items item_list quantifier one_source join_word on_part joined_source another_source more_sources source_list where_part one_column another_column more_columns column_list group_part having_test another_having_test more_having_tests having_tests having_part direction order_value one_order another_order more_orders order_list order_part offset_part limit_part from_part select_head group_and_having order_and_limit select_tail select_rest name_as_column another_name more_names name_list insert_columns row_values row another_row more_rows rows insert_table insert_rest set_column assignment another_assignment more_assignments assignments update_source update_rest delete_conditions delete_rest select insert update select_statement insert_statement update_statement delete_statement statement maybe_statement another_statement more_statements workload
+unfolding grammar after_name column alias source plain_value value called_name after_operand_name after_operand_date other_operand operand operation operations expression another_expression more_expressions expressions star_argument maybe_distinct listed_arguments arguments call parenthesis signed_operand turned_test tied_test after_equal_date equal_test unequal_test between_test in_value more_in_values in_values in_test like_test null_test column_test after_test_name after_test_date plain_condition condition and_condition more_conditions conditions nested_conditions where_conditions rest_of_item after_item_point after_item_name after_item_date literal_item item_value one_item another_item more_items item_list quantifier one_source join_word on_part joined_source another_source more_sources source_list where_part one_column another_column more_columns column_list group_part having_test another_having_test more_having_tests having_tests having_part direction order_value one_order another_order more_orders order_list order_part offset_part limit_part from_part select_head group_and_having order_and_limit select_tail select_rest name_as_column another_name more_names name_list insert_columns row_values row another_row more_rows rows insert_table insert_rest set_column assignment another_assignment more_assignments assignments update_source update_rest delete_conditions delete_rest select insert update select_statement insert_statement update_statement delete_statement statement maybe_statement another_statement more_statements workload
 full-another_item = refl
 
 pub takes-another_item : (n : ℕ) (a : (List ParsedItem)) (ps : List Piece) (b : (List ParsedItem)) (rest : List Piece) → reads grammar n another_item a ps ≡ Read b rest → length rest < length ps
@@ -212,11 +212,11 @@ pub end-more_items : (n : ℕ) (x : Reading (List ParsedItem)) (a : (List Parsed
 end-more_items n x a ps i k = sym i ∙ ends-more_items n a ps k
 
 good-another_source : good borders another_source ≡ true
-unfolding grammar after_name column alias source plain_value value called_name after_operand_name after_operand_date other_operand operand operation operations expression another_expression more_expressions expressions star_argument maybe_distinct listed_arguments arguments call parenthesis signed_operand turned_test tied_test after_equal_date equal_test unequal_test between_test in_value more_in_values in_values in_test like_test null_test column_test after_test_name after_test_date test condition and_condition more_conditions conditions nested_conditions where_conditions rest_of_item after_item_point after_item_name after_item_date literal_item item_value one_item another_item more_items item_list quantifier one_source join_word on_part joined_source another_source more_sources source_list where_part one_column another_column more_columns column_list group_part having_test another_having_test more_having_tests having_tests having_part direction order_value one_order another_order more_orders order_list order_part offset_part limit_part from_part select_head group_and_having order_and_limit select_tail select_rest name_as_column another_name more_names name_list insert_columns row_values row another_row more_rows rows insert_table insert_rest set_column assignment another_assignment more_assignments assignments update_source update_rest delete_conditions delete_rest select insert update select_statement insert_statement update_statement delete_statement statement maybe_statement another_statement more_statements workload
+unfolding grammar after_name column alias source plain_value value called_name after_operand_name after_operand_date other_operand operand operation operations expression another_expression more_expressions expressions star_argument maybe_distinct listed_arguments arguments call parenthesis signed_operand turned_test tied_test after_equal_date equal_test unequal_test between_test in_value more_in_values in_values in_test like_test null_test column_test after_test_name after_test_date plain_condition condition and_condition more_conditions conditions nested_conditions where_conditions rest_of_item after_item_point after_item_name after_item_date literal_item item_value one_item another_item more_items item_list quantifier one_source join_word on_part joined_source another_source more_sources source_list where_part one_column another_column more_columns column_list group_part having_test another_having_test more_having_tests having_tests having_part direction order_value one_order another_order more_orders order_list order_part offset_part limit_part from_part select_head group_and_having order_and_limit select_tail select_rest name_as_column another_name more_names name_list insert_columns row_values row another_row more_rows rows insert_table insert_rest set_column assignment another_assignment more_assignments assignments update_source update_rest delete_conditions delete_rest select insert update select_statement insert_statement update_statement delete_statement statement maybe_statement another_statement more_statements workload
 good-another_source = refl
 
 full-another_source : may_be_empty another_source ≡ false
-unfolding grammar after_name column alias source plain_value value called_name after_operand_name after_operand_date other_operand operand operation operations expression another_expression more_expressions expressions star_argument maybe_distinct listed_arguments arguments call parenthesis signed_operand turned_test tied_test after_equal_date equal_test unequal_test between_test in_value more_in_values in_values in_test like_test null_test column_test after_test_name after_test_date test condition and_condition more_conditions conditions nested_conditions where_conditions rest_of_item after_item_point after_item_name after_item_date literal_item item_value one_item another_item more_items item_list quantifier one_source join_word on_part joined_source another_source more_sources source_list where_part one_column another_column more_columns column_list group_part having_test another_having_test more_having_tests having_tests having_part direction order_value one_order another_order more_orders order_list order_part offset_part limit_part from_part select_head group_and_having order_and_limit select_tail select_rest name_as_column another_name more_names name_list insert_columns row_values row another_row more_rows rows insert_table insert_rest set_column assignment another_assignment more_assignments assignments update_source update_rest delete_conditions delete_rest select insert update select_statement insert_statement update_statement delete_statement statement maybe_statement another_statement more_statements workload
+unfolding grammar after_name column alias source plain_value value called_name after_operand_name after_operand_date other_operand operand operation operations expression another_expression more_expressions expressions star_argument maybe_distinct listed_arguments arguments call parenthesis signed_operand turned_test tied_test after_equal_date equal_test unequal_test between_test in_value more_in_values in_values in_test like_test null_test column_test after_test_name after_test_date plain_condition condition and_condition more_conditions conditions nested_conditions where_conditions rest_of_item after_item_point after_item_name after_item_date literal_item item_value one_item another_item more_items item_list quantifier one_source join_word on_part joined_source another_source more_sources source_list where_part one_column another_column more_columns column_list group_part having_test another_having_test more_having_tests having_tests having_part direction order_value one_order another_order more_orders order_list order_part offset_part limit_part from_part select_head group_and_having order_and_limit select_tail select_rest name_as_column another_name more_names name_list insert_columns row_values row another_row more_rows rows insert_table insert_rest set_column assignment another_assignment more_assignments assignments update_source update_rest delete_conditions delete_rest select insert update select_statement insert_statement update_statement delete_statement statement maybe_statement another_statement more_statements workload
 full-another_source = refl
 
 pub takes-another_source : (n : ℕ) (a : ParsedSelect) (ps : List Piece) (b : ParsedSelect) (rest : List Piece) → reads grammar n another_source a ps ≡ Read b rest → length rest < length ps
@@ -240,11 +240,11 @@ pub end-more_sources : (n : ℕ) (x : Reading ParsedSelect) (a : ParsedSelect) (
 end-more_sources n x a ps i k = sym i ∙ ends-more_sources n a ps k
 
 good-another_column : good borders another_column ≡ true
-unfolding grammar after_name column alias source plain_value value called_name after_operand_name after_operand_date other_operand operand operation operations expression another_expression more_expressions expressions star_argument maybe_distinct listed_arguments arguments call parenthesis signed_operand turned_test tied_test after_equal_date equal_test unequal_test between_test in_value more_in_values in_values in_test like_test null_test column_test after_test_name after_test_date test condition and_condition more_conditions conditions nested_conditions where_conditions rest_of_item after_item_point after_item_name after_item_date literal_item item_value one_item another_item more_items item_list quantifier one_source join_word on_part joined_source another_source more_sources source_list where_part one_column another_column more_columns column_list group_part having_test another_having_test more_having_tests having_tests having_part direction order_value one_order another_order more_orders order_list order_part offset_part limit_part from_part select_head group_and_having order_and_limit select_tail select_rest name_as_column another_name more_names name_list insert_columns row_values row another_row more_rows rows insert_table insert_rest set_column assignment another_assignment more_assignments assignments update_source update_rest delete_conditions delete_rest select insert update select_statement insert_statement update_statement delete_statement statement maybe_statement another_statement more_statements workload
+unfolding grammar after_name column alias source plain_value value called_name after_operand_name after_operand_date other_operand operand operation operations expression another_expression more_expressions expressions star_argument maybe_distinct listed_arguments arguments call parenthesis signed_operand turned_test tied_test after_equal_date equal_test unequal_test between_test in_value more_in_values in_values in_test like_test null_test column_test after_test_name after_test_date plain_condition condition and_condition more_conditions conditions nested_conditions where_conditions rest_of_item after_item_point after_item_name after_item_date literal_item item_value one_item another_item more_items item_list quantifier one_source join_word on_part joined_source another_source more_sources source_list where_part one_column another_column more_columns column_list group_part having_test another_having_test more_having_tests having_tests having_part direction order_value one_order another_order more_orders order_list order_part offset_part limit_part from_part select_head group_and_having order_and_limit select_tail select_rest name_as_column another_name more_names name_list insert_columns row_values row another_row more_rows rows insert_table insert_rest set_column assignment another_assignment more_assignments assignments update_source update_rest delete_conditions delete_rest select insert update select_statement insert_statement update_statement delete_statement statement maybe_statement another_statement more_statements workload
 good-another_column = refl
 
 full-another_column : may_be_empty another_column ≡ false
-unfolding grammar after_name column alias source plain_value value called_name after_operand_name after_operand_date other_operand operand operation operations expression another_expression more_expressions expressions star_argument maybe_distinct listed_arguments arguments call parenthesis signed_operand turned_test tied_test after_equal_date equal_test unequal_test between_test in_value more_in_values in_values in_test like_test null_test column_test after_test_name after_test_date test condition and_condition more_conditions conditions nested_conditions where_conditions rest_of_item after_item_point after_item_name after_item_date literal_item item_value one_item another_item more_items item_list quantifier one_source join_word on_part joined_source another_source more_sources source_list where_part one_column another_column more_columns column_list group_part having_test another_having_test more_having_tests having_tests having_part direction order_value one_order another_order more_orders order_list order_part offset_part limit_part from_part select_head group_and_having order_and_limit select_tail select_rest name_as_column another_name more_names name_list insert_columns row_values row another_row more_rows rows insert_table insert_rest set_column assignment another_assignment more_assignments assignments update_source update_rest delete_conditions delete_rest select insert update select_statement insert_statement update_statement delete_statement statement maybe_statement another_statement more_statements workload
+unfolding grammar after_name column alias source plain_value value called_name after_operand_name after_operand_date other_operand operand operation operations expression another_expression more_expressions expressions star_argument maybe_distinct listed_arguments arguments call parenthesis signed_operand turned_test tied_test after_equal_date equal_test unequal_test between_test in_value more_in_values in_values in_test like_test null_test column_test after_test_name after_test_date plain_condition condition and_condition more_conditions conditions nested_conditions where_conditions rest_of_item after_item_point after_item_name after_item_date literal_item item_value one_item another_item more_items item_list quantifier one_source join_word on_part joined_source another_source more_sources source_list where_part one_column another_column more_columns column_list group_part having_test another_having_test more_having_tests having_tests having_part direction order_value one_order another_order more_orders order_list order_part offset_part limit_part from_part select_head group_and_having order_and_limit select_tail select_rest name_as_column another_name more_names name_list insert_columns row_values row another_row more_rows rows insert_table insert_rest set_column assignment another_assignment more_assignments assignments update_source update_rest delete_conditions delete_rest select insert update select_statement insert_statement update_statement delete_statement statement maybe_statement another_statement more_statements workload
 full-another_column = refl
 
 pub takes-another_column : (n : ℕ) (a : (List NameUse)) (ps : List Piece) (b : (List NameUse)) (rest : List Piece) → reads grammar n another_column a ps ≡ Read b rest → length rest < length ps
@@ -268,11 +268,11 @@ pub end-more_columns : (n : ℕ) (x : Reading (List NameUse)) (a : (List NameUse
 end-more_columns n x a ps i k = sym i ∙ ends-more_columns n a ps k
 
 good-another_having_test : good borders another_having_test ≡ true
-unfolding grammar after_name column alias source plain_value value called_name after_operand_name after_operand_date other_operand operand operation operations expression another_expression more_expressions expressions star_argument maybe_distinct listed_arguments arguments call parenthesis signed_operand turned_test tied_test after_equal_date equal_test unequal_test between_test in_value more_in_values in_values in_test like_test null_test column_test after_test_name after_test_date test condition and_condition more_conditions conditions nested_conditions where_conditions rest_of_item after_item_point after_item_name after_item_date literal_item item_value one_item another_item more_items item_list quantifier one_source join_word on_part joined_source another_source more_sources source_list where_part one_column another_column more_columns column_list group_part having_test another_having_test more_having_tests having_tests having_part direction order_value one_order another_order more_orders order_list order_part offset_part limit_part from_part select_head group_and_having order_and_limit select_tail select_rest name_as_column another_name more_names name_list insert_columns row_values row another_row more_rows rows insert_table insert_rest set_column assignment another_assignment more_assignments assignments update_source update_rest delete_conditions delete_rest select insert update select_statement insert_statement update_statement delete_statement statement maybe_statement another_statement more_statements workload
+unfolding grammar after_name column alias source plain_value value called_name after_operand_name after_operand_date other_operand operand operation operations expression another_expression more_expressions expressions star_argument maybe_distinct listed_arguments arguments call parenthesis signed_operand turned_test tied_test after_equal_date equal_test unequal_test between_test in_value more_in_values in_values in_test like_test null_test column_test after_test_name after_test_date plain_condition condition and_condition more_conditions conditions nested_conditions where_conditions rest_of_item after_item_point after_item_name after_item_date literal_item item_value one_item another_item more_items item_list quantifier one_source join_word on_part joined_source another_source more_sources source_list where_part one_column another_column more_columns column_list group_part having_test another_having_test more_having_tests having_tests having_part direction order_value one_order another_order more_orders order_list order_part offset_part limit_part from_part select_head group_and_having order_and_limit select_tail select_rest name_as_column another_name more_names name_list insert_columns row_values row another_row more_rows rows insert_table insert_rest set_column assignment another_assignment more_assignments assignments update_source update_rest delete_conditions delete_rest select insert update select_statement insert_statement update_statement delete_statement statement maybe_statement another_statement more_statements workload
 good-another_having_test = refl
 
 full-another_having_test : may_be_empty another_having_test ≡ false
-unfolding grammar after_name column alias source plain_value value called_name after_operand_name after_operand_date other_operand operand operation operations expression another_expression more_expressions expressions star_argument maybe_distinct listed_arguments arguments call parenthesis signed_operand turned_test tied_test after_equal_date equal_test unequal_test between_test in_value more_in_values in_values in_test like_test null_test column_test after_test_name after_test_date test condition and_condition more_conditions conditions nested_conditions where_conditions rest_of_item after_item_point after_item_name after_item_date literal_item item_value one_item another_item more_items item_list quantifier one_source join_word on_part joined_source another_source more_sources source_list where_part one_column another_column more_columns column_list group_part having_test another_having_test more_having_tests having_tests having_part direction order_value one_order another_order more_orders order_list order_part offset_part limit_part from_part select_head group_and_having order_and_limit select_tail select_rest name_as_column another_name more_names name_list insert_columns row_values row another_row more_rows rows insert_table insert_rest set_column assignment another_assignment more_assignments assignments update_source update_rest delete_conditions delete_rest select insert update select_statement insert_statement update_statement delete_statement statement maybe_statement another_statement more_statements workload
+unfolding grammar after_name column alias source plain_value value called_name after_operand_name after_operand_date other_operand operand operation operations expression another_expression more_expressions expressions star_argument maybe_distinct listed_arguments arguments call parenthesis signed_operand turned_test tied_test after_equal_date equal_test unequal_test between_test in_value more_in_values in_values in_test like_test null_test column_test after_test_name after_test_date plain_condition condition and_condition more_conditions conditions nested_conditions where_conditions rest_of_item after_item_point after_item_name after_item_date literal_item item_value one_item another_item more_items item_list quantifier one_source join_word on_part joined_source another_source more_sources source_list where_part one_column another_column more_columns column_list group_part having_test another_having_test more_having_tests having_tests having_part direction order_value one_order another_order more_orders order_list order_part offset_part limit_part from_part select_head group_and_having order_and_limit select_tail select_rest name_as_column another_name more_names name_list insert_columns row_values row another_row more_rows rows insert_table insert_rest set_column assignment another_assignment more_assignments assignments update_source update_rest delete_conditions delete_rest select insert update select_statement insert_statement update_statement delete_statement statement maybe_statement another_statement more_statements workload
 full-another_having_test = refl
 
 pub takes-another_having_test : (n : ℕ) (a : Seen) (ps : List Piece) (b : Seen) (rest : List Piece) → reads grammar n another_having_test a ps ≡ Read b rest → length rest < length ps
@@ -296,11 +296,11 @@ pub end-more_having_tests : (n : ℕ) (x : Reading Seen) (a : Seen) (ps : List P
 end-more_having_tests n x a ps i k = sym i ∙ ends-more_having_tests n a ps k
 
 good-another_order : good borders another_order ≡ true
-unfolding grammar after_name column alias source plain_value value called_name after_operand_name after_operand_date other_operand operand operation operations expression another_expression more_expressions expressions star_argument maybe_distinct listed_arguments arguments call parenthesis signed_operand turned_test tied_test after_equal_date equal_test unequal_test between_test in_value more_in_values in_values in_test like_test null_test column_test after_test_name after_test_date test condition and_condition more_conditions conditions nested_conditions where_conditions rest_of_item after_item_point after_item_name after_item_date literal_item item_value one_item another_item more_items item_list quantifier one_source join_word on_part joined_source another_source more_sources source_list where_part one_column another_column more_columns column_list group_part having_test another_having_test more_having_tests having_tests having_part direction order_value one_order another_order more_orders order_list order_part offset_part limit_part from_part select_head group_and_having order_and_limit select_tail select_rest name_as_column another_name more_names name_list insert_columns row_values row another_row more_rows rows insert_table insert_rest set_column assignment another_assignment more_assignments assignments update_source update_rest delete_conditions delete_rest select insert update select_statement insert_statement update_statement delete_statement statement maybe_statement another_statement more_statements workload
+unfolding grammar after_name column alias source plain_value value called_name after_operand_name after_operand_date other_operand operand operation operations expression another_expression more_expressions expressions star_argument maybe_distinct listed_arguments arguments call parenthesis signed_operand turned_test tied_test after_equal_date equal_test unequal_test between_test in_value more_in_values in_values in_test like_test null_test column_test after_test_name after_test_date plain_condition condition and_condition more_conditions conditions nested_conditions where_conditions rest_of_item after_item_point after_item_name after_item_date literal_item item_value one_item another_item more_items item_list quantifier one_source join_word on_part joined_source another_source more_sources source_list where_part one_column another_column more_columns column_list group_part having_test another_having_test more_having_tests having_tests having_part direction order_value one_order another_order more_orders order_list order_part offset_part limit_part from_part select_head group_and_having order_and_limit select_tail select_rest name_as_column another_name more_names name_list insert_columns row_values row another_row more_rows rows insert_table insert_rest set_column assignment another_assignment more_assignments assignments update_source update_rest delete_conditions delete_rest select insert update select_statement insert_statement update_statement delete_statement statement maybe_statement another_statement more_statements workload
 good-another_order = refl
 
 full-another_order : may_be_empty another_order ≡ false
-unfolding grammar after_name column alias source plain_value value called_name after_operand_name after_operand_date other_operand operand operation operations expression another_expression more_expressions expressions star_argument maybe_distinct listed_arguments arguments call parenthesis signed_operand turned_test tied_test after_equal_date equal_test unequal_test between_test in_value more_in_values in_values in_test like_test null_test column_test after_test_name after_test_date test condition and_condition more_conditions conditions nested_conditions where_conditions rest_of_item after_item_point after_item_name after_item_date literal_item item_value one_item another_item more_items item_list quantifier one_source join_word on_part joined_source another_source more_sources source_list where_part one_column another_column more_columns column_list group_part having_test another_having_test more_having_tests having_tests having_part direction order_value one_order another_order more_orders order_list order_part offset_part limit_part from_part select_head group_and_having order_and_limit select_tail select_rest name_as_column another_name more_names name_list insert_columns row_values row another_row more_rows rows insert_table insert_rest set_column assignment another_assignment more_assignments assignments update_source update_rest delete_conditions delete_rest select insert update select_statement insert_statement update_statement delete_statement statement maybe_statement another_statement more_statements workload
+unfolding grammar after_name column alias source plain_value value called_name after_operand_name after_operand_date other_operand operand operation operations expression another_expression more_expressions expressions star_argument maybe_distinct listed_arguments arguments call parenthesis signed_operand turned_test tied_test after_equal_date equal_test unequal_test between_test in_value more_in_values in_values in_test like_test null_test column_test after_test_name after_test_date plain_condition condition and_condition more_conditions conditions nested_conditions where_conditions rest_of_item after_item_point after_item_name after_item_date literal_item item_value one_item another_item more_items item_list quantifier one_source join_word on_part joined_source another_source more_sources source_list where_part one_column another_column more_columns column_list group_part having_test another_having_test more_having_tests having_tests having_part direction order_value one_order another_order more_orders order_list order_part offset_part limit_part from_part select_head group_and_having order_and_limit select_tail select_rest name_as_column another_name more_names name_list insert_columns row_values row another_row more_rows rows insert_table insert_rest set_column assignment another_assignment more_assignments assignments update_source update_rest delete_conditions delete_rest select insert update select_statement insert_statement update_statement delete_statement statement maybe_statement another_statement more_statements workload
 full-another_order = refl
 
 pub takes-another_order : (n : ℕ) (a : (List ParsedOrder)) (ps : List Piece) (b : (List ParsedOrder)) (rest : List Piece) → reads grammar n another_order a ps ≡ Read b rest → length rest < length ps
@@ -324,11 +324,11 @@ pub end-more_orders : (n : ℕ) (x : Reading (List ParsedOrder)) (a : (List Pars
 end-more_orders n x a ps i k = sym i ∙ ends-more_orders n a ps k
 
 good-another_name : good borders another_name ≡ true
-unfolding grammar after_name column alias source plain_value value called_name after_operand_name after_operand_date other_operand operand operation operations expression another_expression more_expressions expressions star_argument maybe_distinct listed_arguments arguments call parenthesis signed_operand turned_test tied_test after_equal_date equal_test unequal_test between_test in_value more_in_values in_values in_test like_test null_test column_test after_test_name after_test_date test condition and_condition more_conditions conditions nested_conditions where_conditions rest_of_item after_item_point after_item_name after_item_date literal_item item_value one_item another_item more_items item_list quantifier one_source join_word on_part joined_source another_source more_sources source_list where_part one_column another_column more_columns column_list group_part having_test another_having_test more_having_tests having_tests having_part direction order_value one_order another_order more_orders order_list order_part offset_part limit_part from_part select_head group_and_having order_and_limit select_tail select_rest name_as_column another_name more_names name_list insert_columns row_values row another_row more_rows rows insert_table insert_rest set_column assignment another_assignment more_assignments assignments update_source update_rest delete_conditions delete_rest select insert update select_statement insert_statement update_statement delete_statement statement maybe_statement another_statement more_statements workload
+unfolding grammar after_name column alias source plain_value value called_name after_operand_name after_operand_date other_operand operand operation operations expression another_expression more_expressions expressions star_argument maybe_distinct listed_arguments arguments call parenthesis signed_operand turned_test tied_test after_equal_date equal_test unequal_test between_test in_value more_in_values in_values in_test like_test null_test column_test after_test_name after_test_date plain_condition condition and_condition more_conditions conditions nested_conditions where_conditions rest_of_item after_item_point after_item_name after_item_date literal_item item_value one_item another_item more_items item_list quantifier one_source join_word on_part joined_source another_source more_sources source_list where_part one_column another_column more_columns column_list group_part having_test another_having_test more_having_tests having_tests having_part direction order_value one_order another_order more_orders order_list order_part offset_part limit_part from_part select_head group_and_having order_and_limit select_tail select_rest name_as_column another_name more_names name_list insert_columns row_values row another_row more_rows rows insert_table insert_rest set_column assignment another_assignment more_assignments assignments update_source update_rest delete_conditions delete_rest select insert update select_statement insert_statement update_statement delete_statement statement maybe_statement another_statement more_statements workload
 good-another_name = refl
 
 full-another_name : may_be_empty another_name ≡ false
-unfolding grammar after_name column alias source plain_value value called_name after_operand_name after_operand_date other_operand operand operation operations expression another_expression more_expressions expressions star_argument maybe_distinct listed_arguments arguments call parenthesis signed_operand turned_test tied_test after_equal_date equal_test unequal_test between_test in_value more_in_values in_values in_test like_test null_test column_test after_test_name after_test_date test condition and_condition more_conditions conditions nested_conditions where_conditions rest_of_item after_item_point after_item_name after_item_date literal_item item_value one_item another_item more_items item_list quantifier one_source join_word on_part joined_source another_source more_sources source_list where_part one_column another_column more_columns column_list group_part having_test another_having_test more_having_tests having_tests having_part direction order_value one_order another_order more_orders order_list order_part offset_part limit_part from_part select_head group_and_having order_and_limit select_tail select_rest name_as_column another_name more_names name_list insert_columns row_values row another_row more_rows rows insert_table insert_rest set_column assignment another_assignment more_assignments assignments update_source update_rest delete_conditions delete_rest select insert update select_statement insert_statement update_statement delete_statement statement maybe_statement another_statement more_statements workload
+unfolding grammar after_name column alias source plain_value value called_name after_operand_name after_operand_date other_operand operand operation operations expression another_expression more_expressions expressions star_argument maybe_distinct listed_arguments arguments call parenthesis signed_operand turned_test tied_test after_equal_date equal_test unequal_test between_test in_value more_in_values in_values in_test like_test null_test column_test after_test_name after_test_date plain_condition condition and_condition more_conditions conditions nested_conditions where_conditions rest_of_item after_item_point after_item_name after_item_date literal_item item_value one_item another_item more_items item_list quantifier one_source join_word on_part joined_source another_source more_sources source_list where_part one_column another_column more_columns column_list group_part having_test another_having_test more_having_tests having_tests having_part direction order_value one_order another_order more_orders order_list order_part offset_part limit_part from_part select_head group_and_having order_and_limit select_tail select_rest name_as_column another_name more_names name_list insert_columns row_values row another_row more_rows rows insert_table insert_rest set_column assignment another_assignment more_assignments assignments update_source update_rest delete_conditions delete_rest select insert update select_statement insert_statement update_statement delete_statement statement maybe_statement another_statement more_statements workload
 full-another_name = refl
 
 pub takes-another_name : (n : ℕ) (a : (List NameUse)) (ps : List Piece) (b : (List NameUse)) (rest : List Piece) → reads grammar n another_name a ps ≡ Read b rest → length rest < length ps
@@ -352,11 +352,11 @@ pub end-more_names : (n : ℕ) (x : Reading (List NameUse)) (a : (List NameUse))
 end-more_names n x a ps i k = sym i ∙ ends-more_names n a ps k
 
 good-another_row : good borders another_row ≡ true
-unfolding grammar after_name column alias source plain_value value called_name after_operand_name after_operand_date other_operand operand operation operations expression another_expression more_expressions expressions star_argument maybe_distinct listed_arguments arguments call parenthesis signed_operand turned_test tied_test after_equal_date equal_test unequal_test between_test in_value more_in_values in_values in_test like_test null_test column_test after_test_name after_test_date test condition and_condition more_conditions conditions nested_conditions where_conditions rest_of_item after_item_point after_item_name after_item_date literal_item item_value one_item another_item more_items item_list quantifier one_source join_word on_part joined_source another_source more_sources source_list where_part one_column another_column more_columns column_list group_part having_test another_having_test more_having_tests having_tests having_part direction order_value one_order another_order more_orders order_list order_part offset_part limit_part from_part select_head group_and_having order_and_limit select_tail select_rest name_as_column another_name more_names name_list insert_columns row_values row another_row more_rows rows insert_table insert_rest set_column assignment another_assignment more_assignments assignments update_source update_rest delete_conditions delete_rest select insert update select_statement insert_statement update_statement delete_statement statement maybe_statement another_statement more_statements workload
+unfolding grammar after_name column alias source plain_value value called_name after_operand_name after_operand_date other_operand operand operation operations expression another_expression more_expressions expressions star_argument maybe_distinct listed_arguments arguments call parenthesis signed_operand turned_test tied_test after_equal_date equal_test unequal_test between_test in_value more_in_values in_values in_test like_test null_test column_test after_test_name after_test_date plain_condition condition and_condition more_conditions conditions nested_conditions where_conditions rest_of_item after_item_point after_item_name after_item_date literal_item item_value one_item another_item more_items item_list quantifier one_source join_word on_part joined_source another_source more_sources source_list where_part one_column another_column more_columns column_list group_part having_test another_having_test more_having_tests having_tests having_part direction order_value one_order another_order more_orders order_list order_part offset_part limit_part from_part select_head group_and_having order_and_limit select_tail select_rest name_as_column another_name more_names name_list insert_columns row_values row another_row more_rows rows insert_table insert_rest set_column assignment another_assignment more_assignments assignments update_source update_rest delete_conditions delete_rest select insert update select_statement insert_statement update_statement delete_statement statement maybe_statement another_statement more_statements workload
 good-another_row = refl
 
 full-another_row : may_be_empty another_row ≡ false
-unfolding grammar after_name column alias source plain_value value called_name after_operand_name after_operand_date other_operand operand operation operations expression another_expression more_expressions expressions star_argument maybe_distinct listed_arguments arguments call parenthesis signed_operand turned_test tied_test after_equal_date equal_test unequal_test between_test in_value more_in_values in_values in_test like_test null_test column_test after_test_name after_test_date test condition and_condition more_conditions conditions nested_conditions where_conditions rest_of_item after_item_point after_item_name after_item_date literal_item item_value one_item another_item more_items item_list quantifier one_source join_word on_part joined_source another_source more_sources source_list where_part one_column another_column more_columns column_list group_part having_test another_having_test more_having_tests having_tests having_part direction order_value one_order another_order more_orders order_list order_part offset_part limit_part from_part select_head group_and_having order_and_limit select_tail select_rest name_as_column another_name more_names name_list insert_columns row_values row another_row more_rows rows insert_table insert_rest set_column assignment another_assignment more_assignments assignments update_source update_rest delete_conditions delete_rest select insert update select_statement insert_statement update_statement delete_statement statement maybe_statement another_statement more_statements workload
+unfolding grammar after_name column alias source plain_value value called_name after_operand_name after_operand_date other_operand operand operation operations expression another_expression more_expressions expressions star_argument maybe_distinct listed_arguments arguments call parenthesis signed_operand turned_test tied_test after_equal_date equal_test unequal_test between_test in_value more_in_values in_values in_test like_test null_test column_test after_test_name after_test_date plain_condition condition and_condition more_conditions conditions nested_conditions where_conditions rest_of_item after_item_point after_item_name after_item_date literal_item item_value one_item another_item more_items item_list quantifier one_source join_word on_part joined_source another_source more_sources source_list where_part one_column another_column more_columns column_list group_part having_test another_having_test more_having_tests having_tests having_part direction order_value one_order another_order more_orders order_list order_part offset_part limit_part from_part select_head group_and_having order_and_limit select_tail select_rest name_as_column another_name more_names name_list insert_columns row_values row another_row more_rows rows insert_table insert_rest set_column assignment another_assignment more_assignments assignments update_source update_rest delete_conditions delete_rest select insert update select_statement insert_statement update_statement delete_statement statement maybe_statement another_statement more_statements workload
 full-another_row = refl
 
 pub takes-another_row : (n : ℕ) (a : InsertParts) (ps : List Piece) (b : InsertParts) (rest : List Piece) → reads grammar n another_row a ps ≡ Read b rest → length rest < length ps
@@ -380,11 +380,11 @@ pub end-more_rows : (n : ℕ) (x : Reading InsertParts) (a : InsertParts) (ps : 
 end-more_rows n x a ps i k = sym i ∙ ends-more_rows n a ps k
 
 good-another_assignment : good borders another_assignment ≡ true
-unfolding grammar after_name column alias source plain_value value called_name after_operand_name after_operand_date other_operand operand operation operations expression another_expression more_expressions expressions star_argument maybe_distinct listed_arguments arguments call parenthesis signed_operand turned_test tied_test after_equal_date equal_test unequal_test between_test in_value more_in_values in_values in_test like_test null_test column_test after_test_name after_test_date test condition and_condition more_conditions conditions nested_conditions where_conditions rest_of_item after_item_point after_item_name after_item_date literal_item item_value one_item another_item more_items item_list quantifier one_source join_word on_part joined_source another_source more_sources source_list where_part one_column another_column more_columns column_list group_part having_test another_having_test more_having_tests having_tests having_part direction order_value one_order another_order more_orders order_list order_part offset_part limit_part from_part select_head group_and_having order_and_limit select_tail select_rest name_as_column another_name more_names name_list insert_columns row_values row another_row more_rows rows insert_table insert_rest set_column assignment another_assignment more_assignments assignments update_source update_rest delete_conditions delete_rest select insert update select_statement insert_statement update_statement delete_statement statement maybe_statement another_statement more_statements workload
+unfolding grammar after_name column alias source plain_value value called_name after_operand_name after_operand_date other_operand operand operation operations expression another_expression more_expressions expressions star_argument maybe_distinct listed_arguments arguments call parenthesis signed_operand turned_test tied_test after_equal_date equal_test unequal_test between_test in_value more_in_values in_values in_test like_test null_test column_test after_test_name after_test_date plain_condition condition and_condition more_conditions conditions nested_conditions where_conditions rest_of_item after_item_point after_item_name after_item_date literal_item item_value one_item another_item more_items item_list quantifier one_source join_word on_part joined_source another_source more_sources source_list where_part one_column another_column more_columns column_list group_part having_test another_having_test more_having_tests having_tests having_part direction order_value one_order another_order more_orders order_list order_part offset_part limit_part from_part select_head group_and_having order_and_limit select_tail select_rest name_as_column another_name more_names name_list insert_columns row_values row another_row more_rows rows insert_table insert_rest set_column assignment another_assignment more_assignments assignments update_source update_rest delete_conditions delete_rest select insert update select_statement insert_statement update_statement delete_statement statement maybe_statement another_statement more_statements workload
 good-another_assignment = refl
 
 full-another_assignment : may_be_empty another_assignment ≡ false
-unfolding grammar after_name column alias source plain_value value called_name after_operand_name after_operand_date other_operand operand operation operations expression another_expression more_expressions expressions star_argument maybe_distinct listed_arguments arguments call parenthesis signed_operand turned_test tied_test after_equal_date equal_test unequal_test between_test in_value more_in_values in_values in_test like_test null_test column_test after_test_name after_test_date test condition and_condition more_conditions conditions nested_conditions where_conditions rest_of_item after_item_point after_item_name after_item_date literal_item item_value one_item another_item more_items item_list quantifier one_source join_word on_part joined_source another_source more_sources source_list where_part one_column another_column more_columns column_list group_part having_test another_having_test more_having_tests having_tests having_part direction order_value one_order another_order more_orders order_list order_part offset_part limit_part from_part select_head group_and_having order_and_limit select_tail select_rest name_as_column another_name more_names name_list insert_columns row_values row another_row more_rows rows insert_table insert_rest set_column assignment another_assignment more_assignments assignments update_source update_rest delete_conditions delete_rest select insert update select_statement insert_statement update_statement delete_statement statement maybe_statement another_statement more_statements workload
+unfolding grammar after_name column alias source plain_value value called_name after_operand_name after_operand_date other_operand operand operation operations expression another_expression more_expressions expressions star_argument maybe_distinct listed_arguments arguments call parenthesis signed_operand turned_test tied_test after_equal_date equal_test unequal_test between_test in_value more_in_values in_values in_test like_test null_test column_test after_test_name after_test_date plain_condition condition and_condition more_conditions conditions nested_conditions where_conditions rest_of_item after_item_point after_item_name after_item_date literal_item item_value one_item another_item more_items item_list quantifier one_source join_word on_part joined_source another_source more_sources source_list where_part one_column another_column more_columns column_list group_part having_test another_having_test more_having_tests having_tests having_part direction order_value one_order another_order more_orders order_list order_part offset_part limit_part from_part select_head group_and_having order_and_limit select_tail select_rest name_as_column another_name more_names name_list insert_columns row_values row another_row more_rows rows insert_table insert_rest set_column assignment another_assignment more_assignments assignments update_source update_rest delete_conditions delete_rest select insert update select_statement insert_statement update_statement delete_statement statement maybe_statement another_statement more_statements workload
 full-another_assignment = refl
 
 pub takes-another_assignment : (n : ℕ) (a : UpdateParts) (ps : List Piece) (b : UpdateParts) (rest : List Piece) → reads grammar n another_assignment a ps ≡ Read b rest → length rest < length ps
@@ -408,11 +408,11 @@ pub end-more_assignments : (n : ℕ) (x : Reading UpdateParts) (a : UpdateParts)
 end-more_assignments n x a ps i k = sym i ∙ ends-more_assignments n a ps k
 
 good-another_statement : good borders another_statement ≡ true
-unfolding grammar after_name column alias source plain_value value called_name after_operand_name after_operand_date other_operand operand operation operations expression another_expression more_expressions expressions star_argument maybe_distinct listed_arguments arguments call parenthesis signed_operand turned_test tied_test after_equal_date equal_test unequal_test between_test in_value more_in_values in_values in_test like_test null_test column_test after_test_name after_test_date test condition and_condition more_conditions conditions nested_conditions where_conditions rest_of_item after_item_point after_item_name after_item_date literal_item item_value one_item another_item more_items item_list quantifier one_source join_word on_part joined_source another_source more_sources source_list where_part one_column another_column more_columns column_list group_part having_test another_having_test more_having_tests having_tests having_part direction order_value one_order another_order more_orders order_list order_part offset_part limit_part from_part select_head group_and_having order_and_limit select_tail select_rest name_as_column another_name more_names name_list insert_columns row_values row another_row more_rows rows insert_table insert_rest set_column assignment another_assignment more_assignments assignments update_source update_rest delete_conditions delete_rest select insert update select_statement insert_statement update_statement delete_statement statement maybe_statement another_statement more_statements workload
+unfolding grammar after_name column alias source plain_value value called_name after_operand_name after_operand_date other_operand operand operation operations expression another_expression more_expressions expressions star_argument maybe_distinct listed_arguments arguments call parenthesis signed_operand turned_test tied_test after_equal_date equal_test unequal_test between_test in_value more_in_values in_values in_test like_test null_test column_test after_test_name after_test_date plain_condition condition and_condition more_conditions conditions nested_conditions where_conditions rest_of_item after_item_point after_item_name after_item_date literal_item item_value one_item another_item more_items item_list quantifier one_source join_word on_part joined_source another_source more_sources source_list where_part one_column another_column more_columns column_list group_part having_test another_having_test more_having_tests having_tests having_part direction order_value one_order another_order more_orders order_list order_part offset_part limit_part from_part select_head group_and_having order_and_limit select_tail select_rest name_as_column another_name more_names name_list insert_columns row_values row another_row more_rows rows insert_table insert_rest set_column assignment another_assignment more_assignments assignments update_source update_rest delete_conditions delete_rest select insert update select_statement insert_statement update_statement delete_statement statement maybe_statement another_statement more_statements workload
 good-another_statement = refl
 
 full-another_statement : may_be_empty another_statement ≡ false
-unfolding grammar after_name column alias source plain_value value called_name after_operand_name after_operand_date other_operand operand operation operations expression another_expression more_expressions expressions star_argument maybe_distinct listed_arguments arguments call parenthesis signed_operand turned_test tied_test after_equal_date equal_test unequal_test between_test in_value more_in_values in_values in_test like_test null_test column_test after_test_name after_test_date test condition and_condition more_conditions conditions nested_conditions where_conditions rest_of_item after_item_point after_item_name after_item_date literal_item item_value one_item another_item more_items item_list quantifier one_source join_word on_part joined_source another_source more_sources source_list where_part one_column another_column more_columns column_list group_part having_test another_having_test more_having_tests having_tests having_part direction order_value one_order another_order more_orders order_list order_part offset_part limit_part from_part select_head group_and_having order_and_limit select_tail select_rest name_as_column another_name more_names name_list insert_columns row_values row another_row more_rows rows insert_table insert_rest set_column assignment another_assignment more_assignments assignments update_source update_rest delete_conditions delete_rest select insert update select_statement insert_statement update_statement delete_statement statement maybe_statement another_statement more_statements workload
+unfolding grammar after_name column alias source plain_value value called_name after_operand_name after_operand_date other_operand operand operation operations expression another_expression more_expressions expressions star_argument maybe_distinct listed_arguments arguments call parenthesis signed_operand turned_test tied_test after_equal_date equal_test unequal_test between_test in_value more_in_values in_values in_test like_test null_test column_test after_test_name after_test_date plain_condition condition and_condition more_conditions conditions nested_conditions where_conditions rest_of_item after_item_point after_item_name after_item_date literal_item item_value one_item another_item more_items item_list quantifier one_source join_word on_part joined_source another_source more_sources source_list where_part one_column another_column more_columns column_list group_part having_test another_having_test more_having_tests having_tests having_part direction order_value one_order another_order more_orders order_list order_part offset_part limit_part from_part select_head group_and_having order_and_limit select_tail select_rest name_as_column another_name more_names name_list insert_columns row_values row another_row more_rows rows insert_table insert_rest set_column assignment another_assignment more_assignments assignments update_source update_rest delete_conditions delete_rest select insert update select_statement insert_statement update_statement delete_statement statement maybe_statement another_statement more_statements workload
 full-another_statement = refl
 
 pub takes-another_statement : (n : ℕ) (a : Progress) (ps : List Piece) (b : Progress) (rest : List Piece) → reads grammar n another_statement a ps ≡ Read b rest → length rest < length ps

@@ -12,7 +12,7 @@ use Rattle.sql_reader.specs.declared.parsed.Condition.TheVariants.{Compared, Tie
 use Rattle.sql_reader.specs.Kinds.{has}
 use Rattle.sql_reader.specs.Values.{day_literal, compare_of, beside_kind, beside_span}
 use Rattle.sql_reader.specs.Rule.{Nesting, State, Take, Use, Meaning, IsOver}
-use Rattle.sql_reader.specs.Grammar.{names, plain_names, comparisons, after_name, column, value, turned_test, tied_test, after_equal_date, equal_test, unequal_test, between_test, in_value, more_in_values, in_values, in_test, like_test, null_test, column_test, after_test_name, after_test_date, test, condition, and_condition, more_conditions, conditions, nested_conditions, where_conditions}
+use Rattle.sql_reader.specs.Grammar.{names, plain_names, comparisons, after_name, column, value, turned_test, tied_test, after_equal_date, equal_test, unequal_test, between_test, in_value, more_in_values, in_values, in_test, like_test, null_test, column_test, after_test_name, after_test_date, plain_condition, condition, and_condition, more_conditions, conditions, nested_conditions, where_conditions}
 use Rattle.sql_reader.specs.Printed as printed
 use Rattle.sql_reader.proofs.KindSets.{or_cases, in_wider, has-append}
 use Rattle.sql_reader.proofs.Alike.{Same, flat, flat_same, give_same, take_same, then_same, use_same, either_same, many_same, took, put}
@@ -149,8 +149,8 @@ module _ (d e : (x : Nesting) → Meaning (State x) (State x)) where
       value_there ps b (p ∷ q ∷ []) rest2 (day_literal q) (at ∙ ap (λ (x : List Piece). p ∷ x) at2) (inl is_value) t
   date_there ps b p rest k at (inr h) = name_there ps b p rest (date_is_name p.kind k) at h
 
-  test_there : (a : Unit {0}) (ps : List Piece) (b : Condition) → IsOver d test a ps b → IsOver e printed.plain_cond a ps b
-  unfolding test value
+  test_there : (a : Unit {0}) (ps : List Piece) (b : Condition) → IsOver d plain_condition a ps b → IsOver e printed.plain_cond a ps b
+  unfolding plain_condition value
   test_there a ps b (inl h) =
       let (p, rest, k, at, h2) = took d (kinds.Date ∷ []) (λ _ p. p.span) after_test_date (tt {0}) ps b h in
       date_there ps b p rest k at h2
@@ -160,15 +160,15 @@ module _ (d e : (x : Nesting) → Meaning (State x) (State x)) where
   test_there a ps b (inr (inr (front, back, v, split, h, t))) = value_there ps b front back v split (inr h) t
 
   -- what stands behind the name of a column, in a test
-  behind_name : (ps : List Piece) (b : Condition) (p : Piece) (rest : List Piece) → has names p.kind ≡ true → ps ≡ p ∷ rest → IsOver d after_test_name p.span rest b → IsOver d test (tt {0}) ps b
-  unfolding test after_test_date
+  behind_name : (ps : List Piece) (b : Condition) (p : Piece) (rest : List Piece) → has names p.kind ≡ true → ps ≡ p ∷ rest → IsOver d after_test_name p.span rest b → IsOver d plain_condition (tt {0}) ps b
+  unfolding plain_condition after_test_date
   behind_name ps b p rest k at h =
       elim (name_parts p.kind k) [
         | inl plain ↦ inr (inl (put d plain_names (λ _ p. p.span) after_test_name (tt {0}) ps b p rest plain at h))
         | inr date ↦ inl (put d (kinds.Date ∷ []) (λ _ p. p.span) after_test_date (tt {0}) ps b p rest date at (inr h))
       ]
 
-  column_back : (ps : List Piece) (b : Condition) (front back : List Piece) (m : NameUse) → ps ≡ front ++ back → IsOver e column (tt {0}) front m → IsOver d column_test m back b → IsOver d test (tt {0}) ps b
+  column_back : (ps : List Piece) (b : Condition) (front back : List Piece) (m : NameUse) → ps ≡ front ++ back → IsOver e column (tt {0}) front m → IsOver d column_test m back b → IsOver d plain_condition (tt {0}) ps b
   unfolding column after_name after_test_name
   column_back ps b front back m split h t =
       let (p, rest, k, at, h2) = took e names (λ _ p. p.span) after_name (tt {0}) front m h in
@@ -213,8 +213,8 @@ module _ (d e : (x : Nesting) → Meaning (State x) (State x)) where
       let (q, rest2, kq, at2, h2) = took e names (λ _ p. p.span) after_name (tt {0}) rest o ho in
       inl (put d (kinds.Equal ∷ []) (λ c _. c) equal_test m ps b p rest k at (equal_column_back m rest b q rest2 kq at2 (o, h2, eb)))
 
-  value_back : (ps : List Piece) (b : Condition) (front back : List Piece) (v : Literal) → ps ≡ front ++ back → IsOver d value (tt {0}) front v → IsOver d turned_test v back b → IsOver d test (tt {0}) ps b
-  unfolding value test after_test_date
+  value_back : (ps : List Piece) (b : Condition) (front back : List Piece) (v : Literal) → ps ≡ front ++ back → IsOver d value (tt {0}) front v → IsOver d turned_test v back b → IsOver d plain_condition (tt {0}) ps b
+  unfolding value plain_condition after_test_date
   value_back ps b front back v split (inl h) t =
       let (p, rest, k, at, u) = took d (kinds.Date ∷ []) (λ u _. u) (Take (kinds.Day ∷ []) (λ _ p. day_literal p)) (tt {0}) front v h in
       let (q, kq, eq, ev) = u in
@@ -223,7 +223,7 @@ module _ (d e : (x : Nesting) → Meaning (State x) (State x)) where
       inl (put d (kinds.Date ∷ []) (λ _ p. p.span) after_test_date (tt {0}) ps b p (q ∷ back) k whole (inl day))
   value_back ps b front back v split (inr h) t = inr (inr (front, back, v, split, h, t))
 
-  test_back : (a : Unit {0}) (ps : List Piece) (b : Condition) → IsOver e printed.plain_cond a ps b → IsOver d test a ps b
+  test_back : (a : Unit {0}) (ps : List Piece) (b : Condition) → IsOver e printed.plain_cond a ps b → IsOver d plain_condition a ps b
   unfolding printed.plain_cond column_test
   test_back a ps b (inl (front, back, m, split, h, t)) = column_back ps b front back m split h (compared_back m back b t)
   test_back a ps b (inr (inl (front, back, v, split, h, t))) = value_back ps b front back v split ((value_same d e).back (tt {0}) front v h) (turned_same.back v back b t)
@@ -234,7 +234,7 @@ module _ (d e : (x : Nesting) → Meaning (State x) (State x)) where
   test_back a ps b (inr (inr (inr (inr (inr (inr (front, back, m, split, h, t))))))) = column_back ps b front back m split h (inr (inr (inr (inr (inr (null_same.back m back b t))))))
 
   -- cond, but for "(" conds ")"
-  pub test_same : Same d e test printed.plain_cond
+  pub test_same : Same d e plain_condition printed.plain_cond
   test_same = record { there = test_there; back = test_back }
 
 module _ (d e : (x : Nesting) → Meaning (State x) (State x)) (linked : Linked d e) where

@@ -209,12 +209,12 @@ unfoldable pub after_test_date : Rule Span Condition
 after_test_date = Either (kinds.Day ∷ []) (Then (Take (kinds.Day ∷ []) (λ _ p. day_literal p)) turned_test) after_test_name
 
 -- cond, but for "(" conds ")"
-unfoldable pub test : Rule (Unit {0}) Condition
-test = Either (kinds.Date ∷ []) (Then (Take (kinds.Date ∷ []) (λ _ p. p.span)) after_test_date) (Either plain_names (Then (Take plain_names (λ _ p. p.span)) after_test_name) (Then plain_value turned_test))
+unfoldable pub plain_condition : Rule (Unit {0}) Condition
+plain_condition = Either (kinds.Date ∷ []) (Then (Take (kinds.Date ∷ []) (λ _ p. p.span)) after_test_date) (Either plain_names (Then (Take plain_names (λ _ p. p.span)) after_test_name) (Then plain_value turned_test))
 
 -- cond, put behind those before
 unfoldable pub condition : Rule (List Condition) (List Condition)
-condition = Either (kinds.Open ∷ []) (Nest Conditions) (Use (λ _. tt) test (λ before c. before ++ c ∷ []))
+condition = Either (kinds.Open ∷ []) (Nest Conditions) (Use (λ _. tt) plain_condition (λ before c. before ++ c ∷ []))
 
 -- AND cond
 unfoldable pub and_condition : Rule (List Condition) (List Condition)

@@ -209,9 +209,9 @@ impl GrammarReader {
     }
 
     /// A test that stands in no parentheses.
-    #[tactic(auto, unfolding(crate::specs::Grammar::test))]
+    #[tactic(auto, unfolding(crate::specs::Grammar::plain_condition))]
     pub fn test(self, cursor: &mut Cursor<'_>) -> Result<Condition, Unread>
-        ensures { ReadsBy rule.test tt self cursor.old result cursor.new }
+        ensures { ReadsBy rule.plain_condition tt self cursor.old result cursor.new }
     {
         if cursor.begins(&[PieceKind::Date]) {
             let first = cursor.take(&[PieceKind::Date])?;
