@@ -165,7 +165,7 @@ fn what_texts_describe(rt: HostRuntime) -> Result<(), Fail> {
 fn kinds_of_values_and_keys_left_out(rt: HostRuntime) -> Result<(), Fail> {
     let alloc = rt.alloc();
     for case in KEYS.lines() {
-        let [path, wanted, left_out, front, key] = parts(case).ok_or("not five parts")?;
+        let (path, wanted, left_out, front, key) = parts(case).ok_or("not five parts")?;
         let (open, close) = key.split_once('@').ok_or("no place for a value")?;
         let fault = format!(in alloc; "wrong kind {path}")?;
         for row in VALUES.lines() {
@@ -189,7 +189,7 @@ fn kinds_of_values_and_keys_left_out(rt: HostRuntime) -> Result<(), Fail> {
 fn ends_of_ranges(rt: HostRuntime) -> Result<(), Fail> {
     let alloc = rt.alloc();
     for case in RANGES.lines() {
-        let [path, front, key, inside, outside] = parts(case).ok_or("not five parts")?;
+        let (path, front, key, inside, outside) = parts(case).ok_or("not five parts")?;
         for value in inside.split(';') {
             let text = format!(in alloc; "{front}{key} = {value}~")?;
             judge(&rt, alloc, text.as_str(), "accepted")?;

@@ -23,10 +23,10 @@ pub fn written(alloc: Global, text: &str) -> Result<Vec<u8>, AllocError> {
 }
 
 /// What stands between the bars of a case that has four.
-pub fn parts(case: &str) -> Option<[&str; 5]> {
+pub fn parts(case: &str) -> Option<(&str, &str, &str, &str, &str)> {
     let (first, rest) = case.split_once('|')?;
     let (second, rest) = rest.split_once('|')?;
     let (third, rest) = rest.split_once('|')?;
     let (fourth, fifth) = rest.split_once('|')?;
-    Some([first, second, third, fourth, fifth])
+    Some((first, second, third, fourth, fifth))
 }
