@@ -16,6 +16,7 @@ PROGRAM = os.path.join(ROOT, "crates", "cophy_cli", "out", "cophy_cli")
 @dataclass
 class Run:
     seconds: float
+    processor: float
     peak_mib: float
     status: int
     output: bytes
@@ -36,12 +37,17 @@ def run_once(words):
         child.returncode = os.waitstatus_to_exitcode(status)
         out.seek(0)
         kib = int(peak.read() or 0) if TIME else usage.ru_maxrss
-        return Run(seconds, kib / 1024, child.returncode, out.read())
+        return Run(seconds, usage.ru_utime + usage.ru_stime, kib / 1024, child.returncode, out.read())
 
 
 def run_best(words, repeat):
     """The fastest of some runs."""
     return min((run_once(words) for _ in range(repeat)), key=lambda run: run.seconds)
+
+
+def run_lightest(words, repeat):
+    """The one of some runs that took the processor for the shortest time, whatever else the machine did."""
+    return min((run_once(words) for _ in range(repeat)), key=lambda run: run.processor)
 
 
 def arguments(description):
