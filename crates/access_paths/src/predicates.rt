@@ -1,42 +1,21 @@
 //! The predicates of a slot by the kind of their test.
 ghost use Rattle.std.specs.Prelude.{◌≡◌};
-ghost use Rattle.adv_base.specs.Predicates.{is_equality as tests_equality, is_point as tests_point, is_range as tests_range, is_pred_on, has_pred, is_bound as is_column_bound};
+ghost use Rattle.adv_base.specs.Predicates.{is_point as tests_point, is_range as tests_range, is_pred_on, has_pred, is_bound as is_column_bound};
 
-use adv_base::{Block, Pred, Test};
-
-/// `column = literal`.
-fn is_equality(test: Test) -> bool
-    ensures { result ≡ tests_equality test }
-{
-    matches!(test, Test::Equal)
-}
-
-/// `column = literal` or IN.
-fn is_point(test: Test) -> bool
-    ensures { result ≡ tests_point test }
-{
-    matches!(test, Test::Equal | Test::OneOf(_))
-}
-
-/// `<`, `<=`, `>`, `>=` or BETWEEN.
-fn is_range(test: Test) -> bool
-    ensures { result ≡ tests_range test }
-{
-    matches!(test, Test::Below(_) | Test::Above(_) | Test::Between(_, _))
-}
+use adv_base::{Block, Pred};
 
 /// Whether a predicate gives a column of a slot one or some literals.
 pub fn is_point_on(pred: &Pred, slot: u8, column: u16) -> bool
     ensures { result ≡ is_pred_on tests_point slot column pred.now }
 {
-    pred.slot == slot && pred.column == column && is_point(pred.test)
+    pred.slot == slot && pred.column == column && pred.test.is_point()
 }
 
 /// Whether a predicate asks for a range of a column of a slot.
 pub fn is_range_on(pred: &Pred, slot: u8, column: u16) -> bool
     ensures { result ≡ is_pred_on tests_range slot column pred.now }
 {
-    pred.slot == slot && pred.column == column && is_range(pred.test)
+    pred.slot == slot && pred.column == column && pred.test.is_range()
 }
 
 /// Whether some predicate gives a column of a slot one or some literals.
@@ -56,5 +35,5 @@ pub fn is_bound(block: &Block, slot: u8, column: u16) -> bool
 {
     block.preds.items.iter().any(|pred| pred.slot == slot
         && pred.column == column
-        && is_equality(pred.test))
+        && pred.test.is_equality())
 }

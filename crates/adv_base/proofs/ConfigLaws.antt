@@ -1,8 +1,7 @@
 -- Laws of configurations, as sets of candidates.
-use Rattle.std.proofs.Common.{◌≡◌, ◌∙◌, ℕ, zero, suc, ◌+◌, ◌-◌, ◌<◌, ◌≤◌, ◌==◌, Bool, true, false, List, [], ◌∷◌, length, get_or, replicate, refl, sym, ap, arith}
+use Rattle.std.proofs.Common.{◌≡◌, ◌∙◌, ℕ, zero, suc, ◌+◌, ◌-◌, ◌<◌, ◌≤◌, ◌==◌, Bool, true, false, List, [], ◌∷◌, length, get_or, replicate, refl, ap, arith}
 use Rattle.std.proofs.lemmas.Bool.{ne_eqb}
 use Rattle.adv_base.specs.declared.limits.TheConstants.{MOST_CANDIDATES}
-use Rattle.adv_base.specs.declared.setting.Config.{Config}
 use Rattle.adv_base.specs.Configs.{chosen, has_candidate}
 use Rattle.adv_base.specs.Nodes.{flags_from, config_of}
 

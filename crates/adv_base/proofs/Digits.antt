@@ -1,11 +1,11 @@
 -- Decimal digits, and the bytes that are some.
-use Rattle.std.proofs.Common.{◌≡◌, ◌∙◌, ℕ, zero, suc, ◌<◌, ◌≤◌, ◌^◌, ◌==◌, Bool, true, ◌&&◌, ◌||◌, List, [], ◌∷◌, length, get_or, Result, Ok, Err, sym, ap, subst, rules, arith}
-use Rattle.std.specs.Prelude.{nat_lt, slice_index, decimal, ◌≢◌}
+use Rattle.std.proofs.Common.{◌≡◌, ◌∙◌, ℕ, zero, suc, ◌<◌, ◌^◌, true, List, length, get_or, Ok, Err, sym, ap, subst, arith}
+use Rattle.std.specs.Prelude.{slice_index, decimal, ◌≢◌}
 use Rattle.std.specs.Str.{IsUtf8}
-use Rattle.std.specs.Str.Parse.{IsNumeral, digits_value, ParsesUnsigned, AllDigits, without_leading_plus}
+use Rattle.std.specs.Str.Parse.{IsNumeral, digits_value, ParsesUnsigned, without_leading_plus}
 use Rattle.adv_base.specs.Numbers.{is_plain}
 use Rattle.std.proofs.lemmas.Bool.Decides.{nat_tests}
-use Rattle.std.proofs.lemmas.Fmt.{decimal_nonempty, first_decimal, decimal_digit, IsAscii-decimal, decimal-digits_value, parse-decimal}
+use Rattle.std.proofs.lemmas.Fmt.{first_decimal, decimal_digit, IsAscii-decimal, decimal-digits_value, parse-decimal}
 use Rattle.std.proofs.lemmas.Str.{IsUtf8-from_ascii}
 use Rattle.std.proofs.lemmas.Str.Parse.{numerals_by_value, tells_digits, without_leading_plus_none}
 

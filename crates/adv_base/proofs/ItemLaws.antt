@@ -1,10 +1,11 @@
 -- Laws of items: the tests of sameness decide it.
-use Rattle.std.proofs.Common.{◌≡◌, ℕ, ◌==◌, Bool, true, false, ◌&&◌, List, [], ◌∷◌, Decides, refl, arith}
+use Rattle.std.proofs.Common.{◌≡◌, ℕ, ◌==◌, true, not, ◌&&◌, List, [], ◌∷◌, length, Decides, refl, arith}
+use Rattle.std.specs.List.{list_all}
 use Rattle.std.proofs.lemmas.Bool.{false≢true}
-use Rattle.std.proofs.lemmas.Bool.Decides.{Decides-and, Decides-eqb, Decides-like}
+use Rattle.std.proofs.lemmas.Bool.Decides.{Decides-and, Decides-eqb, Decides-like, nat_tests}
 use Rattle.adv_base.specs.declared.workload.parts.Item.{Item}
 use Rattle.adv_base.specs.declared.workload.parts.Item.TheVariants.{Up, Down, Made}
-use Rattle.adv_base.specs.Items.{Order, is_same_item, is_same_order}
+use Rattle.adv_base.specs.Items.{Order, is_same_item, is_same_order, is_up_of, is_own_list}
 
 -- the test of items decides whether they are the same
 pub is_same_item-decides : (x y : Item) → Decides (is_same_item x y) (x ≡ y)
@@ -42,3 +43,8 @@ item_same x = same_from x x refl
 
 pub order_same : (o : Order) → is_same_order o o ≡ true
 order_same o = (is_same_order-decides o o).1 refl
+
+-- a list is a slot's own where it isn't empty and each item is an upward column of the slot
+pub own_list_test : (slot : ℕ) (items : List Item) → is_own_list slot items ≡ (not (length items == 0) && list_all (is_up_of slot) items)
+own_list_test slot [] = refl
+own_list_test slot (x ∷ xs) = grind (arith, nat_tests)

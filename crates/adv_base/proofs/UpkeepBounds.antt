@@ -1,6 +1,6 @@
 -- Bounds of upkeep. A statement's weighted upkeep of all indexes is at most (1000 + 256) * 6 * 10^24, so the sum over
 -- 1000 statements is far below 2^128.
-use Rattle.std.proofs.Common.{◌≡◌, ◌∙◌, ℕ, ◌+◌, ◌*◌, ◌<◌, ◌≤◌, ◌^◌, Bool, true, false, List, [], ◌∷◌, length, All, fold, refl, arith}
+use Rattle.std.proofs.Common.{◌≡◌, ℕ, ◌+◌, ◌*◌, ◌<◌, ◌≤◌, ◌^◌, Bool, true, false, List, [], ◌∷◌, length, All, fold, refl, arith}
 use Rattle.std.specs.Prelude.{if◌then◌else◌, sum_by, Option, Some, None}
 use Rattle.std.specs.Option.{option_map_or}
 use Rattle.std.proofs.Math.Nat.{mul-le-mul}
@@ -15,11 +15,9 @@ use Rattle.adv_base.specs.declared.setting.Config.{Config}
 use Rattle.adv_base.specs.declared.workload.Statement.{Statement}
 use Rattle.adv_base.specs.declared.workload.Work.{Work}
 use Rattle.adv_base.specs.declared.workload.Work.TheVariants.{Select, Update, Delete, Insert}
-use Rattle.adv_base.specs.declared.workload.block.Block.{Block}
-use Rattle.adv_base.specs.Configs.{chosen, candidates_in}
+use Rattle.adv_base.specs.Configs.{candidates_in}
 use Rattle.adv_base.specs.Limits.Works.{StatementLimits}
 use Rattle.adv_base.specs.Lookups.{table_at}
-use Rattle.adv_base.specs.Rows.{AreRows, filtered_rows}
 use Rattle.adv_base.specs.Sizes.{index_levels}
 use Rattle.adv_base.specs.Upkeep.{touches, changed_rows, writes_per_row, write_cost, upkeep, kept_upkeep, config_upkeep}
 use Rattle.adv_base.proofs.ConfigLaws.{length-chosen}

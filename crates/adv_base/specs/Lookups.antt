@@ -3,7 +3,6 @@ use Rattle.std.specs.Prelude.{ℕ, Option, length, slice_get, option_and_then}
 use Rattle.std.specs.Option.{option_map_or}
 use Rattle.adv_base.specs.declared.catalogue.Catalogue.{Catalogue}
 use Rattle.adv_base.specs.declared.catalogue.table.Table.{Table}
-use Rattle.adv_base.specs.declared.catalogue.column.Column.{Column}
 use Rattle.adv_base.specs.declared.workload.block.Block.{Block}
 
 -- the table of a number

@@ -1,5 +1,5 @@
 -- Selectivities, as parts of 10^9: a table of factors in the manner of System R's, with this project's numbers.
-use Rattle.std.specs.Prelude.{ℕ, ◌*◌, ◌-◌, min, max, nat_lt, if◌then◌else◌, ℤ, Option, Some, None, slice_get, option_and_then}
+use Rattle.std.specs.Prelude.{ℕ, ◌*◌, ◌-◌, min, max, nat_lt, if◌then◌else◌, ℤ, Option, Some, None, slice_get}
 use Rattle.std.specs.Int.{int_min, int_max}
 use Rattle.adv_base.specs.declared.catalogue.Catalogue.{Catalogue}
 use Rattle.adv_base.specs.declared.catalogue.column.Column.{Column}

@@ -10,6 +10,7 @@
 mod catalogue;
 mod days;
 mod decimal;
+mod items;
 pub mod limits;
 mod lines;
 mod list;
@@ -29,6 +30,7 @@ pub use catalogue::rates::Rates;
 pub use catalogue::table::Table;
 pub use days::day_of;
 pub use decimal::{push_decimal, read_number};
+pub use items::is_own_list;
 pub use lines::first_line;
 pub use list::{Bytes, List, Name};
 pub use lookups::{slot_table, table_at, table_column};

@@ -35,3 +35,19 @@ pub const MOST_SLOTS: usize = 8;
 pub const MOST_SLOTS_IN_ALL: usize = 2000;
 /// The candidates, and with them the flags of a configuration.
 pub const MOST_CANDIDATES: usize = 256;
+/// The combinations of interesting orders of a block that a cache of plans takes.
+pub const MOST_COMBINATIONS: u64 = 4096;
+/// The rent of one use of a candidate, a Lagrangian multiplier, in thousandths of a page read: at most 10^18.
+pub const MOST_RENT: u64 = 1_000_000_000_000_000_000;
+/// The price of a page of the budget, a Lagrangian multiplier, in parts of 65536: at most 10^20.
+pub const MOST_PAGE_PRICE: u128 = 100_000_000_000_000_000_000;
+/// The sets of multipliers of an answer.
+pub const MOST_SETS: usize = 16;
+/// The rents of all sets of an answer that aren't 0.
+pub const MOST_ENTRIES: usize = 1_500_000;
+/// The nodes of a search tree.
+pub const MOST_NODES: u32 = 1_000_000;
+/// The bytes of a catalogue, a workload or a configuration file.
+pub const MOST_FILE_BYTES: u64 = 16_777_216;
+/// The bytes of a certificate.
+pub const MOST_CERTIFICATE_BYTES: u64 = 67_108_864;

@@ -8,11 +8,6 @@ use Rattle.std.specs.List.{list_all}
 use Rattle.adv_base.specs.declared.workload.parts.Item.{Item}
 use Rattle.adv_base.specs.Items.{is_up_of, is_own_list}
 
--- a list is a slot's own where it isn't empty and each item is an upward column of the slot
-pub own_list_test : (slot : ℕ) (items : List Item) → is_own_list slot items ≡ (not (length items == 0) && list_all (is_up_of slot) items)
-own_list_test slot [] = refl
-own_list_test slot (x ∷ xs) = grind (arith, nat_tests)
-
 -- an element that is there, by its place
 pub slice_get-there : {A : Type 0} (xs : List A) (i : ℕ) (y : A) → slice_get xs i ≡ Some y → (i < length xs) × ((d : A) → get_or xs i d ≡ y)
 slice_get-there [] i y h = absurd (cc)

@@ -1,27 +1,12 @@
 //! The columns of a slot that a statement tests, joins, groups or orders by, or needs.
 ghost use Rattle.std.specs.Prelude.{◌≡◌, OnOk, IfOk, map, filter};
-ghost use Rattle.std.specs.List.{list_all, filter_map, range_with_len};
+ghost use Rattle.std.specs.List.{filter_map, range_with_len};
 ghost use Rattle.candidates.specs.Columns as columns;
 ghost use Rattle.adv_base.specs.Predicates as predicates;
-ghost use Rattle.adv_base.specs.Items as items;
 ghost use Rattle.adv_base.specs.Lookups.{column_count};
 
-use adv_base::{Block, Catalogue, Edge, Item, Pred, Slot, Test, table_at};
+use adv_base::{Block, Catalogue, Edge, Item, Pred, Slot, is_own_list, table_at};
 use std::alloc::{AllocError, Global};
-
-/// Whether a test is equality with a literal or IN.
-fn is_point(test: Test) -> bool
-    ensures { result ≡ predicates.is_point test }
-{
-    matches!(test, Test::Equal | Test::OneOf(_))
-}
-
-/// Whether a test is `<`, `<=`, `>`, `>=` or BETWEEN.
-fn is_range(test: Test) -> bool
-    ensures { result ≡ predicates.is_range test }
-{
-    matches!(test, Test::Below(_) | Test::Above(_) | Test::Between(_, _))
-}
 
 /// Whether a column stands in a list.
 fn has_column(keys: &[u16], column: u16) -> bool
@@ -58,7 +43,7 @@ fn point_tested(alloc: Global, preds: &[Pred], slot: u8) -> Result<Vec<u16>, All
 {
     preds
         .iter()
-        .filter(|pred| pred.slot == slot && is_point(pred.test))
+        .filter(|pred| pred.slot == slot && pred.test.is_point())
         .map(|pred| pred.column)
         .collect(alloc)
 }
@@ -78,7 +63,7 @@ fn range_tested(alloc: Global, preds: &[Pred], slot: u8) -> Result<Vec<u16>, All
 {
     preds
         .iter()
-        .filter(|pred| pred.slot == slot && is_range(pred.test))
+        .filter(|pred| pred.slot == slot && pred.test.is_range())
         .map(|pred| pred.column)
         .collect(alloc)
 }
@@ -124,28 +109,7 @@ pub(crate) fn join_columns(alloc: Global, block: &Block, slot: u8) -> Result<Vec
     joined(alloc, &[], &tied)
 }
 
-/// Whether an item is an upward column of a slot.
-fn is_up_of(item: &Item, slot: u8) -> bool
-    ensures { result ≡ items.is_up_of slot item.now }
-{
-    match item {
-        Item::Up { slot: own, .. } => *own == slot,
-        _ => false,
-    }
-}
 
-/// Whether each item is an upward column of a slot.
-fn are_up_of(list: &[Item], slot: u8) -> bool
-    ensures { result ≡ list_all (items.is_up_of slot) list.now }
-{
-    list.iter().all(|item| is_up_of(item, slot))
-}
-
-/// Whether a list isn't empty, is upwards throughout and lies wholly in a slot.
-#[tactic(auto, using(crate::proofs::ListLemmas::own_list_test, std::proofs::lemmas::Bool::Decides::nat_tests))]
-fn is_own_list(list: &[Item], slot: u8) -> bool
-    ensures { result ≡ items.is_own_list slot list.now }
-{
     !list.is_empty() && are_up_of(list, slot)
 }
 

@@ -3,12 +3,11 @@ ghost use Rattle.std.specs.Prelude.{◌≡◌, ◌<◌, ◌≤◌, map, fold, if
 ghost use Rattle.adv_base.specs.Named.{NamesBlock};
 ghost use Rattle.adv_base.specs.Parts as selectivity;
 ghost use Rattle.adv_base.specs.Rows as row;
-ghost use Rattle.adv_base.specs.Sets as sets;
 ghost use Rattle.adv_base.specs.Sums as sum;
 ghost use Rattle.adv_base.specs.declared.limits.TheConstants.{MOST_ROWS, WHOLE};
 
 use crate::parts::edge_part;
-use adv_base::{Block, Catalogue, Edge, NoMemory, times_part};
+use adv_base::{Block, Catalogue, Edge, NoMemory, has_slot, times_part};
 use std::alloc::Global;
 
 /// A block whose names the catalogue has, with the part of each of its edges.
@@ -19,14 +18,6 @@ pub struct Ties<'a> {
     pub parts: Vec<u64>,
     pub ghost named: { NamesBlock cat.now block.now },
     pub ghost exact: { parts.items ≡ map (selectivity.edge_part cat.now block.now) block.now.edges },
-}
-
-/// Whether a set of slots has a slot.
-fn has_slot(set: usize, slot: u8) -> bool
-    requires { slot < 64 }
-    ensures { result ≡ sets.has_slot set slot }
-{
-    set & (1 << slot) != 0
 }
 
 /// Whether an edge is between the slot and an earlier one of the set.

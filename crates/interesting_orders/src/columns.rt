@@ -1,15 +1,13 @@
 //! Marks on the columns of one slot that have an order of their own.
 ghost use Rattle.std.specs.Prelude.{◌≡◌, ◌<◌, ◌≤◌, ◌++◌, ◌∷◌, [], List, if◌then◌else◌, true, fold, count_by};
-ghost use Rattle.std.specs.List.{list_all};
 ghost use Rattle.std.specs.Option.{ForSome};
 ghost use Rattle.adv_base.specs.Items.{Order};
 ghost use Rattle.plan_model.specs.Limits.Tasks.{AreNumbered};
 ghost use Rattle.adv_base.specs.declared.limits.TheConstants.{MOST_COLUMNS};
-ghost use Rattle.adv_base.specs.Items as rule;
 ghost use Rattle.plan_model.specs.Orders as interesting;
 ghost use Rattle.interesting_orders.specs.inner.Marks.{add_order, column_orders, is_marked, AreMarks, IsEdge};
 
-use adv_base::Item;
+use adv_base::{Item, is_own_list};
 use adv_base::limits::MOST_COLUMNS;
 use plan_model::TaskEdge;
 
@@ -44,30 +42,6 @@ pub fn mark_count(seen: &[bool; MOST_COLUMNS]) -> u64
     ensures most { result ≤ MOST_COLUMNS }
 {
     seen.iter().filter(|mark| **mark).count() as u64
-}
-
-/// Whether an item is an upward column of the slot.
-fn is_up_of(item: &Item, slot: u8) -> bool
-    ensures { result ≡ rule.is_up_of slot item.now }
-{
-    match item {
-        Item::Up { slot: own, .. } => *own == slot,
-        _ => false,
-    }
-}
-
-/// Whether each item is an upward column of the slot.
-fn are_up_of(list: &[Item], slot: u8) -> bool
-    ensures { result ≡ list_all (rule.is_up_of slot) list.now }
-{
-    list.iter().all(|item| is_up_of(item, slot))
-}
-
-/// Whether a list isn't empty and is of upward columns of the slot alone.
-fn is_own_list(list: &[Item], slot: u8) -> bool
-    ensures { result ≡ interesting.is_own_list slot list.now }
-{
-    !list.is_empty() && are_up_of(list, slot)
 }
 
 /// Whether a list is a single column that is marked.

@@ -10,10 +10,10 @@ ghost use Rattle.adv_base.specs.Limits.Blocks.{ListLimits, GroupLimits};
 ghost use Rattle.plan_model.specs.Limits.Tasks as tasks;
 
 use crate::edge::TaskEdge;
-use crate::order::{all_slots, are_joined};
+use crate::order::are_joined;
 use crate::task::Task;
 use adv_base::limits::{MOST_COLUMNS, MOST_ROWS, MOST_SLOTS};
-use adv_base::{Item, List, Rates};
+use adv_base::{Item, List, Rates, all_slots};
 
 fn is_need(need: Option<Item>, slot: u8, column: u16) -> bool
     ensures { IsTrue result ↔ ForSome need (λ item. item ≡ Up slot column) }

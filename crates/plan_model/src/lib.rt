@@ -32,7 +32,7 @@ pub use laws::{
 };
 pub use lines::plan_text;
 pub use offers::Offers;
-pub use order::{all_slots, are_joined, begins_with, crosses, has_slot, is_column_of, serves};
+pub use order::{are_joined, begins_with, crosses, is_column_of, serves};
 pub use plan::{GroupStep, MOST_COST, MOST_TOTAL, Plan, Whole};
 pub use price::{group_price, hash_price, merge_price, rows_of, sort_price};
 pub use task::Task;

@@ -1,9 +1,7 @@
 //! Orders, the edges between sets of slots, and what plans deliver.
 ghost use Rattle.std.specs.Prelude.{◌≡◌, ◌↔◌, ◌<◌, ◌≤◌, IsTrue, if◌then◌else◌};
 ghost use Rattle.std.specs.List.{list_any};
-ghost use Rattle.adv_base.specs.declared.limits.TheConstants.{MOST_SLOTS};
 ghost use Rattle.adv_base.specs.Items.{BeginsWith};
-ghost use Rattle.adv_base.specs.Sets as sets;
 ghost use Rattle.plan_model.specs.Limits.Tasks.{AreNumbered};
 ghost use Rattle.plan_model.specs.Orders as orders;
 ghost use Rattle.plan_model.specs.Plans as plans;
@@ -12,23 +10,7 @@ use crate::edge::TaskEdge;
 use crate::offers::Offers;
 use crate::plan::Plan;
 use crate::task::Task;
-use adv_base::Item;
-
-/// Whether a set, as a number, has a slot.
-pub fn has_slot(set: usize, slot: u8) -> bool
-    ensures { result ≡ sets.has_slot set slot }
-{
-    slot < 64 && set & (1 << slot) != 0
-}
-
-/// The set of all slots of a task with that many.
-pub fn all_slots(slots: u8) -> usize
-    requires { slots ≤ MOST_SLOTS }
-    ensures exact { result ≡ sets.all_slots slots }
-    ensures small { result < 256 }
-{
-    (1 << slots) - 1
-}
+use adv_base::{Item, has_slot};
 
 /// Whether an edge has one end in each of two sets.
 pub fn crosses(left: usize, right: usize, edge: &TaskEdge) -> bool

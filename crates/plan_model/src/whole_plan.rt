@@ -9,11 +9,11 @@ ghost use Rattle.plan_model.specs.Costs as costs;
 
 use crate::judge::judge;
 use crate::offers::Offers;
-use crate::order::{all_slots, begins_with, delivered};
+use crate::order::{begins_with, delivered};
 use crate::plan::{GroupStep, Whole};
 use crate::price::{group_price, rows_of, sort_price};
 use crate::task::Task;
-use adv_base::{Item, List};
+use adv_base::{Item, List, all_slots};
 
 /// Whether a sort may be the top of a body that is grouped so.
 pub(crate) fn may_sort(step: GroupStep) -> bool

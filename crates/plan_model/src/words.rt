@@ -5,8 +5,7 @@ ghost use Rattle.plan_model.specs.PlanTexts as texts;
 
 use crate::edge::TaskEdge;
 use crate::labels::Labels;
-use crate::order::has_slot;
-use adv_base::{Item, List, Name, NoMemory, push_decimal};
+use adv_base::{Item, List, Name, NoMemory, has_slot, push_decimal};
 use std::alloc::Global;
 
 /// Pushes bytes.

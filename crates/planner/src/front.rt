@@ -5,8 +5,8 @@ ghost use Rattle.plan_model.specs.Orders.{is_same_item};
 ghost use Rattle.plan_model.specs.Plans.{is_column_of as is_column};
 ghost use Rattle.planner.specs.Fronts.{longer_front, crosses_link, side_front, front_order, begins_test, listed as list_of};
 
-use adv_base::Item;
-use plan_model::{Task, has_slot, is_column_of};
+use adv_base::{Item, has_slot};
+use plan_model::{Task, is_column_of};
 
 /// How an order is to begin.
 #[derive(Clone, Copy, PartialEq, Eq)]

@@ -35,6 +35,20 @@ impl Test {
     {
         matches!(self, Test::Equal)
     }
+
+    /// Whether it gives the column one or some literals: equality with a literal, or IN.
+    pub fn is_point(self) -> bool
+        ensures { result ≡ predicates.is_point self }
+    {
+        matches!(self, Test::Equal | Test::OneOf(_))
+    }
+
+    /// Whether it asks for a range: `<`, `<=`, `>`, `>=` or BETWEEN.
+    pub fn is_range(self) -> bool
+        ensures { result ≡ predicates.is_range self }
+    {
+        matches!(self, Test::Below(_) | Test::Above(_) | Test::Between(_, _))
+    }
 }
 
 /// A test of one column of one slot.

@@ -1,6 +1,5 @@
-use Rattle.std.proofs.Common.{refl, rules}
+use Rattle.std.proofs.Common.{rules}
 use Rattle.adv_base.specs.Sums.{times_part}
-use Rattle.adv_base.proofs.SumLemmas.{times_part-bounds}
 use Rattle.adv_base.proofs.numbers.times_part.Goals as goal
 
 pub returns-clause-exact : goal.returns-clause-exact
