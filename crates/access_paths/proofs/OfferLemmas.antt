@@ -17,7 +17,7 @@ use Rattle.adv_base.specs.Configs.{chosen}
 use Rattle.adv_base.specs.Lookups.{table_at, slot_table}
 use Rattle.adv_base.specs.Offers.{Offer, offers, index_offer}
 use Rattle.adv_base.proofs.OfferLaws.{offers_on-shapes}
-use Rattle.plan_model.specs.OfferTables.{OfferLimits, OfferTableLimits}
+use Rattle.adv_base.specs.OfferTables.{OfferLimits, OfferTableLimits}
 use Rattle.access_paths.specs.declared.slot_offers.SlotOffers.{SlotOffers}
 use Rattle.access_paths.specs.Candidates.{numbers_on, offer_candidates}
 use Rattle.access_paths.specs.ConfigOffers.{AreInPlace, table_of, candidates_in_table}

@@ -9,10 +9,9 @@ use Rattle.adv_base.specs.declared.workload.block.Block.{Block}
 use Rattle.adv_base.specs.declared.workload.parts.Item.{Item}
 use Rattle.adv_base.specs.declared.workload.parts.Item.TheVariants.{Up, Down, Made}
 use Rattle.adv_base.specs.Access.{index_order}
-use Rattle.adv_base.specs.Items.{AreApart, is_same_column}
+use Rattle.adv_base.specs.Items.{AreApart, is_same_column, is_up_of}
 use Rattle.adv_base.specs.Limits.Numbers.{KeyLimits}
 use Rattle.adv_base.specs.Predicates.{is_bound}
-use Rattle.plan_model.specs.OfferTables.{is_up_of}
 
 -- no key stands twice
 keys_apart : (keys : List ℕ) → KeyLimits keys → AllPairs (λ a b. a ≢ b) keys

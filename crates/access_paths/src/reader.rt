@@ -40,7 +40,7 @@ impl<'a> Reader<'a> {
     ghost use Rattle.std.specs.Prelude.{◌≡◌, ◌<◌, ◌+◌, ◌++◌, ◌∷◌, [], All, IfOk, nat_lt, if◌then◌else◌, map};
     ghost use Rattle.adv_base.specs.Access.{table_price as price_of_table};
     ghost use Rattle.adv_base.specs.Offers.{index_offer as offer_of_index};
-    ghost use Rattle.plan_model.specs.OfferTables.{OfferLimits};
+    ghost use Rattle.adv_base.specs.OfferTables.{OfferLimits};
     ghost use Rattle.adv_base.specs.Named.{NamesShape};
     ghost use Rattle.access_paths.specs.Readers.{all_numbers, all_pairs, existing_pairs, pair_of, indexes_of, is_taken};
     ghost use Rattle.access_paths.specs.SlotOffers.{offer_of, pairs_of, numbers_of, KeepLimits};

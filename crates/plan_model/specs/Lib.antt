@@ -1,5 +1,4 @@
 pub mod Limits
-pub mod OfferTables
 pub mod Orders
 pub mod Plans
 pub mod Costs

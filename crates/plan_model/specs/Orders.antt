@@ -2,8 +2,7 @@
 use Rattle.std.specs.Prelude.{ℕ, ◌*◌, ◌==◌, Bool, true, if◌then◌else◌, List, [], ◌∷◌, ◌++◌, length, Option, Some, None, zero, suc}
 use Rattle.std.specs.List.{list_any, flat_map}
 use Rattle.adv_base.specs.declared.workload.parts.Item.{Item}
-use Rattle.adv_base.specs.Items.{Order}
-pub use Rattle.adv_base.specs.Items.{is_same_item, is_same_order, is_own_list}
+use Rattle.adv_base.specs.Items.{Order, is_same_order, is_own_list}
 use Rattle.plan_model.specs.declared.edge.TaskEdge.{TaskEdge}
 use Rattle.plan_model.specs.declared.task.Task.{Task}
 

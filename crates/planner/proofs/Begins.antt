@@ -5,8 +5,7 @@ use Rattle.std.proofs.lemmas.Bool.{and_parts, eqb-true, eq-eqb, false≢true}
 use Rattle.std.proofs.lemmas.Bool.Decides.{nat_tests}
 use Rattle.adv_base.specs.declared.workload.parts.Item.{Item}
 use Rattle.adv_base.specs.declared.workload.parts.Item.TheVariants.{Up, Down, Made}
-use Rattle.adv_base.specs.Items.{Order, BeginsWith}
-use Rattle.plan_model.specs.Orders.{is_same_item}
+use Rattle.adv_base.specs.Items.{Order, BeginsWith, is_same_item}
 use Rattle.planner.specs.Fronts.{first_item, longer_front}
 
 pub begins_nil : (o : Order) → BeginsWith o []

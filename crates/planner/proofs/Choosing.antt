@@ -4,7 +4,7 @@ use Rattle.std.proofs.lemmas.Bool.{and_parts, and_from, eqb-true, eq-eqb}
 use Rattle.adv_base.specs.Items.{Order}
 use Rattle.adv_base.specs.Offers.{OfferTable}
 use Rattle.adv_base.specs.declared.workload.parts.Item.{Item}
-use Rattle.plan_model.specs.OfferTables.{price_at, order_at}
+use Rattle.adv_base.specs.OfferTables.{price_at, order_at}
 use Rattle.planner.specs.declared.cell.Cell.{Cell}
 use Rattle.planner.specs.declared.cell.Choice.{Choice}
 use Rattle.planner.specs.declared.cell.Choice.TheVariants.{Read, MergeOf, HashOf}

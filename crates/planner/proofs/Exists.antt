@@ -20,7 +20,7 @@ use Rattle.plan_model.specs.declared.plan.Plan.{Plan}
 use Rattle.plan_model.specs.declared.plan.Plan.TheVariants.{Leaf, Hash'}
 use Rattle.plan_model.specs.declared.task.Task.{Task}
 use Rattle.plan_model.specs.Limits.Tasks.{ends, EdgeLimits, RowLimits}
-use Rattle.plan_model.specs.OfferTables.{price_at, OfferLimits, OfferTableLimits, HasOffers}
+use Rattle.adv_base.specs.OfferTables.{price_at, OfferLimits, OfferTableLimits, HasOffers}
 use Rattle.plan_model.specs.Plans.{IsValid, covers, crosses}
 use Rattle.plan_model.specs.Costs.{plan_cost, rows_in, hash_cost, merge_cost}
 use Rattle.planner.proofs.Lower.{covers_some}

@@ -8,7 +8,7 @@ use Rattle.adv_base.specs.Sets.{all_slots}
 use Rattle.plan_model.specs.declared.plan.Plan.{Plan}
 use Rattle.plan_model.specs.declared.plan.Whole.{Whole}
 use Rattle.plan_model.specs.declared.task.Task.{Task}
-use Rattle.plan_model.specs.OfferTables.{OfferTableLimits, HasOffers}
+use Rattle.adv_base.specs.OfferTables.{OfferTableLimits, HasOffers}
 use Rattle.plan_model.specs.Plans.{IsWhole, covers, delivers, body_sorts}
 use Rattle.plan_model.specs.Costs.{whole_cost, rows_in, sort_cost, group_cost, final_rows}
 use Rattle.plan_model.specs.Least.{Least}

@@ -5,11 +5,11 @@ use Rattle.std.specs.List.{list_any}
 use Rattle.std.proofs.lemmas.Bool.{cases_lt, or_left, or_right, or_cases, and_parts, and_from, eqb-true, eq-eqb, false≢true}
 use Rattle.std.proofs.lemmas.List.{get_or_append_left, get_or_push, length_push}
 use Rattle.std.proofs.lemmas.Option.{slice_get_within, same_Some, slice_get-get_or}
-use Rattle.adv_base.specs.Items.{Order}
+use Rattle.adv_base.specs.Items.{Order, is_same_item}
 use Rattle.adv_base.specs.declared.workload.parts.Item.{Item}
 use Rattle.plan_model.specs.declared.edge.TaskEdge.{TaskEdge}
 use Rattle.plan_model.specs.declared.task.Task.{Task}
-use Rattle.plan_model.specs.Orders.{is_same_item, need_order}
+use Rattle.plan_model.specs.Orders.{need_order}
 use Rattle.planner.specs.declared.front.Front.{Front}
 use Rattle.planner.specs.declared.front.Front.TheVariants.{Any, Listed, Need}
 use Rattle.planner.specs.declared.front.Link.{Link}

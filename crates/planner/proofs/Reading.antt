@@ -4,11 +4,10 @@ use Rattle.std.proofs.lemmas.Bool.{false≢true, and_parts, and_from}
 use Rattle.std.proofs.lemmas.List.{drop_all, drop_more}
 use Rattle.adv_base.specs.declared.workload.parts.Item.{Item}
 use Rattle.adv_base.specs.declared.workload.parts.Item.TheVariants.{Made}
-use Rattle.adv_base.specs.Items.{Order, BeginsWith}
+use Rattle.adv_base.specs.Items.{Order, BeginsWith, is_same_item}
 use Rattle.adv_base.specs.Offers.{OfferTable}
 use Rattle.plan_model.specs.declared.task.Task.{Task}
-use Rattle.plan_model.specs.Orders.{is_same_item}
-use Rattle.plan_model.specs.OfferTables.{price_at, order_at}
+use Rattle.adv_base.specs.OfferTables.{price_at, order_at}
 use Rattle.planner.specs.declared.front.Front.{Front}
 use Rattle.planner.specs.declared.cell.Cell.{Cell}
 use Rattle.planner.specs.Fronts.{asked, begins_test}

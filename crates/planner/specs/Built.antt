@@ -5,7 +5,7 @@ use Rattle.adv_base.specs.Offers.{OfferTable}
 use Rattle.plan_model.specs.declared.plan.Plan.{Plan}
 use Rattle.plan_model.specs.declared.plan.Plan.TheVariants.{Sort', Merge', Hash'}
 use Rattle.plan_model.specs.declared.task.Task.{Task}
-use Rattle.plan_model.specs.OfferTables.{price_at, order_at}
+use Rattle.adv_base.specs.OfferTables.{price_at, order_at}
 use Rattle.plan_model.specs.Plans.{IsValid, covers, delivers}
 use Rattle.plan_model.specs.Costs.{plan_cost}
 use Rattle.planner.specs.declared.front.Front.{Front}

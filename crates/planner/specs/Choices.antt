@@ -5,7 +5,7 @@ use Rattle.adv_base.specs.Items.{Order, BeginsWith}
 use Rattle.adv_base.specs.Offers.{OfferTable}
 use Rattle.adv_base.specs.declared.workload.parts.Item.{Item}
 use Rattle.plan_model.specs.declared.task.Task.{Task}
-use Rattle.plan_model.specs.OfferTables.{price_at, order_at}
+use Rattle.adv_base.specs.OfferTables.{price_at, order_at}
 use Rattle.plan_model.specs.Plans.{Merges, crosses, is_column_of}
 use Rattle.plan_model.specs.Costs.{rows_in, sort_cost}
 use Rattle.planner.specs.declared.front.Front.{Front}

@@ -1,11 +1,11 @@
 -- The orders that fronts ask for, and the links between slots.
 use Rattle.std.specs.Prelude.{ℕ, ◌≡◌, ◌<◌, ◌≤◌, ◌==◌, Bool, true, false, ◌&&◌, ◌||◌, if◌then◌else◌, List, [], ◌∷◌, length, Option, Some, None, unwrap_or, slice_get, slice_index_or}
 use Rattle.std.specs.List.{list_any}
-use Rattle.adv_base.specs.Items.{Order}
+use Rattle.adv_base.specs.Items.{Order, is_same_item}
 use Rattle.adv_base.specs.Sets.{has_slot, is_crossing}
 use Rattle.plan_model.specs.declared.edge.TaskEdge.{TaskEdge}
 use Rattle.plan_model.specs.declared.task.Task.{Task}
-use Rattle.plan_model.specs.Orders.{is_same_item, need_order}
+use Rattle.plan_model.specs.Orders.{need_order}
 use Rattle.adv_base.specs.declared.workload.parts.Item.{Item}
 use Rattle.planner.specs.declared.front.Front.{Front}
 use Rattle.planner.specs.declared.front.Link.{Link}

@@ -4,7 +4,7 @@ use Rattle.adv_base.specs.Items.{Order, BeginsWith}
 use Rattle.adv_base.specs.Offers.{OfferTable}
 use Rattle.plan_model.specs.declared.plan.Plan.{Plan}
 use Rattle.plan_model.specs.declared.task.Task.{Task}
-use Rattle.plan_model.specs.OfferTables.{price_at, order_at}
+use Rattle.adv_base.specs.OfferTables.{price_at, order_at}
 use Rattle.plan_model.specs.Plans.{IsValid, covers, delivers, is_column_of}
 use Rattle.plan_model.specs.Costs.{plan_cost, rows_in, sort_cost}
 use Rattle.planner.specs.declared.cell.Cell.{Cell}

@@ -1,7 +1,7 @@
 //! What made a cell's cost, found again.
 ghost use Rattle.std.specs.Prelude.{◌≡◌, ℕ, ◌+◌, ◌*◌, ◌<◌, ◌≤◌, ◌^◌, ◌==◌, ◌&&◌, IsTrue, length, None, Some};
 ghost use Rattle.std.specs.Option.{ForSome};
-ghost use Rattle.plan_model.specs.OfferTables.{price_at, order_at};
+ghost use Rattle.adv_base.specs.OfferTables.{price_at, order_at};
 ghost use Rattle.planner.specs.declared.cell.TheConstants.{IMPOSSIBLE as NO_COST};
 ghost use Rattle.planner.specs.Fronts.{begins_test, front_order, head_at, listed as list_of, longer_front};
 ghost use Rattle.planner.specs.Cells.{cost_at, any_at, row_of};

@@ -1,6 +1,6 @@
 //! The least plan of a task.
 ghost use Rattle.std.specs.Prelude.{◌≡◌, IfOk};
-ghost use Rattle.plan_model.specs.OfferTables.{HasOffers};
+ghost use Rattle.adv_base.specs.OfferTables.{HasOffers};
 ghost use Rattle.plan_model.specs.Plans.{IsWhole};
 ghost use Rattle.plan_model.specs.Costs.{whole_cost};
 ghost use Rattle.plan_model.specs.Least.{Least};

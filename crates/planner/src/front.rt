@@ -1,7 +1,7 @@
 //! Fronts of orders that the operators above a plan can want.
 ghost use Rattle.std.specs.Prelude.{◌≡◌, ◌<◌};
 ghost use Rattle.std.specs.List.{list_all};
-ghost use Rattle.plan_model.specs.Orders.{is_same_item};
+ghost use Rattle.adv_base.specs.Items.{is_same_item};
 ghost use Rattle.plan_model.specs.Plans.{is_column_of as is_column};
 ghost use Rattle.planner.specs.Fronts.{longer_front, crosses_link, side_front, front_order, begins_test, listed as list_of};
 

@@ -1,7 +1,7 @@
 //! Offers of a slot, in the row of the set that has that slot alone.
 ghost use Rattle.std.specs.Prelude.{◌≡◌, ℕ, ◌+◌, ◌<◌, ◌≤◌, ◌^◌, length};
 ghost use Rattle.adv_base.specs.Items.{BeginsWith};
-ghost use Rattle.plan_model.specs.OfferTables.{price_at, order_at};
+ghost use Rattle.adv_base.specs.OfferTables.{price_at, order_at};
 ghost use Rattle.planner.specs.Fronts.{asked, begins_test, listed as list_of};
 ghost use Rattle.planner.specs.Cells.{cell_at, cost_at, offered as offered_of};
 ghost use Rattle.planner.specs.Rows.{AreOffers, OffersBound, SlotBound};

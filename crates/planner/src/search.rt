@@ -1,6 +1,6 @@
 //! The search of least plans, made once a task.
 ghost use Rattle.std.specs.Prelude.{◌≡◌, ◌≤◌, ◌^◌, IfOk, length};
-ghost use Rattle.plan_model.specs.OfferTables.{HasOffers};
+ghost use Rattle.adv_base.specs.OfferTables.{HasOffers};
 ghost use Rattle.plan_model.specs.Least.{Least};
 ghost use Rattle.planner.specs.Rows.{IsTable, width};
 

@@ -2,8 +2,8 @@
 ghost use Rattle.std.specs.Prelude.{◌≡◌, ◌≢◌, ◌==◌, ◌≤◌, All, IfOk, [], ◌∷◌, true};
 ghost use Rattle.std.specs.List.{find};
 ghost use Rattle.std.specs.Option.{option_map_or, option_copied};
-ghost use Rattle.adv_base.specs.Items.{AreApart};
-ghost use Rattle.plan_model.specs.OfferTables.{is_up_of as is_up, OfferLimits};
+ghost use Rattle.adv_base.specs.Items.{AreApart, is_up_of as is_up};
+ghost use Rattle.adv_base.specs.OfferTables.{OfferLimits};
 
 use adv_base::{Item, List};
 use plan_model::Offers;

@@ -1,5 +1,5 @@
 use Rattle.std.proofs.Common.{◌≡◌, ℕ, ◌<◌, ◌≤◌}
-use Rattle.plan_model.specs.OfferTables.{price_at, order_at}
+use Rattle.adv_base.specs.OfferTables.{price_at, order_at}
 use Rattle.planner.specs.Fronts.{asked, begins_test}
 use Rattle.planner.specs.Cells.{cell_at, offered}
 use Rattle.planner.proofs.read.read_offer.Given as goal

@@ -1,6 +1,6 @@
 use Rattle.std.proofs.Common.{◌≡◌, ℕ, ◌<◌, ◌≤◌, length, below_more, subst, arith}
 use Rattle.adv_base.specs.Items.{Order, BeginsWith}
-use Rattle.plan_model.specs.OfferTables.{price_at, order_at}
+use Rattle.adv_base.specs.OfferTables.{price_at, order_at}
 use Rattle.planner.specs.Fronts.{asked, begins_test, listed}
 use Rattle.planner.specs.Cells.{cell_at, cost_at, offered}
 use Rattle.planner.proofs.Reading.{offered_lower, offered_bound, offered_made}

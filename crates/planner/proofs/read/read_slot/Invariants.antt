@@ -1,6 +1,6 @@
 use Rattle.std.proofs.Common.{ℕ, ◌<◌, ◌≤◌, length}
 use Rattle.adv_base.specs.Items.{BeginsWith}
-use Rattle.plan_model.specs.OfferTables.{price_at, order_at}
+use Rattle.adv_base.specs.OfferTables.{price_at, order_at}
 use Rattle.planner.specs.Fronts.{asked, listed}
 use Rattle.planner.specs.Cells.{cost_at}
 use Rattle.planner.specs.Rows.{AreOffers}

@@ -6,7 +6,8 @@ use Rattle.std.proofs.lemmas.List.Elements.{All-cons, All-nil}
 use Rattle.adv_base.specs.declared.workload.parts.Item.{Item}
 use Rattle.planner_tests.specs.declared.tests.table.Index.{Index}
 use Rattle.planner_tests.specs.declared.tests.table.Reads.{Reads}
-use Rattle.plan_model.specs.OfferTables.{is_up_of, OfferLimits}
+use Rattle.adv_base.specs.OfferTables.{OfferLimits}
+use Rattle.adv_base.specs.Items.{is_up_of}
 use Rattle.planner_tests.proofs.tests.table.TableOffers.limits.Goals as goal
 
 find-passes : (p : Reads → Bool) (xs : List Reads) (x : Reads) → find p xs ≡ Some x → p x ≡ true
