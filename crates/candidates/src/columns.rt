@@ -109,10 +109,6 @@ pub(crate) fn join_columns(alloc: Global, block: &Block, slot: u8) -> Result<Vec
     joined(alloc, &[], &tied)
 }
 
-
-    !list.is_empty() && are_up_of(list, slot)
-}
-
 /// The column of an upward item.
 fn up_column(item: &Item) -> Option<u16>
     ensures { result ≡ columns.up_column item.now }

@@ -7,8 +7,8 @@ ghost use Rattle.adv_base.specs.declared.limits.TheConstants.{MOST_COLUMNS};
 ghost use Rattle.plan_model.specs.Orders as interesting;
 ghost use Rattle.interesting_orders.specs.inner.Marks.{add_order, column_orders, is_marked, AreMarks, IsEdge};
 
-use adv_base::{Item, is_own_list};
 use adv_base::limits::MOST_COLUMNS;
+use adv_base::{Item, is_own_list};
 use plan_model::TaskEdge;
 
 /// The column of an edge at a slot, where it has one there that isn't bound.
