@@ -6,10 +6,9 @@ ghost use Rattle.adv_base.specs.declared.limits.TheConstants.{MOST_PRICE};
 ghost use Rattle.adv_base.specs.Items.{AreApart};
 ghost use Rattle.adv_base.specs.Items as rule;
 
-use crate::checked::are_apart;
-use crate::offers::Offers;
 use adv_base::limits::MOST_PRICE;
 use adv_base::{Item, List};
+use plan_model::{Offers, are_apart};
 
 /// The offers of a slot: the whole table, and an index, where there is one.
 #[derive(Drop)]

@@ -3,14 +3,10 @@ mod advice;
 mod plans;
 mod table;
 
-use crate::labels::Labels;
-use crate::lines::plan_text;
-use crate::plan::{GroupStep, Whole};
-use crate::task::Task;
 use crate::tests::plans::{edge, grouping, heaps, indexed, plain, plan, up};
 use crate::tests::table::Table;
-use crate::whole_plan::plan_cost;
 use adv_base::{Item, List, Name};
+use plan_model::{GroupStep, Labels, Task, Whole, plan_cost, plan_text};
 use std::alloc::{AllocError, Global};
 use std::process::Abort;
 use std::test::Fail;

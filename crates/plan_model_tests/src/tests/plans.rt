@@ -1,10 +1,7 @@
 //! Tasks and plans that are written down.
-use crate::checked::checked_task;
-use crate::edge::TaskEdge;
-use crate::plan::Plan;
-use crate::task::Task;
 use crate::tests::table::{Reads, Table};
 use adv_base::{Item, List, Rates};
+use plan_model::{Plan, Task, TaskEdge, checked_task};
 use std::alloc::{AllocError, Global};
 use std::test::Fail;
 

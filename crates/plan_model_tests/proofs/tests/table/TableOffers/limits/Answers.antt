@@ -4,10 +4,10 @@ use Rattle.std.specs.Option.{option_map_or}
 use Rattle.std.proofs.lemmas.Bool.{cases_Bool, eqb-true}
 use Rattle.std.proofs.lemmas.List.Elements.{All-cons, All-nil}
 use Rattle.adv_base.specs.declared.workload.parts.Item.{Item}
-use Rattle.plan_model.specs.declared.tests.table.Reads.{Reads}
+use Rattle.plan_model_tests.specs.declared.tests.table.Reads.{Reads}
 use Rattle.adv_base.specs.OfferTables.{OfferLimits}
 use Rattle.adv_base.specs.Items.{is_up_of}
-use Rattle.plan_model.proofs.tests.table.TableOffers.limits.Goals as goal
+use Rattle.plan_model_tests.proofs.tests.table.TableOffers.limits.Goals as goal
 
 find-passes : (p : Reads → Bool) (xs : List Reads) (x : Reads) → find p xs ≡ Some x → p x ≡ true
 find-passes p [] x e = cc

@@ -1,8 +1,8 @@
 //! What an index advisor computes of plans, as plain programs with numbers that are worked out by hand.
-use crate::plan::GroupStep;
 use crate::tests::all_cost;
 use crate::tests::plans::{edge, heaps, indexed, list, plain, up};
 use crate::tests::table::{Reads, Table};
+use plan_model::GroupStep;
 use std::alloc::Global;
 use std::test::Fail;
 
