@@ -1,4 +1,4 @@
 pub mod MatchLemmas
 pub mod TaskLemmas
-pub mod ReaderLemmas
+pub mod PathLemmas
 pub mod OfferLemmas

@@ -1,7 +1,6 @@
 -- What the offers that are kept for a slot stand for.
-use Rattle.std.specs.Prelude.{ℕ, ◌≤◌, List, length, All, map, Option}
+use Rattle.std.specs.Prelude.{ℕ, List, map, Option}
 use Rattle.adv_base.specs.Offers.{Offer}
-use Rattle.adv_base.specs.OfferTables.{OfferLimits}
 use Rattle.access_paths.specs.declared.slot_offer.SlotOffer.{SlotOffer}
 
 -- the order and the price of an offer
@@ -14,7 +13,3 @@ pairs_of os = map offer_of os
 -- the candidate that each offer is
 abbrev pub numbers_of : List SlotOffer → List (Option ℕ)
 numbers_of os = map (λ o. o.candidate) os
-
--- each offer keeps the limits of an offer of the slot
-abbrev pub KeepLimits : ℕ → List SlotOffer → Type 0
-KeepLimits slot os = All (λ o. OfferLimits slot (offer_of o)) os
