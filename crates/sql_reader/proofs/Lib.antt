@@ -15,6 +15,7 @@ pub mod Outcome
 pub mod PrintedConditions
 pub mod PrintedItems
 pub mod PrintedOperands
+pub mod Rooms
 pub mod Same
 pub mod Steps
 pub mod Theory
