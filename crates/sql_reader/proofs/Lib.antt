@@ -11,6 +11,7 @@ pub mod KnownWords
 pub mod Limits
 pub mod Loops
 pub mod Nested
+pub mod OneTooMany
 pub mod Outcome
 pub mod PrintedConditions
 pub mod PrintedItems
