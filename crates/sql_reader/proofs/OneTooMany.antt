@@ -1,8 +1,7 @@
 -- Too many statements: the word that stands behind 1000 others that begin a statement begins the 1001st of a workload.
-use Rattle.std.proofs.Common.{◌≡◌, ◌⊎◌, ℕ, zero, suc, ◌+◌, ◌<◌, ◌≤◌, Bool, true, false, nat_lt, List, [], ◌∷◌, ◌++◌, length, Option, Some, None, option_map, sym, refl, ap, ◌∙◌, subst, inl, inr, arith, rules, tests, append_assoc, le_refl, if◌then◌else◌}
+use Rattle.std.proofs.Common.{◌≡◌, ◌⊎◌, ℕ, zero, suc, ◌+◌, ◌<◌, ◌≤◌, Bool, true, false, nat_lt, List, [], ◌∷◌, ◌++◌, length, Option, Some, None, option_map, Result, Ok, Err, IfErr, IsErrOf, sym, refl, ap, ◌∙◌, subst, inl, inr, arith, rules, tests, append_assoc, le_refl, if◌then◌else◌}
 use Rattle.sql_tokens.specs.declared.token.Token.{Token}
 use Rattle.sql_tokens.specs.declared.token.Span.{Span}
-use Rattle.sql_tokens.specs.Cut.{AreTokens, tokens_of}
 use Rattle.sql_tokens.proofs.Places.{InOrder, in_order-cut}
 use Rattle.sql_reader.specs.declared.piece.Piece.{Piece}
 use Rattle.sql_reader.specs.declared.piece.Mark.{Mark}
@@ -11,11 +10,10 @@ use Rattle.sql_reader.specs.declared.parsed.SqlFault.{SqlFault}
 use Rattle.sql_reader.specs.declared.parsed.SqlFault.TheVariants as faults
 use Rattle.sql_reader.specs.declared.parts.Progress.{Progress}
 use Rattle.sql_reader.specs.Kinds.{has}
-use Rattle.sql_reader.specs.Exact.{FailsAt}
 use Rattle.sql_reader.specs.Grammar.{starts}
 use Rattle.sql_reader.specs.Values.{place_of, no_statements}
 use Rattle.sql_reader.specs.Pieces.{ArePieces, WithToken, no_mark, is_weight, mark_of, bad_weight, start_behind, starts_in, places_of}
-use Rattle.sql_reader.specs.Workload.{MeansStatements, left_out, grammar_fault, GrammarSays, place_of_fault, earlier, Says, IsFirstFault, HasSqlFault, BeginsOneTooMany}
+use Rattle.sql_reader.specs.Workload.{MeansStatements, left_out, grammar_fault, GrammarSays, place_of_fault, earlier, IsFirstFault, HasSqlFault, BeginsOneTooMany}
 use Rattle.sql_reader.proofs.Begun.{begun_if, starts-append, begin_at_starts}
 
 -- the word behind n others that begin a statement
@@ -53,7 +51,7 @@ counted n p ps place k f = record {
 
 found_here : (p : Piece) (ps : List Piece) (place : ℕ) (c : Bool) → has starts p.kind ≡ c → (start_behind zero ps ≡ Some place → Found zero ps place) →
     (if c then Some (place_of p) else start_behind zero ps) ≡ Some place → Found zero (p ∷ ps) place
-found_here p ps place true k behind e = record { front = []; piece = p; rest = ps; split = refl; at_place = cc; is_start = k; count = refl; }
+found_here p ps place true k behind e = record { front = []; piece = p; rest = ps; split = refl; at_place = cc; is_start = k; count = refl }
 found_here p ps place false k behind e = passed zero p ps place k (behind e)
 
 found_later : (n : ℕ) (p : Piece) (ps : List Piece) (place : ℕ) (c : Bool) → has starts p.kind ≡ c → (start_behind n ps ≡ Some place → Found n ps place) → (start_behind (suc n) ps ≡ Some place → Found (suc n) ps place) →
@@ -186,9 +184,11 @@ goes_through end ps progress (Some f) front p rest split order later (left, fail
   where
     go : (middle : List Piece) → fails.front ≡ front ++ p ∷ middle → Through front p
     go middle taken =
-        let (more, b, means) = fails.before in
-        (middle ++ more, b,
-        subst (λ (l : List Piece). MeansStatements no_statements l b) (ap (λ (l : List Piece). l ++ more) taken ∙ append_assoc front (p ∷ middle) more) means)
+        let (more, b, means) = fails.before in (
+          middle ++ more,
+          b,
+          subst (λ (l : List Piece). MeansStatements no_statements l b) (ap (λ (l : List Piece). l ++ more) taken ∙ append_assoc front (p ∷ middle) more) means,
+        )
 
 -- the statement whose place stands behind so many others
 
@@ -203,11 +203,11 @@ record Parted (xs : List ParsedStatement) (n x : ℕ) : Type 0 where
 part_at : (xs : List ParsedStatement) (ls : List ℕ) (x : ℕ) (rs : List ℕ) → places_of xs ≡ ls ++ x ∷ rs → Parted xs (length ls) x
 part_at [] [] x rs e = absurd cc
 part_at [] (l ∷ ls) x rs e = absurd cc
-part_at (s ∷ xs) [] x rs e = record { before = []; statement = s; after = xs; split = refl; many = refl; begins = cc; }
+part_at (s ∷ xs) [] x rs e = record { before = []; statement = s; after = xs; split = refl; many = refl; begins = cc }
 part_at (s ∷ xs) (l ∷ ls) x rs e =
     let tails : places_of xs ≡ ls ++ x ∷ rs = cc in
     let p = part_at xs ls x rs tails in
-    record { before = s ∷ p.before; statement = p.statement; after = p.after; split = ap (λ (y : List ParsedStatement). s ∷ y) p.split; many = ap suc p.many; begins = p.begins; }
+    record { before = s ∷ p.before; statement = p.statement; after = p.after; split = ap (λ (y : List ParsedStatement). s ∷ y) p.split; many = ap suc p.many; begins = p.begins }
 
 first_too_many : (text : List ℕ) (place : ℕ) → IsFirstFault text (faults.TooManyStatements place) → BeginsOneTooMany text place
 first_too_many text place (statements, says) =
@@ -241,3 +241,14 @@ first_too_many text place (statements, says) =
 
 pub begins_one_too_many : (text : List ℕ) (place : ℕ) → HasSqlFault text (faults.TooManyStatements place) → BeginsOneTooMany text place
 begins_one_too_many text place h = first_too_many text place h
+
+-- a fault of this kind is told at such a place alone
+pub told_too_many : {A : Type 0} (text : List ℕ) (result : Result A SqlFault) → IfErr result (λ e. (e ≡ faults.Memory) ⊎ HasSqlFault text e) → (place : ℕ) →
+    IsErrOf result (faults.TooManyStatements place) → BeginsOneTooMany text place
+told_too_many text (Ok a) told place is = absurd cc
+told_too_many text (Err e) (inl memory) place is =
+    let same : e ≡ faults.TooManyStatements place = cc in
+    absurd cc
+told_too_many text (Err e) (inr h) place is =
+    let same : e ≡ faults.TooManyStatements place = cc in
+    begins_one_too_many text place (subst (HasSqlFault text) same h)

@@ -1,5 +1,5 @@
 -- Rows are at most as many as the pieces that were read for them.
-use Rattle.std.proofs.Common.{◌≡◌, ℕ, ◌+◌, ◌<◌, ◌≤◌, ◌^◌, Bool, true, false, List, [], ◌∷◌, ◌++◌, length, sym, refl, ap, ◌∙◌, subst, arith, length-append, if◌then◌else◌}
+use Rattle.std.proofs.Common.{◌≡◌, ℕ, ◌+◌, ◌≤◌, Bool, true, false, List, [], ◌∷◌, length, sym, refl, ap, subst, arith, length-append, if◌then◌else◌}
 use Rattle.sql_reader.specs.declared.kind.PieceKind.{PieceKind}
 use Rattle.sql_reader.specs.declared.kind.PieceKind.TheVariants as kinds
 use Rattle.sql_reader.specs.declared.piece.Piece.{Piece}
@@ -99,6 +99,7 @@ no_rows n u ps b rest e = by_table (piece_of (kinds.Into ∷ []) ps) e
     by_name (Read p left) h =
         let same : empty_insert p.span ≡ b = cc in
         sym (ap (λ (x : InsertParts). x.rows) same)
+
     by_table : (x : Reading Piece) → ((x >>= λ p rest. Read u rest) >>= λ v rest. (piece_of names rest >>= λ p rest. Read (empty_insert p.span) rest)) ≡ Read b rest → b.rows ≡ 0
     by_table (Stuck left) h = absurd cc
     by_table (Read p left) h = by_name (piece_of names left) h

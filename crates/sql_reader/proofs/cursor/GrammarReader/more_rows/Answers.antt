@@ -5,10 +5,11 @@ use Rattle.sql_reader.proofs.Rooms.{more_rows_left}
 use Rattle.sql_reader.proofs.cursor.GrammarReader.more_rows.Goals as goal
 
 pub turns-preserved : goal.turns-preserved
-turns-preserved c =
-    (keep-more_rows c.args.self.levels _ c.turns.parts c.turns.cursor.rest.now c.another_row.new.parts c.another_row.new.cursor.rest.now
-    c.turns.invariant.0 (sym c.begins.ensures ∙ c.turns-test.true) c.in_ok-another_row.ensures,
-    omega (arith, c.turns.invariant.1, more_rows_left c.args.self.levels c.turns.parts c.turns.cursor.rest.now c.another_row.new.parts c.another_row.new.cursor.rest.now c.in_ok-another_row.ensures))
+turns-preserved c = (
+  keep-more_rows c.args.self.levels _ c.turns.parts c.turns.cursor.rest.now c.another_row.new.parts c.another_row.new.cursor.rest.now
+      c.turns.invariant.0 (sym c.begins.ensures ∙ c.turns-test.true) c.in_ok-another_row.ensures,
+  omega (arith, c.turns.invariant.1, more_rows_left c.args.self.levels c.turns.parts c.turns.cursor.rest.now c.another_row.new.parts c.another_row.new.cursor.rest.now c.in_ok-another_row.ensures),
+)
 
 pub another_row-requires : goal.another_row-requires
 another_row-requires c = omega (arith, c.requires, c.turns.invariant.1)
