@@ -7,9 +7,8 @@ use crate::tests::plans::{edge, grouping, heaps, indexed, plain, plan, up};
 use crate::tests::table::Table;
 use adv_base::{Item, List, Name};
 use plan_model::{GroupStep, Labels, Task, Whole, plan_cost, plan_text};
-use std::alloc::{AllocError, Global};
+use std::alloc::Global;
 use std::process::Abort;
-use std::test::Fail;
 
 /// Each plan, by its steps, its group step and whether it ends in a sort, costs what stands beside it.
 pub fn all_cost(
@@ -18,24 +17,23 @@ pub fn all_cost(
     task: &Task,
     table: &Table,
     cases: &[(&str, GroupStep, bool, Option<u128>)],
-) -> Result<(), Fail> {
+) {
     for (steps, group, final_sort, cost) in cases {
         let whole = Whole {
-            body: plan(alloc, steps)?,
+            body: plan(rt, alloc, steps),
             group: *group,
             final_sort: *final_sort,
         };
         assert_eq!(rt; plan_cost(task, table, &whole), *cost);
     }
-    Ok(())
 }
 
 /// A table of 1000 rows on 20 pages, read whole and sorted, or through an index.
 #[test]
-fn one_slot(rt: HostRuntime) -> Result<(), Fail> {
+fn one_slot(rt: HostRuntime) {
     let alloc = rt.alloc();
-    let task = plain(alloc, 1, &[], &[1, 1000], &[up(0, 0)])?;
-    let table = indexed(alloc, &[30000], &[up(0, 0)], 4013000)?;
+    let task = plain(&rt, alloc, 1, &[], &[1, 1000], &[up(0, 0)]);
+    let table = indexed(&rt, alloc, &[30000], &[up(0, 0)], 4013000);
     all_cost(
         &rt,
         alloc,
@@ -55,28 +53,27 @@ fn one_slot(rt: HostRuntime) -> Result<(), Fail> {
 
 /// The same table where its rows stand in the index's order, and where the index covers all columns.
 #[test]
-fn ordered_indexes(rt: HostRuntime) -> Result<(), Fail> {
+fn ordered_indexes(rt: HostRuntime) {
     let alloc = rt.alloc();
-    let task = plain(alloc, 1, &[], &[1, 1000], &[up(0, 0)])?;
+    let task = plain(&rt, alloc, 1, &[], &[1, 1000], &[up(0, 0)]);
     for price in [33000, 13000] {
-        let table = indexed(alloc, &[30000], &[up(0, 0)], price)?;
+        let table = indexed(&rt, alloc, &[30000], &[up(0, 0)], price);
         all_cost(
             &rt,
             alloc,
             &task,
             &table,
             &[("a1", GroupStep::Nothing, false, Some(price as u128))],
-        )?;
+        );
     }
-    Ok(())
 }
 
 /// No order is asked for.
 #[test]
-fn no_order(rt: HostRuntime) -> Result<(), Fail> {
+fn no_order(rt: HostRuntime) {
     let alloc = rt.alloc();
-    let task = plain(alloc, 1, &[], &[1, 1000], &[])?;
-    let table = heaps(alloc, &[30000])?;
+    let task = plain(&rt, alloc, 1, &[], &[1, 1000], &[]);
+    let table = heaps(&rt, alloc, &[30000]);
     all_cost(
         &rt,
         alloc,
@@ -91,9 +88,10 @@ fn no_order(rt: HostRuntime) -> Result<(), Fail> {
 
 /// Groups of a table of 1000 rows by a column of 100 values, ordered by a made item.
 #[test]
-fn groups(rt: HostRuntime) -> Result<(), Fail> {
+fn groups(rt: HostRuntime) {
     let alloc = rt.alloc();
     let task = grouping(
+        &rt,
         alloc,
         1,
         &[],
@@ -101,8 +99,8 @@ fn groups(rt: HostRuntime) -> Result<(), Fail> {
         &[up(0, 0)],
         100,
         &[Item::Made(1)],
-    )?;
-    let table = heaps(alloc, &[30000])?;
+    );
+    let table = heaps(&rt, alloc, &[30000]);
     all_cost(
         &rt,
         alloc,
@@ -124,11 +122,18 @@ fn groups(rt: HostRuntime) -> Result<(), Fail> {
 /// another order, one whose right or left side isn't sorted, one on an edge that isn't there; a sort under a hash join,
 /// under a sort, and by a column that isn't below it; a slot that is missing, and one that is read twice.
 #[test]
-fn two_slots(rt: HostRuntime) -> Result<(), Fail> {
+fn two_slots(rt: HostRuntime) {
     let alloc = rt.alloc();
     let keys = [up(0, 0), up(0, 1)];
-    let task = plain(alloc, 2, &[edge(0, 0, 1, 0)], &[1, 1000, 1000, 1000], &keys)?;
-    let table = indexed(alloc, &[30000, 30000], &keys, 14000)?;
+    let task = plain(
+        &rt,
+        alloc,
+        2,
+        &[edge(0, 0, 1, 0)],
+        &[1, 1000, 1000, 1000],
+        &keys,
+    );
+    let table = indexed(&rt, alloc, &[30000, 30000], &keys, 14000);
     all_cost(
         &rt,
         alloc,
@@ -153,14 +158,14 @@ fn two_slots(rt: HostRuntime) -> Result<(), Fail> {
 /// A chain of four tables whose ends are filtered to one row each: the bushy plan, the best one that isn't, a merge on an
 /// edge that doesn't cross, and a hash join of sides that no edge ties.
 #[test]
-fn chain(rt: HostRuntime) -> Result<(), Fail> {
+fn chain(rt: HostRuntime) {
     let alloc = rt.alloc();
     let edges = [edge(0, 1, 1, 0), edge(1, 1, 2, 0), edge(2, 1, 3, 0)];
     let rows = [
         1, 1, 1000, 1, 1000, 1000, 100000, 100, 1, 1, 1000, 1, 1, 1, 100, 1,
     ];
-    let task = plain(alloc, 4, &edges, &rows, &[])?;
-    let table = heaps(alloc, &[30000, 30000, 30000, 30000])?;
+    let task = plain(&rt, alloc, 4, &edges, &rows, &[]);
+    let table = heaps(&rt, alloc, &[30000, 30000, 30000, 30000]);
     all_cost(
         &rt,
         alloc,
@@ -182,13 +187,22 @@ fn chain(rt: HostRuntime) -> Result<(), Fail> {
 
 /// Customers, their orders and the orders' items, grouped by two columns of an order.
 #[test]
-fn three_slots(rt: HostRuntime) -> Result<(), Fail> {
+fn three_slots(rt: HostRuntime) {
     let alloc = rt.alloc();
     let edges = [edge(0, 0, 1, 1), edge(2, 0, 1, 0)];
     let rows = [1, 3000, 5224, 1045, 600000, 1800000000, 20898, 4181];
     let order = [Item::Made(1), up(1, 2)];
-    let task = grouping(alloc, 3, &edges, &rows, &[up(1, 0), up(1, 2)], 4181, &order)?;
-    let table = heaps(alloc, &[550000, 4500000, 21000000])?;
+    let task = grouping(
+        &rt,
+        alloc,
+        3,
+        &edges,
+        &rows,
+        &[up(1, 0), up(1, 2)],
+        4181,
+        &order,
+    );
+    let table = heaps(&rt, alloc, &[550000, 4500000, 21000000]);
     all_cost(
         &rt,
         alloc,
@@ -198,41 +212,39 @@ fn three_slots(rt: HostRuntime) -> Result<(), Fail> {
     )
 }
 
-fn names(alloc: Global, name: &[u8]) -> Result<List<Name>, AllocError> {
+fn names(rt: &impl Abort, alloc: Global, name: &[u8]) -> List<Name> {
     let mut items = Vec::new(alloc);
-    items.push(Name {
-        items: Vec::from_slice(alloc, name)?,
-    })?;
-    Ok(List { items })
+    let name = Vec::from_slice(alloc, name).expect(rt, "memory");
+    items.push(Name { items: name }).expect(rt, "memory");
+    List { items }
 }
 
-fn lists(alloc: Global, name: &[u8]) -> Result<List<List<Name>>, AllocError> {
+fn lists(rt: &impl Abort, alloc: Global, name: &[u8]) -> List<List<Name>> {
     let mut items = Vec::new(alloc);
-    items.push(names(alloc, name)?)?;
-    Ok(List { items })
+    items.push(names(rt, alloc, name)).expect(rt, "memory");
+    List { items }
 }
 
 /// The lines of a final sort above a whole table.
 #[test]
-fn lines_of_a_final_sort(rt: HostRuntime) -> Result<(), Fail> {
+fn lines_of_a_final_sort(rt: HostRuntime) {
     let alloc = rt.alloc();
-    let task = plain(alloc, 1, &[], &[1, 1000], &[up(0, 0)])?;
-    let table = heaps(alloc, &[30000])?;
+    let task = plain(&rt, alloc, 1, &[], &[1, 1000], &[up(0, 0)]);
+    let table = heaps(&rt, alloc, &[30000]);
     let labels = Labels {
-        slots: names(alloc, b"t")?,
-        columns: lists(alloc, b"c")?,
-        offers: lists(alloc, b"heap")?,
+        slots: names(&rt, alloc, b"t"),
+        columns: lists(&rt, alloc, b"c"),
+        offers: lists(&rt, alloc, b"heap"),
     };
     let whole = Whole {
-        body: plan(alloc, "a0")?,
+        body: plan(&rt, alloc, "a0"),
         group: GroupStep::Nothing,
         final_sort: true,
     };
     assert_eq!(rt; plan_cost(&task, &table, &whole), Some(80000));
-    let text = plan_text(alloc, &task, &table, &labels, &whole).map_err(|_| "no memory")?;
+    let text = plan_text(alloc, &task, &table, &labels, &whole).expect(&rt, "memory");
     assert_eq!(rt;
         text.as_slice(),
         b"final sort t.c cost 80000\n  heap on t cost 30000\n".as_slice()
     );
-    Ok(())
 }

@@ -4,37 +4,46 @@ use crate::tests::plans::{edge, heaps, indexed, list, plain, up};
 use crate::tests::table::{Reads, Table};
 use plan_model::GroupStep;
 use std::alloc::Global;
-use std::test::Fail;
+use std::process::Abort;
 
 /// Two slots, each with an index on its first column that costs nothing.
-fn free(alloc: Global) -> Result<Table, Fail> {
+fn free(rt: &impl Abort, alloc: Global) -> Table {
     let mut slots = Vec::new(alloc);
-    slots.push(Reads::new(0, 0, 0, list(alloc, &[up(0, 0)])?, true).ok_or("no offer")?)?;
-    slots.push(Reads::new(1, 0, 0, list(alloc, &[up(1, 0)])?, true).ok_or("no offer")?)?;
-    Ok(Table { slots })
+    let reads = Reads::new(0, 0, 0, list(rt, alloc, &[up(0, 0)]), true).expect(rt, "an offer");
+    slots.push(reads).expect(rt, "memory");
+    let reads = Reads::new(1, 0, 0, list(rt, alloc, &[up(1, 0)]), true).expect(rt, "an offer");
+    slots.push(reads).expect(rt, "memory");
+    Table { slots }
 }
 
 /// Leaves that deliver no order, or the one that is asked for, cost nothing: 50000 and 0 for a list to order by, 34000
 /// and 20000 for a join.
 #[test]
-fn internal_costs(rt: HostRuntime) -> Result<(), Fail> {
+fn internal_costs(rt: HostRuntime) {
     let alloc = rt.alloc();
     let keys = [up(0, 0)];
-    let ordered = plain(alloc, 1, &[], &[1, 1000], &keys)?;
-    let heap = heaps(alloc, &[0])?;
-    let index = indexed(alloc, &[0], &keys, 0)?;
+    let ordered = plain(&rt, alloc, 1, &[], &[1, 1000], &keys);
+    let heap = heaps(&rt, alloc, &[0]);
+    let index = indexed(&rt, alloc, &[0], &keys, 0);
     let sorts = [("a0", GroupStep::Nothing, true, Some(50000))];
     let reads = [("a1", GroupStep::Nothing, false, Some(0))];
-    all_cost(&rt, alloc, &ordered, &heap, &sorts)?;
-    all_cost(&rt, alloc, &ordered, &index, &reads)?;
-    let joined = plain(alloc, 2, &[edge(0, 0, 1, 0)], &[1, 1000, 1000, 1000], &[])?;
+    all_cost(&rt, alloc, &ordered, &heap, &sorts);
+    all_cost(&rt, alloc, &ordered, &index, &reads);
+    let joined = plain(
+        &rt,
+        alloc,
+        2,
+        &[edge(0, 0, 1, 0)],
+        &[1, 1000, 1000, 1000],
+        &[],
+    );
     let plans = [
         ("a0b0H.", GroupStep::Nothing, false, Some(34000)),
         ("a0A0b0B0M0", GroupStep::Nothing, false, Some(120000)),
         ("a1b0B0M0", GroupStep::Nothing, false, Some(70000)),
         ("a1b1M0", GroupStep::Nothing, false, Some(20000)),
     ];
-    all_cost(&rt, alloc, &joined, &free(alloc)?, &plans)
+    all_cost(&rt, alloc, &joined, &free(&rt, alloc), &plans)
 }
 
 /// The least price of a slot for the order of a number; none is `u64::MAX`.
@@ -58,7 +67,7 @@ fn cached(templates: &[(u64, usize, usize)], left: &[u64], right: &[u64]) -> u64
 
 /// A table of 30000 and an index of 13000 that covers, under a list to order by and on both sides of a join.
 #[test]
-fn cached_costs(rt: HostRuntime) -> Result<(), Fail> {
+fn cached_costs(rt: HostRuntime) {
     let none = u64::MAX;
     let ordered = [(50000, 0, 0), (0, 1, 0)];
     let joined = [(34000, 0, 0), (20000, 1, 1)];
@@ -66,7 +75,6 @@ fn cached_costs(rt: HostRuntime) -> Result<(), Fail> {
     assert_eq!(rt; cached(&ordered, &[13000, 13000], &[0]), 13000);
     assert_eq!(rt; cached(&joined, &[30000, none], &[30000, none]), 94000);
     assert_eq!(rt; cached(&joined, &[13000, 13000], &[13000, 13000]), 46000);
-    Ok(())
 }
 
 /// What an open candidate earns beyond the price of its pages, in parts of 65536: it has no upkeep.
@@ -93,7 +101,7 @@ fn lagrangian(plans: &[(u64, u64)], earnings: u64, page: u64, budget: u64) -> u6
 /// budget of 4 pages: nothing is asked for; the first index is in, so that the second isn't open; pages cost 2^33 / 65536
 /// each, and the rents are what pays for them.
 #[test]
-fn lagrangian_values(rt: HostRuntime) -> Result<(), Fail> {
+fn lagrangian_values(rt: HostRuntime) {
     let page = 8589934592;
     let first = earned(10, 39321, page, 3);
     let second = earned(11, 47662, page, 4);
@@ -104,5 +112,4 @@ fn lagrangian_values(rt: HostRuntime) -> Result<(), Fail> {
         lagrangian(&rented, first.saturating_add(second), page, 4),
         677204
     );
-    Ok(())
 }

@@ -2,8 +2,8 @@
 use crate::tests::table::{Reads, Table};
 use adv_base::{Item, List, Rates};
 use plan_model::{Plan, Task, TaskEdge, checked_task};
-use std::alloc::{AllocError, Global};
-use std::test::Fail;
+use std::alloc::Global;
+use std::process::Abort;
 
 pub fn up(slot: u8, column: u16) -> Item {
     Item::Up { slot, column }
@@ -21,40 +21,42 @@ pub fn edge(left: u8, left_column: u16, right: u8, right_column: u16) -> TaskEdg
     }
 }
 
-pub fn list(alloc: Global, items: &[Item]) -> Result<List<Item>, AllocError> {
-    Ok(List {
-        items: Vec::from_slice(alloc, items)?,
-    })
+pub fn list(rt: &impl Abort, alloc: Global, items: &[Item]) -> List<Item> {
+    List {
+        items: Vec::from_slice(alloc, items).expect(rt, "memory"),
+    }
 }
 
 /// A task that doesn't group.
 pub fn plain(
+    rt: &impl Abort,
     alloc: Global,
     slots: u8,
     edges: &[TaskEdge],
     rows: &[u64],
     order: &[Item],
-) -> Result<Task, Fail> {
+) -> Task {
     let edges = List {
-        items: Vec::from_slice(alloc, edges)?,
+        items: Vec::from_slice(alloc, edges).expect(rt, "memory"),
     };
     let rows = List {
-        items: Vec::from_slice(alloc, rows)?,
+        items: Vec::from_slice(alloc, rows).expect(rt, "memory"),
     };
-    Ok(checked_task(
+    checked_task(
         slots,
         edges,
         rows,
         None,
         1,
-        list(alloc, order)?,
+        list(rt, alloc, order),
         Rates::default(),
     )
-    .ok_or("no task")?)
+    .expect(rt, "a task")
 }
 
 /// A task that groups.
 pub fn grouping(
+    rt: &impl Abort,
     alloc: Global,
     slots: u8,
     edges: &[TaskEdge],
@@ -62,101 +64,101 @@ pub fn grouping(
     group: &[Item],
     group_rows: u64,
     order: &[Item],
-) -> Result<Task, Fail> {
+) -> Task {
     let edges = List {
-        items: Vec::from_slice(alloc, edges)?,
+        items: Vec::from_slice(alloc, edges).expect(rt, "memory"),
     };
     let rows = List {
-        items: Vec::from_slice(alloc, rows)?,
+        items: Vec::from_slice(alloc, rows).expect(rt, "memory"),
     };
-    let group = Some(list(alloc, group)?);
-    Ok(checked_task(
+    let group = Some(list(rt, alloc, group));
+    checked_task(
         slots,
         edges,
         rows,
         group,
         group_rows,
-        list(alloc, order)?,
+        list(rt, alloc, order),
         Rates::default(),
     )
-    .ok_or("no task")?)
+    .expect(rt, "a task")
 }
 
 /// Whole tables to read at these prices.
-pub fn heaps(alloc: Global, prices: &[u64]) -> Result<Table, Fail> {
+pub fn heaps(rt: &impl Abort, alloc: Global, prices: &[u64]) -> Table {
     let mut slots = Vec::new(alloc);
     let mut slot: u8 = 0;
     for price in prices {
-        let reads = Reads::new(slot, *price, 0, List::new(alloc), false).ok_or("no offer")?;
-        slots.push(reads)?;
+        let reads = Reads::new(slot, *price, 0, List::new(alloc), false).expect(rt, "an offer");
+        slots.push(reads).expect(rt, "memory");
         slot = slot.wrapping_add(1);
     }
-    Ok(Table { slots })
+    Table { slots }
 }
 
 /// The same with an index on the first slot.
-pub fn indexed(alloc: Global, prices: &[u64], keys: &[Item], index: u64) -> Result<Table, Fail> {
+pub fn indexed(rt: &impl Abort, alloc: Global, prices: &[u64], keys: &[Item], index: u64) -> Table {
     let mut slots = Vec::new(alloc);
     let mut slot: u8 = 0;
     for price in prices {
         let first = slot == 0;
-        let keys = list(alloc, if first { keys } else { &[] })?;
-        let reads = Reads::new(slot, *price, index, keys, first).ok_or("no offer")?;
-        slots.push(reads)?;
+        let keys = list(rt, alloc, if first { keys } else { &[] });
+        let reads = Reads::new(slot, *price, index, keys, first).expect(rt, "an offer");
+        slots.push(reads).expect(rt, "memory");
         slot = slot.wrapping_add(1);
     }
-    Ok(Table { slots })
+    Table { slots }
 }
 
 /// A plan of a step above what the last steps made.
-fn step(alloc: Global, kind: u8, number: u8, made: &mut Vec<Plan>) -> Result<Plan, Fail> {
+fn step(rt: &impl Abort, alloc: Global, kind: u8, number: u8, made: &mut Vec<Plan>) -> Plan {
     match kind {
-        b'a'..=b'd' => Ok(Plan::Leaf {
+        b'a'..=b'd' => Plan::Leaf {
             slot: kind - b'a',
             offer: number as u32,
-        }),
-        b'A'..=b'D' => sorted(alloc, up(kind - b'A', number as u16), made),
-        b'X' => sorted(alloc, Item::Made(number as u32), made),
-        b'M' => merged(alloc, number as u32, made),
-        _ => hashed(alloc, made),
+        },
+        b'A'..=b'D' => sorted(rt, alloc, up(kind - b'A', number as u16), made),
+        b'X' => sorted(rt, alloc, Item::Made(number as u32), made),
+        b'M' => merged(rt, alloc, number as u32, made),
+        _ => hashed(rt, alloc, made),
     }
 }
 
-fn sorted(alloc: Global, item: Item, made: &mut Vec<Plan>) -> Result<Plan, Fail> {
-    let input = made.pop().ok_or("no input")?;
-    Ok(Plan::Sort {
-        order: list(alloc, &[item])?,
-        input: Box::new(alloc, input)?,
-    })
+fn sorted(rt: &impl Abort, alloc: Global, item: Item, made: &mut Vec<Plan>) -> Plan {
+    let input = made.pop().expect(rt, "input");
+    Plan::Sort {
+        order: list(rt, alloc, &[item]),
+        input: Box::new(alloc, input).expect(rt, "memory"),
+    }
 }
 
-fn merged(alloc: Global, edge: u32, made: &mut Vec<Plan>) -> Result<Plan, Fail> {
-    let right = made.pop().ok_or("no right side")?;
-    let left = made.pop().ok_or("no left side")?;
-    Ok(Plan::Merge {
+fn merged(rt: &impl Abort, alloc: Global, edge: u32, made: &mut Vec<Plan>) -> Plan {
+    let right = made.pop().expect(rt, "right side");
+    let left = made.pop().expect(rt, "left side");
+    Plan::Merge {
         edge,
-        left: Box::new(alloc, left)?,
-        right: Box::new(alloc, right)?,
-    })
+        left: Box::new(alloc, left).expect(rt, "memory"),
+        right: Box::new(alloc, right).expect(rt, "memory"),
+    }
 }
 
-fn hashed(alloc: Global, made: &mut Vec<Plan>) -> Result<Plan, Fail> {
-    let right = made.pop().ok_or("no right side")?;
-    let left = made.pop().ok_or("no left side")?;
-    Ok(Plan::Hash {
-        left: Box::new(alloc, left)?,
-        right: Box::new(alloc, right)?,
-    })
+fn hashed(rt: &impl Abort, alloc: Global, made: &mut Vec<Plan>) -> Plan {
+    let right = made.pop().expect(rt, "right side");
+    let left = made.pop().expect(rt, "left side");
+    Plan::Hash {
+        left: Box::new(alloc, left).expect(rt, "memory"),
+        right: Box::new(alloc, right).expect(rt, "memory"),
+    }
 }
 
 /// A plan by its steps of two bytes, inputs first: `a1` reads slot a by offer 1, `B0` sorts by column 0 of slot b, `X1`
 /// sorts by a made item, `M0` merges on edge 0, `H.` hashes.
-pub fn plan(alloc: Global, steps: &str) -> Result<Plan, Fail> {
+pub fn plan(rt: &impl Abort, alloc: Global, steps: &str) -> Plan {
     let steps = steps.as_bytes();
     let mut made = Vec::new(alloc);
     for at in 0..steps.len() / 2 {
-        let next = step(alloc, steps[2 * at], steps[2 * at + 1] & 15, &mut made)?;
-        made.push(next)?;
+        let next = step(rt, alloc, steps[2 * at], steps[2 * at + 1] & 15, &mut made);
+        made.push(next).expect(rt, "memory");
     }
-    Ok(made.pop().ok_or("no plan")?)
+    made.pop().expect(rt, "plan")
 }
