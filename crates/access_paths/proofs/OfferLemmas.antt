@@ -58,6 +58,7 @@ table-price cat block shapes config s = of-slot (slice_get block.slots s)
     of-table : (slot : Slot) (table : Option Table) → option_map_or (λ o. o.1) (slice_get (offers_on cat block shapes config s slot table) 0) 0 ≤ MOST_TABLE_PRICE
     of-table slot (Some table) = table_price-most cat table
     of-table slot None = omega arith
+
     of-slot : (slot : Option Slot) → option_map_or (λ o. o.1) (slice_get (offers_of cat block shapes config s slot) 0) 0 ≤ MOST_TABLE_PRICE
     of-slot (Some slot) = of-table slot (table_at cat slot.table)
     of-slot None = omega arith

@@ -1,7 +1,7 @@
 -- What makes a task of a block keep a task's limits.
-use Rattle.std.proofs.Common.{◌≡◌, ◌≢◌, ℕ, suc, ◌+◌, ◌^◌, ◌<◌, ◌≤◌, List, [], ◌∷◌, length, get_or, map, refl, sym, ◌∙◌, ap, arith}
+use Rattle.std.proofs.Common.{◌≡◌, ℕ, ◌+◌, ◌^◌, ◌<◌, ◌≤◌, List, [], ◌∷◌, length, get_or, map, refl, sym, ◌∙◌, ap, arith}
 use Rattle.std.proofs.lemmas.List.{length-map}
-use Rattle.std.specs.Prelude.{Bool, true, false, nat_lt, Option, Some, None, All, if◌then◌else◌, slice_index}
+use Rattle.std.specs.Prelude.{Bool, true, false, nat_lt, Option, Some, None, if◌then◌else◌}
 use Rattle.std.specs.List.{range_with_len}
 use Rattle.std.specs.Option.{ForSome, option_map_or}
 use Rattle.std.proofs.lemmas.Bool.Decides.{nat_tests}
@@ -20,7 +20,7 @@ use Rattle.adv_base.specs.Named.{NamesBlock, NamesEdge, NamesItems, names_item}
 use Rattle.adv_base.specs.Rows.{set_rows}
 use Rattle.adv_base.specs.Rows.{AreRows}
 use Rattle.cardinality.specs.Tables.{HoldsRows}
-use Rattle.plan_model.specs.BlockTask.{need, task_edge}
+use Rattle.plan_model.specs.BlockTask.{task_edge}
 use Rattle.plan_model.specs.Limits.Tasks.{TaskLimits, EdgeLimits, RowLimits, AreNumbered, is_numbered, ends}
 
 columns_few : (table : Option Table) → option_map_or (λ t. length t.columns) table 0 ≤ 200

@@ -16,8 +16,6 @@ mod reader;
 mod slot_access;
 mod slot_offer;
 mod slot_offers;
-#[cfg(test)]
-mod tests;
 
 pub use block_labels::labels;
 pub use block_task::task;

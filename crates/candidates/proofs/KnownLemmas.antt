@@ -1,6 +1,6 @@
 -- Laws of known key lists, and of adding to them.
-use Rattle.std.proofs.Common.{◌≡◌, ◌≢◌, ℕ, zero, suc, ◌+◌, ◌<◌, ◌≤◌, ◌==◌, Bool, true, false, ◌&&◌, ◌||◌, cond, List, [], ◌∷◌, ◌++◌, length, map, drop, get_or, refl, sym, ap, ◌∙◌, arith, inl, inr}
-use Rattle.std.specs.Prelude.{nat_lt, fold, take}
+use Rattle.std.proofs.Common.{◌≡◌, ℕ, suc, ◌+◌, ◌<◌, ◌≤◌, ◌==◌, Bool, true, false, ◌||◌, cond, List, [], ◌∷◌, ◌++◌, length, map, drop, get_or, refl, sym, ap, ◌∙◌, arith}
+use Rattle.std.specs.Prelude.{nat_lt, fold}
 use Rattle.std.specs.List.{list_any, flat_map, enumerate_from}
 use Rattle.std.proofs.Math.Bool.{or-true}
 use Rattle.std.proofs.Math.Seq.{drop-cons}
@@ -12,7 +12,7 @@ use Rattle.adv_base.specs.declared.limits.TheConstants.{MOST_KEYS}
 use Rattle.candidates.specs.Columns.{has_column, with_column, joined}
 use Rattle.candidates.specs.Proposals.{KeyList}
 use Rattle.candidates.specs.Candidates.{is_same_list, is_left_out, with_proposal}
-use Rattle.candidates.specs.Known.{OwnedList, as_list, as_lists}
+use Rattle.candidates.specs.inner.Known.{OwnedList, as_list, as_lists}
 
 -- a list of 1 to 8 columns is left out where it is known
 pub left_out-short : (existing before : List KeyList) (p : KeyList) → 0 < length p.1 → length p.1 ≤ MOST_KEYS

@@ -1,12 +1,8 @@
 -- Laws of lists of columns.
-use Rattle.std.proofs.Common.{◌≡◌, ℕ, zero, suc, ◌+◌, ◌-◌, ◌<◌, ◌≤◌, ◌==◌, Bool, true, false, ◌&&◌, List, [], ◌∷◌, ◌++◌, length, map, drop, get_or, refl, sym, ap, ◌∙◌, arith, inl, inr}
+use Rattle.std.proofs.Common.{◌≡◌, ℕ, zero, suc, ◌+◌, ◌-◌, ◌<◌, ◌≤◌, List, [], ◌∷◌, ◌++◌, length, map, drop, get_or, sym, ap, ◌∙◌, arith, inl, inr}
 use Rattle.std.proofs.lemmas.Bool.{cases_lt}
 use Rattle.std.proofs.lemmas.List.{length-map, length-drop, get_or-drop, get_or-map, take_more, take_all}
-use Rattle.std.proofs.lemmas.Bool.Decides.{nat_tests}
-use Rattle.std.specs.Prelude.{not, min, take, slice_get, Some}
-use Rattle.std.specs.List.{list_all}
-use Rattle.adv_base.specs.declared.workload.parts.Item.{Item}
-use Rattle.adv_base.specs.Items.{is_up_of, is_own_list}
+use Rattle.std.specs.Prelude.{min, take, slice_get, Some}
 
 -- an element that is there, by its place
 pub slice_get-there : {A : Type 0} (xs : List A) (i : ℕ) (y : A) → slice_get xs i ≡ Some y → (i < length xs) × ((d : A) → get_or xs i d ≡ y)

@@ -6,7 +6,7 @@ use Rattle.adv_base.specs.declared.catalogue.Catalogue.{Catalogue}
 use Rattle.adv_base.specs.declared.workload.block.Block.{Block}
 use Rattle.adv_base.specs.declared.workload.parts.Edge.{Edge}
 use Rattle.adv_base.specs.declared.workload.parts.Item.{Item}
-use Rattle.adv_base.specs.declared.workload.parts.Item.TheVariants.{Up, Down, Made}
+use Rattle.adv_base.specs.declared.workload.parts.Item.TheVariants.{Up}
 use Rattle.adv_base.specs.declared.workload.parts.Slot.{Slot}
 use Rattle.adv_base.specs.declared.workload.predicate.Pred.{Pred}
 use Rattle.adv_base.specs.declared.workload.predicate.Test.{Test}

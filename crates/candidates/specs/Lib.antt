@@ -1,4 +1,4 @@
 pub mod Columns
 pub mod Proposals
 pub mod Candidates
-pub mod Known
+pub mod inner

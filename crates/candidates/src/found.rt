@@ -4,8 +4,8 @@ ghost use Rattle.std.specs.List.{flat_map};
 ghost use Rattle.adv_base.specs.declared.limits.TheConstants.{MOST_CANDIDATES};
 ghost use Rattle.adv_base.specs.Limits.Numbers.{KeyLimits};
 ghost use Rattle.adv_base.specs.Named.{NamesWork, NamesShape};
-ghost use Rattle.candidates.specs.Candidates.{with_proposal, key_list, existing_lists, fresh_lists, IsPlain};
-ghost use Rattle.candidates.specs.Known.{as_list, as_lists};
+ghost use Rattle.candidates.specs.Candidates as proposed;
+ghost use Rattle.candidates.specs.inner.Known as held;
 
 use crate::answer::Candidates;
 use crate::known::{KeyList, add_copy};
@@ -21,8 +21,8 @@ fn add_indexes(
     known: &mut IndexSet<KeyList>,
     indexes: &[Index],
 ) -> Result<(), AllocError>
-    ensures { OnOk result (as_lists known.new.keys
-        ≡ fold (with_proposal []) (as_lists known.old.keys) (map (λ index. key_list index.shape) indexes.now)) }
+    ensures { OnOk result (held.as_lists known.new.keys
+        ≡ fold (proposed.with_proposal []) (held.as_lists known.old.keys) (map (λ index. proposed.key_list index.shape) indexes.now)) }
 {
     'indexes: for index in indexes {
         add_copy(alloc, known, index.shape.table, index.shape.keys.as_slice())?;
@@ -36,8 +36,8 @@ fn add_tables(
     known: &mut IndexSet<KeyList>,
     tables: &[Table],
 ) -> Result<(), AllocError>
-    ensures { OnOk result (as_lists known.new.keys ≡ fold (with_proposal []) (as_lists known.old.keys)
-        (flat_map (λ table. map (λ index. key_list index.shape) table.indexes) tables.now)) }
+    ensures { OnOk result (held.as_lists known.new.keys ≡ fold (proposed.with_proposal []) (held.as_lists known.old.keys)
+        (flat_map (λ table. map (λ index. proposed.key_list index.shape) table.indexes) tables.now)) }
 {
     'tables: for table in tables {
         add_indexes(alloc, known, table.indexes.as_slice())?;
@@ -52,17 +52,17 @@ fn add_existing(
     known: &mut IndexSet<KeyList>,
     cat: &Catalogue,
 ) -> Result<(), AllocError>
-    ensures { OnOk result (as_lists known.new.keys
-        ≡ fold (with_proposal []) (as_lists known.old.keys) (existing_lists cat.now)) }
+    ensures { OnOk result (held.as_lists known.new.keys
+        ≡ fold (proposed.with_proposal []) (held.as_lists known.old.keys) (proposed.existing_lists cat.now)) }
 {
     add_tables(alloc, known, cat.tables.as_slice())
 }
 
 /// A key list as the shape of an index that is neither unique nor clustered.
 fn shape_of(alloc: Global, list: &KeyList) -> Result<IndexShape, AllocError>
-    requires { KeyLimits (as_list list.now).1 }
-    ensures keys { IfOk result (λ shape. key_list shape ≡ as_list list.now) }
-    ensures plain { IfOk result IsPlain }
+    requires { KeyLimits (held.as_list list.now).1 }
+    ensures keys { IfOk result (λ shape. proposed.key_list shape ≡ held.as_list list.now) }
+    ensures plain { IfOk result proposed.IsPlain }
 {
     Ok(IndexShape {
         table: list.0,
@@ -83,9 +83,9 @@ fn shapes_between(
 ) -> Result<List<IndexShape>, AllocError>
     requires order { from ≤ to }
     requires within { to ≤ length known.now.keys }
-    requires limits { All (λ p. KeyLimits p.1) (drop from (as_lists known.now.keys)) }
-    ensures keys { IfOk result (λ list. map key_list list ≡ take (to - from) (drop from (as_lists known.now.keys))) }
-    ensures plain { IfOk result (All IsPlain) }
+    requires limits { All (λ p. KeyLimits p.1) (drop from (held.as_lists known.now.keys)) }
+    ensures keys { IfOk result (λ list. map proposed.key_list list ≡ take (to - from) (drop from (held.as_lists known.now.keys))) }
+    ensures plain { IfOk result (All proposed.IsPlain) }
 {
     let mut list = Vec::new(alloc);
     'places: for at in from..to {
@@ -100,7 +100,7 @@ fn known_lists(
     cat: &Catalogue,
     statements: &[Statement],
 ) -> Result<(IndexSet<KeyList>, usize), AllocError>
-    ensures fresh { IfOk result (λ r. drop r.1 (as_lists r.0.keys) ≡ fresh_lists cat.now statements.now) }
+    ensures fresh { IfOk result (λ r. drop r.1 (held.as_lists r.0.keys) ≡ proposed.fresh_lists cat.now statements.now) }
     ensures within { IfOk result (λ r. r.1 ≤ length r.0.keys) }
 {
     let mut known: IndexSet<KeyList> = IndexSet::new(alloc);
@@ -119,11 +119,11 @@ pub fn candidates(
     statements: &[Statement],
 ) -> Result<Candidates, NoMemory>
     requires { All (λ statement. NamesWork cat.now statement.work) statements.now }
-    ensures list { IfOk result (λ found. map key_list found.list
-        ≡ take MOST_CANDIDATES (fresh_lists cat.now statements.now)) }
+    ensures list { IfOk result (λ found. map proposed.key_list found.list
+        ≡ take MOST_CANDIDATES (proposed.fresh_lists cat.now statements.now)) }
     ensures left_over { IfOk result (λ found. found.left_over
-        ≡ length (fresh_lists cat.now statements.now) - MOST_CANDIDATES) }
-    ensures plain { IfOk result (λ found. All IsPlain found.list) }
+        ≡ length (proposed.fresh_lists cat.now statements.now) - MOST_CANDIDATES) }
+    ensures plain { IfOk result (λ found. All proposed.IsPlain found.list) }
     ensures few { IfOk result (λ found. length found.list ≤ MOST_CANDIDATES) }
     ensures named { IfOk result (λ found. All (NamesShape cat.now) found.list) }
 {

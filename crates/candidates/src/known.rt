@@ -1,10 +1,10 @@
 //! The key lists that are known so far, each once.
 ghost use Rattle.std.specs.Prelude.{◌≡◌, ◌<◌, ◌≤◌, [], ◌∷◌, OnOk, fold, length};
 ghost use Rattle.adv_base.specs.declared.limits.TheConstants.{MOST_KEYS};
-ghost use Rattle.candidates.specs.Candidates.{with_proposal};
+ghost use Rattle.candidates.specs.Candidates as proposed;
 ghost use Rattle.candidates.specs.Columns as columns;
-ghost use Rattle.candidates.specs.Known.{as_lists};
-ghost use Rattle.candidates.specs.Proposals.{single_lists, lists_behind};
+ghost use Rattle.candidates.specs.inner.Known as held;
+ghost use Rattle.candidates.specs.Proposals as proposals;
 
 use crate::columns::joined;
 use adv_base::limits::MOST_KEYS;
@@ -18,7 +18,7 @@ pub(crate) type KeyList = (u16, Vec<u16>);
 fn insert_list(known: &mut IndexSet<KeyList>, table: u16, keys: Vec<u16>) -> Result<(), AllocError>
     requires some { 0 < length keys.items }
     requires few { length keys.items ≤ MOST_KEYS }
-    ensures { OnOk result (as_lists known.new.keys ≡ with_proposal [] (as_lists known.old.keys) (table, keys.items)) }
+    ensures { OnOk result (held.as_lists known.new.keys ≡ proposed.with_proposal [] (held.as_lists known.old.keys) (table, keys.items)) }
 {
     known.insert((table, keys))?;
     Ok(())
@@ -26,7 +26,7 @@ fn insert_list(known: &mut IndexSet<KeyList>, table: u16, keys: Vec<u16>) -> Res
 
 /// Adds a list, unless it is empty, has too many columns or is known.
 fn add_list(known: &mut IndexSet<KeyList>, table: u16, keys: Vec<u16>) -> Result<(), AllocError>
-    ensures { OnOk result (as_lists known.new.keys ≡ with_proposal [] (as_lists known.old.keys) (table, keys.items)) }
+    ensures { OnOk result (held.as_lists known.new.keys ≡ proposed.with_proposal [] (held.as_lists known.old.keys) (table, keys.items)) }
 {
     if keys.is_empty() || keys.len() > MOST_KEYS {
         return Ok(());
@@ -41,7 +41,7 @@ pub(crate) fn add_copy(
     table: u16,
     keys: &[u16],
 ) -> Result<(), AllocError>
-    ensures { OnOk result (as_lists known.new.keys ≡ with_proposal [] (as_lists known.old.keys) (table, keys.now)) }
+    ensures { OnOk result (held.as_lists known.new.keys ≡ proposed.with_proposal [] (held.as_lists known.old.keys) (table, keys.now)) }
 {
     add_joined(alloc, known, table, keys, &[])
 }
@@ -54,8 +54,8 @@ pub(crate) fn add_joined(
     keys: &[u16],
     more: &[u16],
 ) -> Result<(), AllocError>
-    ensures { OnOk result (as_lists known.new.keys
-        ≡ with_proposal [] (as_lists known.old.keys) (table, columns.joined keys.now more.now)) }
+    ensures { OnOk result (held.as_lists known.new.keys
+        ≡ proposed.with_proposal [] (held.as_lists known.old.keys) (table, columns.joined keys.now more.now)) }
 {
     if keys.len() > MOST_KEYS {
         return Ok(());
@@ -71,8 +71,8 @@ fn add_single(
     table: u16,
     column: u16,
 ) -> Result<(), AllocError>
-    ensures { OnOk result (as_lists known.new.keys
-        ≡ with_proposal [] (as_lists known.old.keys) (table, column ∷ [])) }
+    ensures { OnOk result (held.as_lists known.new.keys
+        ≡ proposed.with_proposal [] (held.as_lists known.old.keys) (table, column ∷ [])) }
 {
     add_copy(alloc, known, table, &[column])
 }
@@ -84,8 +84,8 @@ pub(crate) fn add_singles(
     table: u16,
     columns: &[u16],
 ) -> Result<(), AllocError>
-    ensures { OnOk result (as_lists known.new.keys
-        ≡ fold (with_proposal []) (as_lists known.old.keys) (single_lists table columns.now)) }
+    ensures { OnOk result (held.as_lists known.new.keys
+        ≡ fold (proposed.with_proposal []) (held.as_lists known.old.keys) (proposals.single_lists table columns.now)) }
 {
     'columns: for column in columns {
         add_single(alloc, known, table, *column)?;
@@ -101,8 +101,8 @@ fn add_one_behind(
     keys: &[u16],
     column: u16,
 ) -> Result<(), AllocError>
-    ensures { OnOk result (as_lists known.new.keys
-        ≡ with_proposal [] (as_lists known.old.keys) (table, columns.with_column keys.now column)) }
+    ensures { OnOk result (held.as_lists known.new.keys
+        ≡ proposed.with_proposal [] (held.as_lists known.old.keys) (table, columns.with_column keys.now column)) }
 {
     add_joined(alloc, known, table, keys, &[column])
 }
@@ -115,8 +115,8 @@ pub(crate) fn add_behind(
     keys: &[u16],
     columns: &[u16],
 ) -> Result<(), AllocError>
-    ensures { OnOk result (as_lists known.new.keys
-        ≡ fold (with_proposal []) (as_lists known.old.keys) (lists_behind table keys.now columns.now)) }
+    ensures { OnOk result (held.as_lists known.new.keys
+        ≡ fold (proposed.with_proposal []) (held.as_lists known.old.keys) (proposals.lists_behind table keys.now columns.now)) }
 {
     'columns: for column in columns {
         add_one_behind(alloc, known, table, keys, *column)?;

@@ -2,8 +2,8 @@
 ghost use Rattle.std.specs.Prelude.{◌≡◌, ◌≤◌, [], OnOk, fold, length};
 ghost use Rattle.std.specs.List.{flat_map, enumerate_from};
 ghost use Rattle.adv_base.specs.declared.limits.TheConstants.{MOST_SLOTS};
-ghost use Rattle.candidates.specs.Candidates.{with_proposal};
-ghost use Rattle.candidates.specs.Known.{as_lists};
+ghost use Rattle.candidates.specs.Candidates as proposed;
+ghost use Rattle.candidates.specs.inner.Known as held;
 ghost use Rattle.candidates.specs.Proposals as proposals;
 
 use crate::columns::{
@@ -25,7 +25,7 @@ fn add_columns(
     ranges: &[u16],
     joins: &[u16],
 ) -> Result<(), AllocError>
-    ensures { OnOk result (as_lists known.new.keys ≡ fold (with_proposal []) (as_lists known.old.keys)
+    ensures { OnOk result (held.as_lists known.new.keys ≡ fold (proposed.with_proposal []) (held.as_lists known.old.keys)
         (proposals.column_lists table points.now ranges.now joins.now)) }
 {
     add_singles(alloc, known, table, points)?;
@@ -46,7 +46,7 @@ fn add_sorted(
     group: &[u16],
     order: &[u16],
 ) -> Result<(), AllocError>
-    ensures { OnOk result (as_lists known.new.keys ≡ fold (with_proposal []) (as_lists known.old.keys)
+    ensures { OnOk result (held.as_lists known.new.keys ≡ fold (proposed.with_proposal []) (held.as_lists known.old.keys)
         (proposals.sorted_lists table points.now group.now order.now)) }
 {
     add_copy(alloc, known, table, group)?;
@@ -65,8 +65,8 @@ fn add_covering(
     ranges: &[u16],
     needed: &[u16],
 ) -> Result<(), AllocError>
-    ensures { OnOk result (as_lists known.new.keys
-        ≡ with_proposal [] (as_lists known.old.keys) (proposals.covering_list table points.now ranges.now needed.now)) }
+    ensures { OnOk result (held.as_lists known.new.keys
+        ≡ proposed.with_proposal [] (held.as_lists known.old.keys) (proposals.covering_list table points.now ranges.now needed.now)) }
 {
     let front = joined(alloc, points, &ranges[..ranges.len().min(1)])?;
     add_joined(alloc, known, table, &front, needed)?;
@@ -83,7 +83,7 @@ fn add_slot(
     number: u8,
     slot: &Slot,
 ) -> Result<(), AllocError>
-    ensures { OnOk result (as_lists known.new.keys ≡ fold (with_proposal []) (as_lists known.old.keys)
+    ensures { OnOk result (held.as_lists known.new.keys ≡ fold (proposed.with_proposal []) (held.as_lists known.old.keys)
         (proposals.slot_lists cat.now block.now number slot.now)) }
 {
     let points = point_columns(alloc, block, number)?;
@@ -107,7 +107,7 @@ fn add_slots(
     slots: &[Slot],
 ) -> Result<(), AllocError>
     requires { length slots.now ≤ MOST_SLOTS }
-    ensures { OnOk result (as_lists known.new.keys ≡ fold (with_proposal []) (as_lists known.old.keys)
+    ensures { OnOk result (held.as_lists known.new.keys ≡ fold (proposed.with_proposal []) (held.as_lists known.old.keys)
         (flat_map (λ numbered. proposals.slot_lists cat.now block.now numbered.0 numbered.1) (enumerate_from 0 slots.now))) }
 {
     'slots: for at in 0..slots.len() {
@@ -124,8 +124,8 @@ fn add_block(
     cat: &Catalogue,
     block: &Block,
 ) -> Result<(), AllocError>
-    ensures { OnOk result (as_lists known.new.keys
-        ≡ fold (with_proposal []) (as_lists known.old.keys) (proposals.block_lists cat.now block.now)) }
+    ensures { OnOk result (held.as_lists known.new.keys
+        ≡ fold (proposed.with_proposal []) (held.as_lists known.old.keys) (proposals.block_lists cat.now block.now)) }
 {
     add_slots(alloc, known, cat, block, block.slots.as_slice())
 }
@@ -138,8 +138,8 @@ fn add_work(
     cat: &Catalogue,
     work: &Work,
 ) -> Result<(), AllocError>
-    ensures { OnOk result (as_lists known.new.keys
-        ≡ fold (with_proposal []) (as_lists known.old.keys) (proposals.work_lists cat.now work.now)) }
+    ensures { OnOk result (held.as_lists known.new.keys
+        ≡ fold (proposed.with_proposal []) (held.as_lists known.old.keys) (proposals.work_lists cat.now work.now)) }
 {
     match work {
         Work::Select(block) => add_block(alloc, known, cat, block),
@@ -157,8 +157,8 @@ pub(crate) fn add_proposals(
     cat: &Catalogue,
     statements: &[Statement],
 ) -> Result<(), AllocError>
-    ensures { OnOk result (as_lists known.new.keys
-        ≡ fold (with_proposal []) (as_lists known.old.keys) (proposals.proposals cat.now statements.now)) }
+    ensures { OnOk result (held.as_lists known.new.keys
+        ≡ fold (proposed.with_proposal []) (held.as_lists known.old.keys) (proposals.proposals cat.now statements.now)) }
 {
     'statements: for at in 0..statements.len() {
         add_work(alloc, known, cat, &statements[at].work)?;

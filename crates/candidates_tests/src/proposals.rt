@@ -2,11 +2,9 @@
 //!
 //! Each case is the key lists that a workload proposes, in sequence, `|` and the workload. They were written from the
 //! rules, by hand.
+use crate::reading::{SHOP, WORTH, catalogue, proposed};
 use adv_base::{Catalogue, IndexShape};
-use binder::bind;
-use candidates::{Candidates, candidates};
-use catalogue::read_catalogue;
-use sql_reader::{Parsed, read_workload};
+use candidates::Candidates;
 use std::alloc::{AllocError, Global};
 use std::test::Fail;
 
@@ -137,41 +135,8 @@ t(b) t(c) t(b,c)|DELETE FROM t WHERE b = 1 AND c < 2
 t(a)|INSERT INTO t VALUES (1); DELETE FROM t WHERE a = 1
 |"#;
 
-/// Customers, their orders and the orders' items, with an index on the first two primary keys.
-const SHOP: &str = r#"version = 1
-[[table]]
-name = "customer"
-rows = 15000
-pages = 400
-column = [{ name = "c_id", kind = "int", width = 8 }, { name = "c_segment", kind = "text", width = 10 }, { name = "c_name", kind = "text", width = 25 }]
-index = [{ name = "customer_pk", keys = ["c_id"], unique = true }]
-[[table]]
-name = "orders"
-rows = 150000
-pages = 3000
-column = [{ name = "o_id", kind = "int", width = 8 }, { name = "o_cust", kind = "int", width = 8 }, { name = "o_date", kind = "date", width = 4 }]
-index = [{ name = "orders_pk", keys = ["o_id"], unique = true }]
-[[table]]
-name = "lineitem"
-rows = 600000
-pages = 15000
-column = [{ name = "l_order", kind = "int", width = 8 }, { name = "l_price", kind = "int", width = 8 }, { name = "l_ship", kind = "date", width = 4 }]"#;
-
-/// Open orders of a segment by their worth, as in TPC-H's third query.
-const WORTH: &str =
-    "SELECT o.o_id, o.o_date, sum(l.l_price) AS revenue FROM customer c JOIN orders o ON c.c_id = o.o_cust JOIN lineitem l ON l.l_order = o.o_id WHERE c.c_segment = 'BUILDING' AND o.o_date BETWEEN DATE '1995-01-01' AND DATE '1995-03-31' GROUP BY o.o_id, o.o_date ORDER BY revenue DESC, o.o_date LIMIT 10;";
-
 const FOR_WORTH: &str =
     "customer(c_segment) customer(c_segment,c_id) orders(o_date) orders(o_cust) orders(o_id,o_date) orders(o_date,o_id,o_cust) lineitem(l_order) lineitem(l_order,l_price)";
-
-/// The catalogue of a text.
-fn catalogue(alloc: Global, text: &str) -> Result<Catalogue, Fail> {
-    Ok(
-        read_catalogue(alloc, text.as_bytes())
-            .ok()
-            .ok_or("a catalogue")?,
-    )
-}
 
 /// Writes a key list as `table(column,column)`.
 fn add_shape(out: &mut Vec<u8>, cat: &Catalogue, shape: &IndexShape) -> Result<(), AllocError> {
@@ -187,23 +152,6 @@ fn add_shape(out: &mut Vec<u8>, cat: &Catalogue, shape: &IndexShape) -> Result<(
     }
     out.push(b')')?;
     Ok(())
-}
-
-/// The candidates of what was read.
-fn proposed_by(alloc: Global, cat: &Catalogue, parsed: &Parsed<'_>) -> Result<Candidates, Fail> {
-    match bind(alloc, cat, parsed) {
-        Ok(statements) => Ok(candidates(alloc, cat, statements.as_slice())?),
-        Err(_) => Err("names without meaning")?,
-    }
-}
-
-/// The candidates of a workload, and how many proposals more there were.
-fn proposed(alloc: Global, cat: &Catalogue, text: &[u8]) -> Result<Candidates, Fail> {
-    if text.len() > 100_000_000 {
-        return Err("too long")?;
-    }
-    let parsed = read_workload(alloc, text).ok().ok_or("a workload")?;
-    proposed_by(alloc, cat, &parsed)
 }
 
 /// The candidates as a line.

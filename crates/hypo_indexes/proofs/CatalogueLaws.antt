@@ -1,10 +1,9 @@
 -- Laws of catalogues.
-use Rattle.std.proofs.Common.{◌≡◌, ◌∙◌, ℕ, ◌<◌, List, length, get_or, All, sym, ap, subst}
+use Rattle.std.proofs.Common.{◌≡◌, ◌∙◌, ℕ, ◌<◌, length, get_or, All, sym, ap, subst}
 use Rattle.std.specs.Prelude.{slice_get, Option, Some}
 use Rattle.std.specs.Option.{option_map_or}
 use Rattle.std.proofs.lemmas.Option.{slice_get_within}
 use Rattle.adv_base.specs.declared.catalogue.Catalogue.{Catalogue}
-use Rattle.adv_base.specs.declared.catalogue.index.Index.{Index}
 use Rattle.adv_base.specs.declared.catalogue.table.Table.{Table}
 use Rattle.adv_base.specs.Lookups.{column_count}
 use Rattle.adv_base.specs.Named.{NamesShape}

@@ -1,1 +1,1 @@
-pub mod Writes
+pub mod inner

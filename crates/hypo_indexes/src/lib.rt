@@ -6,8 +6,6 @@
 
 mod budget;
 mod size;
-#[cfg(test)]
-mod tests;
 mod writes;
 
 pub use budget::fits;

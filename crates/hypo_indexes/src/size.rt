@@ -1,8 +1,8 @@
 //! The pages and levels that an index takes.
-ghost use Rattle.std.specs.Prelude.{◌≡◌, ◌<◌, ◌≤◌, All, length};
+ghost use Rattle.std.specs.Prelude.{◌≡◌, ◌+◌, ◌*◌, ◌<◌, ◌≤◌, All, length};
 ghost use Rattle.adv_base.specs.Named.{NamesShape};
 ghost use Rattle.adv_base.specs.Sizes as size;
-ghost use Rattle.adv_base.specs.declared.limits.TheConstants.{MOST_INDEX_PAGES, MOST_KEYS, MOST_ROWS};
+ghost use Rattle.adv_base.specs.declared.limits.TheConstants.{MOST_INDEX_PAGES, MOST_KEYS, MOST_ROWS, MOST_WIDTH};
 
 use adv_base::{Catalogue, IndexShape, Table, table_column};
 use cardinality::table_rows;
@@ -18,7 +18,7 @@ fn entry_bytes(table: &Table, keys: &[u16]) -> u64
     requires named { All (λ key. key < length table.now.columns) keys.now }
     ensures exact { result ≡ size.entry_bytes table.now keys.now }
     ensures least { 12 ≤ result }
-    ensures most { result ≤ 8012 }
+    ensures most { result ≤ MOST_KEYS * MOST_WIDTH + 12 }
 {
     let mut bytes = 0;
     for key in keys {

@@ -3,7 +3,7 @@ ghost use Rattle.std.specs.Prelude.{◌≡◌, ◌==◌, ◌≤◌, ◌*◌, All
 ghost use Rattle.std.specs.List.{list_any};
 ghost use Rattle.adv_base.specs.Named.{NamesShape, NamesWork};
 ghost use Rattle.adv_base.specs.Upkeep as write;
-ghost use Rattle.hypo_indexes.specs.Writes as writes;
+ghost use Rattle.hypo_indexes.specs.inner.Writes as writes;
 ghost use Rattle.adv_base.specs.declared.limits.TheConstants.{MOST_INDEXES, MOST_RATE, MOST_ROWS, MOST_UPKEEP};
 
 use crate::size::index_levels;

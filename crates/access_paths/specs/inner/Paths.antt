@@ -1,5 +1,5 @@
 -- Access paths as the code lists them.
-use Rattle.std.specs.Prelude.{ℕ, ◌<◌, List, [], length, All, map}
+use Rattle.std.specs.Prelude.{◌<◌, List, [], length, All, map}
 use Rattle.std.specs.Option.{option_map_or}
 use Rattle.access_paths.specs.declared.paths.AccessPath.{AccessPath}
 use Rattle.access_paths.specs.declared.paths.AccessPath.TheVariants as listed

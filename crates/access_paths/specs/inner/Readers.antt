@@ -1,5 +1,4 @@
 -- What a reader of a slot offers.
-use Rattle.std.specs.Prelude.{List, map}
 use Rattle.adv_base.specs.Offers.{Offer, Path, path_offer}
 use Rattle.access_paths.specs.declared.reader.Reader.{Reader}
 

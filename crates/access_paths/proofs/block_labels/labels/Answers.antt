@@ -5,7 +5,7 @@ use Rattle.adv_base.specs.declared.catalogue.Catalogue.{Catalogue}
 use Rattle.adv_base.specs.declared.catalogue.index.IndexShape.{IndexShape}
 use Rattle.adv_base.specs.declared.setting.Config.{Config}
 use Rattle.adv_base.specs.declared.workload.parts.Slot.{Slot}
-use Rattle.adv_base.specs.Offers.{offers, paths, paths_of}
+use Rattle.adv_base.specs.Offers.{paths, paths_of}
 use Rattle.adv_base.proofs.OfferLaws.{offers-count}
 use Rattle.access_paths.specs.Labels.{path_words, slot_words}
 use Rattle.access_paths.proofs.block_labels.labels.Goals as goal

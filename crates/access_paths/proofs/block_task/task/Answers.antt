@@ -1,8 +1,7 @@
-use Rattle.std.proofs.Common.{◌≡◌, ℕ, List, length, map, ◌^◌, refl}
+use Rattle.std.proofs.Common.{length, ◌^◌, refl}
 use Rattle.adv_base.specs.declared.catalogue.Catalogue.{Catalogue}
 use Rattle.adv_base.specs.declared.workload.block.Block.{Block}
-use Rattle.plan_model.specs.BlockTask.{IsTaskOf, task_edge}
-use Rattle.plan_model.specs.Limits.Tasks.{TaskLimits, RowLimits}
+use Rattle.plan_model.specs.Limits.Tasks.{RowLimits}
 use Rattle.cardinality.specs.Tables.{HoldsRows}
 use Rattle.access_paths.proofs.TaskLemmas.{task_limits, rows_listed}
 use Rattle.access_paths.proofs.block_task.task.Goals as goal

@@ -1,4 +1,4 @@
-use Rattle.std.proofs.Common.{◌≡◌, ◌<◌, ◌≤◌, ◌∙◌, sym, ap, arith, refl, length, ℕ, List, take, get_or, map, length-take, min}
+use Rattle.std.proofs.Common.{◌≡◌, ◌<◌, ◌≤◌, ◌∙◌, sym, arith, length, ℕ, List, take, map, length-take}
 use Rattle.std.specs.Prelude.{fold}
 use Rattle.std.specs.List.{flat_map}
 use Rattle.std.proofs.lemmas.List.{take_all}
@@ -8,7 +8,7 @@ use Rattle.adv_base.specs.declared.catalogue.Catalogue.{Catalogue}
 use Rattle.adv_base.specs.declared.workload.block.Block.{Block}
 use Rattle.adv_base.specs.Access.{point_keys}
 use Rattle.adv_base.specs.Parts.{pred_part}
-use Rattle.adv_base.specs.Predicates.{is_point, is_range, preds_on, has_pred}
+use Rattle.adv_base.specs.Predicates.{is_point, preds_on, has_pred}
 use Rattle.adv_base.specs.Sums.{times_part}
 use Rattle.access_paths.proofs.MatchLemmas.{matched_part-next, matched_part-last}
 use Rattle.access_paths.proofs.matching.matched_part.Goals as goal

@@ -1,5 +1,4 @@
-use Rattle.std.proofs.Common.{◌≡◌, ◌∙◌, ℕ, ◌+◌, ◌++◌, ◌<◌, ◌≤◌, List, [], length, map, sym, ap, arith, rules}
-use Rattle.std.specs.Prelude.{Bool}
+use Rattle.std.proofs.Common.{◌∙◌, ℕ, ◌++◌, List, map, sym, ap}
 use Rattle.std.proofs.lemmas.List.{append-nil}
 use Rattle.adv_base.specs.declared.catalogue.index.IndexShape.{IndexShape}
 use Rattle.adv_base.specs.Offers.{Path, candidate_path}

@@ -1,5 +1,5 @@
-use Rattle.std.proofs.Common.{◌≡◌, ◌∙◌, ◌≤◌, ◌<◌, ℕ, List, length, map, All, refl, sym, ap, subst, arith, rules}
-use Rattle.std.specs.Prelude.{slice_get, Some, Option}
+use Rattle.std.proofs.Common.{◌≡◌, ◌∙◌, ◌≤◌, length, map, All, sym, ap, subst, arith}
+use Rattle.std.specs.Prelude.{Some, Option}
 use Rattle.std.specs.Option.{option_map_or}
 use Rattle.std.proofs.lemmas.List.{length-map}
 use Rattle.adv_base.specs.declared.catalogue.Catalogue.{Catalogue}
@@ -7,8 +7,7 @@ use Rattle.adv_base.specs.declared.catalogue.table.Table.{Table}
 use Rattle.adv_base.specs.declared.limits.TheConstants.{MOST_INDEXES}
 use Rattle.adv_base.specs.declared.workload.parts.Slot.{Slot}
 use Rattle.adv_base.specs.Lookups.{column_count, table_at}
-use Rattle.adv_base.specs.Offers.{Path, path_candidate, path_offer, paths_on}
-use Rattle.access_paths.specs.declared.paths.AccessPath.{AccessPath}
+use Rattle.adv_base.specs.Offers.{path_candidate, path_offer}
 use Rattle.access_paths.specs.inner.Paths.{IsWithin, as_path, as_paths}
 use Rattle.access_paths.specs.inner.SlotOffers.{offer_of, pairs_of}
 use Rattle.access_paths.proofs.OfferLemmas.{source_table, offers_listed, paths_listed}

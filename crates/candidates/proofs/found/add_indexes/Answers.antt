@@ -2,7 +2,7 @@ use Rattle.std.proofs.Common.{◌≡◌, ◌+◌, [], List, map, drop, ap, sym, 
 use Rattle.std.specs.Prelude.{fold}
 use Rattle.adv_base.specs.declared.catalogue.index.Index.{Index}
 use Rattle.candidates.specs.Candidates.{with_proposal, key_list}
-use Rattle.candidates.specs.Known.{as_lists}
+use Rattle.candidates.specs.inner.Known.{as_lists}
 use Rattle.candidates.specs.Proposals.{KeyList}
 use Rattle.candidates.proofs.KnownLemmas.{fold-map_here}
 use Rattle.candidates.proofs.found.add_indexes.Goals as goal

@@ -3,7 +3,7 @@ use Rattle.std.specs.Prelude.{fold}
 use Rattle.std.specs.List.{flat_map}
 use Rattle.adv_base.specs.declared.catalogue.table.Table.{Table}
 use Rattle.candidates.specs.Candidates.{with_proposal, key_list}
-use Rattle.candidates.specs.Known.{as_lists}
+use Rattle.candidates.specs.inner.Known.{as_lists}
 use Rattle.candidates.specs.Proposals.{KeyList}
 use Rattle.candidates.proofs.KnownLemmas.{fold-flat_map_here}
 use Rattle.candidates.proofs.found.add_tables.Goals as goal

@@ -1,10 +1,10 @@
-use Rattle.std.proofs.Common.{◌≡◌, ℕ, ◌+◌, ◌-◌, ◌≤◌, List, length, map, drop, ap, sym, subst, ◌∙◌, arith}
+use Rattle.std.proofs.Common.{◌≡◌, ℕ, ◌+◌, ◌-◌, List, length, map, drop, ap, sym, subst, ◌∙◌, arith}
 use Rattle.std.specs.Prelude.{take, min, All}
 use Rattle.std.proofs.lemmas.List.{length-map, length-drop, length-take}
 use Rattle.adv_base.specs.declared.limits.TheConstants.{MOST_CANDIDATES}
 use Rattle.adv_base.specs.Limits.Numbers.{KeyLimits}
 use Rattle.candidates.specs.Candidates.{key_list, fresh_lists}
-use Rattle.candidates.specs.Known.{as_list, as_lists}
+use Rattle.candidates.specs.inner.Known.{as_list, as_lists}
 use Rattle.candidates.specs.Proposals.{KeyList}
 use Rattle.candidates.proofs.ListLemmas.{take-least}
 use Rattle.candidates.proofs.SoundLaws.{fresh-limits, shapes-named}

@@ -1,8 +1,8 @@
-use Rattle.std.proofs.Common.{◌≡◌, ◌+◌, ◌≤◌, [], ◌++◌, List, length, drop, ap, sym, ◌∙◌, arith}
+use Rattle.std.proofs.Common.{◌≡◌, ◌+◌, [], List, length, drop, ap, sym, ◌∙◌, arith}
 use Rattle.std.specs.Prelude.{fold}
 use Rattle.std.proofs.lemmas.List.{length-map, length-append, drop_at}
 use Rattle.candidates.specs.Candidates.{with_proposal, existing_lists, fresh_lists}
-use Rattle.candidates.specs.Known.{as_list, as_lists}
+use Rattle.candidates.specs.inner.Known.{as_list, as_lists}
 use Rattle.candidates.specs.Proposals.{KeyList, proposals}
 use Rattle.candidates.proofs.FreshLaws.{known-fresh}
 use Rattle.candidates.proofs.found.known_lists.Goals as goal

@@ -1,11 +1,10 @@
-use Rattle.std.proofs.Common.{◌≡◌, ◌+◌, ◌-◌, [], ◌∷◌, ◌++◌, List, map, drop, ap, sym, ◌∙◌, subst}
+use Rattle.std.proofs.Common.{◌≡◌, ◌-◌, [], ◌∷◌, ◌++◌, List, map, drop, ap, sym, ◌∙◌, subst}
 use Rattle.std.specs.Prelude.{take}
 use Rattle.std.proofs.lemmas.List.{map-append}
 use Rattle.std.proofs.lemmas.List.Elements.{All-push}
-use Rattle.adv_base.specs.declared.catalogue.index.IndexShape.{IndexShape}
 use Rattle.adv_base.specs.Limits.Numbers.{KeyLimits}
 use Rattle.candidates.specs.Candidates.{key_list, IsPlain}
-use Rattle.candidates.specs.Known.{OwnedList, as_list, as_lists}
+use Rattle.candidates.specs.inner.Known.{OwnedList, as_list, as_lists}
 use Rattle.candidates.specs.Proposals.{KeyList}
 use Rattle.candidates.proofs.ListLemmas.{drop-map_at, take-map_more}
 use Rattle.std.specs.List.{All}

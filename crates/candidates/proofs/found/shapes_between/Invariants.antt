@@ -1,7 +1,7 @@
 use Rattle.std.proofs.Common.{◌≡◌, ◌-◌, drop, map}
 use Rattle.std.specs.Prelude.{take, All}
 use Rattle.candidates.specs.Candidates.{key_list, IsPlain}
-use Rattle.candidates.specs.Known.{as_lists}
+use Rattle.candidates.specs.inner.Known.{as_lists}
 use Rattle.candidates.proofs.found.shapes_between.Given as goal
 
 abbrev pub invariant-places : goal.invariant-places

@@ -1,8 +1,8 @@
-use Rattle.std.proofs.Common.{◌≡◌, ℕ, ◌+◌, [], ◌∷◌, List, drop, get_or, ap, sym, ◌∙◌, arith}
+use Rattle.std.proofs.Common.{◌≡◌, ℕ, ◌+◌, [], List, drop, get_or, ap, sym, ◌∙◌, arith}
 use Rattle.std.specs.Prelude.{fold}
 use Rattle.candidates.specs.Candidates.{with_proposal}
 use Rattle.candidates.specs.Columns.{with_column}
-use Rattle.candidates.specs.Known.{as_lists}
+use Rattle.candidates.specs.inner.Known.{as_lists}
 use Rattle.candidates.specs.Proposals.{KeyList, lists_behind}
 use Rattle.candidates.proofs.KnownLemmas.{fold-number_here}
 use Rattle.candidates.proofs.known.add_behind.Goals as goal

@@ -1,6 +1,6 @@
 use Rattle.std.proofs.Common.{[], sym, arith}
 use Rattle.candidates.specs.Columns.{joined}
-use Rattle.candidates.specs.Known.{as_lists}
+use Rattle.candidates.specs.inner.Known.{as_lists}
 use Rattle.candidates.proofs.KnownLemmas.{with_proposal-long, joined-longer}
 use Rattle.candidates.proofs.known.add_joined.Goals as goal
 

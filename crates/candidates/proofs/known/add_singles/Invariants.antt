@@ -1,7 +1,7 @@
 use Rattle.std.proofs.Common.{◌≡◌, [], drop}
 use Rattle.std.specs.Prelude.{fold}
 use Rattle.candidates.specs.Candidates.{with_proposal}
-use Rattle.candidates.specs.Known.{as_lists}
+use Rattle.candidates.specs.inner.Known.{as_lists}
 use Rattle.candidates.specs.Proposals.{single_lists}
 use Rattle.candidates.proofs.known.add_singles.Given as goal
 

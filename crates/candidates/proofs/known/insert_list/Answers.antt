@@ -1,6 +1,6 @@
-use Rattle.std.proofs.Common.{◌≡◌, ap, ◌∙◌, refl}
+use Rattle.std.proofs.Common.{ap, ◌∙◌, refl}
 use Rattle.candidates.specs.Candidates.{is_same_list}
-use Rattle.candidates.specs.Known.{OwnedList, as_list, as_lists}
+use Rattle.candidates.specs.inner.Known.{as_list, as_lists}
 use Rattle.candidates.proofs.KnownLemmas.{as_lists-insert_key}
 use Rattle.candidates.proofs.known.insert_list.Goals as goal
 

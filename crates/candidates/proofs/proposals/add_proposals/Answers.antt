@@ -3,7 +3,7 @@ use Rattle.std.specs.Prelude.{fold}
 use Rattle.std.specs.List.{flat_map}
 use Rattle.adv_base.specs.declared.workload.Statement.{Statement}
 use Rattle.candidates.specs.Candidates.{with_proposal}
-use Rattle.candidates.specs.Known.{as_lists}
+use Rattle.candidates.specs.inner.Known.{as_lists}
 use Rattle.candidates.specs.Proposals.{KeyList, work_lists}
 use Rattle.candidates.proofs.KnownLemmas.{fold-flat_map_here}
 use Rattle.candidates.proofs.proposals.add_proposals.Goals as goal

@@ -2,7 +2,7 @@ use Rattle.std.proofs.Common.{◌≡◌, [], drop}
 use Rattle.std.specs.Prelude.{fold}
 use Rattle.std.specs.List.{flat_map}
 use Rattle.candidates.specs.Candidates.{with_proposal}
-use Rattle.candidates.specs.Known.{as_lists}
+use Rattle.candidates.specs.inner.Known.{as_lists}
 use Rattle.candidates.specs.Proposals.{work_lists}
 use Rattle.candidates.proofs.proposals.add_proposals.Given as goal
 

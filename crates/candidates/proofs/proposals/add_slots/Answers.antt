@@ -3,7 +3,7 @@ use Rattle.std.specs.Prelude.{fold}
 use Rattle.std.specs.List.{flat_map, enumerate_from}
 use Rattle.adv_base.specs.declared.workload.parts.Slot.{Slot}
 use Rattle.candidates.specs.Candidates.{with_proposal}
-use Rattle.candidates.specs.Known.{as_lists}
+use Rattle.candidates.specs.inner.Known.{as_lists}
 use Rattle.candidates.specs.Proposals.{KeyList, slot_lists}
 use Rattle.candidates.proofs.KnownLemmas.{fold-numbered_here}
 use Rattle.candidates.proofs.proposals.add_slots.Goals as goal

@@ -2,7 +2,7 @@ use Rattle.std.proofs.Common.{◌≡◌, [], drop}
 use Rattle.std.specs.Prelude.{fold}
 use Rattle.std.specs.List.{flat_map, enumerate_from}
 use Rattle.candidates.specs.Candidates.{with_proposal}
-use Rattle.candidates.specs.Known.{as_lists}
+use Rattle.candidates.specs.inner.Known.{as_lists}
 use Rattle.candidates.specs.Proposals.{slot_lists}
 use Rattle.candidates.proofs.proposals.add_slots.Given as goal
 

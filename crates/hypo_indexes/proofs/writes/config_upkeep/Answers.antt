@@ -1,7 +1,7 @@
 use Rattle.std.proofs.Common.{◌<◌, ◌≤◌, length, arith, rules}
 use Rattle.std.specs.Prelude.{false}
 use Rattle.adv_base.specs.declared.catalogue.index.IndexShape.{IndexShape}
-use Rattle.adv_base.specs.Upkeep.{upkeep, config_upkeep}
+use Rattle.adv_base.specs.Upkeep.{upkeep}
 use Rattle.hypo_indexes.proofs.ChosenLemmas.{chosen-drop, chosen-past}
 use Rattle.hypo_indexes.proofs.writes.config_upkeep.Goals as goal
 

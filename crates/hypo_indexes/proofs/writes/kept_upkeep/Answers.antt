@@ -3,7 +3,7 @@ use Rattle.std.specs.Prelude.{sum_by}
 use Rattle.std.proofs.lemmas.List.Sums.{sum_by_more_le, sum_by-take-le}
 use Rattle.adv_base.specs.declared.catalogue.table.Table.{Table}
 use Rattle.adv_base.specs.Upkeep.{kept_upkeep}
-use Rattle.hypo_indexes.specs.Writes.{table_upkeep}
+use Rattle.hypo_indexes.specs.inner.Writes.{table_upkeep}
 use Rattle.adv_base.specs.declared.limits.TheConstants.{MOST_INDEXES, MOST_UPKEEP}
 use Rattle.adv_base.proofs.UpkeepBounds.{kept_upkeep-most}
 use Rattle.hypo_indexes.proofs.writes.kept_upkeep.Goals as goal

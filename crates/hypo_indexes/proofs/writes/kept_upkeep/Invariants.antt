@@ -1,6 +1,6 @@
 use Rattle.std.proofs.Common.{◌≡◌, take}
 use Rattle.std.specs.Prelude.{sum_by}
-use Rattle.hypo_indexes.specs.Writes.{table_upkeep}
+use Rattle.hypo_indexes.specs.inner.Writes.{table_upkeep}
 use Rattle.hypo_indexes.proofs.writes.kept_upkeep.Given as goal
 
 abbrev pub invariant-loop-table : goal.invariant-loop-table

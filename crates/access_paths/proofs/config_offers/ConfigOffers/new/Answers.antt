@@ -1,4 +1,4 @@
-use Rattle.std.proofs.Common.{◌≡◌, ◌∙◌, ℕ, ◌<◌, ◌≤◌, List, [], length, map, inl, inr, refl, sym, ap, subst, arith}
+use Rattle.std.proofs.Common.{◌≡◌, ◌∙◌, ℕ, ◌<◌, ◌≤◌, List, [], length, map, inl, inr, sym, ap, subst, arith}
 use Rattle.std.specs.Prelude.{Option, None, slice_get}
 use Rattle.std.specs.Option.{option_map_or}
 use Rattle.std.proofs.Math.Path.{fun_ext}
@@ -52,7 +52,7 @@ returns-clause-offers_are c =
 pub returns-clause-candidates_are : goal.returns-clause-candidates_are
 returns-clause-candidates_are c = λ slot offer.
     let numbers = all_numbers c.args.cat.now c.args.block.now c.args.shapes.now c.args.config.now c.loop-slot.slots.items (omega (arith, c.loop-slot.invariant.count))
-        (λ s below. c.loop-slot.invariant.numbers s (omega arith)) slot in
+    (λ s below. c.loop-slot.invariant.numbers s (omega arith)) slot in
     rw numbers (candidate_listed (paths c.args.cat.now c.args.block.now c.args.shapes.now c.args.config.now slot) offer)
 
 pub invariant_of-result : goal.invariant_of-result
