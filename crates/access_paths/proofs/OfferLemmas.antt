@@ -1,27 +1,19 @@
--- The offers of a slot, from its source and its table.
-use Rattle.std.proofs.Common.{◌≡◌, ℕ, ◌+◌, ◌<◌, ◌≤◌, List, [], ◌∷◌, ◌++◌, length, get_or, map, refl, sym, ◌∙◌, ap, arith}
+-- The offers of a block, from its slots and their paths.
+use Rattle.std.proofs.Common.{◌≡◌, ◌∙◌, ◌≤◌, ℕ, List, [], map, refl, sym, ap, arith}
+use Rattle.std.specs.Prelude.{slice_get, Option, Some, None, option_and_then, option_map}
 use Rattle.std.specs.Option.{option_map_or}
-use Rattle.std.specs.Prelude.{All, ◌==◌, filter, slice_get, sum_by, Option, Some, None, option_and_then}
-use Rattle.std.proofs.lemmas.List.{map-append}
-use Rattle.std.proofs.lemmas.List.Elements.{All-map, All-nil}
-use Rattle.std.proofs.lemmas.List.Sums.{get_or-le-sum_by}
-use Rattle.std.proofs.lemmas.Option.{slice_get_within, get_or_from_slice_get}
+use Rattle.std.proofs.lemmas.Option.{slice_get-map}
 use Rattle.adv_base.specs.declared.catalogue.Catalogue.{Catalogue}
 use Rattle.adv_base.specs.declared.catalogue.index.IndexShape.{IndexShape}
 use Rattle.adv_base.specs.declared.catalogue.table.Table.{Table}
 use Rattle.adv_base.specs.declared.setting.Config.{Config}
 use Rattle.adv_base.specs.declared.workload.block.Block.{Block}
 use Rattle.adv_base.specs.declared.workload.parts.Slot.{Slot}
-use Rattle.adv_base.specs.Access.{table_price}
-use Rattle.adv_base.specs.Configs.{chosen}
 use Rattle.adv_base.specs.Lookups.{table_at, slot_table}
-use Rattle.adv_base.specs.Offers.{Offer, offers, index_offer}
-use Rattle.adv_base.proofs.OfferLaws.{offers_on-shapes}
-use Rattle.adv_base.specs.OfferTables.{OfferLimits, OfferTableLimits}
-use Rattle.access_paths.specs.declared.slot_offers.SlotOffers.{SlotOffers}
-use Rattle.access_paths.specs.Candidates.{numbers_on, offer_candidates}
-use Rattle.access_paths.specs.ConfigOffers.{AreInPlace, table_of, candidates_in_table}
-use Rattle.access_paths.specs.SlotOffers.{offer_of, pairs_of}
+use Rattle.adv_base.specs.declared.limits.TheConstants.{MOST_TABLE_PRICE}
+use Rattle.adv_base.specs.OfferTables.{price_at}
+use Rattle.adv_base.proofs.OfferBounds.{table_price-most}
+use Rattle.adv_base.specs.Offers.{Path, offers, offers_on, offers_of, paths, paths_on, path_offer, path_candidate}
 
 -- the table that a slot's source names
 pub source_table : (cat : Catalogue) (block : Block) (s : ℕ) (source : Slot) (table : Table) →
@@ -29,54 +21,43 @@ pub source_table : (cat : Catalogue) (block : Block) (s : ℕ) (source : Slot) (
 source_table cat block s source table source_is table_is =
     sym (ap (option_and_then (λ (slot : Slot). table_at cat slot.table)) source_is) ∙ table_is
 
--- the table, its indexes, and the candidates on it
 pub offers_listed : (cat : Catalogue) (block : Block) (shapes : List IndexShape) (config : Config) (s : ℕ) (source : Slot) (table : Table) →
     slice_get block.slots s ≡ Some source → table_at cat source.table ≡ Some table →
-    offers cat block shapes config s
-    ≡ (([], table_price cat table) ∷ map (index_offer cat block s source table) (map (λ index. index.shape) table.indexes))
-    ++ map (index_offer cat block s source table) (filter (λ shape. shape.table == source.table) (chosen config.on shapes))
+    offers cat block shapes config s ≡ map (path_offer cat block s source table) (paths_on shapes config source.table table)
 unfolding offers
-offers_listed cat block shapes config s source table source_is table_is =
-    rw (source_is, table_is)
-    (offers_on-shapes cat block shapes config s source table
-    ∙ ap (λ (rest : List Offer). ([], table_price cat table) ∷ rest)
-    (map-append (index_offer cat block s source table) (map (λ index. index.shape) table.indexes)
-    (filter (λ shape. shape.table == source.table) (chosen config.on shapes))))
+offers_listed cat block shapes config s source table source_is table_is = rw (source_is, table_is) refl
 
--- none for the table and its indexes, and the numbers of the candidates on it
-pub candidates_listed : (cat : Catalogue) (block : Block) (shapes : List IndexShape) (config : Config) (s : ℕ) (source : Slot) (table : Table) →
+pub paths_listed : (cat : Catalogue) (block : Block) (shapes : List IndexShape) (config : Config) (s : ℕ) (source : Slot) (table : Table) →
     slice_get block.slots s ≡ Some source → table_at cat source.table ≡ Some table →
-    offer_candidates cat block shapes config s ≡ (None ∷ map (λ index. None) table.indexes) ++ map Some (numbers_on source.table 1 config.on shapes)
-unfolding offer_candidates
-candidates_listed cat block shapes config s source table source_is table_is = rw (source_is, table_is) refl
+    paths cat block shapes config s ≡ paths_on shapes config source.table table
+unfolding paths
+paths_listed cat block shapes config s source table source_is table_is = rw (source_is, table_is) refl
 
--- a table has at most as many indexes as the catalogue
-pub indexes_few : (cat : Catalogue) (t : ℕ) (table : Table) → table_at cat t ≡ Some table → length table.indexes ≤ 1000
-indexes_few cat t table table_is =
-    let within : t < length cat.tables = slice_get_within cat.tables t table table_is in
-    let at : get_or cat.tables t table ≡ table = get_or_from_slice_get cat.tables t table table table_is in
-    let some : length (get_or cat.tables t table).indexes ≤ sum_by (λ x. length x.indexes) cat.tables = get_or-le-sum_by (λ x. length x.indexes) cat.tables t table within in
-    let all : sum_by (λ x. length x.indexes) cat.tables ≤ 1000 = cat.limits.indexes_most in
-    let one : length table.indexes ≤ sum_by (λ x. length x.indexes) cat.tables = rw at at some in
-    omega arith
-
--- past the slots there is no offer
+-- past the slots there is no offer, nor a path
 pub offers_past : (cat : Catalogue) (block : Block) (shapes : List IndexShape) (config : Config) (s : ℕ) → slice_get block.slots s ≡ None → offers cat block shapes config s ≡ []
 unfolding offers
 offers_past cat block shapes config s none = rw none refl
 
-pub candidates_past : (cat : Catalogue) (block : Block) (shapes : List IndexShape) (config : Config) (s : ℕ) → slice_get block.slots s ≡ None → offer_candidates cat block shapes config s ≡ []
-unfolding offer_candidates
-candidates_past cat block shapes config s none = rw none refl
+pub paths_past : (cat : Catalogue) (block : Block) (shapes : List IndexShape) (config : Config) (s : ℕ) → slice_get block.slots s ≡ None → paths cat block shapes config s ≡ []
+unfolding paths
+paths_past cat block shapes config s none = rw none refl
 
-limits_at : (slots : List SlotOffers) → AreInPlace slots → (s : ℕ) (o : Option SlotOffers) → slice_get slots s ≡ o →
-    All (OfferLimits s) (option_map_or (λ x. pairs_of x.offers.items) o [])
-limits_at slots in_place s (Some x) is =
-    let place : x.slot ≡ s = in_place.place s x is in
-    let kept : All (λ o. OfferLimits x.slot (offer_of o)) x.offers.items = x.limits in
-    rw (← place) (All-map (OfferLimits x.slot) offer_of x.offers.items kept)
-limits_at slots in_place s None is = All-nil (OfferLimits s)
+candidate-of : (path : Option Path) → option_and_then (λ c. c) (option_map path_candidate path) ≡ option_and_then path_candidate path
+candidate-of (Some path) = refl
+candidate-of None = refl
 
--- each offer that is kept for a slot keeps the limits of that slot's offers
-pub table_limits : (slots : List SlotOffers) → AreInPlace slots → OfferTableLimits (table_of slots)
-table_limits slots in_place = λ s. limits_at slots in_place s (slice_get slots s) refl
+-- the candidate of a path, from the list of all
+pub candidate_listed : (all : List Path) (at : ℕ) → option_and_then (λ c. c) (slice_get (map path_candidate all) at) ≡ option_and_then path_candidate (slice_get all at)
+candidate_listed all at = ap (option_and_then (λ c. c)) (slice_get-map path_candidate all at) ∙ candidate-of (slice_get all at)
+
+-- the first offer of a slot costs what its table costs to read
+pub table-price : (cat : Catalogue) (block : Block) (shapes : List IndexShape) (config : Config) (s : ℕ) → price_at (offers cat block shapes config) s 0 ≤ MOST_TABLE_PRICE
+unfolding offers
+table-price cat block shapes config s = of-slot (slice_get block.slots s)
+  where
+    of-table : (slot : Slot) (table : Option Table) → option_map_or (λ o. o.1) (slice_get (offers_on cat block shapes config s slot table) 0) 0 ≤ MOST_TABLE_PRICE
+    of-table slot (Some table) = table_price-most cat table
+    of-table slot None = omega arith
+    of-slot : (slot : Option Slot) → option_map_or (λ o. o.1) (slice_get (offers_of cat block shapes config s slot) 0) 0 ≤ MOST_TABLE_PRICE
+    of-slot (Some slot) = of-table slot (table_at cat slot.table)
+    of-slot None = omega arith

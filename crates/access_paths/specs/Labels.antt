@@ -1,42 +1,32 @@
 -- The words by which the plans of a block are told.
-use Rattle.std.specs.Prelude.{ℕ, List, [], ◌∷◌, ◌++◌, map, Option, Some, None, codes, decimal}
+use Rattle.std.specs.Prelude.{ℕ, List, [], ◌++◌, map, Option, Some, None, codes, decimal}
 use Rattle.adv_base.specs.declared.catalogue.Catalogue.{Catalogue}
-use Rattle.adv_base.specs.declared.catalogue.index.Index.{Index}
 use Rattle.adv_base.specs.declared.catalogue.index.IndexShape.{IndexShape}
 use Rattle.adv_base.specs.declared.catalogue.table.Table.{Table}
 use Rattle.adv_base.specs.declared.setting.Config.{Config}
 use Rattle.adv_base.specs.declared.workload.block.Block.{Block}
 use Rattle.adv_base.specs.declared.workload.parts.Slot.{Slot}
 use Rattle.adv_base.specs.Lookups.{table_at}
-use Rattle.access_paths.specs.Candidates.{numbers_on}
+use Rattle.adv_base.specs.Offers.{Path, Heap, Existing, Candidate, paths_of}
+
+-- the words of an access path
+abbrev pub path_words : Path → List ℕ
+path_words Heap = codes "heap"
+path_words (Existing index) = codes "index " ++ index.name
+path_words (Candidate number shape) = codes "candidate " ++ decimal number
+
+-- those of each way to read a slot
+abbrev pub slot_words : Catalogue → List IndexShape → Config → Slot → List (List ℕ)
+slot_words cat shapes config slot = map path_words (paths_of cat shapes config (Some slot))
 
 -- the names of a table's columns
 abbrev pub column_names : Option Table → List (List ℕ)
 column_names (Some table) = map (λ column. column.name) table.columns
 column_names None = []
 
-abbrev pub index_words : Index → List ℕ
-index_words index = codes "index " ++ index.name
-
-abbrev pub candidate_words : ℕ → List ℕ
-candidate_words number = codes "candidate " ++ decimal number
-
--- the words of reading the whole table, and of reading it through each of its indexes
-abbrev pub existing_words : Table → List (List ℕ)
-existing_words table = codes "heap" ∷ map index_words table.indexes
-
--- the same with the configuration's candidates on the table, numbered from 1
-abbrev pub reading_words : List IndexShape → Config → ℕ → Option Table → List (List ℕ)
-reading_words shapes config t (Some table) = existing_words table ++ map candidate_words (numbers_on t 1 config.on shapes)
-reading_words shapes config t None = []
-
 -- the columns of a slot's table
 abbrev pub slot_columns : Catalogue → Slot → List (List ℕ)
 slot_columns cat slot = column_names (table_at cat slot.table)
-
--- the ways to read a slot
-abbrev pub slot_words : Catalogue → List IndexShape → Config → Slot → List (List ℕ)
-slot_words cat shapes config slot = reading_words shapes config slot.table (table_at cat slot.table)
 
 -- each slot's name
 abbrev pub slot_labels : Block → List (List ℕ)

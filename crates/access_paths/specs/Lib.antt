@@ -1,5 +1,3 @@
-pub mod Candidates
-pub mod SlotOffers
-pub mod Readers
 pub mod ConfigOffers
 pub mod Labels
+pub mod inner

@@ -1,8 +1,10 @@
 //! The words by which the plans of a block are told.
-ghost use Rattle.std.specs.Prelude.{◌≡◌, ◌++◌, ◌∷◌, ◌&&◌, ◌==◌, ◌+◌, ℕ, [], false, if◌then◌else◌, length, IfOk, OnOk, Some, slice_index_or};
-ghost use Rattle.adv_base.specs.Offers.{offers as offers_of};
-ghost use Rattle.access_paths.specs.Labels.{column_names as names_of_columns, existing_words as words_of_table, candidate_words as words_of_candidate, reading_words as words_of_reading, slot_columns as columns_of_slot, slot_words as words_of_slot, slot_labels, column_labels, offer_labels};
+ghost use Rattle.std.specs.Prelude.{◌≡◌, ◌++◌, ◌∷◌, ℕ, [], codes, decimal, length, map, IfOk, OnOk, Some, slice_index_or};
+ghost use Rattle.adv_base.specs.Offers as ways;
+ghost use Rattle.access_paths.specs.Labels as wording;
+ghost use Rattle.access_paths.specs.inner.Paths as listed;
 
+use crate::paths::{AccessPath, paths_on};
 use adv_base::{
     Block, Catalogue, Config, IndexShape, List, Name, NoMemory, Slot, Table, push_decimal,
 };
@@ -14,8 +16,8 @@ fn prefixed(alloc: Global, words: &[u8], name: &[u8]) -> Result<Name, NoMemory>
     ensures { IfOk result (λ made. made ≡ words.now ++ name.now) }
 {
     let mut items = Vec::new(alloc);
-    items.extend_from_slice(words).map_err(|_| NoMemory)?;
-    items.extend_from_slice(name).map_err(|_| NoMemory)?;
+    items.extend_from_slice(words)?;
+    items.extend_from_slice(name)?;
     Ok(Name { items })
 }
 
@@ -23,12 +25,13 @@ fn prefixed(alloc: Global, words: &[u8], name: &[u8]) -> Result<Name, NoMemory>
 fn put(names: &mut Vec<Name>, name: Name) -> Result<(), NoMemory>
     ensures { OnOk result (names.new.items ≡ names.old.items ++ name ∷ []) }
 {
-    names.push(name).map_err(|_| NoMemory)
+    names.push(name)?;
+    Ok(())
 }
 
 /// The visible name of each slot.
 fn slot_names(alloc: Global, block: &Block) -> Result<List<Name>, NoMemory>
-    ensures { IfOk result (λ names. names ≡ slot_labels block.now) }
+    ensures { IfOk result (λ names. names ≡ wording.slot_labels block.now) }
 {
     let mut items = Vec::new(alloc);
     for slot in block.slots.items.iter() {
@@ -39,7 +42,7 @@ fn slot_names(alloc: Global, block: &Block) -> Result<List<Name>, NoMemory>
 
 /// The names of a table's columns.
 fn column_names(alloc: Global, table: &Table) -> Result<List<Name>, NoMemory>
-    ensures { IfOk result (λ names. names ≡ names_of_columns (Some table.now)) }
+    ensures { IfOk result (λ names. names ≡ wording.column_names (Some table.now)) }
 {
     let mut items = Vec::new(alloc);
     for column in table.columns.items.iter() {
@@ -48,78 +51,41 @@ fn column_names(alloc: Global, table: &Table) -> Result<List<Name>, NoMemory>
     Ok(List { items })
 }
 
-/// The words of reading the whole table, and then those of each of its indexes.
-fn existing_words(alloc: Global, table: &Table) -> Result<Vec<Name>, NoMemory>
-    ensures { IfOk result (λ words. words.items ≡ words_of_table table.now) }
-{
-    let mut words = Vec::new(alloc);
-    put(&mut words, prefixed(alloc, b"heap", &[])?)?;
-    for index in table.indexes.items.iter() {
-        put(
-            &mut words,
-            prefixed(alloc, b"index ", index.name.as_slice())?,
-        )?;
-    }
-    Ok(words)
-}
-
-/// Whether a configuration has the candidate of a place, counted from 0.
-fn has_candidate(config: &Config, place: usize) -> bool
-    ensures { result ≡ slice_index_or config.now.on place false }
-{
-    place < 256 && config.on[place]
-}
-
-/// The words of reading through the candidate of a place, counted from 0.
-fn candidate_words(alloc: Global, place: usize) -> Result<Name, NoMemory>
-    ensures { IfOk result (λ words. words ≡ words_of_candidate (place + 1)) }
+/// The words of reading through the candidate of a number.
+fn candidate_words(alloc: Global, number: u16) -> Result<Name, NoMemory>
+    ensures { IfOk result (λ name. name ≡ codes "candidate " ++ decimal number) }
 {
     let mut items = Vec::new(alloc);
-    items
-        .extend_from_slice(b"candidate ")
-        .map_err(|_| NoMemory)?;
-    push_decimal(alloc, &mut items, place as u128 + 1).map_err(|_| NoMemory)?;
+    items.extend_from_slice(b"candidate ")?;
+    push_decimal(alloc, &mut items, number as u128)?;
     Ok(Name { items })
 }
 
-/// Adds the words of the candidate of a place, where the configuration has it and it is on the table.
-fn add_candidate(
-    alloc: Global,
-    words: &mut Vec<Name>,
-    table: u16,
-    shape: &IndexShape,
-    config: &Config,
-    place: usize,
-) -> Result<(), NoMemory>
-    ensures { OnOk result (words.new.items ≡ words.old.items ++ (if slice_index_or config.now.on place false && (shape.now.table == table) then words_of_candidate (place + 1) ∷ [] else [])) }
+/// The words of reading along a path: `heap`, `index NAME` or `candidate N`.
+fn path_words(alloc: Global, path: AccessPath<'_>) -> Result<Name, NoMemory>
+    ensures { IfOk result (λ name. name ≡ wording.path_words (listed.as_path path.entry)) }
 {
-    if has_candidate(config, place) && shape.table == table {
-        put(words, candidate_words(alloc, place)?)
-    } else {
-        Ok(())
+    match path {
+        AccessPath::Heap => prefixed(alloc, b"heap", &[]),
+        AccessPath::Existing(index) => prefixed(alloc, b"index ", index.name.as_slice()),
+        AccessPath::Candidate(number, _) => candidate_words(alloc, number),
     }
 }
 
-/// The words of each way to read a table, whose number is given too.
-fn reading_words(
-    alloc: Global,
-    number: u16,
-    table: &Table,
-    shapes: &[IndexShape],
-    config: &Config,
-) -> Result<List<Name>, NoMemory>
-    ensures { IfOk result (λ words. words ≡ words_of_reading shapes.now config.now number (Some table.now)) }
+/// The words of reading along each path.
+fn words_of_paths(alloc: Global, paths: &[AccessPath<'_>]) -> Result<List<Name>, NoMemory>
+    ensures { IfOk result (λ names. names ≡ map wording.path_words (listed.as_paths paths.now)) }
 {
-    let mut words = existing_words(alloc, table)?;
-    for (place, shape) in shapes.iter().enumerate() {
-        add_candidate(alloc, &mut words, number, shape, config, place)?;
+    let mut items = Vec::new(alloc);
+    for path in paths {
+        put(&mut items, path_words(alloc, *path)?)?;
     }
-    Ok(List { items: words })
+    Ok(List { items })
 }
 
 /// The names of the columns of a slot's table; none where the catalogue lacks the table.
 fn slot_columns(alloc: Global, cat: &Catalogue, slot: &Slot) -> Result<List<Name>, NoMemory>
-    ensures { IfOk result (λ names. names ≡ columns_of_slot cat.now slot.now) }
+    ensures { IfOk result (λ names. names ≡ wording.slot_columns cat.now slot.now) }
 {
     match cat.tables.as_slice().get(slot.table as usize) {
         Some(table) => column_names(alloc, table),
@@ -135,10 +101,13 @@ fn slot_words(
     shapes: &[IndexShape],
     config: &Config,
 ) -> Result<List<Name>, NoMemory>
-    ensures { IfOk result (λ words. words ≡ words_of_slot cat.now shapes.now config.now slot.now) }
+    ensures { IfOk result (λ names. names ≡ wording.slot_words cat.now shapes.now config.now slot.now) }
 {
     match cat.tables.as_slice().get(slot.table as usize) {
-        Some(table) => reading_words(alloc, slot.table, table, shapes, config),
+        Some(table) => {
+            let paths = paths_on(alloc, slot.table, table, shapes, config)?;
+            words_of_paths(alloc, paths.as_slice())
+        }
         None => Ok(List::new(alloc)),
     }
 }
@@ -149,12 +118,12 @@ fn columns_of_slots(
     cat: &Catalogue,
     block: &Block,
 ) -> Result<List<List<Name>>, NoMemory>
-    ensures { IfOk result (λ columns. columns ≡ column_labels cat.now block.now) }
+    ensures { IfOk result (λ columns. columns ≡ wording.column_labels cat.now block.now) }
 {
     let mut items = Vec::new(alloc);
     for slot in block.slots.items.iter() {
         let columns = slot_columns(alloc, cat, slot)?;
-        items.push(columns).map_err(|_| NoMemory)?;
+        items.push(columns)?;
     }
     Ok(List { items })
 }
@@ -167,12 +136,12 @@ fn words_of_slots(
     shapes: &[IndexShape],
     config: &Config,
 ) -> Result<List<List<Name>>, NoMemory>
-    ensures { IfOk result (λ words. words ≡ offer_labels cat.now block.now shapes.now config.now) }
+    ensures { IfOk result (λ names. names ≡ wording.offer_labels cat.now block.now shapes.now config.now) }
 {
     let mut items = Vec::new(alloc);
     for slot in block.slots.items.iter() {
         let words = slot_words(alloc, cat, slot, shapes, config)?;
-        items.push(words).map_err(|_| NoMemory)?;
+        items.push(words)?;
     }
     Ok(List { items })
 }
@@ -187,10 +156,10 @@ pub fn labels(
     shapes: &[IndexShape],
     config: &Config,
 ) -> Result<Labels, NoMemory>
-    ensures slots { IfOk result (λ l. l.slots ≡ slot_labels block.now) }
-    ensures columns { IfOk result (λ l. l.columns ≡ column_labels cat.now block.now) }
-    ensures offers { IfOk result (λ l. l.offers ≡ offer_labels cat.now block.now shapes.now config.now) }
-    ensures counts { IfOk result (λ l. (s : ℕ) → length (slice_index_or l.offers s []) ≡ length (offers_of cat.now block.now shapes.now config.now s)) }
+    ensures slots { IfOk result (λ l. l.slots ≡ wording.slot_labels block.now) }
+    ensures columns { IfOk result (λ l. l.columns ≡ wording.column_labels cat.now block.now) }
+    ensures offers { IfOk result (λ l. l.offers ≡ wording.offer_labels cat.now block.now shapes.now config.now) }
+    ensures counts { IfOk result (λ l. (s : ℕ) → length (slice_index_or l.offers s []) ≡ length (ways.offers cat.now block.now shapes.now config.now s)) }
 {
     Ok(Labels {
         slots: slot_names(alloc, block)?,

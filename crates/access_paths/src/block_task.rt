@@ -1,9 +1,10 @@
 //! The task of a block.
 ghost use Rattle.std.specs.Prelude.{◌≡◌, ◌≤◌, ◌^◌, [], IfOk, length, map, unwrap_or};
 ghost use Rattle.adv_base.specs.Named.{NamesBlock};
-ghost use Rattle.adv_base.specs.Rows.{group_rows as group_rows_of};
+ghost use Rattle.adv_base.specs.Rows as row;
 ghost use Rattle.cardinality.specs.Tables.{HoldsRows};
-ghost use Rattle.plan_model.specs.BlockTask.{IsTaskOf, need as need_of, task_edge};
+ghost use Rattle.plan_model.specs.BlockTask as tasks;
+ghost use Rattle.adv_base.specs.declared.limits.TheConstants.{MOST_ROWS};
 
 use crate::predicates::is_bound;
 use adv_base::{Block, Catalogue, Edge, Item, List, NoMemory};
@@ -13,7 +14,7 @@ use std::alloc::Global;
 
 /// What a merge needs of a column of a slot: that its rows come by it, upwards, or nothing where it is bound.
 fn need(block: &Block, slot: u8, column: u16) -> Option<Item>
-    ensures { result ≡ need_of block.now slot column }
+    ensures { result ≡ tasks.need block.now slot column }
 {
     if is_bound(block, slot, column) {
         None
@@ -24,7 +25,7 @@ fn need(block: &Block, slot: u8, column: u16) -> Option<Item>
 
 /// An edge with what a merge needs of its sides.
 fn edge_with_needs(block: &Block, edge: &Edge) -> TaskEdge
-    ensures { result ≡ task_edge block.now edge.now }
+    ensures { result ≡ tasks.task_edge block.now edge.now }
 {
     TaskEdge {
         left: edge.left,
@@ -38,13 +39,11 @@ fn edge_with_needs(block: &Block, edge: &Edge) -> TaskEdge
 
 /// The block's edges, each with what a merge needs.
 fn task_edges(alloc: Global, block: &Block) -> Result<Vec<TaskEdge>, NoMemory>
-    ensures { IfOk result (λ edges. edges.items ≡ map (task_edge block.now) block.now.edges) }
+    ensures { IfOk result (λ edges. edges.items ≡ map (tasks.task_edge block.now) block.now.edges) }
 {
     let mut edges = Vec::new(alloc);
     for edge in block.edges.items.iter() {
-        edges
-            .push(edge_with_needs(block, edge))
-            .map_err(|_| NoMemory)?;
+        edges.push(edge_with_needs(block, edge))?;
     }
     Ok(edges)
 }
@@ -53,10 +52,8 @@ fn task_edges(alloc: Global, block: &Block) -> Result<Vec<TaskEdge>, NoMemory>
 fn copied(alloc: Global, items: &List<Item>) -> Result<List<Item>, NoMemory>
     ensures { IfOk result (λ list. list ≡ items.now) }
 {
-    match Vec::from_slice(alloc, items.as_slice()) {
-        Ok(items) => Ok(List { items }),
-        Err(_) => Err(NoMemory),
-    }
+    let items = Vec::from_slice(alloc, items.as_slice())?;
+    Ok(List { items })
 }
 
 /// A copy of the list to group by, where the block groups.
@@ -73,9 +70,9 @@ fn copied_group(alloc: Global, group: &Option<List<Item>>) -> Result<Option<List
 fn rows_of_groups(cat: &Catalogue, block: &Block, rows: &Rows) -> u64
     requires named { NamesBlock cat.now block.now }
     requires table { HoldsRows cat.now block.now (2 ^ length block.now.slots) rows.now.of }
-    ensures exact { result ≡ group_rows_of cat.now block.now (unwrap_or block.now.group []) }
+    ensures exact { result ≡ row.group_rows cat.now block.now (unwrap_or block.now.group []) }
     ensures least { 1 ≤ result }
-    ensures most { result ≤ 1000000000000 }
+    ensures most { result ≤ MOST_ROWS }
 {
     match &block.group {
         None => group_rows(cat, block, &[], rows),
@@ -87,7 +84,7 @@ fn rows_of_groups(cat: &Catalogue, block: &Block, rows: &Rows) -> u64
 /// by with the rows of the groups, and the catalogue's rates.
 pub fn task(alloc: Global, cat: &Catalogue, block: &Block) -> Result<Task, NoMemory>
     requires { NamesBlock cat.now block.now }
-    ensures { IfOk result (IsTaskOf cat.now block.now) }
+    ensures { IfOk result (tasks.IsTaskOf cat.now block.now) }
 {
     let rows = rows_table(alloc, cat, block)?;
     let edges = task_edges(alloc, block)?;

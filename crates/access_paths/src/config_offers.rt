@@ -1,6 +1,7 @@
 //! The offers of a block under a configuration.
 ghost use Rattle.std.specs.Prelude.{◌≡◌, ◌++◌, ◌∷◌, [], OnOk};
-ghost use Rattle.access_paths.specs.ConfigOffers.{AreInPlace};
+ghost use Rattle.adv_base.specs.OfferTables.{OfferTableLimits};
+ghost use Rattle.access_paths.specs.ConfigOffers as kept;
 
 use crate::slot_access::slot_offers;
 use crate::slot_offer::SlotOffer;
@@ -14,25 +15,32 @@ use std::alloc::Global;
 #[derive(Debug, Drop)]
 pub struct ConfigOffers {
     pub slots: Vec<SlotOffers>,
-    pub ghost in_place: { AreInPlace slots.items },
+    pub ghost limits: { OfferTableLimits (kept.table_of slots.items) },
 }
 
 /// Puts the offers of the next slot at the end.
 fn put(slots: &mut Vec<SlotOffers>, offers: SlotOffers) -> Result<(), NoMemory>
     ensures { OnOk result (slots.new.items ≡ slots.old.items ++ offers ∷ []) }
 {
-    slots.push(offers).map_err(|_| NoMemory)
+    slots.push(offers)?;
+    Ok(())
 }
 
 impl ConfigOffers {
-    ghost use Rattle.std.specs.Prelude.{◌<◌, All, IfOk, Some, length, slice_get};
+    ghost use Rattle.std.specs.Prelude.{◌<◌, ◌≤◌, ℕ, All, IfOk, List, Some, length, slice_get};
+    ghost use Rattle.adv_base.specs.declared.catalogue.Catalogue.{Catalogue};
+    ghost use Rattle.adv_base.specs.declared.catalogue.index.IndexShape.{IndexShape};
+    ghost use Rattle.adv_base.specs.declared.limits.TheConstants.{MOST_INDEX_PRICE, MOST_TABLE_PRICE};
+    ghost use Rattle.adv_base.specs.declared.setting.Config.{Config};
+    ghost use Rattle.adv_base.specs.declared.workload.block.Block.{Block};
     ghost use Rattle.adv_base.specs.Named.{NamesBlock, NamesShape};
-    ghost use Rattle.adv_base.specs.Offers.{offers};
-    ghost use Rattle.access_paths.specs.Candidates.{offer_candidates};
-    ghost use Rattle.access_paths.specs.ConfigOffers.{table_of, candidates_in_table, candidate_at};
-    ghost use Rattle.access_paths.specs.SlotOffers.{offer_of};
+    ghost use Rattle.adv_base.specs.OfferTables as tables;
+    ghost use Rattle.adv_base.specs.Offers as ways;
+    ghost use Rattle.access_paths.specs.ConfigOffers as kept;
+    ghost use Rattle.access_paths.specs.inner.SlotOffers as stored;
 
-    /// Prices each way to read each slot: the table, its indexes, and the configuration's candidates on it.
+    /// Prices each way to read each slot: the table, its indexes, and the configuration's candidates on it. The first
+    /// offer of each slot is the whole table. A table costs at most 2 * 10^18 to read, an index at most 4 * 10^18.
     pub fn new(
         alloc: Global,
         cat: &Catalogue,
@@ -42,8 +50,11 @@ impl ConfigOffers {
     ) -> Result<ConfigOffers, NoMemory>
         requires named { NamesBlock cat.now block.now }
         requires shapes_named { All (NamesShape cat.now) shapes.now }
-        ensures offers_are { IfOk result (λ o. table_of o.slots.items ≡ offers cat.now block.now shapes.now config.now) }
-        ensures candidates_are { IfOk result (λ o. candidates_in_table o.slots.items ≡ offer_candidates cat.now block.now shapes.now config.now) }
+        ensures offers_are { IfOk result (λ o. kept.table_of o.slots.items ≡ ways.offers cat.now block.now shapes.now config.now) }
+        ensures candidates_are { IfOk result (λ o. (slot offer : ℕ) → kept.candidate_at o.slots.items slot offer ≡ ways.path_candidate_at cat.now block.now shapes.now config.now slot offer) }
+        ensures tables_first { IfOk result (λ o. tables.BeginsWithTables cat.now block.now (kept.table_of o.slots.items)) }
+        ensures table_prices { IfOk result (λ o. (slot : ℕ) → tables.price_at (kept.table_of o.slots.items) slot 0 ≤ MOST_TABLE_PRICE) }
+        ensures prices { IfOk result (λ o. tables.PricesWithin MOST_INDEX_PRICE (kept.table_of o.slots.items)) }
     {
         let mut slots = Vec::new(alloc);
         let count = block.slots.len() as u8;
@@ -56,9 +67,9 @@ impl ConfigOffers {
 
     /// The offer of a number.
     fn offer(&self, slot: u8, offer: u32) -> &SlotOffer
-        requires { offer < length (table_of self.now.slots.items slot) }
-        ensures pair { slice_get (table_of self.now.slots.items slot) offer ≡ Some (offer_of result.now) }
-        ensures candidate { slice_get (candidates_in_table self.now.slots.items slot) offer ≡ Some result.now.candidate }
+        requires { offer < length (kept.table_of self.now.slots.items slot) }
+        ensures pair { slice_get (kept.table_of self.now.slots.items slot) offer ≡ Some (stored.offer_of result.now) }
+        ensures candidate { slice_get (kept.candidates_in_table self.now.slots.items slot) offer ≡ Some result.now.candidate }
     {
         match self.slots.get(slot as usize) {
             Some(offers) => &offers.offers[offer as usize],
@@ -66,10 +77,11 @@ impl ConfigOffers {
         }
     }
 
-    /// Which candidate an offer of a slot is, by its number from 1; None for the table and the indexes that exist.
+    /// Which candidate an offer of a slot is, by its number from 1; None exactly for the table and the indexes that exist.
     pub fn candidate_of(&self, slot: u8, offer: u32) -> Option<u16>
-        requires { offer < length (table_of self.now.slots.items slot) }
-        ensures { result ≡ candidate_at self.now.slots.items slot offer }
+        requires { offer < length (kept.table_of self.now.slots.items slot) }
+        ensures own { result ≡ kept.candidate_at self.now.slots.items slot offer }
+        ensures which { (cat : Catalogue) (block : Block) (shapes : List IndexShape) (config : Config) → kept.AreOffersOf cat block shapes config self.now.slots.items → result ≡ ways.path_candidate_at cat block shapes config slot offer }
     {
         self.offer(slot, offer).candidate
     }

@@ -9,6 +9,7 @@ mod block_task;
 mod config_offers;
 mod matching;
 mod orders;
+mod paths;
 mod predicates;
 mod price;
 mod reader;

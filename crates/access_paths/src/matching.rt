@@ -1,21 +1,20 @@
 //! What an index matches of a slot's predicates.
 ghost use Rattle.std.specs.Prelude.{◌≡◌, ◌<◌, ◌≤◌, ◌==◌, length, Contains, map, fold, if◌then◌else◌, Bool};
-ghost use Rattle.adv_base.specs.Access.{point_keys, matched_part as part_matched};
+ghost use Rattle.adv_base.specs.Access as access;
 ghost use Rattle.adv_base.specs.Named.{NamesBlock};
-ghost use Rattle.adv_base.specs.Parts.{pred_part};
-ghost use Rattle.adv_base.specs.Predicates.{is_point, is_range, preds_on};
-ghost use Rattle.adv_base.specs.Sums.{times_part as part_of_number};
+ghost use Rattle.adv_base.specs.Parts as selectivity;
+ghost use Rattle.adv_base.specs.Predicates as predicates;
+ghost use Rattle.adv_base.specs.Sums as sum;
+ghost use Rattle.adv_base.specs.declared.limits.TheConstants.{WHOLE};
 
 use crate::predicates::{has_point, is_point_on, is_range_on};
+use adv_base::limits::WHOLE;
 use adv_base::{Block, Catalogue, Pred, times_part};
 use cardinality::part_of;
 
-/// All entries of an index.
-const ALL: u64 = 1000000000;
-
 /// How many leading keys have a predicate that gives their column one or some literals.
 fn point_key_count(block: &Block, slot: u8, keys: &[u16]) -> usize
-    ensures { result ≡ length (point_keys block.now slot keys.now) }
+    ensures { result ≡ length (access.point_keys block.now slot keys.now) }
 {
     keys.iter()
         .take_while(|key| has_point(block, slot, **key))
@@ -27,10 +26,10 @@ fn part_after(cat: &Catalogue, block: &Block, pred: &Pred, matched: bool, part: 
     requires named { NamesBlock cat.now block.now }
     requires own { Contains block.now.preds pred.now }
     requires some { 1 ≤ part }
-    requires most { part ≤ 1000000000 }
-    ensures exact { result ≡ (if matched then part_of_number part (pred_part cat.now block.now pred.now) else part) }
+    requires most { part ≤ WHOLE }
+    ensures exact { result ≡ (if matched then sum.times_part part (selectivity.pred_part cat.now block.now pred.now) else part) }
     ensures least { 1 ≤ result }
-    ensures most_after { result ≤ 1000000000 }
+    ensures most_after { result ≤ WHOLE }
 {
     if matched {
         times_part(part, part_of(cat, block, pred))
@@ -43,10 +42,10 @@ fn part_after(cat: &Catalogue, block: &Block, pred: &Pred, matched: bool, part: 
 fn through_points(cat: &Catalogue, block: &Block, slot: u8, column: u16, start: u64) -> u64
     requires named { NamesBlock cat.now block.now }
     requires some { 1 ≤ start }
-    requires most { start ≤ 1000000000 }
-    ensures exact { result ≡ fold part_of_number start (map (pred_part cat.now block.now) (preds_on is_point block.now.preds slot column)) }
+    requires most { start ≤ WHOLE }
+    ensures exact { result ≡ fold sum.times_part start (map (selectivity.pred_part cat.now block.now) (predicates.preds_on predicates.is_point block.now.preds slot column)) }
     ensures least { 1 ≤ result }
-    ensures most_after { result ≤ 1000000000 }
+    ensures most_after { result ≤ WHOLE }
 {
     let mut part = start;
     for pred in block.preds.items.iter() {
@@ -59,10 +58,10 @@ fn through_points(cat: &Catalogue, block: &Block, slot: u8, column: u16, start: 
 fn through_ranges(cat: &Catalogue, block: &Block, slot: u8, column: u16, start: u64) -> u64
     requires named { NamesBlock cat.now block.now }
     requires some { 1 ≤ start }
-    requires most { start ≤ 1000000000 }
-    ensures exact { result ≡ fold part_of_number start (map (pred_part cat.now block.now) (preds_on is_range block.now.preds slot column)) }
+    requires most { start ≤ WHOLE }
+    ensures exact { result ≡ fold sum.times_part start (map (selectivity.pred_part cat.now block.now) (predicates.preds_on predicates.is_range block.now.preds slot column)) }
     ensures least { 1 ≤ result }
-    ensures most_after { result ≤ 1000000000 }
+    ensures most_after { result ≤ WHOLE }
 {
     let mut part = start;
     for pred in block.preds.items.iter() {
@@ -76,12 +75,12 @@ fn through_ranges(cat: &Catalogue, block: &Block, slot: u8, column: u16, start: 
 /// for a range. Their parts are taken one after the other, by keys and then as written.
 pub fn matched_part(cat: &Catalogue, block: &Block, slot: u8, keys: &[u16]) -> u64
     requires { NamesBlock cat.now block.now }
-    ensures exact { result ≡ part_matched cat.now block.now slot keys.now }
+    ensures exact { result ≡ access.matched_part cat.now block.now slot keys.now }
     ensures least { 1 ≤ result }
-    ensures most { result ≤ 1000000000 }
+    ensures most { result ≤ WHOLE }
 {
     let points = point_key_count(block, slot, keys);
-    let mut part = ALL;
+    let mut part = WHOLE;
     for key in &keys[..points] {
         part = through_points(cat, block, slot, *key, part);
     }

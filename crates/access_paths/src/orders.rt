@@ -1,6 +1,6 @@
 //! The orders that indexes deliver.
 ghost use Rattle.std.specs.Prelude.{◌≡◌, IfOk};
-ghost use Rattle.adv_base.specs.Access.{index_order as order_of_index};
+ghost use Rattle.adv_base.specs.Access as access;
 
 use crate::predicates::is_bound;
 use adv_base::{Block, Item};
@@ -14,7 +14,7 @@ pub fn index_order(
     slot: u8,
     keys: &[u16],
 ) -> Result<Vec<Item>, AllocError>
-    ensures { IfOk result (λ order. order.items ≡ order_of_index block.now slot keys.now) }
+    ensures { IfOk result (λ order. order.items ≡ access.index_order block.now slot keys.now) }
 {
     keys.iter()
         .filter(|key| !is_bound(block, slot, **key))

@@ -1,26 +1,26 @@
 //! The predicates of a slot by the kind of their test.
 ghost use Rattle.std.specs.Prelude.{◌≡◌};
-ghost use Rattle.adv_base.specs.Predicates.{is_point as tests_point, is_range as tests_range, is_pred_on, has_pred, is_bound as is_column_bound};
+ghost use Rattle.adv_base.specs.Predicates as predicates;
 
 use adv_base::{Block, Pred};
 
 /// Whether a predicate gives a column of a slot one or some literals.
 pub fn is_point_on(pred: &Pred, slot: u8, column: u16) -> bool
-    ensures { result ≡ is_pred_on tests_point slot column pred.now }
+    ensures { result ≡ predicates.is_pred_on predicates.is_point slot column pred.now }
 {
     pred.slot == slot && pred.column == column && pred.test.is_point()
 }
 
 /// Whether a predicate asks for a range of a column of a slot.
 pub fn is_range_on(pred: &Pred, slot: u8, column: u16) -> bool
-    ensures { result ≡ is_pred_on tests_range slot column pred.now }
+    ensures { result ≡ predicates.is_pred_on predicates.is_range slot column pred.now }
 {
     pred.slot == slot && pred.column == column && pred.test.is_range()
 }
 
 /// Whether some predicate gives a column of a slot one or some literals.
 pub fn has_point(block: &Block, slot: u8, column: u16) -> bool
-    ensures { result ≡ has_pred tests_point block.now.preds slot column }
+    ensures { result ≡ predicates.has_pred predicates.is_point block.now.preds slot column }
 {
     block
         .preds
@@ -31,7 +31,7 @@ pub fn has_point(block: &Block, slot: u8, column: u16) -> bool
 
 /// Whether a column of a slot is bound: some predicate gives it a literal.
 pub fn is_bound(block: &Block, slot: u8, column: u16) -> bool
-    ensures { result ≡ is_column_bound block.now.preds slot column }
+    ensures { result ≡ predicates.is_bound block.now.preds slot column }
 {
     block.preds.items.iter().any(|pred| pred.slot == slot
         && pred.column == column

@@ -1,11 +1,12 @@
 //! Prices of the ways to read a slot, in thousandths of a page read.
 ghost use Rattle.std.specs.Prelude.{◌≡◌, ◌<◌, ◌≤◌, ◌*◌, ◌==◌, All, length, if◌then◌else◌};
 ghost use Rattle.std.specs.List.{list_any, list_all};
-ghost use Rattle.adv_base.specs.Access.{finds_one_row as index_finds_one_row, covers_slot as index_covers_slot, index_price as price_of_index, table_price as price_of_table};
+ghost use Rattle.adv_base.specs.Access as access;
 ghost use Rattle.adv_base.specs.Named.{NamesBlock};
-ghost use Rattle.adv_base.specs.Predicates.{is_bound as is_column_bound};
-ghost use Rattle.adv_base.specs.Rows.{table_rows as rows_of_table, table_pages as pages_of_table};
-ghost use Rattle.adv_base.specs.Sums.{times_part as part_of_number};
+ghost use Rattle.adv_base.specs.Predicates as predicates;
+ghost use Rattle.adv_base.specs.Rows as row;
+ghost use Rattle.adv_base.specs.Sums as sum;
+ghost use Rattle.adv_base.specs.declared.limits.TheConstants.{MOST_INDEX_PRICE, MOST_RATE, MOST_ROWS, MOST_TABLE_PRICE, WHOLE};
 
 use crate::matching::matched_part;
 use crate::predicates::is_bound;
@@ -15,14 +16,14 @@ use hypo_indexes::index_pages;
 
 /// Whether each key is bound.
 fn are_bound(block: &Block, slot: u8, keys: &[u16]) -> bool
-    ensures { result ≡ list_all (is_column_bound block.now.preds slot) keys.now }
+    ensures { result ≡ list_all (predicates.is_bound block.now.preds slot) keys.now }
 {
     keys.iter().all(|key| is_bound(block, slot, *key))
 }
 
 /// Whether an index finds at most one row: each of its keys is bound, and no two rows agree on all.
 fn finds_one_row(block: &Block, slot: u8, shape: &IndexShape) -> bool
-    ensures { result ≡ index_finds_one_row block.now slot shape.now }
+    ensures { result ≡ access.finds_one_row block.now slot shape.now }
 {
     shape.unique && are_bound(block, slot, shape.keys.as_slice())
 }
@@ -30,10 +31,10 @@ fn finds_one_row(block: &Block, slot: u8, shape: &IndexShape) -> bool
 /// The rows that an index finds, from the part of its entries that it matches.
 fn matched_rows(block: &Block, slot: u8, table: &Table, shape: &IndexShape, part: u64) -> u64
     requires some { 1 ≤ part }
-    requires most { part ≤ 1000000000 }
-    ensures exact { result ≡ (if index_finds_one_row block.now slot shape.now then 1 else part_of_number (rows_of_table table.now) part) }
+    requires most { part ≤ WHOLE }
+    ensures exact { result ≡ (if access.finds_one_row block.now slot shape.now then 1 else sum.times_part (row.table_rows table.now) part) }
     ensures least { 1 ≤ result }
-    ensures few { result ≤ 1000000000000 }
+    ensures few { result ≤ MOST_ROWS }
 {
     if finds_one_row(block, slot, shape) {
         1
@@ -58,7 +59,7 @@ fn holds_columns(keys: &[u16], columns: &[u16]) -> bool
 
 /// Whether an index covers a slot: it may stand for the table's rows, and its keys hold each column that is needed.
 fn covers_slot(block: &Block, source: &Slot, shape: &IndexShape) -> bool
-    ensures { result ≡ index_covers_slot block.now source.now shape.now }
+    ensures { result ≡ access.covers_slot block.now source.now shape.now }
 {
     block.may_cover && holds_columns(shape.keys.as_slice(), source.needed.as_slice())
 }
@@ -74,10 +75,10 @@ fn fetch_cost(
     matched: u64,
 ) -> u64
     requires some { 1 ≤ part }
-    requires most { part ≤ 1000000000 }
-    requires few { matched ≤ 1000000000000 }
-    ensures exact { result ≡ (if covers then 0 else (if clustered then part_of_number (pages_of_table table.now) part * cat.now.rates.seq_page else matched * cat.now.rates.rand_page)) }
-    ensures bound { result ≤ 1000000000000000000 }
+    requires most { part ≤ WHOLE }
+    requires few { matched ≤ MOST_ROWS }
+    ensures exact { result ≡ (if covers then 0 else (if clustered then sum.times_part (row.table_pages table.now) part * cat.now.rates.seq_page else matched * cat.now.rates.rand_page)) }
+    ensures bound { result ≤ MOST_ROWS * MOST_RATE }
 {
     if covers {
         0
@@ -89,7 +90,7 @@ fn fetch_cost(
 }
 
 /// The price of reading a slot through an index: the pages of the part that it matches, the fetch, and the rows that it
-/// finds. At most 10^19.
+/// finds. At most 4 * 10^18.
 #[tactic(auto, unfolding(adv_base::specs::Access::index_price, adv_base::specs::Access::fetch_cost, adv_base::specs::Access::matched_rows))]
 pub fn index_price(
     cat: &Catalogue,
@@ -101,8 +102,8 @@ pub fn index_price(
 ) -> u64
     requires named { NamesBlock cat.now block.now }
     requires keys { All (λ key. key < length table.now.columns) shape.now.keys }
-    ensures exact { result ≡ price_of_index cat.now block.now slot source.now table.now shape.now }
-    ensures bound { result ≤ 10000000000000000000 }
+    ensures exact { result ≡ access.index_price cat.now block.now slot source.now table.now shape.now }
+    ensures bound { result ≤ MOST_INDEX_PRICE }
 {
     let part = matched_part(cat, block, slot, shape.keys.as_slice());
     let matched = matched_rows(block, slot, table, shape, part);
@@ -118,11 +119,11 @@ pub fn index_price(
     read + fetch + matched * cat.rates.row_cpu
 }
 
-/// The price of reading a whole table: its pages in sequence, and each row. At most 10^19.
+/// The price of reading a whole table: its pages in sequence, and each row. At most 2 * 10^18.
 #[tactic(auto, unfolding(adv_base::specs::Access::table_price))]
 pub fn table_price(cat: &Catalogue, table: &Table) -> u64
-    ensures exact { result ≡ price_of_table cat.now table.now }
-    ensures bound { result ≤ 10000000000000000000 }
+    ensures exact { result ≡ access.table_price cat.now table.now }
+    ensures bound { result ≤ MOST_TABLE_PRICE }
 {
     table_pages(table) * cat.rates.seq_page + table_rows(table) * cat.rates.row_cpu
 }

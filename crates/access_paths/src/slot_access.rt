@@ -1,10 +1,10 @@
 //! Finding the ways to read a slot.
-ghost use Rattle.std.specs.Prelude.{◌≡◌, ◌<◌, All, IfOk, Some, length, slice_get};
+ghost use Rattle.std.specs.Prelude.{◌≡◌, ◌<◌, All, IfOk, Some, length, map, slice_get};
 ghost use Rattle.adv_base.specs.Named.{NamesBlock, NamesShape};
-ghost use Rattle.adv_base.specs.Offers.{offers};
-ghost use Rattle.access_paths.specs.Candidates.{offer_candidates};
-ghost use Rattle.access_paths.specs.SlotOffers.{pairs_of, numbers_of};
+ghost use Rattle.adv_base.specs.Offers as ways;
+ghost use Rattle.access_paths.specs.inner.SlotOffers as kept;
 
+use crate::paths::paths_on;
 use crate::reader::Reader;
 use crate::slot_offers::SlotOffers;
 use adv_base::{Block, Catalogue, Config, IndexShape, NoMemory, Slot, slot_table};
@@ -18,7 +18,7 @@ fn slot_source(block: &Block, slot: u8) -> &Slot
     &block.slots.items[slot as usize]
 }
 
-/// The ways to read one slot.
+/// The ways to read one slot: an offer for each of its access paths.
 pub fn slot_offers(
     alloc: Global,
     cat: &Catalogue,
@@ -30,9 +30,8 @@ pub fn slot_offers(
     requires named { NamesBlock cat.now block.now }
     requires shapes_named { All (NamesShape cat.now) shapes.now }
     requires there { slot < length block.now.slots }
-    ensures slot_is { IfOk result (λ o. o.slot ≡ slot) }
-    ensures pairs { IfOk result (λ o. pairs_of o.offers.items ≡ offers cat.now block.now shapes.now config.now slot) }
-    ensures numbers { IfOk result (λ o. numbers_of o.offers.items ≡ offer_candidates cat.now block.now shapes.now config.now slot) }
+    ensures pairs { IfOk result (λ o. kept.pairs_of o.offers.items ≡ ways.offers cat.now block.now shapes.now config.now slot) }
+    ensures numbers { IfOk result (λ o. kept.numbers_of o.offers.items ≡ map ways.path_candidate (ways.paths cat.now block.now shapes.now config.now slot)) }
 {
     let source = slot_source(block, slot);
     let table = slot_table(cat, block, slot);
@@ -43,6 +42,7 @@ pub fn slot_offers(
         source,
         table,
     };
-    let offers = reader.offers(alloc, shapes, config)?;
-    Ok(SlotOffers { slot, offers })
+    let paths = paths_on(alloc, source.table, table, shapes, config)?;
+    let offers = reader.offers(alloc, paths.as_slice())?;
+    Ok(SlotOffers { offers })
 }

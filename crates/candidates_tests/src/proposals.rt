@@ -55,6 +55,7 @@ t(b) t(b,a)|SELECT a FROM t WHERE b = 1 AND b = 2
 t(b) t(c) t(b,c) t(b,c,a)|SELECT a FROM t WHERE b IN (1) AND c = 2 AND b = 3
 t(b) t(c) t(b,c) t(b,c,a)|SELECT a FROM t WHERE b = 1 AND c > 2
 t(b) t(c) t(b,c) t(b,c,a)|SELECT a FROM t WHERE c > 2 AND b = 1
+t(b) t(c) t(b,c) t(b,c,a)|SELECT a FROM t WHERE b = 1 AND c > 2 ORDER BY c
 t(b) t(c) t(d) t(b,c) t(b,d) t(b,c,a,d)|SELECT a FROM t WHERE b = 1 AND c > 2 AND d < 3
 t(b) t(d) t(c) t(b,d) t(b,c) t(b,d,a,c)|SELECT a FROM t WHERE d < 3 AND c > 2 AND b = 1
 t(b) t(b,a)|SELECT a FROM t WHERE b = 1 AND b > 0
@@ -70,12 +71,15 @@ t(b) t(c) t(b,c) t(b,a,c)|SELECT a FROM t WHERE b = 1 ORDER BY c
 t(b) t(c) t(b,c) t(b,a,c)|SELECT a FROM t WHERE b = 1 ORDER BY b, c
 t(b) t(b,c) t(b,a,c)|SELECT a FROM t WHERE b IN (1, 2) ORDER BY b, c
 t(b) t(c,b) t(b,c) t(b,a,c)|SELECT a FROM t WHERE b IN (1, 2) ORDER BY c, b
+t(b) t(c,b) t(b,a,c)|SELECT a FROM t WHERE b > 1 ORDER BY c, b
 t(a)|SELECT a, count(*) FROM t GROUP BY a
 t(b,a) t(a,b)|SELECT b, a, count(*) FROM t GROUP BY b, a
 t(b) t(b,c)|SELECT b, sum(c) FROM t GROUP BY b
 t(a) t(b) t(a,b,c)|SELECT b, sum(c) FROM t WHERE a = 1 GROUP BY b
 t(a) t(b) t(a,b)|SELECT a, b, count(*) FROM t WHERE a = 1 GROUP BY a, b
 t(b)|SELECT b, count(*) FROM t WHERE b = 1 GROUP BY b
+t(b) t(c,b) t(b,c)|SELECT b, c, count(*) FROM t WHERE b IN (1, 2) GROUP BY c, b
+t(b) t(c,b) t(b,c)|SELECT b, c, count(*) FROM t WHERE b > 1 GROUP BY c, b
 t(b)|SELECT b, count(*) FROM t GROUP BY b ORDER BY b
 t(b,c) t(c)|SELECT b, c, count(*) FROM t GROUP BY b, c ORDER BY c
 t(b)|SELECT b, count(*) FROM t GROUP BY b ORDER BY count(*)
@@ -97,11 +101,18 @@ t(b) t(a,b) v(k)|SELECT t.a, v.m, count(*) FROM t, v WHERE t.b = v.k GROUP BY t.
 t(b) v(k) v(m)|SELECT v.m, count(*) FROM t, v WHERE t.b = v.k GROUP BY v.m
 t(b) t(a) t(a,b) v(k)|SELECT t.a FROM t, v WHERE t.b = v.k ORDER BY t.a
 t(b) t(a,b) v(k)|SELECT t.a FROM t, v WHERE t.b = v.k ORDER BY t.a, v.m
+t(b) t(b,a) t(a,b) v(k)|SELECT t.a FROM t, v WHERE t.b = v.k ORDER BY t.b, t.a
+t(b) t(b,a) t(a,b) v(k)|SELECT t.a, t.b, count(*) FROM t, v WHERE t.b = v.k GROUP BY t.b, t.a
 |SELECT a FROM u WHERE a = 1
 |SELECT b FROM u WHERE a = 1
 u(a,c)|SELECT c FROM u WHERE a = 1
 u(b) u(b,a)|SELECT a FROM u WHERE b = 1
 u(b) u(a,b,d)|SELECT d FROM u WHERE a = 1 AND b = 2
+u(b)|SELECT a FROM u WHERE a = 1 AND b > 2
+|SELECT a, b FROM u ORDER BY a, b
+u(b,a)|SELECT a, b FROM u ORDER BY b, a
+|SELECT a, b, count(*) FROM u GROUP BY a, b
+t(a)|SELECT u.d FROM t, u WHERE t.a = u.d
 |SELECT d FROM u
 t(a)|SELECT a FROM u WHERE a = 1; SELECT a FROM t WHERE a = 1
 t(a,b,c,d,e,f,g,h)|SELECT a, b, c, d, e, f, g, h FROM t
@@ -111,6 +122,9 @@ t(a) t(b) t(c) t(d) t(e) t(f) t(g) t(h) t(i) t(a,b,c,d,e,f,g,h)|SELECT a FROM t 
 t(a) t(b) t(c) t(d) t(e) t(f) t(g) t(h) t(a,b,c,d,e,f,g,h)|SELECT a FROM t WHERE a = 1 AND b = 1 AND c = 1 AND d = 1 AND e = 1 AND f = 1 AND g = 1 AND h = 1 AND a > 1
 t(a) t(b) t(c) t(d) t(e) t(f) t(g) t(h) t(i)|SELECT a FROM t WHERE a = 1 AND b = 1 AND c = 1 AND d = 1 AND e = 1 AND f = 1 AND g = 1 AND h = 1 AND i = 1
 |SELECT count(*), a, b, c, d, e, f, g, h, i FROM t GROUP BY a, b, c, d, e, f, g, h, i
+|SELECT a FROM t ORDER BY a, b, c, d, e, f, g, h, i
+t(a) t(b) t(c) t(d) t(e) t(f) t(g) t(h) t(i)|SELECT a FROM t WHERE a = 1 AND b = 1 AND c = 1 AND d = 1 AND e = 1 AND f = 1 AND g = 1 AND h = 1 ORDER BY i
+t(a) t(b) t(c) t(d) t(e) t(f) t(g) t(h) t(i) t(a,b,c,d,e,f,g,h) v(m)|SELECT t.a FROM t, v WHERE t.i = v.m AND t.a = 1 AND t.b = 1 AND t.c = 1 AND t.d = 1 AND t.e = 1 AND t.f = 1 AND t.g = 1 AND t.h = 1
 t(b) t(j) t(b,j) t(c,d,e,f,g,h,i) t(b,c,d,e,f,g,h,i)|SELECT a FROM t WHERE j > 1 AND b IN (1) ORDER BY c, d, e, f, g, h, i
 t(b) t(b,a)|SELECT a FROM t WHERE b = 1; SELECT a FROM t WHERE b = 2
 t(b) t(b,a) t(a) t(a,b)|SELECT a FROM t WHERE b = 1; SELECT b FROM t WHERE a = 1

@@ -3,10 +3,10 @@ ghost use Rattle.std.specs.Prelude.{◌≡◌, codes, IsErrOf, None};
 ghost use Rattle.toml.specs.Parse.{parse_document};
 ghost use Rattle.toml.specs.View.{table_view};
 ghost use Rattle.catalogue.specs.declared.fault.CatFault.TheVariants.{NotToml};
-ghost use Rattle.catalogue.specs.Catalogue.{document as document_in, catalogue_of, catalogue_in, rates_of, default_rates as rates_by_default};
+ghost use Rattle.catalogue.specs.Catalogue as rows;
 ghost use Rattle.catalogue.specs.Content.{plain_catalogue, plain_rates};
 ghost use Rattle.catalogue.specs.Keys.{given_or};
-ghost use Rattle.catalogue.specs.Paths.{rates_path as path_of_rates};
+ghost use Rattle.catalogue.specs.Paths as paths;
 ghost use Rattle.catalogue.specs.Results.{Gives, or_fault};
 
 use crate::fault::{CatFault, KeyField};
@@ -35,7 +35,7 @@ fn parsed(alloc: Global, text: &str) -> Result<Table, CatFault>
 
 /// The document that bytes hold.
 fn document(alloc: Global, bytes: &[u8]) -> Result<Table, CatFault>
-    ensures { Gives table_view result (or_fault NotToml (document_in bytes.now)) }
+    ensures { Gives table_view result (or_fault NotToml (rows.document bytes.now)) }
 {
     match std::str::from_utf8(bytes) {
         Ok(text) => parsed(alloc, text),
@@ -46,7 +46,7 @@ fn document(alloc: Global, bytes: &[u8]) -> Result<Table, CatFault>
 /// The rates of a document, or those by default.
 fn given_rates(keys: &Table) -> Result<Rates, CatFault>
     ensures { Gives plain_rates result
-        (given_or rates_by_default (codes "rates") (path_of_rates KeyField.Itself) rates_of (table_view keys.now)) }
+        (given_or rows.default_rates (codes "rates") (paths.rates_path KeyField.Itself) rows.rates_of (table_view keys.now)) }
 {
     match keys::value_at(keys, "rates") {
         Some(value) => rates(value, rates_path(KeyField::Itself)),
@@ -57,7 +57,7 @@ fn given_rates(keys: &Table) -> Result<Rates, CatFault>
 /// The catalogue of a document.
 #[tactic(auto, unfolding(crate::specs::Catalogue::catalogue_of))]
 fn catalogue(alloc: Global, keys: &Table) -> Result<Catalogue, CatFault>
-    ensures { Gives plain_catalogue result (catalogue_of (table_view keys.now)) }
+    ensures { Gives plain_catalogue result (rows.catalogue_of (table_view keys.now)) }
 {
     keys::needed_natural(keys, "version", whole_path(KeyField::Version), 1, 1)?;
     let rates = given_rates(keys)?;
@@ -68,7 +68,7 @@ fn catalogue(alloc: Global, keys: &Table) -> Result<Catalogue, CatFault>
 /// The catalogue of the document that bytes hold.
 #[tactic(auto, unfolding(crate::specs::Catalogue::catalogue_in))]
 fn catalogue_of_file(alloc: Global, bytes: &[u8]) -> Result<Catalogue, CatFault>
-    ensures { Gives plain_catalogue result (catalogue_in bytes.now) }
+    ensures { Gives plain_catalogue result (rows.catalogue_in bytes.now) }
 {
     let keys = document(alloc, bytes)?;
     catalogue(alloc, &keys)
@@ -84,9 +84,9 @@ fn catalogue_of_file(alloc: Global, bytes: &[u8]) -> Result<Catalogue, CatFault>
 /// `NotToml` comes exactly where the bytes are no UTF-8 or no document of TOML 1.1, as the crate `toml` reads it, and `Memory` where memory runs out.
 pub fn read_catalogue(alloc: Global, bytes: &[u8]) -> Result<Catalogue, CatFault>
     // The catalogue, or the first fault, unless memory ran out.
-    ensures exact { Gives plain_catalogue result (catalogue_in bytes.now) }
+    ensures exact { Gives plain_catalogue result (rows.catalogue_in bytes.now) }
     // Only bytes that hold no document are answered so.
-    ensures not_toml { IsErrOf result CatFault.NotToml → document_in bytes.now ≡ None }
+    ensures not_toml { IsErrOf result CatFault.NotToml → rows.document bytes.now ≡ None }
 {
     catalogue_of_file(alloc, bytes)
 }

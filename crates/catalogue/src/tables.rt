@@ -6,7 +6,7 @@ ghost use Rattle.adv_base.specs.Limits.Catalogues.{CatalogueLimits};
 ghost use Rattle.catalogue.specs.Catalogue as rows;
 ghost use Rattle.catalogue.specs.Content.{plain_columns, plain_indexes, plain_table, plain_tables};
 ghost use Rattle.catalogue.specs.Paths as paths;
-ghost use Rattle.catalogue.specs.Keys.{needed as needed_of, given_or};
+ghost use Rattle.catalogue.specs.Keys as key_rules;
 ghost use Rattle.catalogue.specs.Results.{Gives, read_each};
 ghost use Rattle.catalogue.specs.Values.{folded};
 
@@ -28,7 +28,7 @@ fn needed_columns(
     keys: &toml::Table,
 ) -> Result<(List<Column>, Names), CatFault>
     ensures exact { Gives (λ x. plain_columns x.0) result
-        (needed_of (codes "column") (paths.table_path table KeyField.Columns) (rows.columns_of table)
+        (key_rules.needed (codes "column") (paths.table_path table KeyField.Columns) (rows.columns_of table)
         (table_view keys.now)) }
     ensures names { IfOk result (λ x. x.1 ≡ rows.column_names (plain_columns x.0)) }
     ensures count { IfOk result (λ x. (1 ≤ length x.0) × (length x.0 ≤ MOST_COLUMNS)) }
@@ -119,7 +119,7 @@ fn tables_in(alloc: Global, items: &[Value]) -> Result<List<Table>, CatFault>
 /// The tables of a document, at most 200, which may be left out.
 pub fn tables(alloc: Global, keys: &toml::Table) -> Result<List<Table>, CatFault>
     ensures exact { Gives plain_tables result
-        (given_or [] (codes "table") (paths.table_path 0 KeyField.Itself) rows.tables_of (table_view keys.now)) }
+        (key_rules.given_or [] (codes "table") (paths.table_path 0 KeyField.Itself) rows.tables_of (table_view keys.now)) }
     ensures limits { IfOk result CatalogueLimits }
 {
     let path = table_path(0, KeyField::Itself);

@@ -131,7 +131,7 @@ fn is_apart_from(one: &Item, items: &[Item]) -> bool
 }
 
 /// Whether no column stands twice.
-pub(crate) fn are_apart(items: &[Item]) -> bool
+pub fn are_apart(items: &[Item]) -> bool
     ensures { IsTrue result ↔ rule.AreApart items.now }
 {
     match items.split_first() {

@@ -22,7 +22,7 @@ mod template;
 mod whole_plan;
 mod words;
 
-pub use checked::checked_task;
+pub use checked::{are_apart, checked_task};
 pub use edge::TaskEdge;
 pub use labels::Labels;
 pub use laws::{
@@ -38,6 +38,3 @@ pub use price::{group_price, hash_price, merge_price, rows_of, sort_price};
 pub use task::Task;
 pub use template::Template;
 pub use whole_plan::plan_cost;
-
-#[cfg(test)]
-mod tests;

@@ -1,6 +1,6 @@
 //! The cuts of the sets of a task's slots, found once.
-ghost use Rattle.std.specs.Prelude.{◌≡◌, ℕ, [], ◌∷◌, ◌++◌, ◌+◌, ◌^◌, ◌<◌, ◌≤◌, IfOk, IsTrue, length};
-ghost use Rattle.planner.specs.Cuts.{merges_of, may_cut as may_be_cut, AddsCuts, AreCuts};
+ghost use Rattle.std.specs.Prelude.{◌≡◌, ℕ, Bool, List, [], ◌∷◌, ◌++◌, ◌+◌, ◌^◌, ◌<◌, ◌≤◌, IfOk, IsTrue, length};
+ghost use Rattle.planner.specs.Cuts.{merges_of, may_cut as may_be_cut, AddsCuts, AreCuts, ListsCovered};
 
 use crate::cut::{Cut, Merge};
 use crate::front::{Link, crosses, side};
@@ -14,6 +14,15 @@ pub(crate) struct Cuts {
     pub merges: Vec<Merge>,
     pub starts: Vec<usize>,
     pub covered: Vec<bool>,
+    pub sets: Vec<usize>,
+}
+
+/// The sets that plans can cover: as flags, by set, and as a list, without the empty one.
+#[derive(Drop)]
+struct Covered<'a> {
+    flags: &'a [bool],
+    sets: &'a [usize],
+    ghost listed: { ListsCovered flags.now sets.now },
 }
 
 /// Adds a merge of two sets, where the link has an end in each.
@@ -51,23 +60,24 @@ fn may_cut(covered: &[bool], set: usize, a: usize) -> bool
     a & (set - a) == 0 && covered[a] && covered[set - a]
 }
 
-/// Adds the cut of a set into a and the rest, where these are apart, both can be covered, and some link crosses it.
+/// Adds the cut of a set into the covered set at a place of their list and the rest, where these are apart, the rest can be
+/// covered too, and some link crosses it.
 fn add_cut(
     cuts: &mut Vec<Cut>,
     merges: &mut Vec<Merge>,
-    covered: &[bool],
+    covered: &Covered<'_>,
     task: &Task,
     links: &[Link],
     set: usize,
-    a: usize,
+    place: usize,
 ) -> Result<(), AllocError>
     requires set_in { set < length task.now.rows }
-    requires done { length covered.now ≡ set }
-    requires some { 0 < a }
-    requires less { a < set }
-    ensures { IfOk result (λ _. AddsCuts task.now links.now covered.now set a (a + 1) cuts.old.items merges.old.items cuts.new.items merges.new.items) }
+    requires done { length covered.now.flags.now ≡ set }
+    requires listed { place < length covered.now.sets.now }
+    ensures { IfOk result (λ _. AddsCuts task.now links.now covered.now.flags.now set covered.now.sets.now place (place + 1) cuts.old.items merges.old.items cuts.new.items merges.new.items) }
 {
-    if !may_cut(covered, set, a) {
+    let a = covered.sets[place];
+    if !may_cut(covered.flags, set, a) {
         return Ok(());
     }
     let b = set - a;
@@ -88,21 +98,21 @@ fn add_cut(
     Ok(())
 }
 
-/// Adds all cuts of a set.
+/// Adds all cuts of a set, by the covered sets below it.
 fn add_cuts(
     cuts: &mut Vec<Cut>,
     merges: &mut Vec<Merge>,
-    covered: &[bool],
+    covered: &Covered<'_>,
     task: &Task,
     links: &[Link],
     set: usize,
 ) -> Result<(), AllocError>
     requires set_in { set < length task.now.rows }
-    requires done { length covered.now ≡ set }
-    ensures { IfOk result (λ _. AddsCuts task.now links.now covered.now set 1 set cuts.old.items merges.old.items cuts.new.items merges.new.items) }
+    requires done { length covered.now.flags.now ≡ set }
+    ensures { IfOk result (λ _. AddsCuts task.now links.now covered.now.flags.now set covered.now.sets.now 0 (length covered.now.sets.now) cuts.old.items merges.old.items cuts.new.items merges.new.items) }
 {
-    for a in 1..set {
-        add_cut(cuts, merges, covered, task, links, set, a)?;
+    for place in 0..covered.sets.len() {
+        add_cut(cuts, merges, covered, task, links, set, place)?;
     }
     Ok(())
 }
@@ -129,18 +139,36 @@ fn can_cover(set: usize, slots: u8, from: usize, end: usize) -> bool
     from < end || is_slot(set, slots)
 }
 
+/// Puts the next set at the end of the list, where it is covered and isn't empty.
+fn list_set(sets: &mut Vec<usize>, set: usize, covers: bool) -> Result<(), AllocError>
+    ensures { IfOk result (λ _. (covered : List Bool) → length covered ≡ set → ListsCovered covered sets.old.items → ListsCovered (covered ++ covers ∷ []) sets.new.items) }
+{
+    if !covers || set == 0 {
+        return Ok(());
+    }
+    sets.push(set)?;
+    Ok(())
+}
+
 /// Adds the next set.
 fn add_set(made: &mut Cuts, task: &Task, links: &[Link], set: usize) -> Result<(), AllocError>
     requires set_in { set < length task.now.rows }
+    requires listed { ListsCovered made.old.covered.items made.old.sets.items }
     requires done { AreCuts task.now links.now made.old.cuts.items made.old.merges.items made.old.starts.items made.old.covered.items set }
-    ensures { IfOk result (λ _. AreCuts task.now links.now made.new.cuts.items made.new.merges.items made.new.starts.items made.new.covered.items (set + 1)) }
+    ensures cuts { IfOk result (λ _. AreCuts task.now links.now made.new.cuts.items made.new.merges.items made.new.starts.items made.new.covered.items (set + 1)) }
+    ensures sets { IfOk result (λ _. ListsCovered made.new.covered.items made.new.sets.items) }
 {
     let before = made.cuts.len();
-    let covered = made.covered.as_slice();
-    add_cuts(&mut made.cuts, &mut made.merges, covered, task, links, set)?;
+    let covered = Covered {
+        flags: made.covered.as_slice(),
+        sets: made.sets.as_slice(),
+    };
+    add_cuts(&mut made.cuts, &mut made.merges, &covered, task, links, set)?;
     let end = made.cuts.len();
+    let covers = can_cover(set, task.slots, before, end);
     made.starts.push(end)?;
-    made.covered.push(can_cover(set, task.slots, before, end))?;
+    made.covered.push(covers)?;
+    list_set(&mut made.sets, set, covers)?;
     Ok(())
 }
 
@@ -154,6 +182,7 @@ pub(crate) fn cuts_of(alloc: Global, task: &Task, links: &[Link]) -> Result<Cuts
         merges: Vec::new(alloc),
         starts: vec![in alloc; 0]?,
         covered: Vec::new(alloc),
+        sets: Vec::new(alloc),
     };
     for set in 0..task.rows.len() {
         add_set(&mut made, task, links, set)?;

@@ -27,10 +27,10 @@ avoids (Either kinds left right) = avoids left && avoids right
 avoids (Many kinds turn) = avoids turn
 avoids (Nest x) = true
 
-begun_if : (b : Bool) (p : Piece) (ps : List Piece) → has starts p.kind ≡ b → starts_in (p ∷ ps) ≡ (if b then place_of p ∷ starts_in ps else starts_in ps)
+pub begun_if : (b : Bool) (p : Piece) (ps : List Piece) → has starts p.kind ≡ b → starts_in (p ∷ ps) ≡ (if b then place_of p ∷ starts_in ps else starts_in ps)
 begun_if b p ps e = ap (λ (x : Bool). if x then place_of p ∷ starts_in ps else starts_in ps) e
 
-starts-append : (xs ys : List Piece) → starts_in (xs ++ ys) ≡ starts_in xs ++ starts_in ys
+pub starts-append : (xs ys : List Piece) → starts_in (xs ++ ys) ≡ starts_in xs ++ starts_in ys
 starts-append [] ys = refl
 starts-append (p ∷ xs) ys = by_kind (has starts p.kind) (starts-append xs ys)
   where

@@ -1,12 +1,12 @@
 -- Readings by good rules are exact.
-use Rattle.std.proofs.Common.{◌≡◌, ℕ, zero, suc, Bool, true, false, not, ◌&&◌, List, [], ◌∷◌, ◌++◌, sym, refl, ap, ◌∙◌, subst, inl, inr, append-nil}
+use Rattle.std.proofs.Common.{◌≡◌, ℕ, zero, suc, true, not, List, [], ◌∷◌, ◌++◌, sym, refl, ap, ◌∙◌, subst, inl, inr, append-nil}
 use Rattle.std.proofs.lemmas.Bool.{and_parts}
 use Rattle.sql_reader.specs.declared.piece.Piece.{Piece}
 use Rattle.sql_reader.specs.Kinds.{within}
-use Rattle.sql_reader.specs.Rule.{Nesting, State, Rule, Meaning, IsOver, Grammar, IsNested, Reading, Read, Stuck, begins, Reader, read_over, read_nested, Borders, may_be_empty, first_of_rule, more_of_rule, closes, good, good_nesting}
-use Rattle.sql_reader.specs.Exact.{GoesOn, NoneGoesOn, FailsAt, IsExact, IsGood, IsRead, reads}
+use Rattle.sql_reader.specs.Rule.{Nesting, State, Rule, Meaning, IsOver, Grammar, IsNested, Reading, Read, Stuck, Reader, read_over, read_nested, Borders, may_be_empty, first_of_rule, more_of_rule, closes, good}
+use Rattle.sql_reader.specs.Exact.{GoesOn, NoneGoesOn, IsExact, IsGood, IsRead, reads}
 use Rattle.sql_reader.proofs.KindSets.{not_true, not_both, in_wider, begins_narrower, no_front}
-use Rattle.sql_reader.proofs.Theory.{Sensible, left_of, moved, SameHead, Viable, Explains, empty_only, first_in, right, complete, local, closing}
+use Rattle.sql_reader.proofs.Theory.{Sensible, left_of, moved, Viable, Explains, empty_only, first_in, right, complete, local, closing}
 
 no_level : (borders : Borders) (grammar : Grammar) → Sensible borders (IsNested grammar zero) (read_nested grammar zero)
 unfolding IsNested read_nested

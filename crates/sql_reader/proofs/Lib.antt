@@ -11,10 +11,12 @@ pub mod KnownWords
 pub mod Limits
 pub mod Loops
 pub mod Nested
+pub mod OneTooMany
 pub mod Outcome
 pub mod PrintedConditions
 pub mod PrintedItems
 pub mod PrintedOperands
+pub mod Rooms
 pub mod Same
 pub mod Steps
 pub mod Theory

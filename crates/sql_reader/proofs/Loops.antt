@@ -12,7 +12,7 @@ use Rattle.sql_reader.specs.declared.parsed.ParsedSelect.{ParsedSelect}
 use Rattle.sql_reader.specs.declared.parts.InsertParts.{InsertParts}
 use Rattle.sql_reader.specs.declared.parts.UpdateParts.{UpdateParts}
 use Rattle.sql_reader.specs.declared.parts.Progress.{Progress}
-use Rattle.sql_reader.specs.Rule.{Rule, Many, Reading, Read, Stuck, ◌>>=◌, begins, Reader, repeated, IsNested, read_nested, may_be_empty, good, IsOver, read_over}
+use Rattle.sql_reader.specs.Rule.{Rule, Many, Reading, Read, Stuck, ◌>>=◌, begins, Reader, repeated, IsNested, read_nested, may_be_empty, good, IsOver}
 use Rattle.sql_reader.specs.declared.cursor.Unread.{Unread}
 use Rattle.sql_reader.specs.declared.cursor.Unread.TheVariants.{Memory, Here}
 use Rattle.sql_reader.specs.inner.Reads.{StopsAt}

@@ -1,5 +1,5 @@
 -- The loops over tokens and pieces, turn by turn.
-use Rattle.std.proofs.Common.{◌≡◌, ℕ, zero, suc, ◌+◌, ◌-◌, ◌*◌, ◌^◌, ◌<◌, ◌≤◌, Bool, true, false, List, [], ◌∷◌, ◌++◌, length, get_or, take, drop, sym, refl, ap, ◌∙◌, subst, arith, append_assoc, append-nil, add-one, drop-cons, drop_at, drop_of_length-le, sub-one, pow-suc, add-zero, add-suc, add-sub_of_le, le_of_eq, Option, Some, None, Result, Ok, Err, OnOk, IfErr, if◌then◌else◌}
+use Rattle.std.proofs.Common.{◌≡◌, ℕ, zero, suc, ◌+◌, ◌-◌, ◌*◌, ◌^◌, ◌<◌, ◌≤◌, Bool, true, false, List, [], ◌∷◌, ◌++◌, length, get_or, drop, sym, refl, ap, ◌∙◌, subst, arith, append_assoc, append-nil, add-one, drop-cons, drop_of_length-le, sub-one, pow-suc, add-zero, add-suc, add-sub_of_le, le_of_eq, Some, None, Result, Ok, Err, OnOk, IfErr, if◌then◌else◌}
 use Rattle.sql_tokens.specs.declared.token.Token.{Token}
 use Rattle.sql_reader.specs.declared.piece.Piece.{Piece}
 use Rattle.sql_reader.specs.declared.piece.Mark.{Mark}

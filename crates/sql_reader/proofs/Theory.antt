@@ -1,12 +1,12 @@
 -- What good rules have, whatever they read.
-use Rattle.std.proofs.Common.{◌≡◌, ℕ, zero, suc, ◌+◌, ◌≤◌, Bool, true, false, ◌||◌, ◌&&◌, not, List, [], ◌∷◌, ◌++◌, length, sym, refl, ap, ◌∙◌, subst, ◌⊎◌, inl, inr, arith, length-append, append-nil, append_assoc, if◌then◌else◌, None, le_refl}
+use Rattle.std.proofs.Common.{◌≡◌, ℕ, zero, suc, ◌≤◌, Bool, true, false, not, List, [], ◌∷◌, ◌++◌, length, sym, refl, ap, ◌∙◌, subst, ◌⊎◌, inl, inr, arith, length-append, append-nil, append_assoc, if◌then◌else◌, None, le_refl}
 use Rattle.std.proofs.lemmas.Bool.{and_parts}
 use Rattle.std.proofs.lemmas.List.{append_cancel_right}
 use Rattle.sql_reader.specs.declared.kind.PieceKind.{PieceKind}
 use Rattle.sql_reader.specs.declared.piece.Piece.{Piece}
 use Rattle.sql_reader.specs.Kinds.{has, apart, within}
-use Rattle.sql_reader.specs.Rule.{Nesting, State, Rule, Give, Take, Then, Use, Either, Many, Nest, Meaning, Turns, IsOver, Reading, Read, Stuck, ◌>>=◌, begins, piece_of, Reader, repeated, read_over, Borders, may_be_empty, first_of_rule, more_of_rule, not_empty, closes, good}
-use Rattle.sql_reader.proofs.KindSets.{or_parts, or_left, or_right, not_true, not_both, not_in_other, not_in_first, in_wider, has-append, begins-append, begins_narrower, nil_parts, no_front, false_from, same_itself}
+use Rattle.sql_reader.specs.Rule.{Nesting, State, Rule, Give, Take, Then, Use, Either, Many, Nest, Meaning, Turns, IsOver, Reading, Read, Stuck, ◌>>=◌, begins, Reader, repeated, read_over, Borders, may_be_empty, first_of_rule, more_of_rule, not_empty, closes, good}
+use Rattle.sql_reader.proofs.KindSets.{or_parts, or_left, or_right, not_true, not_both, not_in_other, not_in_first, in_wider, has-append, begins-append, nil_parts, no_front, same_itself}
 
 -- what is left behind a reading
 abbrev pub left_of : {B : Type 0} → Reading B → List Piece

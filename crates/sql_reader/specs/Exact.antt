@@ -1,7 +1,7 @@
 -- What exact reading means: which value, and at which piece nothing goes on.
 use Rattle.std.specs.Prelude.{◌≡◌, ℕ, true, List, [], ◌∷◌, ◌++◌}
 use Rattle.sql_reader.specs.declared.piece.Piece.{Piece}
-use Rattle.sql_reader.specs.Rule.{Nesting, State, Rule, Meaning, IsOver, Grammar, IsNested, Reading, Read, Stuck, Reader, read_over, read_nested, Borders, good_nesting}
+use Rattle.sql_reader.specs.Rule.{Nesting, Rule, Meaning, IsOver, Grammar, IsNested, Reading, Read, Stuck, Reader, read_over, read_nested, Borders, good_nesting}
 
 -- which pieces a rule leads over from which value to which, where at most so many levels nest
 abbrev pub IsRead : Grammar → ℕ → {A B : Type 0} → Rule A B → Meaning A B

@@ -21,7 +21,7 @@ use Rattle.sql_reader.specs.declared.parsed.Body.TheVariants as bodies
 use Rattle.sql_reader.specs.declared.parts.InsertParts.{InsertParts}
 use Rattle.sql_reader.specs.declared.parts.UpdateParts.{UpdateParts}
 use Rattle.sql_reader.specs.declared.parts.Progress.{Progress}
-use Rattle.sql_reader.specs.Rule.{Nesting, State, Rule, Give, Take, Then, Use, Either, Many, Nest, Conditions, Parenthesis, Call, Signed, Grammar, Borders}
+use Rattle.sql_reader.specs.Rule.{Nesting, Rule, Give, Take, Then, Use, Either, Many, Nest, Conditions, Parenthesis, Call, Signed, Grammar, Borders}
 use Rattle.sql_reader.specs.Values.{plain_column, column_of_source, day_literal, literal_of, signed, compare_of, turned, nothing_found, with_form, not_alone, with_use, with_star, called, beside, beside_kind, beside_span, with_distinct, with_source, with_conditions, with_group, with_having, with_order, with_items, with_values, with_row, with_insert_columns, with_set_columns, with_set_values, with_update_conditions, conditions_of, group_of, order_of, items_of, values_of, insert_columns_of, set_columns_of, set_values_of, update_conditions_of, literal_form, expr_of, empty_select, empty_insert, insert_body, empty_update, update_body, with_statement}
 
 -- name = Word that isn't reserved | Quoted

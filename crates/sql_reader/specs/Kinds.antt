@@ -1,5 +1,5 @@
 -- Sets of kinds, as lists.
-use Rattle.std.specs.Prelude.{ℕ, Bool, true, false, ◌||◌, ◌&&◌, not, ◌==◌, List, [], ◌∷◌}
+use Rattle.std.specs.Prelude.{ℕ, Bool, true, ◌&&◌, not, ◌==◌, List, [], ◌∷◌}
 use Rattle.std.specs.List.{list_any}
 use Rattle.sql_reader.specs.declared.kind.PieceKind.{PieceKind}
 use Rattle.sql_reader.specs.declared.kind.PieceKind.TheVariants as kinds

@@ -1,5 +1,5 @@
 -- What the productions of the grammar give.
-use Rattle.std.specs.Prelude.{ℕ, ℤ, pos, neg_ℤ, ◌+◌, ◌^◌, Bool, true, false, ◌||◌, nat_lt, nat_abs, int_lt, if◌then◌else◌, List, [], ◌∷◌, ◌++◌, Option, Some, None}
+use Rattle.std.specs.Prelude.{ℕ, ℤ, pos, neg_ℤ, ◌+◌, ◌^◌, Bool, true, false, ◌||◌, nat_lt, nat_abs, if◌then◌else◌, List, [], ◌∷◌, ◌++◌, Option, Some, None}
 use Rattle.sql_tokens.specs.declared.token.Span.{Span}
 use Rattle.sql_reader.specs.declared.kind.PieceKind.{PieceKind}
 use Rattle.sql_reader.specs.declared.kind.PieceKind.TheVariants as kinds
@@ -10,7 +10,6 @@ use Rattle.sql_reader.specs.declared.seen.Seen.{Seen}
 use Rattle.sql_reader.specs.declared.parsed.NameUse.{NameUse}
 use Rattle.sql_reader.specs.declared.parsed.Expr.{Expr}
 use Rattle.sql_reader.specs.declared.parsed.ParsedItem.{ParsedItem}
-use Rattle.sql_reader.specs.declared.parsed.ParsedItem.TheVariants as items
 use Rattle.sql_reader.specs.declared.parsed.Source.{Source}
 use Rattle.sql_reader.specs.declared.parsed.Literal.{Literal}
 use Rattle.sql_reader.specs.declared.parsed.Literal.TheVariants as literals
@@ -21,7 +20,6 @@ use Rattle.sql_reader.specs.declared.parsed.ParsedOrder.{ParsedOrder}
 use Rattle.sql_reader.specs.declared.parsed.ParsedSelect.{ParsedSelect}
 use Rattle.sql_reader.specs.declared.parsed.Body.{Body}
 use Rattle.sql_reader.specs.declared.parsed.Body.TheVariants as bodies
-use Rattle.sql_reader.specs.declared.parsed.ParsedStatement.{ParsedStatement}
 use Rattle.sql_reader.specs.declared.parts.InsertParts.{InsertParts}
 use Rattle.sql_reader.specs.declared.parts.UpdateParts.{UpdateParts}
 use Rattle.sql_reader.specs.declared.parts.Progress.{Progress}

@@ -1,5 +1,5 @@
 -- Which kind each token is of.
-use Rattle.std.specs.Prelude.{ℕ, ℤ, pos, neg_ℤ, ◌+◌, ◌*◌, ◌-◌, ◌^◌, min, Bool, ◌&&◌, ◌==◌, nat_lt, nat_le, int_lt, List, [], ◌∷◌, ◌++◌, length, slice_index, slice_range, fold, codes, Option, Some, None, option_and_then, if◌then◌else◌}
+use Rattle.std.specs.Prelude.{ℕ, ℤ, pos, neg_ℤ, ◌+◌, ◌*◌, ◌-◌, ◌^◌, min, Bool, ◌&&◌, ◌==◌, nat_lt, int_lt, List, [], ◌∷◌, length, slice_range, fold, codes, Option, Some, None, option_and_then, if◌then◌else◌}
 use Rattle.std.specs.Char.{is_ascii_digit}
 use Rattle.std.specs.Str.{str_eq_ignore_ascii_case}
 use Rattle.adv_base.specs.Days.{day_number}

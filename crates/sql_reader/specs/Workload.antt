@@ -1,5 +1,5 @@
 -- What a text says as a workload, and which fault is the first.
-use Rattle.std.specs.Prelude.{◌≡◌, ℕ, ◌+◌, nat_lt, List, [], ◌∷◌, length, Option, Some, None, option_map, if◌then◌else◌}
+use Rattle.std.specs.Prelude.{◌≡◌, ℕ, ◌+◌, nat_lt, List, [], ◌∷◌, ◌++◌, length, Option, Some, None, option_map, if◌then◌else◌}
 use Rattle.sql_tokens.specs.declared.token.Token.{Token}
 use Rattle.sql_tokens.specs.declared.token_list.TokenFault.TheVariants as tokens
 use Rattle.sql_tokens.specs.Cut.{AreTokens, HasFault}
@@ -93,3 +93,23 @@ HasSqlFault text (faults.Syntax place) = IsFirstFault text (faults.Syntax place)
 HasSqlFault text (faults.Unsupported place) = IsFirstFault text (faults.Unsupported place)
 HasSqlFault text (faults.BadWeight place) = IsFirstFault text (faults.BadWeight place)
 HasSqlFault text (faults.TooManyStatements place) = IsFirstFault text (faults.TooManyStatements place)
+
+-- A workload goes on through this piece of the text, and it begins the 1001st of its statements. The piece stands at
+-- this place.
+pub record BeginsOneTooMany (text : List ℕ) (place : ℕ) : Type 0 where
+  pub list : List Token
+  pub front : List Piece
+  pub piece : Piece
+  pub rest : List Piece
+  pub more : List Piece
+  pub progress : Progress
+  pub before : List ParsedStatement
+  pub statement : ParsedStatement
+  pub after : List ParsedStatement
+  pub are_tokens : AreTokens text list
+  pub are_pieces : ArePieces text list no_mark (front ++ piece ∷ rest)
+  pub at_place : place_of piece ≡ place
+  pub goes_on : MeansStatements no_statements (front ++ piece ∷ more) progress
+  pub parted : progress.statements ≡ before ++ statement ∷ after
+  pub thousand : length before ≡ 1000
+  pub begins : statement.place ≡ place

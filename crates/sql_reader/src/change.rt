@@ -1,5 +1,6 @@
 //! Reads INSERT, UPDATE and DELETE.
 ghost use Rattle.sql_reader.specs.Grammar as rule;
+ghost use Rattle.sql_reader.specs.inner.Room as room;
 ghost use Rattle.sql_reader.specs.inner.Reads.{AddsBy, ReadsBy};
 ghost use Rattle.std.specs.Prelude.{◌≡◌};
 
@@ -79,19 +80,20 @@ impl GrammarReader {
     /// A row of VALUES.
     #[tactic(auto, unfolding(crate::specs::Grammar::row))]
     fn row(self, cursor: &mut Cursor<'_>, parts: &mut InsertParts) -> Result<(), Unread>
+        requires { room.RowsFit parts.old cursor.old }
         ensures { AddsBy rule.row parts.old self cursor.old result parts.new cursor.new }
     {
         cursor.take(&[PieceKind::Open])?;
         self.row_values(cursor, parts)?;
         cursor.take(&[PieceKind::Close])?;
-        // There are fewer rows than bytes, so the count always fits.
-        parts.rows = parts.rows.checked_add(1).ok_or(Unread::Memory)?;
+        parts.rows += 1;
         Ok(())
     }
 
     /// A comma and a row.
     #[tactic(auto, unfolding(crate::specs::Grammar::another_row))]
     fn another_row(self, cursor: &mut Cursor<'_>, parts: &mut InsertParts) -> Result<(), Unread>
+        requires { room.RowsFit parts.old cursor.old }
         ensures { AddsBy rule.another_row parts.old self cursor.old result parts.new cursor.new }
     {
         cursor.take(&[PieceKind::Comma])?;
@@ -100,6 +102,7 @@ impl GrammarReader {
 
     /// More rows behind commas.
     fn more_rows(self, cursor: &mut Cursor<'_>, parts: &mut InsertParts) -> Result<(), Unread>
+        requires { room.RowsFit parts.old cursor.old }
         ensures { AddsBy rule.more_rows parts.old self cursor.old result parts.new cursor.new }
     {
         'turns: while cursor.begins(&[PieceKind::Comma]) {
@@ -111,6 +114,7 @@ impl GrammarReader {
     /// The rows of VALUES.
     #[tactic(auto, unfolding(crate::specs::Grammar::rows))]
     fn rows(self, cursor: &mut Cursor<'_>, parts: &mut InsertParts) -> Result<(), Unread>
+        requires { room.RowsFit parts.old cursor.old }
         ensures { AddsBy rule.rows parts.old self cursor.old result parts.new cursor.new }
     {
         self.row(cursor, parts)?;
@@ -140,6 +144,8 @@ impl GrammarReader {
         let mut parts = self.insert_table(alloc, cursor)?;
         self.insert_columns(cursor, &mut parts.columns)?;
         cursor.take(&[PieceKind::Values])?;
+        // Each row takes a piece, so their number fits.
+        prove!(cursor.rest.len() <= usize::MAX);
         self.rows(cursor, &mut parts)?;
         Ok(parts)
     }

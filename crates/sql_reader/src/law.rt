@@ -2,9 +2,10 @@
 ghost use Rattle.sql_reader.specs.Pieces.{places_of, starts_in};
 ghost use Rattle.sql_reader.specs.Printed.{IsAsPrinted};
 ghost use Rattle.sql_reader.specs.Values.{no_statements};
-ghost use Rattle.sql_reader.specs.Workload.{HasSqlFault, IsWorkload, MeansStatements};
+ghost use Rattle.sql_reader.specs.Workload.{BeginsOneTooMany, HasSqlFault, IsWorkload, MeansStatements};
 ghost use Rattle.sql_reader.specs.declared.parsed.ParsedStatement.{ParsedStatement};
 ghost use Rattle.sql_reader.specs.declared.parsed.SqlFault.{SqlFault};
+ghost use Rattle.sql_reader.specs.declared.parsed.SqlFault.TheVariants.{TooManyStatements};
 ghost use Rattle.sql_reader.specs.declared.parts.Progress.{Progress};
 ghost use Rattle.sql_reader.specs.declared.piece.Piece.{Piece};
 ghost use Rattle.std.specs.Prelude.{◌≡◌, List, ℕ};
@@ -27,6 +28,11 @@ pub fn one_answer()
 pub fn statements_begin()
     ensures { (pieces : List Piece) (progress : Progress) →
         MeansStatements no_statements pieces progress → places_of progress.statements ≡ starts_in pieces }
+{}
+
+/// Too many statements are at the first token of the 1001st statement of a workload that goes on through it.
+pub fn one_too_many()
+    ensures { (text : List ℕ) (place : ℕ) → HasSqlFault text (TooManyStatements place) → BeginsOneTooMany text place }
 {}
 
 /// The grammar as it is printed in the reference, alternative by alternative, means what the rules mean by which

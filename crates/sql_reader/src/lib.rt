@@ -23,7 +23,7 @@ mod words;
 mod workload;
 
 pub use kind::PieceKind;
-pub use law::{as_printed, one_answer, one_meaning, statements_begin};
+pub use law::{as_printed, one_answer, one_meaning, one_too_many, statements_begin};
 pub use parsed::{
     Body, Compare, Condition, Expr, Literal, NameUse, ParsedItem, ParsedOrder, ParsedSelect,
     ParsedStatement, Source, SqlFault,

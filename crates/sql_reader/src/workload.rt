@@ -7,7 +7,7 @@ ghost use Rattle.sql_reader.specs.declared.cursor.Unread.TheVariants.{Here, Memo
 ghost use Rattle.sql_reader.specs.declared.parsed.ParsedStatement.{ParsedStatement};
 ghost use Rattle.sql_reader.specs.declared.parsed.SqlFault.{SqlFault};
 ghost use Rattle.sql_tokens.specs.Cut.{AreTokens};
-ghost use Rattle.std.specs.Prelude.{◌≡◌, ◌+◌, ◌<◌, ◌^◌, ◌⊎◌, IfErr, IfOk, List, IsTrue, MatchResult, length, option_map};
+ghost use Rattle.std.specs.Prelude.{◌≡◌, ◌+◌, ◌<◌, ◌^◌, ◌⊎◌, ℕ, IfErr, IsErrOf, IfOk, List, IsTrue, MatchResult, length, option_map};
 
 use crate::cursor::{Cursor, GrammarReader, Unread, has};
 use crate::scan::{bad_weight, scan, start_behind_1000};
@@ -222,6 +222,8 @@ pub fn read_workload<'a>(alloc: Global, text: &'a [u8]) -> Result<Parsed<'a>, Sq
     ensures fault { IfErr result (λ e. (e ≡ SqlFault.Memory) ⊎ workload.HasSqlFault text.now e) }
     ensures fault_only { (e : SqlFault) → workload.HasSqlFault text.now e →
         MatchResult result (λ _. ⊥) (λ f. (f ≡ e) ⊎ (f ≡ SqlFault.Memory)) }
+    // Where there are too many statements, a workload goes on through the first token of its 1001st.
+    ensures too_many { (place : ℕ) → IsErrOf result (SqlFault.TooManyStatements place) → workload.BeginsOneTooMany text.now place }
 {
     match tokens(alloc, text) {
         Ok(list) => read_tokens(alloc, list),

@@ -102,7 +102,7 @@ in_order-lexeme at form.LineComment bytes l = in_order-weight at (length bytes) 
 in_order-lexeme at form.BlockComment bytes l = omega arith
 in_order-lexeme at (form.Token k) bytes l = (omega arith, omega arith, omega arith)
 
-in_order-cut : (ps : List Part) (at : ℕ) (text rest : List ℕ) → IsCut ps text rest → InOrder at (at + length text) (tokens_of at ps)
+pub in_order-cut : (ps : List Part) (at : ℕ) (text rest : List ℕ) → IsCut ps text rest → InOrder at (at + length text) (tokens_of at ps)
 in_order-cut [] at text rest h = omega arith
 in_order-cut (p ∷ ps) at text rest h =
     let l : length text ≡ length p.bytes + length h.0 = ap length h.1 ∙ length-append p.bytes h.0 in

@@ -1,5 +1,5 @@
 -- What a reader of the code has in common with the reading of a rule.
-use Rattle.std.specs.Prelude.{◌≡◌, ℕ, List, [], ◌∷◌, ◌++◌, Result, Ok, Err}
+use Rattle.std.specs.Prelude.{◌≡◌, List, [], ◌∷◌, ◌++◌, Result, Ok, Err}
 use Rattle.sql_reader.specs.declared.piece.Piece.{Piece}
 use Rattle.sql_reader.specs.declared.cursor.Cursor.{Cursor}
 use Rattle.sql_reader.specs.declared.cursor.GrammarReader.{GrammarReader}

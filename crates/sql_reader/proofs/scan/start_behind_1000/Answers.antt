@@ -1,6 +1,6 @@
 use Rattle.std.proofs.Common.{◌+◌, sym, ◌∙◌, ap, drop, arith}
 use Rattle.sql_reader.specs.Pieces.{start_behind}
-use Rattle.sql_reader.proofs.Steps.{pass_none, pass_here, pass_later, start_end}
+use Rattle.sql_reader.proofs.Steps.{pass_none, pass_later, start_end}
 use Rattle.sql_reader.proofs.scan.start_behind_1000.Goals as goal
 use Rattle.sql_reader.proofs.scan.start_behind_1000.Goals.{then-has+else-left-eq0, else-has}
 

@@ -9,6 +9,7 @@ use Rattle.sql_reader.specs.Workload.{Says, IsWorkload, IsFirstFault, HasSqlFaul
 use Rattle.sql_reader.proofs.Outcome.{from_first}
 use Rattle.sql_reader.proofs.Unique.{found_only, told_only, workload_or_fault, one_sql_fault}
 use Rattle.sql_reader.specs.declared.parsed.ParsedStatement.{ParsedStatement}
+use Rattle.sql_reader.proofs.OneTooMany.{told_too_many}
 use Rattle.sql_reader.proofs.workload.read_workload.Goals as goal
 
 told : (text other : List ℕ) (e : SqlFault) → other ≡ text → (e ≡ faults.Memory) ⊎ IsFirstFault other e → (e ≡ faults.Memory) ⊎ HasSqlFault text e
@@ -70,3 +71,8 @@ pub returns-in-Err-OpenText-clause-fault_only : goal.returns-in-Err-OpenText-cla
 returns-in-Err-OpenText-clause-fault_only c = λ e h.
     inl (ap (λ (place : ℕ). faults.OpenText place) c.in-Err-OpenText.place-is ∙ one_sql_fault c.args.text.now (faults.OpenText c.in-Err-OpenText.place) e
     (open_text_in c.args.text.now c.in-Err-OpenText.field-0 c.in-Err-OpenText.place c.in-Err-OpenText.field-0-is c.in-Err-OpenText.ensures.fault) h)
+
+pub returns-in-Ok-clause-too_many : goal.returns-in-Ok-clause-too_many
+returns-in-Ok-clause-too_many c =
+    told_too_many c.args.text.now c.read_tokens.result
+    (IfErr-weaker c.read_tokens.result _ _ (λ e h. told c.args.text.now c.in-Ok.list.text.now e c.in-Ok.ensures.same_text h) c.read_tokens.ensures.fault)
