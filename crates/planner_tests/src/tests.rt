@@ -19,7 +19,6 @@ use plan_model::{Task, plan_cost};
 use planner::{Found, Search, least};
 use std::alloc::Global;
 use std::process::Abort;
-use std::test::Fail;
 
 fn planned(alloc: Global, task: &Task, table: &Table) -> Result<Found, NoMemory> {
     least(alloc, task, table)
@@ -41,92 +40,100 @@ fn searched(
 }
 
 /// The least plan of the task costs what is said, by the planner, by trying all plans, and by the plan that is given.
-fn costs(
-    rt: &impl Abort,
-    alloc: Global,
-    task: &Task,
-    table: &Table,
-    cost: u128,
-) -> Result<(), Fail> {
-    let found = planned(alloc, task, table)?;
+fn costs(rt: &impl Abort, alloc: Global, task: &Task, table: &Table, cost: u128) {
+    let found = planned(alloc, task, table).expect(rt, "memory");
     assert_eq!(rt; found.cost, cost);
-    assert_eq!(rt; least_by_trying(alloc, task, table)?, cost);
+    assert_eq!(rt;
+        least_by_trying(alloc, task, table).expect(rt, "memory"),
+        cost
+    );
     assert_eq!(rt; plan_cost(task, table, &found.plan), Some(cost));
-    Ok(())
 }
 
 /// A table of 1000 rows on 20 pages: read whole, sorted, read through an index that fetches each row, one that covers, or
 /// one in whose order the rows stand; and grouped by a column of 100 values.
 #[test]
-fn one_slot(rt: HostRuntime) -> Result<(), Fail> {
+fn one_slot(rt: HostRuntime) {
     let alloc = rt.alloc();
     let rows = [1, 1000];
-    let heap = heaps(alloc, &[30000])?;
-    let plain = task(alloc, 1, &[], &rows, None, &[])?;
-    costs(&rt, alloc, &plain, &heap, 30000)?;
-    let ordered = task(alloc, 1, &[], &rows, None, &[up(0, 0)])?;
+    let heap = heaps(alloc, &[30000]).expect(&rt, "memory");
+    let plain = task(&rt, alloc, 1, &[], &rows, None, &[]);
+    costs(&rt, alloc, &plain, &heap, 30000);
+    let ordered = task(&rt, alloc, 1, &[], &rows, None, &[up(0, 0)]);
     for (index, cost) in [(4013000, 80000), (13000, 13000), (33000, 33000)] {
-        let table = indexed(alloc, &[30000], &[(index, &[0])])?;
-        costs(&rt, alloc, &ordered, &table, cost)?;
+        let table = indexed(alloc, &[30000], &[(index, &[0])]).expect(&rt, "memory");
+        costs(&rt, alloc, &ordered, &table, cost);
     }
     let grouped = task(
+        &rt,
         alloc,
         1,
         &[],
         &rows,
         Some((&[up(0, 0)], 100)),
         &[Item::Made(1)],
-    )?;
+    );
     costs(&rt, alloc, &grouped, &heap, 49500)
 }
 
 /// Two tables of 1000 rows: joined on a column that leads an index of the first, in the index's order, which a merge keeps,
 /// or in one that the index doesn't give; and joined on the columns of two indexes.
 #[test]
-fn two_slots(rt: HostRuntime) -> Result<(), Fail> {
+fn two_slots(rt: HostRuntime) {
     let alloc = rt.alloc();
     let edges = [edge(0, 0, 1, 0)];
     let rows = [1, 1000, 1000, 1000];
-    let ordered = task(alloc, 2, &edges, &rows, None, &[up(0, 0), up(0, 1)])?;
-    let longer = indexed(alloc, &[30000, 30000], &[(14000, &[0, 1])])?;
-    costs(&rt, alloc, &ordered, &longer, 114000)?;
-    let shorter = indexed(alloc, &[30000, 30000], &[(14000, &[0])])?;
-    costs(&rt, alloc, &ordered, &shorter, 128000)?;
-    let plain = task(alloc, 2, &edges, &rows, None, &[])?;
-    costs(&rt, alloc, &plain, &heaps(alloc, &[30000, 30000])?, 94000)?;
-    let both = indexed(alloc, &[30000, 30000], &[(13000, &[0]), (13000, &[0])])?;
-    costs(&rt, alloc, &plain, &both, 46000)?;
+    let ordered = task(&rt, alloc, 2, &edges, &rows, None, &[up(0, 0), up(0, 1)]);
+    let longer = indexed(alloc, &[30000, 30000], &[(14000, &[0, 1])]).expect(&rt, "memory");
+    costs(&rt, alloc, &ordered, &longer, 114000);
+    let shorter = indexed(alloc, &[30000, 30000], &[(14000, &[0])]).expect(&rt, "memory");
+    costs(&rt, alloc, &ordered, &shorter, 128000);
+    let plain = task(&rt, alloc, 2, &edges, &rows, None, &[]);
+    costs(
+        &rt,
+        alloc,
+        &plain,
+        &heaps(alloc, &[30000, 30000]).expect(&rt, "memory"),
+        94000,
+    );
+    let both = indexed(alloc, &[30000, 30000], &[(13000, &[0]), (13000, &[0])]).expect(
+        &rt, "memory",
+    );
+    costs(&rt, alloc, &plain, &both, 46000);
     let tied = [edge(0, 0, 1, 0), edge(0, 0, 1, 0), edge(0, 0, 1, 1)];
-    let twice = task(alloc, 2, &tied, &rows, None, &[])?;
-    let other = indexed(alloc, &[30000, 30000], &[(13000, &[0]), (13000, &[1])])?;
+    let twice = task(&rt, alloc, 2, &tied, &rows, None, &[]);
+    let other = indexed(alloc, &[30000, 30000], &[(13000, &[0]), (13000, &[1])]).expect(
+        &rt, "memory",
+    );
     costs(&rt, alloc, &twice, &other, 46000)
 }
 
 /// A chain of four tables whose ends are filtered to one row each, where the best plan that isn't bushy costs 137868; and
 /// customers, their orders and the orders' items, grouped by two columns of an order.
 #[test]
-fn more_slots(rt: HostRuntime) -> Result<(), Fail> {
+fn more_slots(rt: HostRuntime) {
     let alloc = rt.alloc();
     let edges = [edge(0, 1, 1, 0), edge(1, 1, 2, 0), edge(2, 1, 3, 0)];
     let rows = [
         1, 1, 1000, 1, 1000, 1000, 100000, 100, 1, 1, 1000, 1, 1, 1, 100, 1,
     ];
-    let chain = task(alloc, 4, &edges, &rows, None, &[])?;
-    let table = heaps(alloc, &[30000, 30000, 30000, 30000])?;
-    costs(&rt, alloc, &chain, &table, 136082)?;
+    let chain = task(&rt, alloc, 4, &edges, &rows, None, &[]);
+    let table = heaps(alloc, &[30000, 30000, 30000, 30000]).expect(&rt, "memory");
+    costs(&rt, alloc, &chain, &table, 136082);
     let orders = task(
+        &rt,
         alloc,
         3,
         &[edge(0, 0, 1, 1), edge(2, 0, 1, 0)],
         &[1, 3000, 5224, 1045, 600000, 1800000000, 20898, 4181],
         Some((&[up(1, 0), up(1, 2)], 4181)),
         &[Item::Made(1), up(1, 2)],
-    )?;
+    );
     costs(
         &rt,
         alloc,
         &orders,
-        &heaps(alloc, &[550000, 4500000, 21000000])?,
+        &heaps(alloc, &[550000, 4500000, 21000000]).expect(&rt, "memory"),
         31347433,
     )
 }
@@ -135,17 +142,17 @@ fn more_slots(rt: HostRuntime) -> Result<(), Fail> {
 /// each operator stands many times; nor does one cost less than what a search says over the same offers and over such as
 /// differ from a slot on.
 #[test]
-fn none_is_cheaper(rt: HostRuntime) -> Result<(), Fail> {
+fn none_is_cheaper(rt: HostRuntime) {
     let alloc = rt.alloc();
     let mut draws = Draws::new(1979);
     let mut seen = Seen::new();
     for number in 0..400 {
-        let task = made_task(alloc, &mut draws)?;
-        let table = made_table(alloc, &mut draws, task.slots)?;
-        let found = planned(alloc, &task, &table)?;
+        let task = made_task(&rt, alloc, &mut draws);
+        let table = made_table(alloc, &mut draws, task.slots).expect(&rt, "memory");
+        let found = planned(alloc, &task, &table).expect(&rt, "memory");
         assert_eq!(rt;
             found.cost,
-            least_by_trying(alloc, &task, &table)?,
+            least_by_trying(alloc, &task, &table).expect(&rt, "memory"),
             "task {number}"
         );
         assert_eq!(rt;
@@ -153,21 +160,20 @@ fn none_is_cheaper(rt: HostRuntime) -> Result<(), Fail> {
             Some(found.cost),
             "task {number}"
         );
-        let other = made_table(alloc, &mut draws, task.slots)?;
+        let other = made_table(alloc, &mut draws, task.slots).expect(&rt, "memory");
         let slot = draws.below(task.slots);
         let changed = Changed {
             first: &table,
             second: &other,
             slot,
         };
-        let after = least_by_trying(alloc, &task, &changed)?;
+        let after = least_by_trying(alloc, &task, &changed).expect(&rt, "memory");
         assert_eq!(rt;
-            searched(alloc, &task, &changed)?,
+            searched(alloc, &task, &changed).expect(&rt, "memory"),
             (found.cost, after, found.cost),
             "task {number}"
         );
         seen.found(&found);
     }
     assert!(rt; seen.rarest() >= 5, "{seen:?}");
-    Ok(())
 }

@@ -3,7 +3,7 @@ use crate::tests::table::{Reads, Table};
 use adv_base::{Item, List, Rates};
 use plan_model::{Task, TaskEdge, checked_task};
 use std::alloc::{AllocError, Global};
-use std::test::Fail;
+use std::process::Abort;
 
 pub fn up(slot: u8, column: u16) -> Item {
     Item::Up { slot, column }
@@ -29,30 +29,23 @@ pub fn list<T: Copy>(alloc: Global, items: &[T]) -> Result<List<T>, AllocError> 
 
 /// A task at the default rates; what it groups by has the number of the groups beside it.
 pub fn task(
+    rt: &impl Abort,
     alloc: Global,
     slots: u8,
     edges: &[TaskEdge],
     rows: &[u64],
     group: Option<(&[Item], u64)>,
     order: &[Item],
-) -> Result<Task, Fail> {
-    let rates = Rates {
-        seq_page: 1000,
-        rand_page: 4000,
-        row_cpu: 10,
-        sort_cpu: 5,
-        merge_cpu: 5,
-        hash_cpu: 8,
-        group_cpu: 5,
-    };
-    let edges = list(alloc, edges)?;
-    let rows = list(alloc, rows)?;
-    let order = list(alloc, order)?;
+) -> Task {
+    let rates = Rates::default();
+    let edges = list(alloc, edges).expect(rt, "memory");
+    let rows = list(alloc, rows).expect(rt, "memory");
+    let order = list(alloc, order).expect(rt, "memory");
     let (group, group_rows) = match group {
         None => (None, 1),
-        Some((items, rows)) => (Some(list(alloc, items)?), rows),
+        Some((items, rows)) => (Some(list(alloc, items).expect(rt, "memory")), rows),
     };
-    Ok(checked_task(slots, edges, rows, group, group_rows, order, rates).ok_or("no task")?)
+    checked_task(slots, edges, rows, group, group_rows, order, rates).expect(rt, "a task")
 }
 
 /// Slots that are read whole at these prices.
