@@ -10,6 +10,7 @@ mod gathered;
 mod index;
 mod items;
 mod joins;
+mod law;
 mod lists;
 mod meaning;
 mod names;
@@ -23,4 +24,5 @@ mod statements;
 mod values;
 
 pub use fault::BindFault;
+pub use law::unclipped_places;
 pub use statements::bind;
