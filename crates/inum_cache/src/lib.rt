@@ -1,0 +1,10 @@
+//! The cache of internal plans of a task, after INUM.
+//!
+//! In goes a task; out comes a cache of templates: for each combination of interesting orders that no weaker one replaces,
+//! what a least plan costs above leaves that deliver these orders. From them the cost of a least plan over any offers is
+//! found without a search.
+#![tactic(auto)]
+
+mod choices;
+
+pub use choices::Choices;
