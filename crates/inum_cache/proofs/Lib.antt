@@ -1,2 +1,4 @@
 pub mod Numbers
 pub mod Placing
+pub mod Testing
+pub mod Costing

@@ -6,5 +6,8 @@
 #![tactic(auto)]
 
 mod choices;
+mod free;
+mod internals;
+mod keep;
 
 pub use choices::Choices;

@@ -63,7 +63,9 @@ pub record IsTemplateOf (orders : List (List Order)) (costs : List ℕ) (number 
   pub internal : template.internal ≡ slice_index_or costs number 0
   pub needs : (slot : ℕ) → slice_index_or template.needs slot 0 ≡ place_of orders number slot
 
--- templates of the combinations of these numbers
-pub record AreTemplatesOf (orders : List (List Order)) (costs numbers : List ℕ) (templates : List Template) : Type 0 where
-  pub count : length templates ≡ length numbers
-  pub each : (i number : ℕ) (template : Template) → slice_get numbers i ≡ Some number → slice_get templates i ≡ Some template → IsTemplateOf orders costs number template
+-- templates of the combinations of these numbers, one for each
+abbrev pub AreTemplatesOf : List (List Order) → List ℕ → List ℕ → List Template → Type 0
+AreTemplatesOf orders costs [] [] = Unit {0}
+AreTemplatesOf orders costs (number ∷ numbers) (template ∷ templates) =
+    IsTemplateOf orders costs number template × AreTemplatesOf orders costs numbers templates
+AreTemplatesOf orders costs numbers templates = ⊥
