@@ -2,3 +2,4 @@ pub mod Numbers
 pub mod Placing
 pub mod Testing
 pub mod Costing
+pub mod Kept

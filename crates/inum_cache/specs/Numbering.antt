@@ -19,6 +19,10 @@ abbrev pub count_in : (ℕ → ℕ) → ℕ → ℕ
 count_in sizes zero = 1
 count_in sizes (suc k) = count_in sizes k * sizes k
 
+-- how many combinations the slots have
+abbrev pub count_of : List (List Order) → ℕ
+count_of orders = count_in (size_in orders) (length orders)
+
 -- the number of the combination with these places, of the slots below k
 abbrev pub number_in : (ℕ → ℕ) → (ℕ → ℕ) → ℕ → ℕ
 number_in sizes places zero = 0

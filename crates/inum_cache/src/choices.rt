@@ -10,11 +10,11 @@ use adv_base::{Item, List};
 /// The orders of each slot. A combination has a place among them for each slot, and with these places a number, in
 /// which the last slot's place goes fastest.
 #[derive(Drop)]
-pub struct Choices {
+pub(crate) struct Choices {
     pub orders: List<List<List<Item>>>,
     pub ghost few: { length orders ≤ MOST_SLOTS },
     pub ghost sizes: { (slot : ℕ) → slot < length orders → numbering.SizeLimits (numbering.size_in orders slot) },
-    pub ghost count: { numbering.count_in (numbering.size_in orders) (length orders) ≤ MOST_COMBINATIONS },
+    pub ghost count: { numbering.count_of orders ≤ MOST_COMBINATIONS },
     pub ghost own: { (slot place : ℕ) → OfferLimits slot (numbering.order_in orders slot place, 0) },
 }
 
@@ -78,7 +78,7 @@ impl Choices {
         requires places { (s : ℕ) → s < length self.now.orders → slice_index_or places.now s 0 < numbering.size_in self.now.orders s }
         requires place { place < numbering.size_in self.now.orders slot }
         ensures exact { result ≡ keeping.replaced_number self.now.orders (λ s. slice_index_or places.now s 0) slot place }
-        ensures below { result < numbering.count_in (numbering.size_in self.now.orders) (length self.now.orders) }
+        ensures below { result < numbering.count_of self.now.orders }
     {
         let mut number = 0;
         for s in 0..self.slots() {

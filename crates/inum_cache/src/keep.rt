@@ -13,7 +13,7 @@ use std::alloc::Global;
 pub(crate) struct Costs<'a> {
     pub choices: &'a Choices,
     pub list: List<u128>,
-    pub ghost each: { length list ≡ numbering.count_in (numbering.size_in choices.now.orders) (length choices.now.orders) },
+    pub ghost each: { length list ≡ numbering.count_of choices.now.orders },
 }
 
 /// Whether an order begins with another and is longer.

@@ -5,9 +5,11 @@
 //! found without a search.
 #![tactic(auto)]
 
+mod cache;
 mod choices;
 mod free;
 mod internals;
 mod keep;
+mod prices;
 
-pub use choices::Choices;
+pub use cache::Cache;
