@@ -143,7 +143,7 @@ replaced-is task orders n slot place are some below within =
 
 -- ## Kept combinations
 
-each-of : (task : Task) (orders : List (List Order)) (costs : List ℕ) (n : ℕ) → IsCosted task orders costs → n < count_of orders → IsEach task (needs_of orders n) (get_or costs n 0)
+pub each-of : (task : Task) (orders : List (List Order)) (costs : List ℕ) (n : ℕ) → IsCosted task orders costs → n < count_of orders → IsEach task (needs_of orders n) (get_or costs n 0)
 each-of task orders costs n is below =
     record { combination = number-combination task orders n is.orders_are is.some; least = is.costs_are.each n below }
 

@@ -3,3 +3,5 @@ pub mod Placing
 pub mod Testing
 pub mod Costing
 pub mod Kept
+pub mod Pricing
+pub mod Made

@@ -19,9 +19,6 @@ begins-test o r false h =
       | inr not_so ↦ sym not_so
     ]
 
-pub front-test : (o r : Order) (b : Bool) → length r < length o → (IsTrue b ↔ BeginsWith o r) → b ≡ is_front o r
-front-test o r b shorter h = rw (lt-ltb (length r) (length o) shorter) (begins-test o r b h)
-
 -- ## Tests below a number
 
 pub any_below-at : (passes : ℕ → Bool) (n k : ℕ) → k < n → passes k ≡ true → any_below passes n ≡ true

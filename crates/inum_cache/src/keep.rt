@@ -4,8 +4,9 @@ ghost use Rattle.inum_cache.specs.Numbering as numbering;
 ghost use Rattle.inum_cache.specs.inner.Keeping as keeping;
 
 use crate::choices::Choices;
-use adv_base::{Item, List, NoMemory};
-use plan_model::{Template, begins_with};
+use crate::fronts::is_front;
+use adv_base::{List, NoMemory};
+use plan_model::Template;
 use std::alloc::Global;
 
 /// The internal cost of each combination, by its number.
@@ -14,13 +15,6 @@ pub(crate) struct Costs<'a> {
     pub choices: &'a Choices,
     pub list: List<u128>,
     pub ghost each: { length list ≡ numbering.count_of choices.now.orders },
-}
-
-/// Whether an order begins with another and is longer.
-fn is_front(order: &[Item], front: &[Item]) -> bool
-    ensures { result ≡ keeping.is_front order.now front.now }
-{
-    front.len() < order.len() && begins_with(order, front)
 }
 
 impl Costs<'_> {

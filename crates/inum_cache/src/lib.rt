@@ -5,11 +5,17 @@
 //! found without a search.
 #![tactic(auto)]
 
+mod building;
 mod cache;
 mod choices;
+mod fault;
 mod free;
+mod fronts;
 mod internals;
 mod keep;
+mod lookup;
 mod prices;
 
+pub use building::build;
 pub use cache::Cache;
+pub use fault::CacheFault;

@@ -2,8 +2,9 @@
 ghost use Rattle.std.specs.Prelude.{◌≡◌, ◌<◌, ◌≤◌, nat_lt, if◌then◌else◌, length};
 ghost use Rattle.inum_cache.specs.inner.Pricing as pricing;
 
+use crate::fronts::begins;
 use adv_base::Item;
-use plan_model::{Offers, begins_with};
+use plan_model::Offers;
 
 /// Stands for the price of an order that no offer begins with; it is above every cost.
 pub(crate) const UNOFFERED: u128 = 1_000_000_000_000_000_000_000_000_000_000;
@@ -21,7 +22,7 @@ fn offer_price<O: Offers>(offers: &O, slot: u8, order: &[Item], offer: u32) -> u
     requires { offer < length (O.table offers.now slot) }
     ensures { result ≡ pricing.offer_price (O.table offers.now) slot order.now offer }
 {
-    if begins_with(offers.order(slot, offer), order) {
+    if begins(offers.order(slot, offer), order) {
         offers.price(slot, offer) as u128
     } else {
         UNOFFERED

@@ -54,3 +54,7 @@ pub record FitsOrders (orders : List (List Order)) (template : Template) : Type 
   pub most : template.internal < MOST_COST
   pub within : (slot : ℕ) → slot < length orders → slice_index_or template.needs slot 0 < size_in orders slot
   pub past : (slot : ℕ) → length orders ≤ slot → slice_index_or template.needs slot 0 ≡ 0
+
+-- no price that a template needs is above that of an order that isn't offered
+abbrev pub ArePriced : List (List Order) → List ℕ → Template → Type 0
+ArePriced orders prices template = (slot : ℕ) → slot < length orders → template_price orders prices template slot ≤ UNOFFERED
