@@ -5,3 +5,4 @@ pub mod Costing
 pub mod Kept
 pub mod Pricing
 pub mod Made
+pub mod Cached

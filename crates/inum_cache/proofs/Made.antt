@@ -1,6 +1,6 @@
 -- What a cache is made of.
 use Rattle.std.proofs.Common.{◌≡◌, ◌≢◌, ◌⊎◌, inl, inr, ℕ, zero, suc, ◌+◌, ◌*◌, ◌/◌, ◌%◌, ◌<◌, ◌≤◌, ◌==◌, Bool, true, false, List, [], ◌∷◌, length, get_or, All, Option, Some, None, refl, sym, ap, ◌∙◌, subst, arith}
-use Rattle.std.proofs.Math.Nat.{mul-pos}
+use Rattle.std.proofs.Math.Nat.{mul-pos, zero-mul}
 use Rattle.std.specs.Prelude.{slice_get}
 use Rattle.std.proofs.lemmas.Bool.{cases_Bool, cases_lt, cases_eq, false≢true}
 use Rattle.std.proofs.lemmas.List.{get_or_past, nil_from_length}
@@ -15,12 +15,12 @@ use Rattle.plan_model.proofs.OrderLaws.{IsOfSlot, interesting_orders-of-slot}
 use Rattle.plan_model.proofs.Decomposing.{free-limits}
 use Rattle.plan_model.proofs.CostBound.{whole_cost-most}
 use Rattle.interesting_orders.proofs.OrderLemmas.{interesting_orders-first, interesting_orders-few}
-use Rattle.inum_cache.specs.Numbering.{size_in, order_in, count_in, count_of, place_in, place_of, needs_of, AreOrders, SizeLimits}
+use Rattle.inum_cache.specs.Numbering.{size_in, order_in, count_in, count_of, number_in, place_in, place_of, needs_of, AreOrders, SizeLimits}
 use Rattle.inum_cache.specs.inner.Costing.{AreInternal, AreTemplates}
 use Rattle.inum_cache.specs.inner.Keeping.{numbers_below, is_kept, IsTemplateOf, AreTemplatesOf}
 use Rattle.inum_cache.specs.inner.Pricing.{FitsOrders}
 use Rattle.inum_cache.specs.Caches.{StandsBefore, AreInOrder, no_orders}
-use Rattle.inum_cache.proofs.Numbers.{HaveSome, place_in-below, place_in-past, place_in-last, place_in-before, places-in-order}
+use Rattle.inum_cache.proofs.Numbers.{HaveSome, place_in-below, place_in-past, places_of-number, places-in-order}
 use Rattle.inum_cache.proofs.Testing.{numbers-pass, numbers-in-order, template-number}
 use Rattle.inum_cache.proofs.Kept.{IsCosted, order-same, number-combination, each-of, are-kept}
 
@@ -104,22 +104,24 @@ templates-in-order task orders templates are made = λ i j first second less f s
 
 -- ## The combination of no orders
 
-zero-place : (sizes : ℕ → ℕ) (k slot : ℕ) → place_in sizes k 0 slot ≡ 0
-zero-place sizes zero slot = refl
-zero-place sizes (suc k) slot =
-    elim (cases_eq slot k) [
-      | inl e ↦ ap (place_in sizes (suc k) 0) e ∙ place_in-last sizes k 0 ∙ zero-rem (sizes k)
-      | inr other ↦ place_in-before sizes k 0 slot other ∙ ap (λ n. place_in sizes k n slot) (zero-div (sizes k)) ∙ zero-place sizes k slot
+none-numbered : (sizes : ℕ → ℕ) (k : ℕ) → number_in sizes (λ s. 0) k ≡ 0
+none-numbered sizes zero = refl
+none-numbered sizes (suc k) =
+    let before : number_in sizes (λ s. 0) k ≡ 0 = none-numbered sizes k in
+    let product : number_in sizes (λ s. 0) k * sizes k ≡ 0 = ap (λ n. n * sizes k) before ∙ zero-mul (sizes k) in
+    omega (arith, product)
+
+zero-place : (sizes : ℕ → ℕ) (k slot : ℕ) → HaveSome sizes k → place_in sizes k 0 slot ≡ 0
+zero-place sizes k slot some =
+    elim (cases_lt slot k) [
+      | inl below ↦
+          ap (λ n. place_in sizes k n slot) (sym (none-numbered sizes k)) ∙ places_of-number sizes (λ s. 0) k slot some below
+      | inr past ↦ place_in-past sizes k 0 slot past
     ]
-  where
-    zero-rem : (n : ℕ) → 0 % n ≡ 0
-    zero-rem n = ?
-    zero-div : (n : ℕ) → 0 / n ≡ 0
-    zero-div n = ?
 
 zero-needs : (task : Task) (orders : List (List Order)) → AreOrders task orders → (slot : ℕ) → needs_of orders 0 slot ≡ []
 zero-needs task orders are slot =
-    ap (order_in orders slot) (zero-place (size_in orders) (length orders) slot)
+    ap (order_in orders slot) (zero-place (size_in orders) (length orders) slot (λ s below. (choices-sizes task orders are s below).some))
     ∙ order-same task orders are slot 0
     ∙ ap (λ (os : List Order). get_or os 0 []) (interesting_orders-first task slot).1
 

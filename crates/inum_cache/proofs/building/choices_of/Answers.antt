@@ -13,3 +13,6 @@ invariant_of-result c =
       count = let same = choices-count task orders are in omega (arith, same, c.requires);
       own = choices-own task orders are;
     }
+
+pub returns-clause-count : goal.returns-clause-count
+returns-clause-count c = choices-count c.args.task.now c.in_ok-orders.orders c.in_ok-orders.ensures

@@ -10,4 +10,4 @@ overflow_add-sum c =
     let f = template_price orders c.args.prices.now c.args.template.now in
     let before = sum_below-most f c.loop-slot.slot 1000000000000000000000000000000 (λ s b. c.requires.most s (omega arith)) in
     let here = c.requires.most c.loop-slot.slot (omega arith) in
-    omega (arith, before, here, c.price_at.ensures, c.loop-slot.invariant, c.requires.fits.most, c.args.self.now.choices.few)
+    omega (arith, before, here, c.price_at-sum.ensures, c.loop-slot.invariant, c.requires.fits.most, c.args.self.now.choices.few)
