@@ -1,6 +1,4 @@
 //! Caches of tasks that are worked out by hand, and of made ones against the planner.
-ghost use Rattle.std.specs.Prelude.{◌≡◌};
-
 mod made;
 mod table;
 mod tasks;
@@ -86,7 +84,7 @@ fn as_the_planner(rt: HostRuntime) -> Result<(), Fail> {
         let task = made_task(alloc, &mut draws)?;
         let cache = build(alloc, &task).map_err(|_| "no cache")?;
         kept += cache.templates().len() as u64;
-        for raise in [0, 0, 1, 100_000] {
+        for raise in [0, 0, 1, 60_000] {
             let table = made_table(alloc, &mut draws, task.slots, raise)?;
             let (planned, cached) = costs(alloc, &task, &cache, &table)?;
             assert_eq!(rt; cached, planned, "task {number}");

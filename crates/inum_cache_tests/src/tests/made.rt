@@ -1,5 +1,6 @@
 //! Small tasks and offers, made from numbers that look random.
-ghost use Rattle.std.specs.Prelude.{◌<◌};
+ghost use Rattle.std.specs.Prelude.{◌<◌, ◌≤◌};
+ghost use Rattle.adv_base.specs.declared.limits.TheConstants.{MOST_PRICE};
 
 use crate::tests::table::{Reads, Table};
 use crate::tests::tasks::{list, up};
@@ -202,6 +203,14 @@ fn price(draws: &mut Draws) -> u32 {
     100 * (draws.below(200) as u32 + 1)
 }
 
+/// The price of an index, with a charge for its use.
+fn charged(draws: &mut Draws, raise: u16) -> u64
+    ensures { result ≤ MOST_PRICE }
+{
+    let charge = raise as u64 * draws.below(200) as u64;
+    100 * (draws.below(200) as u64 + 1) + 1_000_000_000 * charge
+}
+
 /// The columns of an index: one of both, or both.
 fn keys(draws: &mut Draws) -> &'static [u16] {
     match draws.below(5) {
@@ -213,13 +222,18 @@ fn keys(draws: &mut Draws) -> &'static [u16] {
     }
 }
 
-/// Offers for the slots of a task: the whole table and two indexes.
-pub fn made_table(alloc: Global, draws: &mut Draws, slots: u8) -> Result<Table, AllocError> {
+/// Offers for the slots of a task: the whole table and two indexes, with charges that `raise` scales.
+pub fn made_table(
+    alloc: Global,
+    draws: &mut Draws,
+    slots: u8,
+    raise: u16,
+) -> Result<Table, AllocError> {
     let mut reads = Vec::new(alloc);
     for slot in 0..slots {
         let heap = price(draws);
-        let first = (price(draws), keys(draws));
-        let second = (price(draws), keys(draws));
+        let first = (charged(draws, raise), keys(draws));
+        let second = (charged(draws, raise), keys(draws));
         reads.push(Reads::new(alloc, slot, heap, first, second)?)?;
     }
     Ok(Table { slots: reads })

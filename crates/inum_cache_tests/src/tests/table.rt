@@ -3,6 +3,7 @@ ghost use Rattle.std.specs.Prelude.{◌≡◌, ◌≢◌, ◌==◌, ◌≤◌, A
 ghost use Rattle.std.specs.List.{find};
 ghost use Rattle.std.specs.Option.{option_map_or, option_copied};
 ghost use Rattle.adv_base.specs.Items.{AreApart, is_up_of as is_up};
+ghost use Rattle.adv_base.specs.declared.limits.TheConstants.{MOST_PRICE};
 ghost use Rattle.adv_base.specs.OfferTables.{OfferLimits};
 
 use adv_base::{Item, List};
@@ -64,15 +65,12 @@ fn keys(alloc: Global, slot: u8, columns: &[u16]) -> Result<List<Item>, AllocErr
 }
 
 impl Index {
-    pub fn new(alloc: Global, slot: u8, price: u32, columns: &[u16]) -> Result<Index, AllocError>
+    pub fn new(alloc: Global, slot: u8, price: u64, columns: &[u16]) -> Result<Index, AllocError>
+        requires { price ≤ MOST_PRICE }
         ensures { IfOk result (λ index. index.slot ≡ slot) }
     {
         let keys = keys(alloc, slot, columns)?;
-        Ok(Index {
-            slot,
-            price: price as u64,
-            keys,
-        })
+        Ok(Index { slot, price, keys })
     }
 }
 
@@ -94,9 +92,12 @@ impl Reads {
         alloc: Global,
         slot: u8,
         heap: u32,
-        first: (u32, &[u16]),
-        second: (u32, &[u16]),
-    ) -> Result<Reads, AllocError> {
+        first: (u64, &[u16]),
+        second: (u64, &[u16]),
+    ) -> Result<Reads, AllocError>
+        requires first { first.0 ≤ MOST_PRICE }
+        requires second { second.0 ≤ MOST_PRICE }
+    {
         let first = Index::new(alloc, slot, first.0, first.1)?;
         let second = Index::new(alloc, slot, second.0, second.1)?;
         Ok(Reads {

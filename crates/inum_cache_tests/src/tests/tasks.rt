@@ -1,5 +1,4 @@
 //! Tasks that are written down.
-use crate::tests::table::{Reads, Table};
 use adv_base::{Item, List, Rates};
 use plan_model::{Task, TaskEdge, checked_task};
 use std::alloc::{AllocError, Global};
@@ -53,29 +52,4 @@ pub fn task(
         Some((items, rows)) => (Some(list(alloc, items)?), rows),
     };
     Ok(checked_task(slots, edges, rows, group, group_rows, order, rates).ok_or("no task")?)
-}
-
-/// Slots that are read whole at these prices.
-pub fn heaps(alloc: Global, prices: &[u32]) -> Result<Table, AllocError> {
-    indexed(alloc, prices, &[])
-}
-
-/// The same with an index on each of the first slots, at its price and of its columns.
-pub fn indexed(
-    alloc: Global,
-    prices: &[u32],
-    indexes: &[(u32, &[u16])],
-) -> Result<Table, AllocError> {
-    let mut slots = Vec::new(alloc);
-    let mut slot: u8 = 0;
-    for heap in prices {
-        let whole: (u32, &[u16]) = (*heap, &[]);
-        let index = match indexes.get(slot as usize) {
-            None => whole,
-            Some(index) => *index,
-        };
-        slots.push(Reads::new(alloc, slot, *heap, index, whole)?)?;
-        slot = slot.wrapping_add(1);
-    }
-    Ok(Table { slots })
 }
