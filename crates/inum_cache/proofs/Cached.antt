@@ -15,7 +15,8 @@ use Rattle.plan_model.specs.Combinations.{Orders, IsOffered, IsLeastPrice, IsPri
 use Rattle.plan_model.proofs.Bounds.{price_at-most}
 use Rattle.plan_model.proofs.SetLaws.{sum_below-le}
 use Rattle.inum_cache.specs.Numbering.{size_in, order_in, AreOrders}
-use Rattle.inum_cache.specs.inner.Pricing.{start_in, least_below, best_price, ArePrices, template_price, template_sum, sum_at, FitsOrders, ArePriced, offer_price}
+use Rattle.inum_cache.specs.inner.Pricing.{start_in, least_below, best_price, ArePrices, template_price, template_sum, sum_at, ArePriced, offer_price}
+use Rattle.inum_cache.specs.Templates.{FitsOrders}
 use Rattle.inum_cache.specs.Caches.{no_orders, HasPlain}
 use Rattle.inum_cache.proofs.Kept.{order-same}
 use Rattle.inum_cache.proofs.Pricing.{least_below-le, least_below-is, least_below-most, best-le, best-is, sum_below-most, sum_below-at}

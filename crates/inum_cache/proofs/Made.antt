@@ -18,8 +18,8 @@ use Rattle.interesting_orders.proofs.OrderLemmas.{interesting_orders-first, inte
 use Rattle.inum_cache.specs.Numbering.{size_in, order_in, count_in, count_of, number_in, place_in, place_of, needs_of, AreOrders, SizeLimits}
 use Rattle.inum_cache.specs.inner.Costing.{AreInternal, AreTemplates}
 use Rattle.inum_cache.specs.inner.Keeping.{numbers_below, is_kept, IsTemplateOf, AreTemplatesOf}
-use Rattle.inum_cache.specs.inner.Pricing.{FitsOrders}
-use Rattle.inum_cache.specs.Caches.{StandsBefore, AreInOrder, no_orders}
+use Rattle.inum_cache.specs.Templates.{FitsOrders, StandsBefore, AreInOrder}
+use Rattle.inum_cache.specs.Caches.{no_orders}
 use Rattle.inum_cache.proofs.Numbers.{HaveSome, place_in-below, place_in-past, places_of-number, places-in-order}
 use Rattle.inum_cache.proofs.Testing.{numbers-pass, numbers-in-order, template-number}
 use Rattle.inum_cache.proofs.Kept.{IsCosted, order-same, number-combination, each-of, are-kept}

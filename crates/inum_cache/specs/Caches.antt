@@ -1,28 +1,17 @@
 -- What a cache holds.
-use Rattle.std.specs.Prelude.{◌≡◌, ℕ, ◌<◌, List, [], length, Some, slice_get, slice_index_or}
+use Rattle.std.specs.Prelude.{◌≡◌, ℕ, ◌<◌, List, [], length, slice_index_or}
 use Rattle.adv_base.specs.Items.{Order}
 use Rattle.adv_base.specs.Offers.{OfferTable}
 use Rattle.adv_base.specs.OfferTables.{order_at}
 use Rattle.plan_model.specs.declared.task.Task.{Task}
-use Rattle.plan_model.specs.declared.template.Template.{Template}
 use Rattle.plan_model.specs.Orders.{interesting_orders}
 use Rattle.plan_model.specs.Combinations.{Orders, IsIn, AreKept}
 use Rattle.inum_cache.specs.declared.cache.Cache.{Cache}
+use Rattle.inum_cache.specs.Templates.{AreInOrder}
 
 -- a cache's orders of a slot
 abbrev pub orders_of : Cache → ℕ → List Order
 orders_of cache slot = slice_index_or cache.choices.orders slot []
-
--- the places of the first template are less at some slot, and the same at all slots before
-pub record StandsBefore (first second : Template) : Type 0 where
-  pub slot : ℕ
-  pub less : slice_index_or first.needs slot 0 < slice_index_or second.needs slot 0
-  pub same : (s : ℕ) → s < slot → slice_index_or first.needs s 0 ≡ slice_index_or second.needs s 0
-
--- templates in increasing order of the places of what they need, read from the first slot
-abbrev pub AreInOrder : List Template → Type 0
-AreInOrder templates =
-    (i j : ℕ) (first second : Template) → i < j → slice_get templates i ≡ Some first → slice_get templates j ≡ Some second → StandsBefore first second
 
 -- the combination that asks for no order
 abbrev pub no_orders : Orders

@@ -1,7 +1,8 @@
 //! The cache of a task.
 ghost use Rattle.std.specs.Prelude.{◌≡◌, ℕ, ◌<◌, All, length, slice_index_or};
 ghost use Rattle.inum_cache.specs.Numbering.{size_in};
-ghost use Rattle.inum_cache.specs.inner.Pricing.{FitsOrders, start_in};
+ghost use Rattle.inum_cache.specs.Templates.{FitsOrders};
+ghost use Rattle.inum_cache.specs.inner.Pricing.{start_in};
 
 use crate::choices::Choices;
 use adv_base::{Item, List};
@@ -19,8 +20,8 @@ pub struct Cache {
     /// How many orders the slots have.
     pub(crate) count: usize,
     pub ghost fit: { All (FitsOrders choices.orders) templates },
-    pub ghost started: { (slot : ℕ) → slot < length choices.orders → slice_index_or starts slot 0 ≡ start_in (size_in choices.orders) slot },
-    pub ghost counted: { count ≡ start_in (size_in choices.orders) (length choices.orders) },
+    ghost started: { (slot : ℕ) → slot < length choices.orders → slice_index_or starts slot 0 ≡ start_in (size_in choices.orders) slot },
+    ghost counted: { count ≡ start_in (size_in choices.orders) (length choices.orders) },
 }
 
 impl Cache {

@@ -3,6 +3,7 @@ ghost use Rattle.std.specs.Prelude.{◌≡◌, ℕ, ◌+◌, ◌<◌, ◌≤◌,
 ghost use Rattle.plan_model.specs.declared.task.Task.{Task};
 ghost use Rattle.plan_model.specs.Combinations.{CachedBy, IsIn};
 ghost use Rattle.plan_model.specs.Least.{Least};
+ghost use Rattle.inum_cache.specs.Templates.{FitsOrders};
 ghost use Rattle.inum_cache.specs.inner.Pricing as pricing;
 ghost use Rattle.inum_cache.specs.Caches.{IsCacheOf, HavePlain};
 
@@ -44,7 +45,7 @@ impl Cache {
     /// The price of the order that a template needs of a slot.
     fn price_at(&self, prices: &[u128], template: &Template, slot: u8) -> u128
         requires room { self.now.count ≤ length prices.now }
-        requires fits { pricing.FitsOrders self.now.choices.orders template.now }
+        requires fits { FitsOrders self.now.choices.orders template.now }
         requires slot { slot < length self.now.choices.orders }
         ensures { result ≡ pricing.template_price self.now.choices.orders prices.now template.now slot }
     {
@@ -55,7 +56,7 @@ impl Cache {
     /// What comes of a template's internal cost and the prices of the orders that it needs.
     fn sum_of(&self, prices: &[u128], template: &Template) -> u128
         requires room { self.now.count ≤ length prices.now }
-        requires fits { pricing.FitsOrders self.now.choices.orders template.now }
+        requires fits { FitsOrders self.now.choices.orders template.now }
         requires most { pricing.ArePriced self.now.choices.orders prices.now template.now }
         ensures { result ≡ pricing.template_sum self.now.choices.orders prices.now template.now }
     {

@@ -4,7 +4,6 @@ use Rattle.std.specs.Option.{option_map_or}
 use Rattle.adv_base.specs.Items.{Order}
 use Rattle.adv_base.specs.Offers.{OfferTable}
 use Rattle.adv_base.specs.OfferTables.{price_at, order_at}
-use Rattle.plan_model.specs.declared.plan.TheConstants.{MOST_COST}
 use Rattle.plan_model.specs.declared.template.Template.{Template}
 use Rattle.plan_model.specs.Exchange.{sum_below}
 use Rattle.inum_cache.specs.declared.prices.TheConstants.{UNOFFERED}
@@ -48,12 +47,6 @@ template_sum orders prices template = template.internal + sum_below (template_pr
 -- the same of the template of a number
 abbrev pub sum_at : List (List Order) → List ℕ → List Template → ℕ → ℕ
 sum_at orders prices templates k = option_map_or (template_sum orders prices) (slice_get templates k) 0
-
--- a template's cost is that of a plan, and its places are those of orders
-pub record FitsOrders (orders : List (List Order)) (template : Template) : Type 0 where
-  pub most : template.internal < MOST_COST
-  pub within : (slot : ℕ) → slot < length orders → slice_index_or template.needs slot 0 < size_in orders slot
-  pub past : (slot : ℕ) → length orders ≤ slot → slice_index_or template.needs slot 0 ≡ 0
 
 -- no price that a template needs is above that of an order that isn't offered
 abbrev pub ArePriced : List (List Order) → List ℕ → Template → Type 0
