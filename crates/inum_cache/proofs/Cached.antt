@@ -1,5 +1,5 @@
 -- The least over the templates is the cached cost.
-use Rattle.std.proofs.Common.{◌≡◌, ◌⊎◌, inl, inr, ℕ, zero, suc, ◌+◌, ◌*◌, ◌<◌, ◌≤◌, List, [], ◌∷◌, length, get_or, All, Option, Some, None, refl, sym, ap, ◌∙◌, subst, arith}
+use Rattle.std.proofs.Common.{◌≡◌, inl, inr, ℕ, zero, suc, ◌+◌, ◌<◌, ◌≤◌, List, [], ◌∷◌, length, get_or, All, Option, Some, refl, sym, ap, ◌∙◌, subst, arith}
 use Rattle.std.specs.Prelude.{slice_get}
 use Rattle.std.specs.Option.{option_map_or}
 use Rattle.std.proofs.lemmas.Option.{slice_get_within, get_or_from_slice_get}
@@ -9,13 +9,12 @@ use Rattle.adv_base.specs.OfferTables.{price_at, order_at, OfferTableLimits}
 use Rattle.adv_base.proofs.Begins.{begins_nil}
 use Rattle.plan_model.specs.declared.task.Task.{Task}
 use Rattle.plan_model.specs.declared.template.Template.{Template}
-use Rattle.plan_model.specs.Orders.{interesting_orders}
 use Rattle.plan_model.specs.Exchange.{sum_below}
 use Rattle.plan_model.specs.Combinations.{Orders, IsOffered, IsLeastPrice, IsPriced, CachedBy, needed, IsIn}
 use Rattle.plan_model.proofs.Bounds.{price_at-most}
 use Rattle.plan_model.proofs.SetLaws.{sum_below-le}
-use Rattle.inum_cache.specs.Numbering.{size_in, order_in, AreOrders}
-use Rattle.inum_cache.specs.inner.Pricing.{start_in, least_below, best_price, ArePrices, template_price, template_sum, sum_at, ArePriced, offer_price}
+use Rattle.inum_cache.specs.Numbering.{order_in, AreOrders}
+use Rattle.inum_cache.specs.inner.Pricing.{least_below, best_price, ArePrices, template_price, template_sum, sum_at, ArePriced, offer_price}
 use Rattle.inum_cache.specs.Templates.{FitsOrders}
 use Rattle.inum_cache.specs.Caches.{no_orders, HasPlain}
 use Rattle.inum_cache.proofs.Kept.{order-same}

@@ -1,12 +1,12 @@
 -- Internal costs by number, and the limits of free offers.
-use Rattle.std.proofs.Common.{◌≡◌, inl, inr, ℕ, ◌+◌, ◌<◌, ◌≤◌, List, [], ◌∷◌, ◌++◌, length, get_or, All, refl, sym, ap, ◌∙◌, subst, arith}
+use Rattle.std.proofs.Common.{◌≡◌, inl, inr, ℕ, ◌+◌, List, [], ◌∷◌, ◌++◌, get_or, refl, sym, ap, ◌∙◌, subst, arith}
 use Rattle.std.proofs.lemmas.Bool.{cases_lt}
 use Rattle.std.proofs.lemmas.List.{length_push, get_or_push, get_or_append_left}
 use Rattle.std.proofs.lemmas.List.Elements.{All-cons, All-nil}
 use Rattle.adv_base.specs.Items.{Order}
 use Rattle.adv_base.specs.OfferTables.{OfferLimits, OfferTableLimits}
 use Rattle.plan_model.specs.declared.task.Task.{Task}
-use Rattle.plan_model.specs.Combinations.{Orders, free, IsInternal}
+use Rattle.plan_model.specs.Combinations.{free, IsInternal}
 use Rattle.inum_cache.specs.Numbering.{order_in, place_of, needs_in, needs_of}
 use Rattle.inum_cache.specs.inner.Costing.{AreInternal}
 use Rattle.inum_cache.proofs.Testing.{same-places}

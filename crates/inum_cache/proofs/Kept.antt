@@ -1,24 +1,24 @@
 -- The templates that are kept are those of the combinations that no weaker one replaces.
-use Rattle.std.proofs.Common.{◌≡◌, ◌≢◌, ◌⊎◌, inl, inr, ℕ, zero, suc, ◌+◌, ◌*◌, ◌<◌, ◌≤◌, ◌==◌, Bool, true, false, not, ◌&&◌, List, [], ◌∷◌, length, get_or, take, All, Option, Some, None, refl, sym, ap, ◌∙◌, subst, arith}
-use Rattle.std.specs.Prelude.{slice_get, nat_lt, nat_le}
+use Rattle.std.proofs.Common.{◌≡◌, inl, inr, ℕ, zero, suc, ◌<◌, ◌≤◌, true, List, [], ◌∷◌, length, get_or, take, refl, sym, ap, ◌∙◌, subst, arith}
+use Rattle.std.specs.Prelude.{nat_lt, nat_le}
 use Rattle.std.specs.List.{list_any}
-use Rattle.std.proofs.lemmas.Bool.{cases_Bool, cases_lt, cases_eq, false≢true, and_parts, and_from, ltb-true, lt-ltb, leb-true, le-leb, eq-eqb, ne_eqb, not-true, true_from_ne_false}
+use Rattle.std.proofs.lemmas.Bool.{cases_Bool, cases_lt, cases_eq, false≢true, and_parts, and_from, ltb-true, lt-ltb, leb-true, le-leb, eq-eqb, ne_eqb, not-true}
 use Rattle.std.proofs.lemmas.List.{get_or_past}
 use Rattle.adv_base.specs.Items.{Order, BeginsWith, is_same_order}
 use Rattle.adv_base.proofs.Begins.{begins_self, begins_trans, begins_length, begins_decides}
 use Rattle.plan_model.specs.declared.task.Task.{Task}
 use Rattle.plan_model.specs.declared.template.Template.{Template}
 use Rattle.plan_model.specs.Orders.{interesting_orders}
-use Rattle.plan_model.specs.Combinations.{Orders, IsCombination, free, IsInternal, IsEach, Weakens, IsKept, needed, IsIn, AreKept}
+use Rattle.plan_model.specs.Combinations.{Orders, IsCombination, free, IsInternal, IsEach, Weakens, IsKept, needed, AreKept}
 use Rattle.plan_model.specs.Comparisons.{NoDearer}
 use Rattle.plan_model.proofs.OrderLaws.{interesting_orders-past, past-none}
 use Rattle.plan_model.proofs.Decomposing.{free-limits}
 use Rattle.plan_model.proofs.Listing.{numbers-combination, combination-number}
 use Rattle.plan_model.proofs.Comparing.{least-one, least-never-rises}
-use Rattle.inum_cache.specs.Numbering.{size_in, order_in, count_of, number_in, place_in, place_of, needs_in, needs_of, AreOrders}
+use Rattle.inum_cache.specs.Numbering.{size_in, order_in, count_of, number_in, place_of, needs_of, AreOrders}
 use Rattle.inum_cache.specs.inner.Costing.{AreInternal}
-use Rattle.inum_cache.specs.inner.Keeping.{begins, is_front, any_below, numbers_below, replaced, replaced_number, is_replaced_by, is_weakened_at, is_weakened, is_kept, IsTemplateOf, AreTemplatesOf}
-use Rattle.inum_cache.proofs.Numbers.{HaveSome, AreWithin, place_in-below, place_in-past, number_in-below, number_of-places, places_of-number}
+use Rattle.inum_cache.specs.inner.Keeping.{begins, is_front, numbers_below, replaced, replaced_number, is_replaced_by, is_weakened_at, is_weakened, is_kept, IsTemplateOf, AreTemplatesOf}
+use Rattle.inum_cache.proofs.Numbers.{HaveSome, AreWithin, place_in-below, place_in-past, number_in-below, places_of-number}
 use Rattle.inum_cache.proofs.Placing.{replaced-within}
 use Rattle.inum_cache.proofs.Testing.{any_below-at, any_below-found, numbers-pass, numbers-all, template-number, number-template}
 

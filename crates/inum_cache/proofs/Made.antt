@@ -1,28 +1,28 @@
 -- What a cache is made of.
-use Rattle.std.proofs.Common.{◌≡◌, ◌≢◌, ◌⊎◌, inl, inr, ℕ, zero, suc, ◌+◌, ◌*◌, ◌/◌, ◌%◌, ◌<◌, ◌≤◌, ◌==◌, Bool, true, false, List, [], ◌∷◌, length, get_or, All, Option, Some, None, refl, sym, ap, ◌∙◌, subst, arith}
+use Rattle.std.proofs.Common.{◌≡◌, inl, inr, ℕ, zero, suc, ◌*◌, ◌<◌, ◌≤◌, List, [], length, get_or, Some, refl, sym, ap, ◌∙◌, subst, arith}
 use Rattle.std.proofs.Math.Nat.{mul-pos, zero-mul}
 use Rattle.std.specs.Prelude.{slice_get}
-use Rattle.std.proofs.lemmas.Bool.{cases_Bool, cases_lt, cases_eq, false≢true}
+use Rattle.std.proofs.lemmas.Bool.{cases_lt}
 use Rattle.std.proofs.lemmas.List.{get_or_past, nil_from_length}
-use Rattle.adv_base.specs.Items.{Order, BeginsWith}
-use Rattle.adv_base.specs.OfferTables.{OfferLimits, OfferTableLimits}
+use Rattle.adv_base.specs.Items.{Order}
+use Rattle.adv_base.specs.OfferTables.{OfferLimits}
 use Rattle.adv_base.proofs.Begins.{begins_length}
 use Rattle.plan_model.specs.declared.task.Task.{Task}
 use Rattle.plan_model.specs.declared.template.Template.{Template}
 use Rattle.plan_model.specs.Orders.{interesting_orders, combinations, combinations_below}
-use Rattle.plan_model.specs.Combinations.{Orders, IsCombination, free, IsInternal, IsEach, Weakens, IsKept, needed, IsIn, AreKept}
+use Rattle.plan_model.specs.Combinations.{Orders, free, IsEach, IsIn}
 use Rattle.plan_model.proofs.OrderLaws.{IsOfSlot, interesting_orders-of-slot}
 use Rattle.plan_model.proofs.Decomposing.{free-limits}
 use Rattle.plan_model.proofs.CostBound.{whole_cost-most}
 use Rattle.interesting_orders.proofs.OrderLemmas.{interesting_orders-first, interesting_orders-few}
-use Rattle.inum_cache.specs.Numbering.{size_in, order_in, count_in, count_of, number_in, place_in, place_of, needs_of, AreOrders, SizeLimits}
+use Rattle.inum_cache.specs.Numbering.{size_in, order_in, count_in, count_of, number_in, place_in, needs_of, AreOrders, SizeLimits}
 use Rattle.inum_cache.specs.inner.Costing.{AreInternal, AreTemplates}
-use Rattle.inum_cache.specs.inner.Keeping.{numbers_below, is_kept, IsTemplateOf, AreTemplatesOf}
-use Rattle.inum_cache.specs.Templates.{FitsOrders, StandsBefore, AreInOrder}
+use Rattle.inum_cache.specs.inner.Keeping.{numbers_below, is_kept}
+use Rattle.inum_cache.specs.Templates.{FitsOrders, AreInOrder}
 use Rattle.inum_cache.specs.Caches.{no_orders}
 use Rattle.inum_cache.proofs.Numbers.{HaveSome, place_in-below, place_in-past, places_of-number, places-in-order}
 use Rattle.inum_cache.proofs.Testing.{numbers-pass, numbers-in-order, template-number}
-use Rattle.inum_cache.proofs.Kept.{IsCosted, order-same, number-combination, each-of, are-kept}
+use Rattle.inum_cache.proofs.Kept.{IsCosted, order-same, each-of, are-kept}
 
 -- ## What combinations choose from
 

@@ -1,10 +1,9 @@
 -- Laws of the numbers of combinations.
-use Rattle.std.proofs.Common.{◌≡◌, ◌≢◌, ◌⊎◌, inl, inr, ℕ, zero, suc, ◌+◌, ◌*◌, ◌/◌, ◌%◌, ◌<◌, ◌≤◌, ◌==◌, Bool, true, false, cond, refl, sym, ap, ◌∙◌, subst, arith, add-one}
+use Rattle.std.proofs.Common.{◌≡◌, inl, inr, ℕ, zero, suc, ◌+◌, ◌*◌, ◌/◌, ◌%◌, ◌<◌, ◌≤◌, refl, sym, ap, ◌∙◌, subst, arith}
 use Rattle.std.proofs.lemmas.Bool.{cases_lt, cases_eq, cases_order, eq-eqb, ne_eqb}
 use Rattle.std.proofs.lemmas.Nat.{div-add-mod', mul-add-lt, div-mul-add, mod-mul-add, div_below, mod_below, mul-le}
 use Rattle.std.proofs.Math.Nat.{mul-le-mul_left, mul_comm, suc-mul}
 use Rattle.inum_cache.specs.Numbering.{count_in, number_in, place_in}
-use Rattle.inum_cache.specs.inner.Keeping.{replaced}
 
 -- each slot below k has some orders
 abbrev pub HaveSome : (ℕ → ℕ) → ℕ → Type 0

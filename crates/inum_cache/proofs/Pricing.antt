@@ -1,19 +1,18 @@
 -- The prices of orders, slot by slot.
-use Rattle.std.proofs.Common.{◌≡◌, ◌⊎◌, inl, inr, ℕ, zero, suc, ◌+◌, ◌*◌, ◌<◌, ◌≤◌, Bool, true, false, List, [], ◌∷◌, length, get_or, set, All, Option, Some, None, refl, sym, ap, ◌∙◌, subst, arith, add-one}
-use Rattle.std.specs.Prelude.{slice_get, nat_lt}
-use Rattle.std.proofs.lemmas.Bool.{cases_Bool, cases_lt, cases_eq, ltb-true, ltb-false, false≢true}
+use Rattle.std.proofs.Common.{◌≡◌, ◌⊎◌, inl, inr, ℕ, zero, suc, ◌+◌, ◌*◌, ◌<◌, ◌≤◌, true, List, length, get_or, set, refl, sym, ◌∙◌, subst, arith}
+use Rattle.std.specs.Prelude.{nat_lt}
+use Rattle.std.proofs.lemmas.Bool.{cases_Bool, cases_lt, cases_eq, ltb-true, ltb-false}
 use Rattle.std.proofs.Math.Nat.{suc-mul}
 use Rattle.std.proofs.lemmas.List.{get_or-set_same, get_or-set_other}
-use Rattle.adv_base.specs.Items.{Order, BeginsWith}
+use Rattle.adv_base.specs.Items.{Order}
 use Rattle.adv_base.specs.Offers.{OfferTable}
-use Rattle.adv_base.specs.OfferTables.{price_at, order_at, OfferLimits, OfferTableLimits}
+use Rattle.adv_base.specs.OfferTables.{price_at, order_at}
 use Rattle.adv_base.proofs.Begins.{begins_decides}
-use Rattle.plan_model.specs.declared.template.Template.{Template}
 use Rattle.plan_model.specs.Exchange.{sum_below}
 use Rattle.plan_model.specs.Combinations.{IsOffered, IsLeastPrice}
 use Rattle.inum_cache.specs.Numbering.{size_in, order_in}
 use Rattle.inum_cache.specs.inner.Keeping.{begins}
-use Rattle.inum_cache.specs.inner.Pricing.{start_in, least_below, offer_price, best_price, ArePrices, AreSlotPrices, template_price}
+use Rattle.inum_cache.specs.inner.Pricing.{start_in, least_below, offer_price, best_price, ArePrices, AreSlotPrices}
 
 -- ## Places in the list of prices
 

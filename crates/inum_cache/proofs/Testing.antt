@@ -1,13 +1,13 @@
 -- Tests of numbers below a bound, and the numbers that pass.
-use Rattle.std.proofs.Common.{◌≡◌, ◌⊎◌, ◌↔◌, inl, inr, ℕ, zero, suc, ◌+◌, ◌<◌, ◌≤◌, Bool, true, false, cond, not, ◌&&◌, ◌||◌, List, [], ◌∷◌, ◌++◌, length, get_or, take, Option, Some, None, IsTrue, refl, sym, ap, ◌∙◌, subst, arith, add-one}
-use Rattle.std.specs.Prelude.{slice_get, nat_lt}
+use Rattle.std.proofs.Common.{◌≡◌, ◌⊎◌, ◌↔◌, inl, inr, ℕ, zero, suc, ◌+◌, ◌<◌, Bool, true, false, not, List, [], ◌∷◌, ◌++◌, length, get_or, Some, IsTrue, refl, sym, ap, ◌∙◌, subst, arith, add-one}
+use Rattle.std.specs.Prelude.{slice_get}
 use Rattle.std.proofs.lemmas.Option.{slice_get_within}
-use Rattle.std.proofs.lemmas.Bool.{cases_Bool, cases_lt, cases_eq, false≢true, or_cases, or_left, or_right, and_from, and_right, lt-ltb}
-use Rattle.adv_base.specs.Items.{Order, BeginsWith, is_same_order}
+use Rattle.std.proofs.lemmas.Bool.{cases_Bool, cases_lt, cases_eq, false≢true, or_cases, or_left, or_right}
+use Rattle.adv_base.specs.Items.{Order, BeginsWith}
 use Rattle.adv_base.proofs.Begins.{begins_decides}
 use Rattle.plan_model.specs.declared.template.Template.{Template}
 use Rattle.inum_cache.specs.Numbering.{place_of}
-use Rattle.inum_cache.specs.inner.Keeping.{begins, is_front, any_below, numbers_below, is_weakened, is_kept, IsTemplateOf, AreTemplatesOf}
+use Rattle.inum_cache.specs.inner.Keeping.{begins, any_below, numbers_below, is_weakened, is_kept, IsTemplateOf, AreTemplatesOf}
 
 -- ## Fronts
 

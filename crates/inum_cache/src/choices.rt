@@ -24,11 +24,7 @@ fn place_at(places: &[u8; 8], slot: u8, place: u8, s: u8) -> u8
     requires { s < 8 }
     ensures { result ≡ keeping.replaced (λ t. slice_index_or places.now t 0) slot place s }
 {
-    if s == slot {
-        place
-    } else {
-        places[s as usize]
-    }
+    if s == slot { place } else { places[s as usize] }
 }
 
 impl Choices {

@@ -30,12 +30,7 @@ fn first_change(before: &[u8; 8], after: &[u8; 8], slots: u8) -> u8
 
 /// The cost of the combination with these places, by a search that holds the costs of the one before: the rows of slots
 /// below the first change stay.
-fn next_cost(
-    search: &mut Search<'_>,
-    choices: &Choices,
-    before: &[u8; 8],
-    places: &[u8; 8],
-) -> u128
+fn next_cost(search: &mut Search<'_>, choices: &Choices, before: &[u8; 8], places: &[u8; 8]) -> u128
     requires slots { length choices.now.orders ≡ (task_of search.old).slots }
     requires held { Holds search.old (free (numbering.needs_in choices.now.orders (λ s. slice_index_or before.now s 0))) }
     ensures same { task_of search.new ≡ task_of search.old }

@@ -15,7 +15,12 @@ use std::process::Abort;
 use std::test::Fail;
 
 /// What a least plan costs, by the planner and by a cache of the task.
-fn costs(alloc: Global, task: &Task, cache: &Cache, table: &Table) -> Result<(u128, u128), NoMemory> {
+fn costs(
+    alloc: Global,
+    task: &Task,
+    cache: &Cache,
+    table: &Table,
+) -> Result<(u128, u128), NoMemory> {
     let found = least(alloc, task, table)?;
     Ok((found.cost, cache.cost(table)))
 }

@@ -1,6 +1,6 @@
-use Rattle.std.proofs.Common.{◌≡◌, ◌+◌, ◌∷◌, ◌++◌, [], List, ℕ, sym, subst, ◌∙◌, slice_index_or}
+use Rattle.std.proofs.Common.{◌+◌, List, ℕ, sym, subst, ◌∙◌, slice_index_or}
 use Rattle.plan_model.specs.declared.task.Task.{Task}
-use Rattle.plan_model.specs.Combinations.{free, IsInternal}
+use Rattle.plan_model.specs.Combinations.{IsInternal}
 use Rattle.inum_cache.specs.Numbering.{needs_in}
 use Rattle.inum_cache.specs.inner.Costing.{AreInternal}
 use Rattle.inum_cache.proofs.Costing.{costs-more}

@@ -1,4 +1,4 @@
-use Rattle.std.proofs.Common.{length, arith, ap, sym, ◌∙◌, slice_index_or}
+use Rattle.std.proofs.Common.{length, arith, slice_index_or}
 use Rattle.inum_cache.specs.Numbering.{size_in}
 use Rattle.inum_cache.proofs.Pricing.{place-below}
 use Rattle.inum_cache.proofs.cache.Cache.price_at.Goals as goal

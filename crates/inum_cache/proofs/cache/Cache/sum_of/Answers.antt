@@ -1,5 +1,4 @@
-use Rattle.std.proofs.Common.{◌≤◌, ◌+◌, length, arith}
-use Rattle.plan_model.specs.Exchange.{sum_below}
+use Rattle.std.proofs.Common.{arith}
 use Rattle.inum_cache.specs.inner.Pricing.{template_price}
 use Rattle.inum_cache.proofs.Pricing.{sum_below-most}
 use Rattle.inum_cache.proofs.cache.Cache.sum_of.Goals as goal

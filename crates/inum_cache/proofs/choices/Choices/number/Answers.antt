@@ -1,7 +1,6 @@
-use Rattle.std.proofs.Common.{ℕ, ◌+◌, ◌*◌, ◌<◌, length, slice_index_or, refl, arith}
-use Rattle.inum_cache.specs.Numbering.{size_in, count_in}
-use Rattle.inum_cache.specs.inner.Keeping.{replaced, IsNumbered}
-use Rattle.inum_cache.proofs.Numbers.{HaveSome}
+use Rattle.std.proofs.Common.{◌<◌, length, slice_index_or, refl, arith}
+use Rattle.inum_cache.specs.Numbering.{size_in}
+use Rattle.inum_cache.specs.inner.Keeping.{replaced}
 use Rattle.inum_cache.proofs.Placing.{replaced-within, numbered-less, numbered-more}
 use Rattle.inum_cache.proofs.choices.Choices.number.Goals as goal
 

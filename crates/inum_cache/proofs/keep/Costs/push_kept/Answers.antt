@@ -1,4 +1,4 @@
-use Rattle.std.proofs.Common.{◌+◌, length, slice_index_or, ap, ◌∙◌, not, sym, subst, arith}
+use Rattle.std.proofs.Common.{◌+◌, length, ap, ◌∙◌, not, sym, subst, arith}
 use Rattle.inum_cache.specs.Numbering.{size_in}
 use Rattle.inum_cache.specs.inner.Keeping.{AreTemplatesOf, numbers_below, is_kept}
 use Rattle.inum_cache.proofs.Numbers.{place_in-below}
