@@ -1,0 +1,5 @@
+use Rattle.inum_cache.specs.inner.Costing.{AreOrdersBelow}
+use Rattle.inum_cache.proofs.building.orders_of.Given as goal
+
+abbrev pub invariant-loop-slot : goal.invariant-loop-slot
+invariant-loop-slot l = AreOrdersBelow l.task l.orders.items l.slot

@@ -1,0 +1,4 @@
+pub mod Numbering
+pub mod Templates
+pub mod Caches
+pub mod inner

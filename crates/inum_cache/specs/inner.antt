@@ -1,0 +1,4 @@
+-- What retells the loops of the code; nothing above this crate cites it.
+pub mod Costing
+pub mod Keeping
+pub mod Pricing

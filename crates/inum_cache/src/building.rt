@@ -1,0 +1,94 @@
+//! How a cache is built.
+ghost use Rattle.std.specs.Prelude.{◌≡◌, ◌≤◌, ◌<◌, IfOk, IfErr, Err};
+ghost use Rattle.adv_base.specs.declared.limits.TheConstants.{MOST_COMBINATIONS};
+ghost use Rattle.plan_model.specs.Orders as interesting;
+ghost use Rattle.inum_cache.specs.Numbering as numbering;
+ghost use Rattle.inum_cache.specs.inner.Costing as costing;
+ghost use Rattle.inum_cache.specs.Caches as caches;
+
+use crate::cache::Cache;
+use crate::choices::Choices;
+use crate::fault::CacheFault;
+use crate::internals::internal_costs;
+use crate::keep::Costs;
+use adv_base::limits::MOST_COMBINATIONS;
+use adv_base::{Item, List, NoMemory};
+use interesting_orders::{combinations, slot_orders};
+use plan_model::{Task, Template};
+use std::alloc::Global;
+
+/// The interesting orders of each slot.
+fn orders_of(alloc: Global, task: &Task) -> Result<List<List<List<Item>>>, NoMemory>
+    ensures { IfOk result (λ orders. numbering.AreOrders task.now orders) }
+{
+    let mut orders = Vec::new(alloc);
+    for slot in 0..task.slots {
+        let own = slot_orders(alloc, task, slot)?;
+        orders.push(own)?;
+    }
+    Ok(List { items: orders })
+}
+
+/// The same, as what combinations choose from.
+fn choices_of(alloc: Global, task: &Task) -> Result<Choices, NoMemory>
+    requires { interesting.combinations task.now ≤ MOST_COMBINATIONS }
+    ensures orders { IfOk result (λ choices. numbering.AreOrders task.now choices.orders) }
+    ensures count { IfOk result (λ choices. numbering.count_of choices.orders ≡ interesting.combinations task.now) }
+{
+    let orders = orders_of(alloc, task)?;
+    Ok(Choices { orders })
+}
+
+/// The templates of the combinations that are kept.
+fn templates_of(
+    alloc: Global,
+    task: &Task,
+    choices: &Choices,
+    count: usize,
+) -> Result<List<Template>, NoMemory>
+    requires orders { numbering.AreOrders task.now choices.now.orders }
+    requires count { count ≡ numbering.count_of choices.now.orders }
+    ensures { IfOk result (λ templates. costing.AreTemplates task.now choices.now.orders templates) }
+{
+    let list = internal_costs(alloc, task, choices, count)?;
+    let costs = Costs { choices, list };
+    costs.kept(alloc)
+}
+
+/// The cache of a task of so many combinations.
+fn made(alloc: Global, task: &Task, count: usize) -> Result<Cache, NoMemory>
+    requires few { count ≤ MOST_COMBINATIONS }
+    requires count { count ≡ interesting.combinations task.now }
+    ensures { IfOk result (λ cache. caches.IsCacheOf task.now cache) }
+{
+    let choices = choices_of(alloc, task)?;
+    let templates = templates_of(alloc, task, &choices, count)?;
+    let (starts, count) = choices.starts();
+    Ok(Cache {
+        choices,
+        templates,
+        starts,
+        count,
+    })
+}
+
+/// The cache of a task: one template for each combination of interesting orders that no weaker one replaces, where one
+/// is weaker if it asks of each slot for a front of what the other asks, and replaces it if it costs no more. Costs come
+/// from one search, whose table keeps the rows of the slots whose orders stay from one combination to the next (INUM's
+/// cache, over System R's interesting orders). Beside the templates it takes one number for each combination.
+/// `TooManyCombinations` comes where the task has more than `MOST_COMBINATIONS`, with their number; `Memory` is want of
+/// memory.
+pub fn build(alloc: Global, task: &Task) -> Result<Cache, CacheFault>
+    ensures made { IfOk result (λ cache. caches.IsCacheOf task.now cache) }
+    ensures many { MOST_COMBINATIONS < interesting.combinations task.now → result ≡ Err (CacheFault.TooManyCombinations (interesting.combinations task.now)) }
+    ensures few { interesting.combinations task.now ≤ MOST_COMBINATIONS → IfErr result (λ fault. fault ≡ CacheFault.Memory) }
+{
+    let count = combinations(task);
+    if count > MOST_COMBINATIONS {
+        return Err(CacheFault::TooManyCombinations(count));
+    }
+    match made(alloc, task, count as usize) {
+        Ok(cache) => Ok(cache),
+        Err(_) => Err(CacheFault::Memory),
+    }
+}
