@@ -1,5 +1,4 @@
 pub mod MatchLemmas
 pub mod TaskLemmas
-pub mod OrderLemmas
 pub mod ReaderLemmas
 pub mod OfferLemmas

@@ -7,4 +7,6 @@ pub mod ItemLaws
 pub mod Begins
 pub mod ConfigLaws
 pub mod OfferLaws
+pub mod IndexOrders
+pub mod OfferBounds
 pub mod UpkeepBounds

@@ -13,6 +13,7 @@ pub mod Upkeep
 pub mod Access
 pub mod Offers
 pub mod OfferTables
+pub mod Laws
 pub mod Settings
 pub mod Nodes
 pub mod Numbers

@@ -1,5 +1,5 @@
 -- The ways to read each slot of a block, as one list; each has the order that it delivers and its price.
-use Rattle.std.specs.Prelude.{ℕ, ◌+◌, ◌==◌, List, [], ◌∷◌, ◌++◌, filter, map, Option, Some, None, slice_get}
+use Rattle.std.specs.Prelude.{ℕ, ◌+◌, ◌==◌, List, [], ◌∷◌, ◌++◌, filter, map, Option, Some, None, slice_get, option_and_then}
 use Rattle.std.specs.List.{enumerate_from}
 use Rattle.adv_base.specs.declared.catalogue.Catalogue.{Catalogue}
 use Rattle.adv_base.specs.declared.catalogue.index.Index.{Index}
@@ -65,6 +65,10 @@ paths_of cat shapes config None = []
 -- the paths of slot s of the block under the configuration
 unfoldable pub paths : Catalogue → Block → List IndexShape → Config → ℕ → List Path
 paths cat block shapes config s = paths_of cat shapes config (slice_get block.slots s)
+
+-- which candidate the path of a number is, by the candidate's own number; none for the table and an index that exists
+abbrev pub path_candidate_at : Catalogue → Block → List IndexShape → Config → ℕ → ℕ → Option ℕ
+path_candidate_at cat block shapes config s path = option_and_then path_candidate (slice_get (paths cat block shapes config s) path)
 
 -- ## Offers
 

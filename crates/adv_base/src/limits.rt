@@ -8,6 +8,13 @@ pub const WHOLE: u64 = 1_000_000_000;
 pub const MOST_RATE: u64 = 1_000_000;
 /// The price of reading a slot in one way, in thousandths of a page read: at most 10^19.
 pub const MOST_PRICE: u64 = 10_000_000_000_000_000_000;
+/// The price of reading a whole table, in thousandths of a page read: 10^12 pages and 10^12 rows at the greatest rates.
+pub const MOST_TABLE_PRICE: u64 = 2_000_000_000_000_000_000;
+/// The price of reading a slot through an index, in thousandths of a page read: 2 * 10^12 pages of the index, 10^12
+/// fetches and 10^12 rows at the greatest rates.
+pub const MOST_INDEX_PRICE: u64 = 4_000_000_000_000_000_000;
+/// The ways to read a slot: the table, the indexes of a catalogue and the candidates.
+pub const MOST_OFFERS: usize = 1257;
 /// How often a statement counts.
 pub const MOST_WEIGHT: u32 = 1_000_000;
 /// An end of a column's values is at most so far from 0: 10^18.

@@ -2,7 +2,7 @@ use Rattle.std.proofs.Common.{◌≡◌, ◌∙◌, ap}
 use Rattle.std.specs.Prelude.{All, true}
 use Rattle.adv_base.specs.Access.{index_order}
 use Rattle.adv_base.specs.Items.{AreApart, is_up_of}
-use Rattle.access_paths.proofs.OrderLemmas.{index_order-own, index_order-apart}
+use Rattle.adv_base.proofs.IndexOrders.{index_order-own, index_order-apart}
 use Rattle.access_paths.proofs.reader.Reader.index_offer.Goals as goal
 
 pub returns-in-Ok-clause-limits : goal.returns-in-Ok-clause-limits

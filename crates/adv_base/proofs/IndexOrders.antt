@@ -1,13 +1,12 @@
 -- The order of an index keeps the limits of an offer's order.
-use Rattle.std.proofs.Common.{◌≡◌, ◌≢◌, ℕ, ◌<◌, ◌≤◌, List, length, get_or, map, refl, sym, ◌∙◌, ap, arith}
-use Rattle.std.specs.Prelude.{true, false, Bool, ◌==◌, ◌&&◌, not, filter, All, AllPairs}
+use Rattle.std.proofs.Common.{◌≡◌, ◌≢◌, ℕ, ◌<◌, List, length, get_or, map, refl, sym, ◌∙◌, arith}
+use Rattle.std.specs.Prelude.{true, false, ◌==◌, not, filter, All, AllPairs}
 use Rattle.std.proofs.lemmas.Bool.Decides.{nat_tests}
 use Rattle.std.proofs.lemmas.List.{get_or-map, get_or_default, length-map}
 use Rattle.std.proofs.lemmas.List.Elements.{All-map}
 use Rattle.std.proofs.lemmas.List.Kept.{AllPairs-filter}
 use Rattle.adv_base.specs.declared.workload.block.Block.{Block}
-use Rattle.adv_base.specs.declared.workload.parts.Item.{Item}
-use Rattle.adv_base.specs.declared.workload.parts.Item.TheVariants.{Up, Down, Made}
+use Rattle.adv_base.specs.declared.workload.parts.Item.TheVariants.{Up}
 use Rattle.adv_base.specs.Access.{index_order}
 use Rattle.adv_base.specs.Items.{AreApart, is_same_column, is_up_of}
 use Rattle.adv_base.specs.Limits.Numbers.{KeyLimits}
