@@ -8,6 +8,7 @@
 #![tactic(auto)]
 
 mod answer;
+mod costs;
 mod fix;
 mod grant;
 mod multipliers;
@@ -16,9 +17,10 @@ mod programme;
 mod slot_part;
 
 pub use answer::{Answer, Node};
+pub use costs::{part_cost, value};
 pub use fix::{Fix, State};
 pub use grant::Grant;
-pub use multipliers::Multipliers;
+pub use multipliers::{Multipliers, grant_count};
 pub use part::Part;
 pub use programme::Programme;
 pub use slot_part::SlotPart;
