@@ -1,2 +1,4 @@
 pub mod Pricing
 pub mod Least
+pub mod Standing
+pub mod Totalling

@@ -4,4 +4,5 @@ pub mod StandsFor
 pub mod Views
 pub mod Trees
 pub mod Proves
+pub mod Laws
 pub mod inner

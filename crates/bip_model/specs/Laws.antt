@@ -1,0 +1,57 @@
+-- Theorems about programmes that stand for a setting, and about trees that show bounds.
+use Rattle.std.specs.Prelude.{◌≡◌, ℕ, List, ℤ}
+use Rattle.adv_base.specs.declared.setting.Config.{Config}
+use Rattle.adv_base.specs.Configs.{IsConfigOf, Fits}
+use Rattle.adv_base.specs.Named.{NamesBlock}
+use Rattle.adv_base.specs.Nodes as nodes
+use Rattle.adv_base.specs.Settings.{TheSetting, KeepsLimits}
+use Rattle.plan_model.specs.Lagrangian.{TheMultipliers, IsAtMost}
+use Rattle.plan_model.specs.Totals.{IsTotal, IsBlockCost}
+use Rattle.bip_model.specs.declared.part.Part.{Part}
+use Rattle.bip_model.specs.declared.programme.Programme.{Programme}
+use Rattle.bip_model.specs.Values.{part_cost, value}
+use Rattle.bip_model.specs.declared.answer.Node.{Node}
+use Rattle.bip_model.specs.StandsFor.{Blocked, IsPart, StandsFor}
+use Rattle.bip_model.specs.Trees.{Tree, Shows}
+use Rattle.bip_model.specs.Proves.{free_node, Proves}
+
+-- the value of a programme is the total of its setting, for every configuration
+abbrev pub ValueIsTotal : Type 0
+ValueIsTotal =
+    (setting : TheSetting) (programme : Programme) (config : Config) → KeepsLimits setting → StandsFor setting programme →
+    IsTotal setting.cat setting.shapes config setting.statements (value programme config)
+
+-- the cost of a part is that of a least plan of its block
+abbrev pub PartCostIsLeast : Type 0
+PartCostIsLeast =
+    (setting : TheSetting) (blocked : Blocked) (part : Part) (config : Config) → NamesBlock setting.cat blocked.block → IsPart setting blocked part →
+    IsBlockCost setting.cat setting.shapes config blocked.block (part_cost part config)
+
+-- What a tree shows below a node is at most the total of every fitting configuration below it; so is the least of the
+-- Lagrangian values of its bounded leaves.
+abbrev pub TreesBound : Type 0
+TreesBound =
+    (setting : TheSetting) (budget : ℕ) (bound : ℤ) (sets : List TheMultipliers) (node : nodes.Node) (tree : Tree) (config : Config) (total : ℕ) →
+    KeepsLimits setting → Shows setting budget bound sets node tree → IsConfigOf setting.shapes config →
+    Fits setting.cat setting.shapes config budget → nodes.IsBelow node config →
+    IsTotal setting.cat setting.shapes config setting.statements total → IsAtMost bound total
+
+-- what is proved bounds the total of every fitting configuration below the root
+abbrev pub ProofsBound : Type 0
+ProofsBound =
+    (setting : TheSetting) (budget : ℕ) (root : nodes.Node) (config : Config) (cost : ℕ) (bound : ℤ) (sets : List TheMultipliers) (list : List Node) (other : Config) (total : ℕ) →
+    KeepsLimits setting → Proves setting budget root config cost bound sets list → IsConfigOf setting.shapes other →
+    Fits setting.cat setting.shapes other budget → nodes.IsBelow root other →
+    IsTotal setting.cat setting.shapes other setting.statements total → IsAtMost bound total
+
+-- each fitting configuration costs at least the bound, and the bound is at most a cost
+pub record BoundsAll (setting : TheSetting) (budget cost : ℕ) (bound : ℤ) : Type 0 where
+  pub all : (other : Config) (total : ℕ) → IsConfigOf setting.shapes other → Fits setting.cat setting.shapes other budget →
+      IsTotal setting.cat setting.shapes other setting.statements total → IsAtMost bound total
+  pub own : IsAtMost bound cost
+
+-- where the root leaves every candidate free, that is every fitting configuration, the proved one among them
+abbrev pub FreeProofsBound : Type 0
+FreeProofsBound =
+    (setting : TheSetting) (budget : ℕ) (config : Config) (cost : ℕ) (bound : ℤ) (sets : List TheMultipliers) (list : List Node) →
+    KeepsLimits setting → Proves setting budget free_node config cost bound sets list → BoundsAll setting budget cost bound
