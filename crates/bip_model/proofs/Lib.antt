@@ -2,3 +2,5 @@ pub mod Pricing
 pub mod Least
 pub mod Standing
 pub mod Totalling
+pub mod Showing
+pub mod Fixing

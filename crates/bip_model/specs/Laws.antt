@@ -1,18 +1,19 @@
 -- Theorems about programmes that stand for a setting, and about trees that show bounds.
-use Rattle.std.specs.Prelude.{◌≡◌, ℕ, List, ℤ}
+use Rattle.std.specs.Prelude.{◌≡◌, ℕ, true, List, ℤ, ◌≤ℤ◌}
 use Rattle.adv_base.specs.declared.setting.Config.{Config}
 use Rattle.adv_base.specs.Configs.{IsConfigOf, Fits}
+use Rattle.adv_base.specs.Laws.{IsRent}
 use Rattle.adv_base.specs.Named.{NamesBlock}
 use Rattle.adv_base.specs.Nodes as nodes
 use Rattle.adv_base.specs.Settings.{TheSetting, KeepsLimits}
-use Rattle.plan_model.specs.Lagrangian.{TheMultipliers, IsAtMost}
+use Rattle.plan_model.specs.Lagrangian.{TheMultipliers, IsLagrangian, IsAtMost}
 use Rattle.plan_model.specs.Totals.{IsTotal, IsBlockCost}
 use Rattle.bip_model.specs.declared.part.Part.{Part}
 use Rattle.bip_model.specs.declared.programme.Programme.{Programme}
 use Rattle.bip_model.specs.Values.{part_cost, value}
 use Rattle.bip_model.specs.declared.answer.Node.{Node}
 use Rattle.bip_model.specs.StandsFor.{Blocked, IsPart, StandsFor}
-use Rattle.bip_model.specs.Trees.{Tree, Shows}
+use Rattle.bip_model.specs.Trees.{Tree, in_side, out_side, IsBranch, Shows}
 use Rattle.bip_model.specs.Proves.{free_node, Proves}
 
 -- the value of a programme is the total of its setting, for every configuration
@@ -55,3 +56,21 @@ abbrev pub FreeProofsBound : Type 0
 FreeProofsBound =
     (setting : TheSetting) (budget : ℕ) (config : Config) (cost : ℕ) (bound : ℤ) (sets : List TheMultipliers) (list : List Node) →
     KeepsLimits setting → Proves setting budget free_node config cost bound sets list → BoundsAll setting budget cost bound
+
+-- each rent is within its limit
+abbrev pub RentsWithin : TheMultipliers → Type 0
+RentsWithin multipliers = (q : ℕ) → IsRent (multipliers.rent q)
+
+-- to make a free candidate out never lowers the Lagrangian value
+abbrev pub OutNeverLowers : Type 0
+OutNeverLowers =
+    (setting : TheSetting) (budget : ℕ) (node : nodes.Node) (a : ℕ) (multipliers : TheMultipliers) (before after : ℤ) →
+    RentsWithin multipliers → IsBranch setting node a →
+    IsLagrangian setting budget node multipliers before → IsLagrangian setting budget (out_side node a) multipliers after → before ≤ℤ after
+
+-- nor does it to make an open one in
+abbrev pub InNeverLowers : Type 0
+InNeverLowers =
+    (setting : TheSetting) (budget : ℕ) (node : nodes.Node) (a : ℕ) (multipliers : TheMultipliers) (before after : ℤ) →
+    RentsWithin multipliers → IsBranch setting node a → nodes.is_open setting.cat setting.shapes budget node a ≡ true →
+    IsLagrangian setting budget node multipliers before → IsLagrangian setting budget (in_side node a) multipliers after → before ≤ℤ after

@@ -1,7 +1,7 @@
 -- Trees of a search for a configuration, and what a tree shows.
-use Rattle.std.specs.Prelude.{◌≡◌, ℕ, zero, suc, ◌-◌, ◌<◌, ◌≤◌, ◌==◌, Bool, true, ◌||◌, List, [], ◌∷◌, ◌++◌, length, Option, Some, slice_get, ℤ, ◌≤ℤ◌}
+use Rattle.std.specs.Prelude.{◌≡◌, ℕ, zero, suc, ◌-◌, ◌<◌, ◌≤◌, true, List, [], ◌∷◌, ◌++◌, length, Option, Some, slice_get, slice_set, ℤ, ◌≤ℤ◌}
 use Rattle.adv_base.specs.declared.setting.Config.{Config}
-use Rattle.adv_base.specs.Configs.{has_candidate, config_pages, IsConfigOf, Fits}
+use Rattle.adv_base.specs.Configs.{config_pages}
 use Rattle.adv_base.specs.Nodes as nodes
 use Rattle.adv_base.specs.Settings.{TheSetting}
 use Rattle.plan_model.specs.Lagrangian.{TheMultipliers, IsLagrangian}
@@ -21,9 +21,9 @@ preorder (Branches a inside outside) = Branch a ∷ (preorder inside ++ preorder
 preorder (Leaf k) = Bounded k ∷ []
 preorder Full = Overfull ∷ []
 
--- a configuration with one candidate more
-unfoldable pub with_candidate : Config → ℕ → Config
-with_candidate config a = nodes.config_of (λ b. has_candidate config b || (b == a))
+-- a configuration with one candidate more, which is numbered from 1
+abbrev pub with_candidate : Config → ℕ → Config
+with_candidate config a = record { on = slice_set config.on (a - 1) true }
 
 -- the sides of a branch
 abbrev pub in_side : nodes.Node → ℕ → nodes.Node

@@ -1,13 +1,19 @@
 -- What a programme says a configuration costs: at each slot the least price of each order, for each template what it and
 -- its slots cost, and the least over a part's templates.
-use Rattle.std.specs.Prelude.{ℕ, zero, suc, ◌+◌, ◌*◌, min, Bool, if◌then◌else◌, List, length, fold, sum, sum_by, Option, Some, None, unwrap_or, option_and_then, slice_get, slice_index_or}
+use Rattle.std.specs.Prelude.{ℕ, zero, suc, ◌+◌, ◌*◌, ◌^◌, min, Bool, if◌then◌else◌, List, length, fold, sum, sum_by, Option, Some, None, unwrap_or, option_and_then, slice_get, slice_index_or}
+use Rattle.adv_base.specs.declared.limits.TheConstants.{MOST_SLOTS}
 use Rattle.adv_base.specs.declared.setting.Config.{Config}
 use Rattle.adv_base.specs.Configs.{has_candidate, chosen}
+use Rattle.plan_model.specs.declared.plan.TheConstants.{MOST_COST}
 use Rattle.plan_model.specs.declared.template.Template.{Template}
 use Rattle.bip_model.specs.declared.grant.Grant.{Grant}
 use Rattle.bip_model.specs.declared.slot_part.SlotPart.{SlotPart}
 use Rattle.bip_model.specs.declared.part.Part.{Part}
 use Rattle.bip_model.specs.declared.programme.Programme.{Programme}
+
+-- a plan costs at most an internal cost and a price for each slot, which is a word
+abbrev pub MOST_PLAN : ℕ
+MOST_PLAN = MOST_COST + MOST_SLOTS * 2 ^ 64
 
 -- the lesser of two numbers, of which either may be missing
 abbrev pub lesser : Option ℕ → Option ℕ → Option ℕ

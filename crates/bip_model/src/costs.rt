@@ -91,7 +91,7 @@ fn template_cost(template: &Template, slots: usize, rows: &Rows) -> Option<u128>
     requires few { slots ≤ MOST_SLOTS }
     requires internal { template.now.internal < MOST_COST }
     ensures exact { result ≡ words.row_cost rows.now template.now slots }
-    ensures most { ForSome result (λ cost. cost ≤ words.MOST_PLAN) }
+    ensures most { ForSome result (λ cost. cost ≤ values.MOST_PLAN) }
 {
     let mut cost = template.internal;
     for s in 0..slots {
@@ -107,7 +107,7 @@ fn template_cost(template: &Template, slots: usize, rows: &Rows) -> Option<u128>
 /// The lesser of two costs, of which either may be missing.
 fn lesser(a: Option<u128>, b: Option<u128>) -> Option<u128>
     ensures exact { result ≡ values.lesser a b }
-    ensures most { ForSome a (λ cost. cost ≤ words.MOST_PLAN) → ForSome b (λ cost. cost ≤ words.MOST_PLAN) → ForSome result (λ cost. cost ≤ words.MOST_PLAN) }
+    ensures most { ForSome a (λ cost. cost ≤ values.MOST_PLAN) → ForSome b (λ cost. cost ≤ values.MOST_PLAN) → ForSome result (λ cost. cost ≤ values.MOST_PLAN) }
 {
     match (a, b) {
         (Some(a), Some(b)) => Some(a.min(b)),
@@ -119,7 +119,7 @@ fn lesser(a: Option<u128>, b: Option<u128>) -> Option<u128>
 /// The least cost over a part's templates; `rows` is filled on the way.
 fn least_cost(part: &Part, config: &Config, rows: &mut Rows) -> Option<u128>
     ensures exact { result ≡ values.least_cost part.now config.now }
-    ensures most { ForSome result (λ cost. cost ≤ words.MOST_PLAN) }
+    ensures most { ForSome result (λ cost. cost ≤ values.MOST_PLAN) }
 {
     write_rows(part.slots.as_slice(), config, rows);
     let slots = part.slots.len();
@@ -134,7 +134,7 @@ fn least_cost(part: &Part, config: &Config, rows: &mut Rows) -> Option<u128>
 #[tactic(auto, unfolding(crate::specs::Values::part_cost))]
 fn plan_cost(part: &Part, config: &Config, rows: &mut Rows) -> u128
     ensures exact { result ≡ values.part_cost part.now config.now }
-    ensures most { result ≤ words.MOST_PLAN }
+    ensures most { result ≤ values.MOST_PLAN }
 {
     least_cost(part, config, rows).unwrap_or(0)
 }
@@ -144,7 +144,7 @@ fn plan_cost(part: &Part, config: &Config, rows: &mut Rows) -> u128
 /// the chosen grants. It has no weight and no upkeep. Takes no memory.
 pub fn part_cost(part: &Part, config: &Config) -> u128
     ensures exact { result ≡ values.part_cost part.now config.now }
-    ensures most { result ≤ words.MOST_PLAN }
+    ensures most { result ≤ values.MOST_PLAN }
 {
     plan_cost(part, config, &mut [[NO_PRICE; MOST_ORDERS]; MOST_SLOTS])
 }
@@ -174,7 +174,7 @@ fn chosen_upkeep(upkeep: &[u128], config: &Config) -> u128
 fn weighted_plans(parts: &[Part], config: &Config) -> u128
     requires few { length parts.now ≤ MOST_STATEMENTS }
     ensures exact { result ≡ sum_by (λ part. part.weight * values.part_cost part config.now) parts.now }
-    ensures most { result ≤ MOST_STATEMENTS * (MOST_WEIGHT * words.MOST_PLAN) }
+    ensures most { result ≤ MOST_STATEMENTS * (MOST_WEIGHT * values.MOST_PLAN) }
 {
     let mut rows = [[NO_PRICE; MOST_ORDERS]; MOST_SLOTS];
     let mut sum = 0;

@@ -1,6 +1,6 @@
 //! Laws of programmes and of trees, each proved of all settings: that a programme tells what each configuration costs, and
 //! that a tree with its multipliers bounds what every fitting configuration costs.
-ghost use Rattle.bip_model.specs.Laws.{ValueIsTotal, PartCostIsLeast, TreesBound, ProofsBound, FreeProofsBound};
+ghost use Rattle.bip_model.specs.Laws.{ValueIsTotal, PartCostIsLeast, TreesBound, ProofsBound, FreeProofsBound, OutNeverLowers, InNeverLowers};
 
 /// Of a programme that stands for a setting, `value` is the total of the workload under every configuration, and
 /// `part_cost` the cost of a least plan of the part's block.
@@ -15,4 +15,11 @@ pub fn shown_bounds()
     ensures tree { TreesBound }
     ensures proof { ProofsBound }
     ensures free { FreeProofsBound }
+{}
+
+/// To make a free candidate out, or an open one in, never lowers the Lagrangian value of a node, whatever the multipliers
+/// within their limits.
+pub fn fixing_never_lowers()
+    ensures out { OutNeverLowers }
+    ensures inside { InNeverLowers }
 {}

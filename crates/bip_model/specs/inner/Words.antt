@@ -1,16 +1,10 @@
 -- Prices as words of 64 bits, the greatest of which is no price.
-use Rattle.std.specs.Prelude.{◌≡◌, ℕ, zero, suc, ◌+◌, ◌*◌, ◌^◌, ◌<◌, ◌==◌, if◌then◌else◌, List, [], length, Option, Some, None, slice_get, slice_index_or}
-use Rattle.adv_base.specs.declared.limits.TheConstants.{MOST_SLOTS}
+use Rattle.std.specs.Prelude.{◌≡◌, ℕ, zero, suc, ◌<◌, ◌==◌, if◌then◌else◌, List, [], length, Option, Some, None, slice_get, slice_index_or}
 use Rattle.adv_base.specs.declared.setting.Config.{Config}
-use Rattle.plan_model.specs.declared.plan.TheConstants.{MOST_COST}
 use Rattle.plan_model.specs.declared.template.Template.{Template}
 use Rattle.bip_model.specs.declared.slot_part.SlotPart.{SlotPart}
 use Rattle.bip_model.specs.declared.costs.TheConstants.{NO_PRICE}
 use Rattle.bip_model.specs.Values.{plus, need, slot_price}
-
--- a plan costs at most an internal cost and a word for each slot
-abbrev pub MOST_PLAN : ℕ
-MOST_PLAN = MOST_COST + MOST_SLOTS * 2 ^ 64
 
 abbrev pub word : Option ℕ → ℕ
 word None = NO_PRICE

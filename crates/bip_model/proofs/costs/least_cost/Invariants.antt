@@ -9,5 +9,5 @@ abbrev pub invariant-loop-template : goal.invariant-loop-template
 invariant-loop-template l =
     record {
       least : l.best ≡ fold (λ best template. values.lesser best (values.template_cost l.config l.part.slots template)) None (take l.template-index l.part.templates);
-      most : ForSome l.best (λ cost. cost ≤ words.MOST_PLAN);
+      most : ForSome l.best (λ cost. cost ≤ values.MOST_PLAN);
     }

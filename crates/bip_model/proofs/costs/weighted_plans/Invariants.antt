@@ -9,5 +9,5 @@ abbrev pub invariant-loop-part : goal.invariant-loop-part
 invariant-loop-part l =
     record {
       sum : l.sum ≡ sum_by (λ part. part.weight * values.part_cost part l.config) (take l.part-index l.parts);
-      most : l.sum ≤ l.part-index * (MOST_WEIGHT * words.MOST_PLAN);
+      most : l.sum ≤ l.part-index * (MOST_WEIGHT * values.MOST_PLAN);
     }
