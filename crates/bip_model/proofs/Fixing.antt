@@ -42,9 +42,9 @@ use lib.Dec.{le→leb}
 -- ## Fewer candidates, fewer offers
 
 -- an element of a list
-record Has {X : Type 0} (xs : List X) (x : X) : Type 0 where
-  number : ℕ
-  found : slice_get xs number ≡ Some x
+pub record Has {X : Type 0} (xs : List X) (x : X) : Type 0 where
+  pub number : ℕ
+  pub found : slice_get xs number ≡ Some x
 
 has-later : {X : Type 0} (y : X) (ys : List X) (x : X) → Has ys x → Has (y ∷ ys) x
 has-later y ys x h = record { number = suc h.number; found = h.found }
@@ -74,17 +74,17 @@ filter-more {X} few many more (y ∷ ys) x h =
     put false rest = rest
 
 -- what a mapped list has comes of an element
-record IsImage {X Y : Type 0} (f : X → Y) (xs : List X) (y : Y) : Type 0 where
-  element : X
-  has : Has xs element
-  is : f element ≡ y
+pub record IsImage {X Y : Type 0} (f : X → Y) (xs : List X) (y : Y) : Type 0 where
+  pub element : X
+  pub has : Has xs element
+  pub is : f element ≡ y
 
-image-of : {X Y : Type 0} (f : X → Y) (xs : List X) (i : ℕ) (y : Y) → slice_get (map f xs) i ≡ Some y → IsImage f xs y
+pub image-of : {X Y : Type 0} (f : X → Y) (xs : List X) (i : ℕ) (y : Y) → slice_get (map f xs) i ≡ Some y → IsImage f xs y
 image-of f [] i y found = absurd (cc)
 image-of f (x ∷ xs) zero y found = record { element = x; has = record { number = 0; found = refl }; is = cc }
 image-of f (x ∷ xs) (suc i) y found = let rest = image-of f xs i y found in record { element = rest.element; has = has-later x xs rest.element rest.has; is = rest.is }
 
-mapped-at : {X Y : Type 0} (f : X → Y) (xs : List X) (i : ℕ) (x : X) → slice_get xs i ≡ Some x → slice_get (map f xs) i ≡ Some (f x)
+pub mapped-at : {X Y : Type 0} (f : X → Y) (xs : List X) (i : ℕ) (x : X) → slice_get xs i ≡ Some x → slice_get (map f xs) i ≡ Some (f x)
 mapped-at f [] i x found = absurd (cc)
 mapped-at f (z ∷ zs) zero x found = let same : z ≡ x = cc in ap (λ w. Some (f w)) same
 mapped-at f (z ∷ zs) (suc i) x found = mapped-at f zs i x found
@@ -144,7 +144,7 @@ charged-more rent cat block shapes few many task within s number below inside =
 
 -- ## So least costs with rents never fall
 
-rented-more : (setting : TheSetting) (few many : Config) (rent : ℕ → ℕ → ℕ) (block : Block) (more less : ℕ) → IsRent rent → IsWithin few many →
+pub rented-more : (setting : TheSetting) (few many : Config) (rent : ℕ → ℕ → ℕ) (block : Block) (more less : ℕ) → IsRent rent → IsWithin few many →
     IsRentedCost setting few rent block more → IsRentedCost setting many rent block less → less ≤ more
 rented-more setting few many rent block more less limit within a b =
     let same : a.task ≡ b.task = one-task setting.cat block a.task b.task a.task_is b.task_is in
@@ -181,11 +181,11 @@ pub record IsNarrower (setting : TheSetting) (budget : ℕ) (node other : nodes.
   pub added : (k : ℕ) → has_candidate other.inside k ≡ true → has_candidate node.inside k ≡ false → is_open setting.cat setting.shapes budget node k ≡ true
   pub opens : (k : ℕ) → is_open setting.cat setting.shapes budget other k ≡ true → is_open setting.cat setting.shapes budget node k ≡ true
 
-either : (a b : Bool) → (a || b) ≡ true → (a ≡ true) ⊎ (b ≡ true)
+pub either : (a b : Bool) → (a || b) ≡ true → (a ≡ true) ⊎ (b ≡ true)
 either true b e = inl refl
 either false b e = inr e
 
-both : (a b : Bool) → (a && b) ≡ true → (a ≡ true) × (b ≡ true)
+pub both : (a b : Bool) → (a && b) ≡ true → (a ≡ true) × (b ≡ true)
 both true b e = (refl, e)
 both false b e = absurd (false≢true e)
 

@@ -96,7 +96,7 @@ summed setting config q (statement ∷ statements) parts named are =
 
 -- ## Upkeep
 
-chosen-sum : {X : Type 0} (f : X → ℕ) (flags : List Bool) (xs : List X) → sum (chosen flags (map f xs)) ≡ total f (chosen flags xs)
+pub chosen-sum : {X : Type 0} (f : X → ℕ) (flags : List Bool) (xs : List X) → sum (chosen flags (map f xs)) ≡ total f (chosen flags xs)
 chosen-sum f [] xs = refl
 chosen-sum f (flag ∷ flags) [] = refl
 chosen-sum f (true ∷ flags) (x ∷ xs) =
@@ -108,7 +108,7 @@ config-total : (setting : TheSetting) (config : Config) (work : Work) → config
 unfolding config_upkeep
 config-total setting config work = sum-total (upkeep setting.cat work) (candidates_in setting.shapes config)
 
-chosen-upkeep : (setting : TheSetting) (config : Config) →
+pub chosen-upkeep : (setting : TheSetting) (config : Config) →
     sum (chosen config.on (map (weighted_upkeep setting) setting.shapes)) ≡ total (λ statement. statement.weight * config_upkeep setting.cat setting.shapes config statement.work) setting.statements
 chosen-upkeep setting config =
     let shapes : List IndexShape = candidates_in setting.shapes config in
