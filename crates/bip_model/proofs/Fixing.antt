@@ -69,6 +69,7 @@ filter-more {X} few many more (y ∷ ys) x h =
         at' : (i : ℕ) → slice_get (y ∷ filter few ys) i ≡ Some x → Has (y ∷ filter many ys) x
         at' zero found = record { number = 0; found = found }
         at' (suc i) found = has-later y (filter many ys) x (rest (record { number = i; found = found }))
+
     put : (b : Bool) → Has (filter many ys) x → Has (cond b (y ∷ filter many ys) (filter many ys)) x
     put true rest = has-later y (filter many ys) x rest
     put false rest = rest

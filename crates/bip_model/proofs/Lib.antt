@@ -4,3 +4,5 @@ pub mod Standing
 pub mod Totalling
 pub mod Showing
 pub mod Fixing
+pub mod Useless
+pub mod Unrented

@@ -160,7 +160,7 @@ slot-given setting block task s slot own config o found is within =
     let second = grants-same setting block task s slot table config o within (candidates_on setting.shapes slot.table) own.grants (least_given order plain) is.grants_are in
     let third = least-filter (λ (n : ℕ × IndexShape). has_candidate config n.0) (λ n. given order (read n)) (least_given order plain) (candidates_on setting.shapes slot.table) in
     let fourth : fold (λ b n. lesser b (given order (read n))) (least_given order plain) (filter (λ n. has_candidate config n.0) (candidates_on setting.shapes slot.table))
-        ≡ fold (λ b n. lesser b (given order (read n))) (least_given order plain) (numbered_on setting.shapes config slot.table) =
+    ≡ fold (λ b n. lesser b (given order (read n))) (least_given order plain) (numbered_on setting.shapes config slot.table) =
     ap (fold (λ b n. lesser b (given order (read n))) (least_given order plain)) (chosen-on setting.shapes config slot.table) in
     let fifth = least-map read (given order) (least_given order plain) (numbered_on setting.shapes config slot.table) in
     let sixth = fold-append (λ (b : Option ℕ) (offer : Offer). lesser b (given order offer)) None plain (map read (numbered_on setting.shapes config slot.table)) in

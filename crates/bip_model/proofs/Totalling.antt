@@ -38,7 +38,7 @@ no_plan-of cat shapes config (Update own columns) is = absurd (cc)
 no_plan-of cat shapes config (Delete own) is = absurd (cc)
 no_plan-of cat shapes config (Insert table rows) is = refl
 
-named-of : (cat : Catalogue) (work : Work) (block : Block) → NamesWork cat work → block_of work ≡ Some block → NamesBlock cat block
+pub named-of : (cat : Catalogue) (work : Work) (block : Block) → NamesWork cat work → block_of work ≡ Some block → NamesBlock cat block
 named-of cat (Select own) block named is = let same : own ≡ block = cc in subst (NamesBlock cat) same (named.selects own refl)
 named-of cat (Update own columns) block named is = let same : own ≡ block = cc in subst (NamesBlock cat) same (named.updates own columns refl).block_named
 named-of cat (Delete own) block named is = let same : own ≡ block = cc in subst (NamesBlock cat) same (named.deletes own refl)
@@ -47,7 +47,7 @@ named-of cat (Insert table rows) block named is = absurd (cc)
 -- ## Statements
 
 -- the upkeep of all indexes that a statement writes
-written : TheSetting → Config → Statement → ℕ
+unfoldable pub written : TheSetting → Config → Statement → ℕ
 written setting config statement = kept_upkeep setting.cat statement.work + config_upkeep setting.cat setting.shapes config statement.work
 
 -- what the parts cost, by weight
@@ -69,6 +69,7 @@ summed setting config q (statement ∷ statements) parts named are =
   where
     here : NamesWork setting.cat statement.work
     here = All-head (λ (s : Statement). NamesWork setting.cat s.work) statement statements named
+
     one : (there : Option Block) → block_of statement.work ≡ there → ((ps : List Part) → AreEach (IsPart setting) (blocked_from (suc q) statements) ps → AreSummed setting config statements ps) → (parts : List Part) → AreEach (IsPart setting) (blocked_in q statement.weight there (blocked_from (suc q) statements)) parts → AreSummed setting config (statement ∷ statements) parts
     one None none more parts are =
         let rest = more parts are in
@@ -123,7 +124,7 @@ chosen-upkeep setting config =
     (λ statement. total-scale statement.weight (upkeep setting.cat statement.work) shapes ∙ ap (λ (n : ℕ). statement.weight * n) (sym (config-total setting config statement.work))) in
     first ∙ second ∙ third ∙ fourth
 
-written-upkeep : (setting : TheSetting) (config : Config) →
+pub written-upkeep : (setting : TheSetting) (config : Config) →
     total (λ statement. statement.weight * written setting config statement) setting.statements
     ≡ weighted_kept setting + sum (chosen config.on (map (weighted_upkeep setting) setting.shapes))
 unfolding written

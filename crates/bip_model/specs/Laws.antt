@@ -1,5 +1,5 @@
 -- Theorems about programmes that stand for a setting, and about trees that show bounds.
-use Rattle.std.specs.Prelude.{◌≡◌, ℕ, true, List, ℤ, ◌≤ℤ◌}
+use Rattle.std.specs.Prelude.{◌≡◌, ℕ, true, List, ℤ, pos, ◌≤ℤ◌}
 use Rattle.adv_base.specs.declared.setting.Config.{Config}
 use Rattle.adv_base.specs.Configs.{IsConfigOf, Fits}
 use Rattle.adv_base.specs.Laws.{IsRent}
@@ -8,12 +8,13 @@ use Rattle.adv_base.specs.Nodes as nodes
 use Rattle.adv_base.specs.Settings.{TheSetting, KeepsLimits}
 use Rattle.plan_model.specs.Lagrangian.{TheMultipliers, IsLagrangian, IsAtMost}
 use Rattle.plan_model.specs.Totals.{IsTotal, IsBlockCost}
+use Rattle.plan_model.specs.Useful.{IsUseful}
 use Rattle.bip_model.specs.declared.part.Part.{Part}
 use Rattle.bip_model.specs.declared.programme.Programme.{Programme}
 use Rattle.bip_model.specs.Values.{part_cost, value}
 use Rattle.bip_model.specs.declared.answer.Node.{Node}
 use Rattle.bip_model.specs.StandsFor.{Blocked, IsPart, StandsFor}
-use Rattle.bip_model.specs.Trees.{Tree, in_side, out_side, IsBranch, Shows}
+use Rattle.bip_model.specs.Trees.{Tree, zeros, in_side, out_side, IsBranch, Shows}
 use Rattle.bip_model.specs.Proves.{free_node, Proves}
 
 -- the value of a programme is the total of its setting, for every configuration
@@ -74,3 +75,14 @@ InNeverLowers =
     (setting : TheSetting) (budget : ℕ) (node : nodes.Node) (a : ℕ) (multipliers : TheMultipliers) (before after : ℤ) →
     RentsWithin multipliers → IsBranch setting node a → nodes.is_open setting.cat setting.shapes budget node a ≡ true →
     IsLagrangian setting budget node multipliers before → IsLagrangian setting budget (in_side node a) multipliers after → before ≤ℤ after
+
+-- no open candidate is useful
+abbrev pub NoneUseful : TheSetting → ℕ → nodes.Node → Type 0
+NoneUseful setting budget node = (a : ℕ) → nodes.is_open setting.cat setting.shapes budget node a ≡ true → IsUseful setting budget a → ⊥
+
+-- then the Lagrangian value without rents is the total of the candidates that are in
+abbrev pub NoneUsefulIsTotal : Type 0
+NoneUsefulIsTotal =
+    (setting : TheSetting) (budget : ℕ) (node : nodes.Node) (value : ℤ) (count : ℕ) → KeepsLimits setting →
+    IsConfigOf setting.shapes node.inside → NoneUseful setting budget node → IsLagrangian setting budget node zeros value →
+    IsTotal setting.cat setting.shapes node.inside setting.statements count → value ≡ pos count

@@ -1,6 +1,6 @@
 //! Laws of programmes and of trees, each proved of all settings: that a programme tells what each configuration costs, and
 //! that a tree with its multipliers bounds what every fitting configuration costs.
-ghost use Rattle.bip_model.specs.Laws.{ValueIsTotal, PartCostIsLeast, TreesBound, ProofsBound, FreeProofsBound, OutNeverLowers, InNeverLowers};
+ghost use Rattle.bip_model.specs.Laws.{ValueIsTotal, PartCostIsLeast, TreesBound, ProofsBound, FreeProofsBound, OutNeverLowers, InNeverLowers, NoneUsefulIsTotal};
 
 /// Of a programme that stands for a setting, `value` is the total of the workload under every configuration, and
 /// `part_cost` the cost of a least plan of the part's block.
@@ -22,4 +22,10 @@ pub fn shown_bounds()
 pub fn fixing_never_lowers()
     ensures out { OutNeverLowers }
     ensures inside { InNeverLowers }
+{}
+
+/// Where no open candidate is useful, the Lagrangian value of a node under the multipliers of zeros is the total of the
+/// candidates that are in.
+pub fn none_useful_is_total()
+    ensures { NoneUsefulIsTotal }
 {}
