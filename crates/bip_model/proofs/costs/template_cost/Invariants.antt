@@ -1,0 +1,12 @@
+use Rattle.std.proofs.Common.{◌≡◌, ◌+◌, ◌*◌, ◌^◌, ◌≤◌}
+use Rattle.std.specs.Prelude.{Some}
+use Rattle.plan_model.specs.declared.plan.TheConstants.{MOST_COST}
+use Rattle.bip_model.specs.inner.Words as words
+use Rattle.bip_model.proofs.costs.template_cost.Given as goal
+
+abbrev pub invariant-loop-s : goal.invariant-loop-s
+invariant-loop-s l =
+    record {
+      sum : words.row_cost l.rows l.template l.s ≡ Some l.cost;
+      most : l.cost ≤ MOST_COST + l.s * 2 ^ 64;
+    }

@@ -1,0 +1,10 @@
+use Rattle.std.proofs.Common.{◌≡◌, length}
+use Rattle.bip_model.specs.inner.Words as words
+use Rattle.bip_model.proofs.costs.write_rows.Given as goal
+
+abbrev pub invariant-loop-s : goal.invariant-loop-s
+invariant-loop-s l =
+    record {
+      are : words.AreRows l.config l.slots l.s l.rows;
+      count : length l.rows ≡ 8;
+    }

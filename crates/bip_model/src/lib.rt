@@ -1,0 +1,28 @@
+//! CoPhy's binary programme of a workload over INUM's templates, and what a search over it works with and answers.
+//!
+//! A programme has a part for each statement with a block: templates, and at each slot the price of each interesting order
+//! under the indexes that exist (`base`) and under each candidate (its grant). `specs/` says when a programme stands for a
+//! setting, what it says a configuration costs, which node a `Fix` is, which tree a list of nodes tells, and what a bound
+//! on all fitting configurations rests on; `laws` has the theorems. Sizes are in pages, costs in thousandths of a
+//! sequential page read. Making a programme, bounding it and searching are left to others.
+#![tactic(auto)]
+
+mod answer;
+mod costs;
+mod fix;
+mod grant;
+mod laws;
+mod multipliers;
+mod part;
+mod programme;
+mod slot_part;
+
+pub use answer::{Answer, Node};
+pub use costs::{part_cost, value};
+pub use fix::{Fix, State};
+pub use grant::Grant;
+pub use laws::{fixing_never_lowers, none_useful_is_total, shown_bounds, value_is_total};
+pub use multipliers::{Multipliers, grant_count};
+pub use part::Part;
+pub use programme::Programme;
+pub use slot_part::SlotPart;
