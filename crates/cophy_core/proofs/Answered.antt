@@ -68,11 +68,6 @@ setting_stops command files before after inputs (Refused why) built are h = absu
 
 -- what a command refuses by itself is no refusal of the files or of the setting
 own : (command : PlainCommand) (inputs : List (List ℕ)) (setting : TheSetting) (why : Refusal) → RefusesOver command inputs setting why → IsOwn why
-own (Cost cat load) inputs setting (TooLong role) h = h
-own (Cost cat load) inputs setting (Cat fault) h = h
-own (Cost cat load) inputs setting (Sql fault) h = h
-own (Cost cat load) inputs setting (Bind fault) h = h
-own (Cost cat load) inputs setting why h = tt
 own (Explain cat load conf number) inputs setting (TooLong role) h = h
 own (Explain cat load conf number) inputs setting (Cat fault) h = h
 own (Explain cat load conf number) inputs setting (Sql fault) h = h

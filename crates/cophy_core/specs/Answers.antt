@@ -14,7 +14,6 @@ use Rattle.cophy_core.specs.Settings.{IsSetting, HasCatFault, IsSqlRefusal, IsBi
 
 -- what a command refuses of the bytes of its files and their setting, beyond the setting's own refusals
 abbrev pub RefusesOver : PlainCommand → List (List ℕ) → TheSetting → Refusal → Type 0
-RefusesOver (Cost cat load) inputs setting why = cost.Refuses setting why
 RefusesOver (Explain cat load conf number) inputs setting why = explain.Refuses number (input inputs 2) setting why
 RefusesOver command inputs setting why = ⊥
 
@@ -53,7 +52,7 @@ AnswersOver command files done = OfSetting files command (λ inputs setting. Giv
 abbrev pub Answers : PlainCommand → Option Files → Done → Type 0
 Answers (Cost cat load) files done = AnswersOver (Cost cat load) files done
 Answers (Explain cat load conf number) files done = AnswersOver (Explain cat load conf number) files done
-Answers command files done = done ≡ Refused (NotBuilt 0)
+Answers command files done = done ≡ Refused NotBuilt
 
 -- the commands that are built
 abbrev pub IsBuilt : PlainCommand → Type 0

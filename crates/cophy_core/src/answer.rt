@@ -37,7 +37,7 @@ fn work(
     ensures stop { IfErr result (StopsAt (RefusesOver (plain_command command.now) inputs.now (the_setting setting.now))) }
 {
     match *command {
-        Command::Cost { .. } => cost(alloc, setting),
+        Command::Cost { .. } => Ok(cost(alloc, setting)?),
         Command::Explain { number, .. } => explain(alloc, setting, bytes_at(inputs, 2), number),
         Command::WhatIf { .. }
         | Command::Candidates { .. }

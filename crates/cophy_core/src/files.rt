@@ -143,7 +143,7 @@ pub(crate) fn read_files<S: Shelf>(
         | Command::Candidates { .. }
         | Command::Advise { .. }
         | Command::Check { .. }
-        | Command::Bench { .. } => Err(Stop::Refused(Refusal::NotBuilt(0))),
+        | Command::Bench { .. } => Err(Stop::Refused(Refusal::NotBuilt)),
     }
 }
 
