@@ -1,7 +1,8 @@
 -- Statements with a block, and without one.
-use Rattle.std.proofs.Common.{◌≡◌, ℕ, Option, Some, None, refl, subst}
+use Rattle.std.proofs.Common.{◌≡◌, ℕ, Bool, false, List, replicate, Option, Some, None, refl, ap, subst}
 use Rattle.adv_base.specs.declared.catalogue.Catalogue.{Catalogue}
 use Rattle.adv_base.specs.declared.catalogue.index.IndexShape.{IndexShape}
+use Rattle.adv_base.specs.declared.limits.TheConstants.{MOST_CANDIDATES}
 use Rattle.adv_base.specs.declared.setting.Config.{Config}
 use Rattle.adv_base.specs.declared.workload.Work.{Work}
 use Rattle.adv_base.specs.declared.workload.Work.TheVariants.{Select, Update, Delete, Insert}
@@ -38,3 +39,7 @@ unplanned_cost cat shapes config (Select b) none = absurd (no_block b none)
 unplanned_cost cat shapes config (Update b columns) none = absurd (no_block b none)
 unplanned_cost cat shapes config (Delete b) none = absurd (no_block b none)
 unplanned_cost cat shapes config (Insert table rows) none = refl
+
+-- a configuration whose flags are all off has no candidates
+pub has_none : (config : Config) → config.on ≡ replicate MOST_CANDIDATES false → config ≡ totals.no_candidates
+has_none config off = ap (λ (on : List Bool). let made : Config = record { on = on } in made) off

@@ -1,7 +1,7 @@
 //! From the bytes of two files to a setting.
 ghost use Rattle.std.specs.Prelude.{◌≡◌, ◌≤◌, IfOk, IfErr, length};
 ghost use Rattle.report.specs.Settings.{the_setting};
-ghost use Rattle.cophy_core.specs.Files.{most_bytes};
+ghost use Rattle.adv_base.specs.declared.limits.TheConstants.{MOST_FILE_BYTES};
 ghost use Rattle.cophy_core.specs.Opened.{setting_in};
 ghost use Rattle.cophy_core.specs.Settings.{IsSetting, IsSettingRefusal};
 ghost use Rattle.cophy_core.specs.Stops.{StopsAt};
@@ -31,7 +31,7 @@ impl Opened {
 /// The setting that the bytes of a catalogue and of a workload describe, with the candidates that the workload proposes,
 /// or the first refusal of them.
 pub(crate) fn open(alloc: Global, cat: &[u8], load: &[u8]) -> Result<Opened, Stop>
-    requires { length load.now ≤ most_bytes }
+    requires { length load.now ≤ MOST_FILE_BYTES }
     ensures setting { IfOk result (λ opened. IsSetting cat.now load.now (setting_in opened) opened.left_over) }
     ensures stop { IfErr result (StopsAt (IsSettingRefusal cat.now load.now)) }
 {

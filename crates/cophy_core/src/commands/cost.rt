@@ -1,10 +1,10 @@
 //! `cost`: the price of a workload over the indexes that exist.
-ghost use Rattle.std.specs.Prelude.{◌≡◌, ◌+◌, ◌≤◌, ◌<◌, ◌∷◌, [], ◌++◌, IfOk, OnOk, All, length, Some};
+ghost use Rattle.std.specs.Prelude.{◌≡◌, ◌+◌, ◌≤◌, ◌<◌, ◌∷◌, [], ◌++◌, IfOk, OnOk, All, length, Some, None};
 ghost use Rattle.adv_base.specs.Named.{NamesWork};
 ghost use Rattle.plan_model.specs.Totals as totals;
 ghost use Rattle.plan_model.specs.declared.plan.TheConstants.{MOST_COST, MOST_TOTAL};
 ghost use Rattle.report.specs.Settings.{the_setting};
-ghost use Rattle.report.specs.Texts.{HasPrices};
+ghost use Rattle.report.specs.Texts.{FitsSetting};
 ghost use Rattle.cophy_core.specs.Causes.{most_statement_cost, IsBounded};
 ghost use Rattle.cophy_core.specs.commands.Cost as spec;
 
@@ -56,20 +56,21 @@ fn put(costs: &mut Vec<u128>, cost: u128) -> Result<(), NoMemory>
     costs.push(cost).map_err(|_| NoMemory)
 }
 
-/// The cost of each statement over the indexes that exist, in thousandths of a sequential page read, and the sum of
-/// weight times cost.
-fn prices_of(alloc: Global, setting: &Setting<'_>) -> Result<Prices, NoMemory>
-    ensures prices { IfOk result (spec.ArePrices (the_setting setting.now)) }
+/// The cost of each statement under a configuration, in thousandths of a sequential page read, and the sum of weight times
+/// cost.
+fn prices_of(alloc: Global, setting: &Setting<'_>, config: &Config) -> Result<Prices, NoMemory>
+    ensures no_size { IfOk result (λ prices. prices.size ≡ None) }
+    ensures costs { IfOk result (λ prices. totals.AreCosts setting.now.cat.now setting.now.shapes.now config.now setting.now.statements.now prices.costs) }
+    ensures sum { IfOk result (λ prices. prices.total ≡ totals.weighted_sum setting.now.statements.now prices.costs) }
     ensures each { IfOk result (λ prices. length prices.costs ≡ length setting.now.statements.now) }
     ensures bound { IfOk result (λ prices. All (λ cost. cost < most_statement_cost) prices.costs) }
     ensures total { IfOk result (λ prices. prices.total < MOST_TOTAL) }
 {
-    let none = Config::none();
     let mut costs = Vec::new(alloc);
     let mut total: u128 = 0;
     'statements: for at in 0..setting.statements.len() {
         let statement = &setting.statements[at];
-        let cost = statement_cost(alloc, setting, &none, statement)?;
+        let cost = statement_cost(alloc, setting, config, statement)?;
         total += statement.weight as u128 * cost;
         put(&mut costs, cost)?;
     }
@@ -84,9 +85,10 @@ fn prices_of(alloc: Global, setting: &Setting<'_>) -> Result<Prices, NoMemory>
 /// bushy plans) and of the upkeep of the indexes that the statement writes; an INSERT has no plan.
 pub(crate) fn cost(alloc: Global, setting: &Setting<'_>) -> Result<Done, NoMemory>
     ensures gives { IfOk result (spec.Gives (the_setting setting.now)) }
-    ensures prices { IfOk result (HasPrices (Some (the_setting setting.now))) }
+    ensures fits { IfOk result (FitsSetting (Some (the_setting setting.now))) }
     ensures bound { IfOk result IsBounded }
 {
-    let prices = prices_of(alloc, setting)?;
+    let none = Config::none();
+    let prices = prices_of(alloc, setting, &none)?;
     Ok(Done::Priced(prices))
 }

@@ -2,7 +2,7 @@
 ghost use Rattle.std.specs.Prelude.{◌≡◌, IfOk, IfErr, Some};
 ghost use Rattle.adv_base.specs.Named.{NamesBlock, NamesWork};
 ghost use Rattle.report.specs.Settings.{the_setting};
-ghost use Rattle.report.specs.Texts.{HasPrices};
+ghost use Rattle.report.specs.Texts.{FitsSetting};
 ghost use Rattle.cophy_core.specs.Causes.{IsBounded};
 ghost use Rattle.cophy_core.specs.Stops.{StopsAt};
 ghost use Rattle.cophy_core.specs.commands.Explain as spec;
@@ -90,7 +90,7 @@ pub(crate) fn explain(
     number: u32,
 ) -> Result<Done, Stop>
     ensures gives { IfOk result (spec.Gives number conf.now (the_setting setting.now)) }
-    ensures prices { IfOk result (HasPrices (Some (the_setting setting.now))) }
+    ensures fits { IfOk result (FitsSetting (Some (the_setting setting.now))) }
     ensures bound { IfOk result IsBounded }
     ensures stop { IfErr result (StopsAt (spec.Refuses number conf.now (the_setting setting.now))) }
 {

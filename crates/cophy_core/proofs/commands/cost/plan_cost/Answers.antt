@@ -5,12 +5,12 @@ use Rattle.cophy_core.proofs.commands.cost.plan_cost.Goals as goal
 pub plan_block-requires : goal.plan_block-requires
 plan_block-requires c = block_named _ _ _ c.requires (sym c.in-Some.ensures)
 
-pub returns-in_ok-found-clause-least : goal.returns-in_ok-found-clause-least
-returns-in_ok-found-clause-least c =
+pub returns-in_ok-found-in-Some-clause-least : goal.returns-in_ok-found-in-Some-clause-least
+returns-in_ok-found-in-Some-clause-least c =
     planned_cost _ _ _ _ _ _ (sym c.in-Some.ensures) (record {
-      task = c.in_ok-found.found.task;
-      task_is = c.in_ok-found.ensures.task;
-      least = rw (← c.in_ok-found.ensures.offers) c.in_ok-found.ensures.least;
+      task = c.in_ok-found-in-Some.found.task;
+      task_is = c.in_ok-found-in-Some.ensures.task;
+      least = rw (← c.in_ok-found-in-Some.ensures.offers) c.in_ok-found-in-Some.ensures.least;
     })
 
 pub returns-in-None-clause-least : goal.returns-in-None-clause-least

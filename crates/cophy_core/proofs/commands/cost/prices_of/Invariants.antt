@@ -8,7 +8,7 @@ use Rattle.cophy_core.proofs.commands.cost.prices_of.Given as goal
 -- the costs and the sum so far are those of the statements so far
 abbrev pub invariant-statements : goal.invariant-statements
 invariant-statements l = record {
-  costs_are : totals.AreCosts l.setting.cat.now l.setting.shapes.now l.none (take l.at l.setting.statements.now) l.costs.items;
+  costs_are : totals.AreCosts l.setting.cat.now l.setting.shapes.now l.config (take l.at l.setting.statements.now) l.costs.items;
   total_is : l.total ≡ totals.weighted_sum (take l.at l.setting.statements.now) l.costs.items;
   low : All (λ cost. cost < most_statement_cost) l.costs.items;
   small : l.total ≤ l.at * (MOST_WEIGHT * most_statement_cost);
