@@ -1,5 +1,6 @@
 -- What is answered over a command's files is an answer to the command.
 use Rattle.std.proofs.Common.{◌≡◌, ℕ, ◌≤◌, List, [], ◌∷◌, length, Option, Some}
+use Rattle.adv_base.specs.declared.limits.TheConstants.{MOST_FILE_BYTES}
 use Rattle.adv_shelf.specs.Shelf.{Files}
 use Rattle.adv_base.specs.Settings.{TheSetting}
 use Rattle.report.specs.Texts.{done_text}
@@ -10,8 +11,8 @@ use Rattle.report.specs.declared.done.Refusal.TheVariants.{TooLong, Cat, Sql, Bi
 use Rattle.cophy_core.specs.declared.stop.Stop.{Stop}
 use Rattle.cophy_core.specs.declared.stop.Stop.TheVariants.{Memory, Failed, Refused}
 use Rattle.cophy_core.specs.Answers.{RefusesOver, GivesOver, OfSetting, AnswersOver, Answers, IsBuilt}
-use Rattle.cophy_core.specs.ReadWords.{PlainCommand, Cost, Explain}
-use Rattle.cophy_core.specs.Files.{files_of, AreInputs, input, most_bytes, ReadCounts}
+use Rattle.cophy_core.specs.ReadWords.{PlainCommand, Candidates, Cost, Explain}
+use Rattle.cophy_core.specs.Files.{files_of, AreInputs, input, ReadCounts}
 use Rattle.cophy_core.specs.Reading.{StopsReading, StopsAtFiles}
 use Rattle.cophy_core.specs.Settings.{IsSetting, IsSettingRefusal}
 use Rattle.cophy_core.specs.Replies.{IsTextOf}
@@ -28,17 +29,22 @@ IsOwn why = Unit {0}
 -- an answer that a command gives
 abbrev IsGiven : Done → Type 0
 IsGiven (answers.Priced prices) = Unit {0}
+IsGiven (answers.Listed found) = Unit {0}
 IsGiven (answers.Explained explained) = Unit {0}
 IsGiven done = ⊥
 
 -- a built command answers so
 over : (command : PlainCommand) (files : Option Files) (done : Done) → IsBuilt command → AnswersOver command files done → Answers command files done
+over (Candidates cat load) files done built h = h
 over (Cost cat load) files done built h = h
 over (Explain cat load conf number) files done built h = h
 over command files done built h = absurd built
 
 -- the second file of a built command is within the limit of a workload
-pub second_short : (command : PlainCommand) (files : Option Files) (inputs : List (List ℕ)) → IsBuilt command → AreInputs files (files_of command) inputs → length (input inputs 1) ≤ most_bytes
+pub second_short : (command : PlainCommand) (files : Option Files) (inputs : List (List ℕ)) → IsBuilt command → AreInputs files (files_of command) inputs → length (input inputs 1) ≤ MOST_FILE_BYTES
+second_short (Candidates cat load) files [] built are = absurd are
+second_short (Candidates cat load) files (a ∷ []) built are = absurd are.1
+second_short (Candidates cat load) files (a ∷ b ∷ more) built are = are.1.0.short
 second_short (Cost cat load) files [] built are = absurd are
 second_short (Cost cat load) files (a ∷ []) built are = absurd are.1
 second_short (Cost cat load) files (a ∷ b ∷ more) built are = are.1.0.short
@@ -68,11 +74,6 @@ setting_stops command files before after inputs (Refused why) built are h = absu
 
 -- what a command refuses by itself is no refusal of the files or of the setting
 own : (command : PlainCommand) (inputs : List (List ℕ)) (setting : TheSetting) (why : Refusal) → RefusesOver command inputs setting why → IsOwn why
-own (Cost cat load) inputs setting (TooLong role) h = h
-own (Cost cat load) inputs setting (Cat fault) h = h
-own (Cost cat load) inputs setting (Sql fault) h = h
-own (Cost cat load) inputs setting (Bind fault) h = h
-own (Cost cat load) inputs setting why h = tt
 own (Explain cat load conf number) inputs setting (TooLong role) h = h
 own (Explain cat load conf number) inputs setting (Cat fault) h = h
 own (Explain cat load conf number) inputs setting (Sql fault) h = h
@@ -97,8 +98,10 @@ work_stops command files before after inputs setting left_over (Refused why) bui
     (refused_over command files why (own command inputs setting why h)
     (record { inputs = inputs; setting = setting; left_over = left_over; inputs_are = are; setting_is = is; holds = h }))
 
--- what a command gives is prices or an explained plan
+-- what a command gives is prices, candidates or an explained plan
 given : (command : PlainCommand) (inputs : List (List ℕ)) (setting : TheSetting) (done : Done) → GivesOver command inputs setting done → IsGiven done
+given (Candidates cat load) inputs setting (answers.Listed found) h = tt
+given (Candidates cat load) inputs setting done h = absurd h
 given (Cost cat load) inputs setting (answers.Priced prices) h = tt
 given (Cost cat load) inputs setting done h = absurd h
 given (Explain cat load conf number) inputs setting (answers.Explained explained) h = tt
@@ -107,6 +110,7 @@ given command inputs setting done h = absurd h
 
 given_over : (command : PlainCommand) (files : Option Files) (done : Done) → IsGiven done → OfSetting files command (λ inputs setting. GivesOver command inputs setting done) → AnswersOver command files done
 given_over command files (answers.Priced prices) is_given h = h
+given_over command files (answers.Listed found) is_given h = h
 given_over command files (answers.Explained explained) is_given h = h
 given_over command files done is_given h = absurd is_given
 
@@ -120,6 +124,8 @@ work_gives command files inputs setting left_over done built are is h =
 -- its text is told over that setting
 pub work_told : (command : PlainCommand) (files : Option Files) (words : List (List ℕ)) (inputs : List (List ℕ)) (setting : TheSetting) (left_over : ℕ) (done : Done) (text : List ℕ) → AreInputs files (files_of command) inputs → IsSetting (input inputs 0) (input inputs 1) setting left_over → GivesOver command inputs setting done → text ≡ done_text words (Some setting) done → IsTextOf command files words done text
 work_told command files words inputs setting left_over (answers.Priced prices) text are is h e =
+    record { inputs = inputs; setting = setting; left_over = left_over; inputs_are = are; setting_is = is; holds = e }
+work_told command files words inputs setting left_over (answers.Listed found) text are is h e =
     record { inputs = inputs; setting = setting; left_over = left_over; inputs_are = are; setting_is = is; holds = e }
 work_told command files words inputs setting left_over (answers.Explained explained) text are is h e = e
 work_told command files words inputs setting left_over done text are is h e = e

@@ -1,11 +1,9 @@
 pub mod NumberLaws
 pub mod Options
 pub mod Lines
-pub mod Unbuilt
+pub mod Blocks
 pub mod Offered
 pub mod PriceLists
-pub mod NoUpkeep
-pub mod Explained
 pub mod Stopped
 pub mod Mapped
 pub mod FilesRead

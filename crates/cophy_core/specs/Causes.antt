@@ -1,8 +1,10 @@
 -- When each answer comes, and what it says.
-use Rattle.std.specs.Prelude.{◌≡◌, ℕ, ◌<◌, ◌⊎◌, List, All, Option, Result, Ok, Err}
+use Rattle.std.specs.Prelude.{◌≡◌, ℕ, ◌+◌, ◌*◌, ◌<◌, ◌⊎◌, List, All, Option, Result, Ok, Err}
+use Rattle.adv_base.specs.declared.limits.TheConstants.{MOST_CANDIDATES, MOST_INDEXES, MOST_UPKEEP}
 use Rattle.adv_shelf.specs.Faults.{Rose}
 use Rattle.adv_shelf.specs.Shelf.{Files}
 use Rattle.adv_shelf.specs.Sink.{append_to, AppendsPrefix}
+use Rattle.plan_model.specs.declared.plan.TheConstants.{MOST_COST, MOST_TOTAL}
 use Rattle.report.specs.declared.done.Done.{Done}
 use Rattle.report.specs.declared.done.Done.TheVariants.{Usage, ReadFault, WriteFault, Refused, Memory, Priced, Explained as ExplainedDone}
 use Rattle.report.specs.declared.done.WordFault.{WordFault}
@@ -69,8 +71,12 @@ IsWritten words files before after old new WriteFault =
 IsWritten words files before after old new done =
     (text : List ℕ) × (IsTextTo (command_of words) files words done text × (new ≡ append_to old text))
 
--- each cost of a plan is below 10^21, each total below 10^31
+-- a statement costs less than this: a plan, and the upkeep of all indexes
+abbrev pub most_statement_cost : ℕ
+most_statement_cost = MOST_COST + (MOST_INDEXES + MOST_CANDIDATES) * MOST_UPKEEP
+
+-- each cost of a plan is below 10^21, that of a statement is no more than upkeep above it, each total is below 10^31
 abbrev pub IsBounded : Done → Type 0
-IsBounded (Priced prices) = All (λ cost. cost < 1000000000000000000000) prices.costs × (prices.total < 10000000000000000000000000000000)
-IsBounded (ExplainedDone explained) = explained.cost < 1000000000000000000000
+IsBounded (Priced prices) = All (λ cost. cost < most_statement_cost) prices.costs × (prices.total < MOST_TOTAL)
+IsBounded (ExplainedDone explained) = explained.cost < MOST_COST
 IsBounded done = Unit {0}

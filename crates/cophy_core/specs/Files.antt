@@ -1,11 +1,12 @@
 -- The files that a command reads, and what they hold.
 use Rattle.std.specs.Prelude.{◌≡◌, ℕ, ◌<◌, ◌≤◌, List, [], ◌∷◌, ◌++◌, length, map, slice_index_or, Option}
+use Rattle.adv_base.specs.declared.limits.TheConstants.{MOST_FILE_BYTES}
 use Rattle.adv_shelf.specs.Faults.{Rose}
 use Rattle.adv_shelf.specs.Shelf.{Files, HasFile, IsFile}
 use Rattle.report.specs.declared.done.Role.{Role}
 use Rattle.report.specs.declared.done.Role.TheVariants.{Catalogue, Workload, Third}
 use Rattle.cophy_core.specs.declared.files.FileUse.{FileUse}
-use Rattle.cophy_core.specs.ReadWords.{PlainCommand, Cost, Explain}
+use Rattle.cophy_core.specs.ReadWords.{PlainCommand, Candidates, Cost, Explain}
 
 -- a file that a command reads: in which role, by what name, and of how many bytes at most
 pub record InputFile : Type 0 where
@@ -19,15 +20,15 @@ input_file role name most = record { role = role; name = name; most = most }
 abbrev pub plain_uses : List FileUse → List InputFile
 plain_uses uses = map (λ file. input_file file.role file.name.now file.most) uses
 
--- the most bytes of a catalogue, a workload and a configuration
-abbrev pub most_bytes : ℕ
-most_bytes = 16777216
+-- the catalogue and the workload that a setting is read from
+abbrev pub setting_files : List ℕ → List ℕ → List InputFile
+setting_files cat load = input_file Catalogue cat MOST_FILE_BYTES ∷ input_file Workload load MOST_FILE_BYTES ∷ []
 
 -- the files that a command reads, in the order in which it reads them; one that isn't built reads none
 abbrev pub files_of : PlainCommand → List InputFile
-files_of (Cost cat load) = input_file Catalogue cat most_bytes ∷ input_file Workload load most_bytes ∷ []
-files_of (Explain cat load conf number) =
-    input_file Catalogue cat most_bytes ∷ input_file Workload load most_bytes ∷ input_file Third conf most_bytes ∷ []
+files_of (Candidates cat load) = setting_files cat load
+files_of (Cost cat load) = setting_files cat load
+files_of (Explain cat load conf number) = setting_files cat load ++ input_file Third conf MOST_FILE_BYTES ∷ []
 files_of command = []
 
 -- where the shelf tells its files, these bytes are the whole file, and no longer than its limit

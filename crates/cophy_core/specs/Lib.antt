@@ -2,7 +2,6 @@ pub mod Numbers
 pub mod ReadWords
 pub mod CommandLines
 pub mod Confs
-pub mod Built
 pub mod Settings
 pub mod Opened
 pub mod Files

@@ -1,7 +1,7 @@
 //! From words to an answer with its text.
 ghost use Rattle.std.specs.Prelude.{◌≡◌, ◌≤◌, ℕ, List, Some, Ok, IfOk, IfErr};
 ghost use Rattle.report.specs.Settings.{the_setting};
-ghost use Rattle.report.specs.Texts.{HasPrices};
+ghost use Rattle.report.specs.Texts.{FitsSetting};
 ghost use Rattle.cophy_core.specs.Answers.{IsBuilt, RefusesOver, GivesOver};
 ghost use Rattle.cophy_core.specs.Causes.{IsBounded};
 ghost use Rattle.cophy_core.specs.ReadWords.{texts, plain_command, command_of};
@@ -13,6 +13,7 @@ ghost use Rattle.cophy_core.specs.Stops.{StopsAt};
 
 use crate::commands::cost::cost;
 use crate::commands::explain::explain;
+use crate::commands::list_candidates::list_candidates;
 use crate::files::{bytes_at, read_files};
 use crate::reply::Reply;
 use crate::setting::open;
@@ -32,15 +33,15 @@ fn work(
 ) -> Result<Done, Stop>
     requires { IsBuilt (plain_command command.now) }
     ensures gives { IfOk result (GivesOver (plain_command command.now) inputs.now (the_setting setting.now)) }
-    ensures prices { IfOk result (HasPrices (Some (the_setting setting.now))) }
+    ensures fits { IfOk result (FitsSetting (Some (the_setting setting.now))) }
     ensures bound { IfOk result IsBounded }
     ensures stop { IfErr result (StopsAt (RefusesOver (plain_command command.now) inputs.now (the_setting setting.now))) }
 {
     match *command {
-        Command::Cost { .. } => cost(alloc, setting),
+        Command::Cost { .. } => Ok(cost(alloc, setting)?),
         Command::Explain { number, .. } => explain(alloc, setting, bytes_at(inputs, 2), number),
+        Command::Candidates { .. } => Ok(list_candidates(alloc, setting)?),
         Command::WhatIf { .. }
-        | Command::Candidates { .. }
         | Command::Advise { .. }
         | Command::Check { .. }
         | Command::Bench { .. } => unreachable!(),

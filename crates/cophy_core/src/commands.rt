@@ -1,3 +1,4 @@
 //! What each command works out, a file a command.
 pub(crate) mod cost;
 pub(crate) mod explain;
+pub(crate) mod list_candidates;

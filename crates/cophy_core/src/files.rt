@@ -1,5 +1,6 @@
 //! The files of a command.
 ghost use Rattle.std.specs.Prelude.{◌≡◌, ◌≤◌, ◌<◌, ◌∷◌, [], ◌++◌, ℕ, List, Some, IfOk, IfErr, OnOk, length, slice_get};
+ghost use Rattle.adv_base.specs.declared.limits.TheConstants.{MOST_FILE_BYTES};
 ghost use Rattle.cophy_core.specs.Answers.{IsBuilt};
 ghost use Rattle.cophy_core.specs.ReadWords.{plain_command};
 ghost use Rattle.cophy_core.specs.Files.{counts, input, input_file, plain_uses, files_of, IsInput, AreInputs};
@@ -7,13 +8,11 @@ ghost use Rattle.cophy_core.specs.Reading.{IsUnreadFile, StopsReading, StopsAtFi
 
 use crate::Command;
 use crate::stop::Stop;
+use adv_base::limits::MOST_FILE_BYTES;
 use adv_base::{Bytes, List, NoMemory};
 use adv_shelf::{GetFault, Shelf, read_all};
 use report::{Refusal, Role};
 use std::alloc::Global;
-
-/// The most bytes of a catalogue, a workload and a configuration.
-const MOST_BYTES: u64 = 16777216;
 
 /// A file that a command reads: in which role, by what name, and of how many bytes at most.
 #[derive(Clone, Copy)]
@@ -21,6 +20,17 @@ pub struct FileUse<'a> {
     pub role: Role,
     pub name: &'a str,
     pub most: u64,
+}
+
+/// A catalogue, a workload or a configuration.
+fn plain_file<'a>(role: Role, name: &'a str) -> FileUse<'a>
+    ensures { input_file result.role result.name.now result.most ≡ input_file role name.now MOST_FILE_BYTES }
+{
+    FileUse {
+        role,
+        name,
+        most: MOST_FILE_BYTES,
+    }
 }
 
 /// The bytes of a file.
@@ -99,18 +109,10 @@ pub(crate) fn read_files<S: Shelf>(
     ensures puts { S.put_faults shelf.new ≡ S.put_faults shelf.old }
 {
     match *command {
-        Command::Cost { cat, load } => {
+        Command::Candidates { cat, load } | Command::Cost { cat, load } => {
             let files = [
-                FileUse {
-                    role: Role::Catalogue,
-                    name: cat,
-                    most: MOST_BYTES,
-                },
-                FileUse {
-                    role: Role::Workload,
-                    name: load,
-                    most: MOST_BYTES,
-                },
+                plain_file(Role::Catalogue, cat),
+                plain_file(Role::Workload, load),
             ];
             read_each(alloc, shelf, &files)
         }
@@ -121,29 +123,16 @@ pub(crate) fn read_files<S: Shelf>(
             ..
         } => {
             let files = [
-                FileUse {
-                    role: Role::Catalogue,
-                    name: cat,
-                    most: MOST_BYTES,
-                },
-                FileUse {
-                    role: Role::Workload,
-                    name: load,
-                    most: MOST_BYTES,
-                },
-                FileUse {
-                    role: Role::Third,
-                    name: conf,
-                    most: MOST_BYTES,
-                },
+                plain_file(Role::Catalogue, cat),
+                plain_file(Role::Workload, load),
+                plain_file(Role::Third, conf),
             ];
             read_each(alloc, shelf, &files)
         }
         Command::WhatIf { .. }
-        | Command::Candidates { .. }
         | Command::Advise { .. }
         | Command::Check { .. }
-        | Command::Bench { .. } => Err(Stop::Refused(Refusal::NotBuilt(0))),
+        | Command::Bench { .. } => Err(Stop::Refused(Refusal::NotBuilt)),
     }
 }
 

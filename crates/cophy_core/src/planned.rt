@@ -7,6 +7,7 @@ ghost use Rattle.plan_model.specs.BlockTask.{IsTaskOf};
 ghost use Rattle.plan_model.specs.Costs.{whole_cost};
 ghost use Rattle.plan_model.specs.Least.{Least};
 ghost use Rattle.plan_model.specs.Plans.{IsWhole};
+ghost use Rattle.plan_model.specs.declared.plan.TheConstants.{MOST_COST};
 
 use access_paths::{ConfigOffers, task};
 use adv_base::{Block, Config, NoMemory, Setting};
@@ -36,7 +37,7 @@ pub(crate) fn plan_block(
     ensures valid { IfOk result (λ p. IsWhole p.task (table_of p.offers.slots.items) p.plan) }
     ensures costs { IfOk result (λ p. whole_cost p.task (table_of p.offers.slots.items) p.plan ≡ p.cost) }
     ensures least { IfOk result (λ p. Least p.task (table_of p.offers.slots.items) p.cost) }
-    ensures bound { IfOk result (λ p. p.cost < 1000000000000000000000) }
+    ensures bound { IfOk result (λ p. p.cost < MOST_COST) }
 {
     let task = task(alloc, setting.cat, block)?;
     let offers = ConfigOffers::new(alloc, setting.cat, block, setting.shapes, config)?;

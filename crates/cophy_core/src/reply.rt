@@ -1,7 +1,7 @@
 //! Answers with their texts, and how they are given.
 ghost use Rattle.std.specs.Prelude.{◌≡◌, ◌≤◌, ◌⊎◌, ◌++◌, ◌∷◌, ℕ, List, [], None, IfErr, OnOk, OnErr};
 ghost use Rattle.adv_shelf.specs.Faults.{Rose};
-ghost use Rattle.report.specs.Texts.{done_text, HasPrices};
+ghost use Rattle.report.specs.Texts.{done_text, FitsSetting};
 ghost use Rattle.cophy_core.specs.Causes.{IsBounded};
 ghost use Rattle.cophy_core.specs.ReadWords.{texts};
 ghost use Rattle.cophy_core.specs.Endings.{outside, plain_puts, put_all, Ends, IsUnput};
@@ -29,7 +29,7 @@ pub(crate) struct Reply<'a> {
 impl<'a> Reply<'a> {
     /// An answer that speaks of no setting; want of memory, where there is none for its text.
     pub(crate) fn plain(alloc: Global, words: &[String], done: Done) -> Reply<'a>
-        requires prices { HasPrices None done }
+        requires fits { FitsSetting None done }
         requires bound { IsBounded done }
         ensures done { (result.done ≡ done) ⊎ (result.done ≡ Done.Memory) }
         ensures puts { plain_puts result.puts ≡ [] }

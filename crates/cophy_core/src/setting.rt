@@ -1,15 +1,16 @@
 //! From the bytes of two files to a setting.
 ghost use Rattle.std.specs.Prelude.{◌≡◌, ◌≤◌, IfOk, IfErr, length};
 ghost use Rattle.report.specs.Settings.{the_setting};
-ghost use Rattle.cophy_core.specs.Files.{most_bytes};
+ghost use Rattle.adv_base.specs.declared.limits.TheConstants.{MOST_FILE_BYTES};
 ghost use Rattle.cophy_core.specs.Opened.{setting_in};
 ghost use Rattle.cophy_core.specs.Settings.{IsSetting, IsSettingRefusal};
 ghost use Rattle.cophy_core.specs.Stops.{StopsAt};
 
 use crate::opened::Opened;
 use crate::stop::Stop;
-use adv_base::{List, Setting};
+use adv_base::Setting;
 use binder::bind;
+use candidates::candidates;
 use catalogue::read_catalogue;
 use sql_reader::read_workload;
 use std::alloc::Global;
@@ -27,19 +28,21 @@ impl Opened {
     }
 }
 
-/// The setting that the bytes of a catalogue and of a workload describe, or the first refusal of them. There are no
-/// candidates.
+/// The setting that the bytes of a catalogue and of a workload describe, with the candidates that the workload proposes,
+/// or the first refusal of them.
 pub(crate) fn open(alloc: Global, cat: &[u8], load: &[u8]) -> Result<Opened, Stop>
-    requires { length load.now ≤ most_bytes }
-    ensures setting { IfOk result (λ opened. IsSetting cat.now load.now (setting_in opened) 0) }
+    requires { length load.now ≤ MOST_FILE_BYTES }
+    ensures setting { IfOk result (λ opened. IsSetting cat.now load.now (setting_in opened) opened.left_over) }
     ensures stop { IfErr result (StopsAt (IsSettingRefusal cat.now load.now)) }
 {
     let catalogue = read_catalogue(alloc, cat)?;
     let parsed = read_workload(alloc, load)?;
     let statements = bind(alloc, &catalogue, &parsed)?;
+    let found = candidates(alloc, &catalogue, statements.as_slice())?;
     Ok(Opened {
         cat: catalogue,
         statements,
-        shapes: List::new(alloc),
+        shapes: found.list,
+        left_over: found.left_over,
     })
 }

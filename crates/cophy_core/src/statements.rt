@@ -1,36 +1,39 @@
-//! Which statements are built.
-ghost use Rattle.std.specs.Prelude.{◌≡◌, ◌-◌, ◌≤◌, length, option_map, slice_get};
-ghost use Rattle.cophy_core.specs.Built.{is_select as select_test, unbuilt_from};
+//! Statements: by their numbers, their blocks, and what they cost in upkeep.
+ghost use Rattle.std.specs.Prelude.{◌≡◌, ◌-◌, ◌+◌, ◌*◌, ◌≤◌, option_map, slice_get};
+ghost use Rattle.adv_base.specs.Named.{NamesWork};
+ghost use Rattle.adv_base.specs.Upkeep as upkeeps;
+ghost use Rattle.adv_base.specs.declared.limits.TheConstants.{MOST_CANDIDATES, MOST_INDEXES, MOST_UPKEEP};
+ghost use Rattle.plan_model.specs.Totals as totals;
 
-use adv_base::{Statement, Work};
-
-/// Whether a statement is a SELECT.
-pub(crate) fn is_select(work: &Work) -> bool
-    ensures { result ≡ select_test work.now }
-{
-    match work {
-        Work::Select(_) => true,
-        Work::Update(_, _) | Work::Delete(_) | Work::Insert { .. } => false,
-    }
-}
-
-/// The number of the first statement that isn't a SELECT, which alone are priced.
-pub(crate) fn first_unbuilt(statements: &[Statement]) -> Option<u32>
-    requires { length statements.now ≤ 1000 }
-    ensures { result ≡ unbuilt_from 1 statements.now }
-{
-    'statements: for at in 0..statements.len() {
-        let statement = &statements[at];
-        if !is_select(&statement.work) {
-            return Some(at as u32 + 1);
-        }
-    }
-    None
-}
+use adv_base::{Block, Config, Setting, Statement, Work};
+use hypo_indexes::{config_upkeep, kept_upkeep};
 
 /// The statement of a number, from 1.
 pub(crate) fn statement_of(statements: &[Statement], number: u32) -> Option<&Statement>
     ensures { option_map (λ s. s.now) result ≡ slice_get statements.now (number - 1) }
 {
     statements.get((number as usize).saturating_sub(1))
+}
+
+/// The block of a statement; an INSERT has none.
+pub(crate) fn block_of(work: &Work) -> Option<&Block>
+    ensures { option_map (λ b. b.now) result ≡ totals.block_of work.now }
+{
+    match work {
+        Work::Select(block) => Some(block),
+        Work::Update(block, _) => Some(block),
+        Work::Delete(block) => Some(block),
+        Work::Insert { .. } => None,
+    }
+}
+
+/// What a statement costs in upkeep of the indexes that exist and of a configuration's, without its weight.
+pub(crate) fn upkeep_of(setting: &Setting<'_>, config: &Config, statement: &Statement) -> u128
+    requires { NamesWork setting.now.cat.now statement.now.work }
+    ensures exact { result ≡ upkeeps.kept_upkeep setting.now.cat.now statement.now.work
+        + upkeeps.config_upkeep setting.now.cat.now setting.now.shapes.now config.now statement.now.work }
+    ensures most { result ≤ (MOST_INDEXES + MOST_CANDIDATES) * MOST_UPKEEP }
+{
+    kept_upkeep(setting.cat, statement)
+        + config_upkeep(setting.cat, statement, setting.shapes, config)
 }

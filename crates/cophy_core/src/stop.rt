@@ -1,6 +1,6 @@
 //! Why no answer was worked out.
 ghost use Rattle.std.specs.Prelude.{◌≡◌, ◌≢◌, None};
-ghost use Rattle.report.specs.Texts.{HasPrices};
+ghost use Rattle.report.specs.Texts.{FitsSetting};
 ghost use Rattle.binder.specs.declared.fault.BindFault.TheVariants as bind;
 ghost use Rattle.catalogue.specs.declared.fault.CatFault.TheVariants as cat;
 ghost use Rattle.report.specs.declared.done.Refusal.TheVariants.{Cat as RefusedCat, Sql as RefusedSql, Bind as RefusedBind};
@@ -71,7 +71,7 @@ impl Stop {
     /// The answer that the stop is.
     pub(crate) fn done(self) -> Done
         ensures done { result ≡ done_of self }
-        ensures no_prices { HasPrices None result }
+        ensures fits { FitsSetting None result }
         ensures bound { IsBounded result }
     {
         match self {

@@ -30,6 +30,7 @@ fn status(done: &Done) -> u8
         Done::Refused(_) => 5,
         Done::Memory => 7,
         Done::Priced(_) => 0,
+        Done::Listed(_) => 0,
         Done::Explained(_) => 0,
     }
 }
@@ -38,8 +39,7 @@ fn status(done: &Done) -> u8
 /// output. No file changes.
 ///
 /// The first of these that fails is the answer: the words; the files, each to its end, in the order of the words; the
-/// catalogue; the workload's text; its names; a statement that isn't built; what the command alone asks for; the work;
-/// the write. Prices and explained plans are those of least plans (System R's search, over bushy plans). A fault of
+/// catalogue; the workload's text; its names; what the command alone asks for; the work; the write. Prices and explained plans are those of least plans (System R's search, over bushy plans). A fault of
 /// reading or writing is answered only where the shelf's or the sink's count of faults rose in this call. Want of memory
 /// may come at any time, and then nothing is written.
 pub fn run<S: Shelf, O: Sink>(

@@ -1,6 +1,7 @@
 //! Catalogues that the tests read.
+use crate::scene::spread;
 use std::alloc::Global;
-use std::test::Fail;
+use std::process::Abort;
 
 /// Catalogues by name. A line `t NAME` stands for a table of 1000 rows and 20 pages, `c NAME` for a column of whole
 /// numbers of width 4 with 1000 values, `d NAME N` for the same with N values, and `i NAME KEYS` for an index; every other
@@ -55,6 +56,12 @@ c x
 t d
 c x
 c k
+= KNAP
+t t
+c c
+t v
+c d
+c e
 = ORDERS
 [[table]]
 name = "customer"
@@ -119,65 +126,72 @@ kind = "date"
 width = 4
 "#;
 
-/// Adds the text of a table of 1000 rows and 20 pages.
-fn push_table(text: &mut String, name: &str) -> Result<(), Fail> {
-    text.push_str("[[table]]\nname = \"")?;
-    text.push_str(name)?;
-    text.push_str("\"\nrows = 1000\npages = 20\n")?;
-    Ok(())
-}
-
-/// Adds the text of a column of whole numbers with so many values.
-fn push_column(text: &mut String, name: &str, values: &str) -> Result<(), Fail> {
-    text.push_str("[[table.column]]\nname = \"")?;
-    text.push_str(name)?;
-    text.push_str("\"\nkind = \"int\"\nwidth = 4\ndistinct = ")?;
-    text.push_str(values)?;
-    text.push_str("\n")?;
-    Ok(())
-}
-
-/// Adds the text of an index.
-fn push_index(text: &mut String, name: &str, keys: &str) -> Result<(), Fail> {
-    text.push_str("[[table.index]]\nname = \"")?;
-    text.push_str(name)?;
-    text.push_str("\"\nkeys = [")?;
-    text.push_str(keys)?;
-    text.push_str("]\n")?;
-    Ok(())
+/// Adds pieces to a text.
+fn push(rt: &impl Abort, text: &mut String, pieces: &[&str]) {
+    for piece in pieces {
+        text.push_str(*piece).expect(rt, "memory");
+    }
 }
 
 /// Adds what a line of the list stands for.
-fn push_line(text: &mut String, line: &str) -> Result<(), Fail> {
-    if let Some(name) = line.strip_prefix("t ") {
-        return push_table(text, name);
+fn push_line(rt: &impl Abort, text: &mut String, line: &str) {
+    let (kind, rest) = line.split_once(' ').unwrap_or(("", ""));
+    let (name, more) = rest.split_once(' ').unwrap_or((rest, ""));
+    match kind {
+        "t" => push(
+            rt,
+            text,
+            &[
+                "[[table]]\nname = \"",
+                name,
+                "\"\nrows = 1000\npages = 20\n",
+            ],
+        ),
+        "c" => push_column(rt, text, name, "1000"),
+        "d" => push_column(rt, text, name, more),
+        "i" => push(
+            rt,
+            text,
+            &[
+                "[[table.index]]\nname = \"",
+                name,
+                "\"\nkeys = [",
+                more,
+                "]\n",
+            ],
+        ),
+        _ => push(rt, text, &[line, "\n"]),
     }
-    if let Some(name) = line.strip_prefix("c ") {
-        return push_column(text, name, "1000");
-    }
-    if let Some(column) = line.strip_prefix("d ") {
-        let (name, values) = column.split_once(' ').ok_or("a column without its values")?;
-        return push_column(text, name, values);
-    }
-    if let Some(index) = line.strip_prefix("i ") {
-        let (name, keys) = index.split_once(' ').ok_or("an index without its keys")?;
-        return push_index(text, name, keys);
-    }
-    text.push_str(line)?;
-    text.push_str("\n")?;
-    Ok(())
 }
 
-/// The text of the catalogue of a name.
-pub(crate) fn catalogue(alloc: Global, name: &str) -> Result<String, Fail> {
-    let mut text = String::from_str(alloc, "version = 1\n")?;
+/// Adds the text of a column of whole numbers with so many values.
+fn push_column(rt: &impl Abort, text: &mut String, name: &str, values: &str) {
+    push(
+        rt,
+        text,
+        &[
+            "[[table.column]]\nname = \"",
+            name,
+            "\"\nkind = \"int\"\nwidth = 4\ndistinct = ",
+            values,
+            "\n",
+        ],
+    )
+}
+
+/// The text of the catalogue of a name; behind `=`, the name is the text, in which `~` stands for a line feed.
+pub(crate) fn catalogue(rt: &impl Abort, alloc: Global, name: &str) -> Vec<u8> {
+    if let Some(text) = name.strip_prefix("=") {
+        return spread(rt, alloc, text);
+    }
+    let mut text = String::from_str(alloc, "version = 1\n").expect(rt, "memory");
     let mut inside = false;
     for line in CATALOGUES.lines() {
         if let Some(next) = line.strip_prefix("= ") {
             inside = next == name;
         } else if inside {
-            push_line(&mut text, line)?;
+            push_line(rt, &mut text, line);
         }
     }
-    Ok(text)
+    text.into_bytes()
 }

@@ -6,7 +6,6 @@ use cophy_core::run;
 use std::alloc::Global;
 use std::path::AsPath;
 use std::process::Abort;
-use std::test::Fail;
 use std::{env, fs, process};
 
 /// A workload of one statement.
@@ -14,117 +13,133 @@ const ONE: &str = "SELECT c FROM t";
 
 /// How many calls read files, a command line, and what it prints where nothing fails; `~` stands for a line feed.
 const LINES: &str = r#"4|cost CAT LOAD|statement 1 weight 1 cost 30000~total 30000~
+4|candidates CAT LOAD|1 t(c) 3 pages~left over 0~
 5|explain CAT LOAD CONF 1|statement 1 plan 30000 upkeep 0~heap on t cost 30000~
 5|explain CAT LOAD CONF 2|refused: no statement 2 of 1~
 0|cost CAT|usage: missing word 3~
 0|advise CAT LOAD 10|refused: not built~"#;
 
-/// The catalogue of one table, a workload of one statement and an empty configuration.
-fn one_table(alloc: Global) -> Result<MemShelf, Fail> {
-    let cat = catalogue(alloc, "T")?;
-    shelf(alloc, cat.as_bytes(), ONE.as_bytes(), b"")
+/// The parts of a line: the calls, the words and the output.
+fn parts<'a>(rt: &impl Abort, case: &'a str) -> (u64, &'a str, &'a str) {
+    let (calls, rest) = case.split_once('|').expect(rt, "calls");
+    let (words, output) = rest.split_once('|').expect(rt, "words");
+    let calls = calls.parse::<u64>().expect(rt, "a number");
+    (calls, words, output)
 }
 
-/// Whether the files are as they were.
-fn assert_unchanged(rt: &impl Abort, alloc: Global, shelf: &MemShelf) -> Result<(), Fail> {
-    let cat = catalogue(alloc, "T")?;
-    assert_eq!(rt; shelf.file("CAT"), Some(cat.as_bytes()));
+/// The catalogue of one table, a workload of one statement and an empty configuration.
+fn one_table(rt: &impl Abort, alloc: Global) -> MemShelf {
+    let cat = catalogue(rt, alloc, "T");
+    shelf(rt, alloc, cat.as_slice(), ONE.as_bytes(), b"")
+}
+
+/// The files are as they were.
+fn assert_unchanged(rt: &impl Abort, alloc: Global, shelf: &MemShelf) {
+    let cat = catalogue(rt, alloc, "T");
+    assert_eq!(rt; shelf.file("CAT"), Some(cat.as_slice()));
     assert_eq!(rt; shelf.file("LOAD"), Some(ONE.as_bytes()));
     assert_eq!(rt; shelf.file("CONF"), Some(b"".as_slice()));
-    Ok(())
+}
+
+/// A run whose call of a number fails prints the output, and ends with the status.
+fn assert_run(rt: &impl Abort, alloc: Global, words: &str, call: u64, want: (u8, &str)) {
+    let mut shelf = one_table(rt, alloc);
+    shelf.fail_at(call).expect(rt, "memory");
+    let (status, out) = answer(rt, alloc, words, &mut shelf, 100);
+    assert_unchanged(rt, alloc, &shelf);
+    let output = spread(rt, alloc, want.1);
+    assert_eq!(rt; out.bytes(), output.as_slice(), "{words}, call {call}");
+    assert!(rt; want.0 == 0 || status == want.0, "{words}, call {call}");
 }
 
 /// Lets the call of each number fail, until a run meets no failure. Where a read fails its file is named; an empty file is
 /// read by one call, any other by two, of which the second finds its end.
 #[test]
-fn a_failed_read_is_told_with_the_name_of_its_file(rt: HostRuntime) -> Result<(), Fail> {
-    let alloc = rt.alloc();
+fn a_failed_read_is_told_with_the_name_of_its_file(rt: HostRuntime) {
+    let files = ["CAT", "CAT", "LOAD", "LOAD", "CONF"];
     for case in LINES.lines() {
-        let (reads, rest) = case.split_once('|').ok_or("no bar")?;
-        let (line, output) = rest.split_once('|').ok_or("no bar")?;
-        let reads = reads.parse::<u64>().ok().ok_or("no number")?;
-        let whole = spread(alloc, output)?;
-        for call in 1..7u64 {
-            let mut shelf = one_table(alloc)?;
-            shelf.fail_at(call)?;
-            let (status, out) = answer(alloc, line, &mut shelf, 100)?;
-            assert_unchanged(&rt, alloc, &shelf)?;
-            if call > reads {
-                assert_eq!(rt; out.bytes(), whole.as_slice(), "{line}, call {call}");
-                break;
+        let (calls, words, output) = parts(&rt, case);
+        for (i, name) in files.iter().enumerate() {
+            if (i as u64) < calls {
+                let output = format!(in rt.alloc(); "read fault: {name}~").expect(&rt, "memory");
+                assert_run(&rt, rt.alloc(), words, i as u64 + 1, (3, output.as_str()));
             }
-            let name = ["CAT", "CAT", "LOAD", "LOAD", "CONF", "CONF"][call as usize - 1];
-            let output = format!(in alloc; "read fault: {name}\n")?;
-            assert_eq!(rt; out.bytes(), output.as_bytes(), "{line}, call {call}");
-            assert_eq!(rt; status, 3, "{line}, call {call}");
         }
+        assert_run(&rt, rt.alloc(), words, calls + 1, (0, output));
     }
-    Ok(())
+}
+
+/// A run with room for so many bytes of its output writes those, and ends with status 4 where there are more.
+fn assert_room(rt: &impl Abort, alloc: Global, words: &str, text: &[u8], room: usize) {
+    let mut shelf = one_table(rt, alloc);
+    let (status, out) = answer(rt, alloc, words, &mut shelf, room);
+    assert_unchanged(rt, alloc, &shelf);
+    assert_eq!(rt; status == 4, room < text.len(), "{words}, room {room}");
+    assert_eq!(rt; out.bytes().len(), room, "{words}");
+    assert!(rt; text.starts_with(out.bytes()), "{words}, room {room}");
 }
 
 /// Gives the output less and less room than its text needs, and then all of it.
 #[test]
-fn a_failed_write_ends_with_its_status(rt: HostRuntime) -> Result<(), Fail> {
-    let alloc = rt.alloc();
+fn a_failed_write_ends_with_its_status(rt: HostRuntime) {
     for case in LINES.lines() {
-        let (_, rest) = case.split_once('|').ok_or("no bar")?;
-        let (line, output) = rest.split_once('|').ok_or("no bar")?;
-        let text = spread(alloc, output)?;
+        let (_, words, output) = parts(&rt, case);
+        let text = spread(&rt, rt.alloc(), output);
         for room in 0..text.len() {
-            let mut shelf = one_table(alloc)?;
-            let (status, out) = answer(alloc, line, &mut shelf, room)?;
-            assert_eq!(rt; status, 4, "{line}, room {room}");
-            assert_eq!(rt; out.bytes().len(), room, "{line}");
-            assert!(rt;
-                text.as_slice().starts_with(out.bytes()),
-                "{line}, room {room}"
-            );
-            assert_unchanged(&rt, alloc, &shelf)?;
+            assert_room(&rt, rt.alloc(), words, text.as_slice(), room);
         }
-        let mut shelf = one_table(alloc)?;
-        let (status, out) = answer(alloc, line, &mut shelf, text.len())?;
-        assert!(rt; status != 4, "{line}");
-        assert_eq!(rt; out.bytes(), text.as_slice(), "{line}");
+        assert_room(&rt, rt.alloc(), words, text.as_slice(), text.len());
     }
-    Ok(())
+}
+
+/// Prices an empty workload over a catalogue of the system, and compares the status and, where it is given, the output.
+fn assert_disk<S: Shelf>(
+    rt: &impl Abort,
+    alloc: Global,
+    shelf: &mut S,
+    cat: &str,
+    want: (u8, Option<&str>),
+) {
+    let mut words = split(rt, alloc, "cost");
+    words
+        .push(String::from_str(alloc, cat).expect(rt, "memory"))
+        .expect(rt, "memory");
+    words
+        .push(String::from_str(alloc, "/dev/null").expect(rt, "memory"))
+        .expect(rt, "memory");
+    let mut out = MemSink::with_capacity(alloc, 1000).expect(rt, "memory");
+    let outcome = run(alloc, words.as_slice(), shelf, &mut out);
+    assert_eq!(rt; outcome.status, want.0, "{cat}");
+    if let Some(output) = want.1 {
+        assert_eq!(rt; out.bytes(), output.as_bytes());
+    }
 }
 
 #[test]
-fn bad_files_of_the_system_do_no_harm(rt: HostRuntime) -> Result<(), Fail> {
+fn bad_files_of_the_system_do_no_harm(rt: HostRuntime) {
     let alloc = rt.alloc();
-    let heap = catalogue(alloc, "T")?;
-    let folder = env::temp_dir(&rt)?;
-    let name = format!(in alloc; "cophy-{}.toml", process::id(rt.process()))?;
-    let path = folder.join(alloc, name.as_str())?;
+    let heap = catalogue(&rt, alloc, "T");
+    let folder = env::temp_dir(&rt).expect(&rt, "a folder");
+    let name = format!(in alloc; "cophy-{}.toml", process::id(rt.process())).expect(&rt, "memory");
+    let path = folder.join(alloc, name.as_str()).expect(&rt, "a path");
     let path = path.path_text();
     for (bytes, status) in [
         (b"".as_slice(), 5),
         (b"\xff\xfe", 5),
         (b"no = toml = here", 5),
-        (heap.as_bytes(), 0),
+        (heap.as_slice(), 0),
     ] {
         let mut shelf = DiskShelf::new(&rt);
-        shelf.put(path, bytes)?;
-        let mut words = split(alloc, "cost")?;
-        words.push(String::from_str(alloc, path)?)?;
-        words.push(String::from_str(alloc, "/dev/null")?)?;
-        let mut out = MemSink::with_capacity(alloc, 1000)?;
-        let outcome = run(alloc, words.as_slice(), &mut shelf, &mut out);
-        assert_eq!(rt; outcome.status, status, "{bytes:?}");
-        assert_eq!(rt; fs::read(&rt, path)?.as_slice(), bytes);
+        shelf.put(path, bytes).expect(&rt, "a file");
+        assert_disk(&rt, alloc, &mut shelf, path, (status, None));
+        let left = fs::read(&rt, path).expect(&rt, "a file");
+        assert_eq!(rt; left.as_slice(), bytes);
     }
-    fs::remove_file(&rt, path)?;
+    fs::remove_file(&rt, path).expect(&rt, "a file");
     // a file that is gone, and a folder in a file's place
     for cat in [path, "/tmp", "/"] {
+        let output = format!(in alloc; "read fault: {cat}\n").expect(&rt, "memory");
         let mut shelf = DiskShelf::new(&rt);
-        let mut words = split(alloc, "cost")?;
-        words.push(String::from_str(alloc, cat)?)?;
-        words.push(String::from_str(alloc, "/dev/null")?)?;
-        let mut out = MemSink::with_capacity(alloc, 1000)?;
-        let outcome = run(alloc, words.as_slice(), &mut shelf, &mut out);
-        let output = format!(in alloc; "read fault: {cat}\n")?;
-        assert_eq!(rt; out.bytes(), output.as_bytes());
-        assert_eq!(rt; outcome.status, 3);
+        assert_disk(&rt, alloc, &mut shelf, cat, (3, Some(output.as_str())));
     }
-    Ok(())
 }

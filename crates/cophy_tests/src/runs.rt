@@ -1,167 +1,178 @@
-//! Worked examples, from files to bytes. Each cost was computed by hand, by the rules of the cost model.
+//! Worked examples, from words and files to bytes. Each cost was computed by hand, by the rules of the cost model.
+//!
+//! A line of a table is the exit status, the words, the name of the catalogue in CAT or, behind `=`, its text, the
+//! workload in LOAD, the configuration in CONF, and the output. `~` stands for a line feed.
 use crate::catalogues::catalogue;
 use crate::scene::{answer, shelf, spread};
 use std::alloc::Global;
 use std::process::Abort;
-use std::test::Fail;
 
-/// Prices: a catalogue, a workload and the output, with a comment on the sum in it. In the texts here `~` stands for a line
-/// feed.
+/// Prices, with a comment on the sum in the workload.
 const PRICES: &str =
-    r#"T|SELECT * FROM t -- 20 pages, 1000 rows|statement 1 weight 1 cost 30000~total 30000~
-TI|SELECT * FROM t ORDER BY c -- the table, and a sort of 1000 rows of 10 digits: 5000 * 10|statement 1 weight 1 cost 80000~total 80000~
-TC|SELECT * FROM t ORDER BY c -- 3 pages of an index, all pages, all rows|statement 1 weight 1 cost 33000~total 33000~
-TI|SELECT c FROM t ORDER BY c -- the index covers|statement 1 weight 1 cost 13000~total 13000~
-AB|SELECT * FROM t WHERE a = 5 ORDER BY b -- an index page, a fetch, a row; bound, so sorted|statement 1 weight 1 cost 5010~total 5010~
-AB|SELECT a, b FROM t WHERE a IN (1, 2) AND b > 5|statement 1 weight 1 cost 1010~total 1010~
-AB|SELECT * FROM t WHERE a = 1 AND a = 2|statement 1 weight 1 cost 5010~total 5010~
-XZ|SELECT t.x, t.z FROM t, u WHERE t.x = u.y ORDER BY t.x, t.z -- a merge; by hash 128000|statement 1 weight 1 cost 114000~total 114000~
-CHAIN|SELECT count(*) FROM a, b, c, d WHERE a.k = 1 AND d.k = 1 AND a.x = b.x AND b.y = c.y AND c.x = d.x -- bushy; else 137868|statement 1 weight 1 cost 136082~total 136082~
-AG|SELECT a, sum(b) FROM t GROUP BY a ORDER BY sum(b) DESC -- a hash group, a sort of 100 groups|statement 1 weight 1 cost 49500~total 49500~
-ORDERS|-- weight 50~SELECT o.o_id, o.o_date, sum(l.l_price) AS revenue~FROM customer c JOIN orders o ON c.c_id = o.o_cust JOIN lineitem l ON l.l_order = o.o_id~WHERE c.c_segment = 'BUILDING' AND o.o_date BETWEEN DATE '1995-01-01' AND DATE '1995-03-31'~GROUP BY o.o_id, o.o_date ORDER BY revenue DESC, o.o_date LIMIT 10;~|statement 1 weight 50 cost 31347433~total 1567371650~
-EMPTY|SELECT * FROM t -- rows and pages of 0 count as 1|statement 1 weight 1 cost 1010~total 1010~
-T||total 0~
-T| ;; -- weight 7~ ; SELECT c FROM t; /* */ select C from T|statement 1 weight 7 cost 30000~statement 2 weight 1 cost 30000~total 240000~"#;
+    r#"0|cost CAT LOAD|T|SELECT * FROM t -- 20 pages, 1000 rows||statement 1 weight 1 cost 30000~total 30000~
+0|cost CAT LOAD|TI|SELECT * FROM t ORDER BY c -- the table, and a sort of 1000 rows of 10 digits: 5000 * 10||statement 1 weight 1 cost 80000~total 80000~
+0|cost CAT LOAD|TC|SELECT * FROM t ORDER BY c -- 3 pages of an index, all pages, all rows||statement 1 weight 1 cost 33000~total 33000~
+0|cost CAT LOAD|TI|SELECT c FROM t ORDER BY c -- the index covers||statement 1 weight 1 cost 13000~total 13000~
+0|cost CAT LOAD|AB|SELECT * FROM t WHERE a = 5 ORDER BY b -- an index page, a fetch, a row; bound, so sorted||statement 1 weight 1 cost 5010~total 5010~
+0|cost CAT LOAD|AB|SELECT a, b FROM t WHERE a IN (1, 2) AND b > 5||statement 1 weight 1 cost 1010~total 1010~
+0|cost CAT LOAD|AB|SELECT * FROM t WHERE a = 1 AND a = 2||statement 1 weight 1 cost 5010~total 5010~
+0|cost CAT LOAD|XZ|SELECT t.x, t.z FROM t, u WHERE t.x = u.y ORDER BY t.x, t.z -- a merge; by hash 128000||statement 1 weight 1 cost 114000~total 114000~
+0|cost CAT LOAD|CHAIN|SELECT count(*) FROM a, b, c, d WHERE a.k = 1 AND d.k = 1 AND a.x = b.x AND b.y = c.y AND c.x = d.x -- bushy; else 137868||statement 1 weight 1 cost 136082~total 136082~
+0|cost CAT LOAD|AG|SELECT a, sum(b) FROM t GROUP BY a ORDER BY sum(b) DESC -- a hash group, a sort of 100 groups||statement 1 weight 1 cost 49500~total 49500~
+0|cost CAT LOAD|ORDERS|-- weight 50~SELECT o.o_id, o.o_date, sum(l.l_price) AS revenue~FROM customer c JOIN orders o ON c.c_id = o.o_cust JOIN lineitem l ON l.l_order = o.o_id~WHERE c.c_segment = 'BUILDING' AND o.o_date BETWEEN DATE '1995-01-01' AND DATE '1995-03-31'~GROUP BY o.o_id, o.o_date ORDER BY revenue DESC, o.o_date LIMIT 10;~||statement 1 weight 50 cost 31347433~total 1567371650~
+0|cost CAT LOAD|EMPTY|SELECT * FROM t -- rows and pages of 0 count as 1||statement 1 weight 1 cost 1010~total 1010~
+0|cost CAT LOAD|T|||total 0~
+0|cost CAT LOAD|T| ;; -- weight 7~ ; SELECT c FROM t; /* */ select C from T||statement 1 weight 7 cost 30000~statement 2 weight 1 cost 30000~total 240000~
+0|cost CAT LOAD|TI|INSERT INTO t VALUES (1), (2) -- two writes of one index, down two levels: 2 * (4000 * 2 + 10)||statement 1 weight 1 cost 16020~total 16020~
+0|cost CAT LOAD|TI|DELETE FROM t -- all pages, all rows, and a write for each row||statement 1 weight 1 cost 8040000~total 8040000~
+0|cost CAT LOAD|TI|UPDATE t SET n = 1 WHERE c = 5 -- an index page, a fetch, a row; the index has no set column||statement 1 weight 1 cost 5010~total 5010~
+0|cost CAT LOAD|TI|UPDATE t SET c = 1 WHERE c = 5 -- an entry is taken out and one put in||statement 1 weight 1 cost 21030~total 21030~
+0|cost CAT LOAD|TI|-- weight 3~INSERT INTO t VALUES (1, 2);~DELETE FROM t WHERE c = 5||statement 1 weight 3 cost 8010~statement 2 weight 1 cost 13020~total 37050~
+0|cost CAT LOAD|T|INSERT INTO t VALUES (1) -- no index||statement 1 weight 1 cost 0~total 0~
+0|cost CAT LOAD|T|SELECT c FROM t ORDER BY c; UPDATE t SET c = 1||statement 1 weight 1 cost 80000~statement 2 weight 1 cost 30000~total 110000~"#;
 
-/// Refusals: a catalogue, by its name or, behind `=`, as it stands, a workload, and what is refused.
-const REFUSALS: &str = r#"T|SELECT c FROM t WHERE c = 1 OR c = 2|unsupported at 29
-T|SELECT * FROM|syntax at 14
-T|SELECT 'ab|open text at 8
-T|SELECT # FROM t|bad byte at 8
-T|-- weight 0~SELECT * FROM t|bad weight at 1
-T|SELECT c FROM t WHERE|syntax at 22
-T|SELECT c FROM t LEFT JOIN u|unsupported at 17
-T|SELECT c FROM (SELECT c FROM t)|syntax at 15
-T|SELECT (SELECT 1)|unsupported at 9
-T|SELECT c c c FROM t|syntax at 12
-T|SELECT c FROM t WHERE c = 1 = 2|syntax at 29
-T|SELECT * FROM t WHERE c = DATE '2020-02-30'|syntax at 32
-T|SELECT count(*) FROM t a, t b, t c, t d, t e, t f, t g, t h, t i|more than 8 slots at 62
-XZ|SELECT t.x FROM t, u|unjoined at 1
-XZ|SELECT * FROM v|no table at 15
-XZ|SELECT zz FROM t|no column at 8
-T|SELECT c FROM t a, t b WHERE a.c = b.c|ambiguous at 8
-T|SELECT 1 FROM t, t|alias twice at 18
-T|SELECT c FROM t; DELETE FROM t|statement 2 not built
-T|INSERT INTO t VALUES (1)|statement 1 not built
-=||missing version
-=version = 2~||out of range version
-=version 1~||not toml
-=version = 1.0~|SELECT|wrong kind version
-=version = 1~[[table]]~name = "t"~rows = 1000.0~||wrong kind table[1].rows
-=version = 1~rates = { seq_page = -1 }~||out of range rates.seq_page
-=version = 1~[[table]]~name = "t"~rows = 1~pages = 1~[[table]]~name = "t"~||missing table[1].column"#;
+/// Refusals.
+const REFUSALS: &str =
+    r#"5|cost CAT LOAD|T|SELECT c FROM t WHERE c = 1 OR c = 2||refused: unsupported at 29~
+5|cost CAT LOAD|T|SELECT * FROM||refused: syntax at 14~
+5|cost CAT LOAD|T|SELECT 'ab||refused: open text at 8~
+5|cost CAT LOAD|T|SELECT # FROM t||refused: bad byte at 8~
+5|cost CAT LOAD|T|-- weight 0~SELECT * FROM t||refused: bad weight at 1~
+5|cost CAT LOAD|T|SELECT c FROM t WHERE||refused: syntax at 22~
+5|cost CAT LOAD|T|SELECT c FROM t LEFT JOIN u||refused: unsupported at 17~
+5|cost CAT LOAD|T|SELECT c FROM (SELECT c FROM t)||refused: syntax at 15~
+5|cost CAT LOAD|T|SELECT (SELECT 1)||refused: unsupported at 9~
+5|cost CAT LOAD|T|SELECT c c c FROM t||refused: syntax at 12~
+5|cost CAT LOAD|T|SELECT c FROM t WHERE c = 1 = 2||refused: syntax at 29~
+5|cost CAT LOAD|T|SELECT * FROM t WHERE c = DATE '2020-02-30'||refused: syntax at 32~
+5|cost CAT LOAD|T|SELECT count(*) FROM t a, t b, t c, t d, t e, t f, t g, t h, t i||refused: more than 8 slots at 62~
+5|cost CAT LOAD|XZ|SELECT t.x FROM t, u||refused: unjoined at 1~
+5|cost CAT LOAD|XZ|SELECT * FROM v||refused: no table at 15~
+5|cost CAT LOAD|XZ|SELECT zz FROM t||refused: no column at 8~
+5|cost CAT LOAD|T|SELECT c FROM t a, t b WHERE a.c = b.c||refused: ambiguous at 8~
+5|cost CAT LOAD|T|SELECT 1 FROM t, t||refused: alias twice at 18~
+5|cost CAT LOAD|=|||refused: missing version~
+5|cost CAT LOAD|=version = 2~|||refused: out of range version~
+5|cost CAT LOAD|=version 1~|||refused: not toml~
+5|cost CAT LOAD|=version = 1.0~|SELECT||refused: wrong kind version~
+5|cost CAT LOAD|=version = 1~[[table]]~name = "t"~rows = 1000.0~|||refused: wrong kind table[1].rows~
+5|cost CAT LOAD|=version = 1~rates = { seq_page = -1 }~|||refused: out of range rates.seq_page~
+5|cost CAT LOAD|=version = 1~[[table]]~name = "t"~rows = 1~pages = 1~[[table]]~name = "t"~|||refused: missing table[1].column~"#;
 
-/// Command lines over the catalogue with an index: the status, the words, a workload, a configuration and the output.
-const COMMANDS: &str = r#"2||||usage: no command~
-2|price CAT LOAD|||usage: unknown command at word 1~
-2|cost CAT|||usage: missing word 3~
-2|cost CAT LOAD CONF|||usage: extra word 4~
-2|advise c l 10 --nodes 0|||usage: bad number at word 6~
-2|advise c l 10 --nodes 5 --nodes 6|||usage: option twice at word 7~
-2|advise c l 10 --node|||usage: unknown option at word 5~
-2|bench 1 1 5 0|||usage: bad number at word 3~
-5|advise none none 10|||refused: not built~
-5|whatif none none none|||refused: not built~
-5|candidates none none|||refused: not built~
-5|check none none none|||refused: not built~
-5|bench 1 2 5 0|||refused: not built~
-0|explain CAT LOAD CONF 1|SELECT * FROM t ORDER BY c||statement 1 plan 80000 upkeep 0~final sort t.c cost 80000~  heap on t cost 30000~
-5|explain CAT LOAD CONF 2|SELECT * FROM t ORDER BY c||refused: no statement 2 of 1~
-5|explain CAT LOAD CONF 1|SELECT * FROM t ORDER BY c|1~|refused: configuration line 1~
-5|explain CAT LOAD CONF 2|SELECT * FROM t ORDER BY c|1~|refused: no statement 2 of 1~
-5|explain CAT LOAD CONF 3|SELECT c FROM t; DELETE FROM t|1~|refused: statement 2 not built~
-3|explain CAT LOAD none 1|SELECT * FROM t ORDER BY c||read fault: none~
-0|explain CAT LOAD CONF 2|SELECT c FROM t; SELECT c FROM t x WHERE c > 5 ORDER BY c DESC||statement 2 plan 20370 upkeep 0~final sort x.c desc cost 20370~  index t_c on x cost 5340~
-3|cost none LOAD|||read fault: none~
-3|cost CAT none|||read fault: none~"#;
+/// Plans under configurations.
+const PLANS: &str =
+    r#"0|explain CAT LOAD CONF 1|TI|SELECT * FROM t ORDER BY c||statement 1 plan 80000 upkeep 0~final sort t.c cost 80000~  heap on t cost 30000~
+5|explain CAT LOAD CONF 2|TI|SELECT * FROM t ORDER BY c||refused: no statement 2 of 1~
+0|explain CAT LOAD CONF 1|TI|SELECT * FROM t ORDER BY c|1~|statement 1 plan 14000 upkeep 0~candidate 1 on t cost 14000~
+5|explain CAT LOAD CONF 1|TI|SELECT * FROM t ORDER BY c|2~|refused: configuration line 1~
+5|explain CAT LOAD CONF 2|TI|SELECT * FROM t ORDER BY c|2~|refused: no statement 2 of 1~
+5|explain CAT LOAD CONF 3|TI|SELECT c FROM t; DELETE FROM t|1~|refused: no statement 3 of 2~
+3|explain CAT LOAD none 1|TI|SELECT * FROM t ORDER BY c||read fault: none~
+0|explain CAT LOAD CONF 2|TI|SELECT c FROM t; SELECT c FROM t x WHERE c > 5 ORDER BY c DESC||statement 2 plan 20370 upkeep 0~final sort x.c desc cost 20370~  index t_c on x cost 5340~
+0|explain CAT LOAD CONF 1|TI|SELECT n FROM t ORDER BY n|1~|statement 1 plan 13000 upkeep 0~candidate 1 on t cost 13000~
+0|explain CAT LOAD CONF 1|TI|UPDATE t SET c = 1 WHERE c = 5||statement 1 plan 5010 upkeep 16020~index t_c on t cost 5010~
+0|explain CAT LOAD CONF 2|TI|SELECT n FROM t ORDER BY n; UPDATE t SET n = n + 1 WHERE c = 5|1~|statement 2 plan 5010 upkeep 16020~index t_c on t cost 5010~
+0|explain CAT LOAD CONF 1|TI|DELETE FROM t WHERE n > 5|1~|statement 1 plan 30000 upkeep 5350680~heap on t cost 30000~
+0|explain CAT LOAD CONF 1|TI|DELETE FROM t WHERE n > 5||statement 1 plan 30000 upkeep 2675340~heap on t cost 30000~
+0|explain CAT LOAD CONF 2|TI|SELECT n FROM t ORDER BY n; INSERT INTO t VALUES (1, 2), (3, 4), (5, 6)|1~|statement 2 insert upkeep 48060~
+0|explain CAT LOAD CONF 1|T|INSERT INTO t VALUES (1)||statement 1 insert upkeep 0~"#;
 
-/// Runs a command line over files and compares the output and the status.
-fn compare(
-    rt: &impl Abort,
-    alloc: Global,
-    line: &str,
-    files: (&[u8], &str, &str),
-    wanted: (u8, &str),
-) -> Result<(), Fail> {
-    let load = spread(alloc, files.1)?;
-    let conf = spread(alloc, files.2)?;
-    let mut shelf = shelf(alloc, files.0, load.as_slice(), conf.as_slice())?;
-    let (status, out) = answer(alloc, line, &mut shelf, 1000)?;
-    let output = spread(alloc, wanted.1)?;
-    assert_eq!(rt; out.bytes(), output.as_slice(), "{line}: {}", files.1);
-    assert_eq!(rt; status, wanted.0, "{line}: {}", files.1);
-    Ok(())
+/// Lists of candidates.
+const CANDIDATES: &str =
+    r#"0|candidates CAT LOAD|ORDERS|-- weight 50~SELECT o.o_id, o.o_date, sum(l.l_price) AS revenue~FROM customer c JOIN orders o ON c.c_id = o.o_cust JOIN lineitem l ON l.l_order = o.o_id~WHERE c.c_segment = 'BUILDING' AND o.o_date BETWEEN DATE '1995-01-01' AND DATE '1995-03-31'~GROUP BY o.o_id, o.o_date ORDER BY revenue DESC, o.o_date LIMIT 10;~||1 customer(c_segment) 42 pages~2 customer(c_segment, c_id) 56 pages~3 orders(o_date) 294 pages~4 orders(o_cust) 368 pages~5 orders(o_id, o_date) 442 pages~6 orders(o_date, o_id, o_cust) 589 pages~7 lineitem(l_order) 1471 pages~8 lineitem(l_order, l_price) 2063 pages~left over 0~
+0|candidates CAT LOAD|KNAP|-- weight 10~SELECT c FROM t ORDER BY c;~-- weight 11~SELECT d, e FROM v ORDER BY d, e;~||1 t(c) 3 pages~2 v(d, e) 4 pages~left over 0~
+0|candidates CAT LOAD|TI|SELECT * FROM t ORDER BY c||1 t(c, n) 4 pages~left over 0~
+0|candidates CAT LOAD|TI|INSERT INTO t VALUES (1, 2); DELETE FROM t WHERE n > 5; UPDATE t SET n = 1 WHERE c = 5||1 t(n) 3 pages~left over 0~
+0|candidates CAT LOAD|EMPTY|||left over 0~
+5|candidates CAT LOAD|T|SELECT * FROM||refused: syntax at 14~
+3|candidates none LOAD|T|||read fault: none~
+2|candidates CAT LOAD CONF|T|||usage: extra word 4~"#;
+
+/// Command lines that no file decides.
+const WORDS: &str = r#"2||TI|||usage: no command~
+2|price CAT LOAD|TI|||usage: unknown command at word 1~
+2|cost CAT|TI|||usage: missing word 3~
+2|cost CAT LOAD CONF|TI|||usage: extra word 4~
+2|advise c l 10 --nodes 0|TI|||usage: bad number at word 6~
+2|advise c l 10 --nodes 5 --nodes 6|TI|||usage: option twice at word 7~
+2|advise c l 10 --node|TI|||usage: unknown option at word 5~
+2|bench 1 1 5 0|TI|||usage: bad number at word 3~
+5|advise none none 10|TI|||refused: not built~
+5|whatif none none none|TI|||refused: not built~
+5|check none none none|TI|||refused: not built~
+5|bench 1 2 5 0|TI|||refused: not built~
+3|cost none LOAD|TI|||read fault: none~
+3|cost CAT none|TI|||read fault: none~"#;
+
+/// A line of a table.
+#[derive(Clone, Copy)]
+struct Case<'a> {
+    status: &'a str,
+    words: &'a str,
+    cat: &'a str,
+    load: &'a str,
+    conf: &'a str,
+    output: &'a str,
+}
+
+/// The parts of a line.
+fn case_of<'a>(rt: &impl Abort, line: &'a str) -> Case<'a> {
+    let (status, rest) = line.split_once('|').expect(rt, "a status");
+    let (words, rest) = rest.split_once('|').expect(rt, "words");
+    let (cat, rest) = rest.split_once('|').expect(rt, "a catalogue");
+    let (load, rest) = rest.split_once('|').expect(rt, "a workload");
+    let (conf, output) = rest.split_once('|').expect(rt, "a configuration");
+    Case {
+        status,
+        words,
+        cat,
+        load,
+        conf,
+        output,
+    }
+}
+
+/// Runs a line and compares the output and the status.
+fn compare(rt: &impl Abort, alloc: Global, line: &str) {
+    let case = case_of(rt, line);
+    let cat = catalogue(rt, alloc, case.cat);
+    let load = spread(rt, alloc, case.load);
+    let conf = spread(rt, alloc, case.conf);
+    let mut shelf = shelf(rt, alloc, cat.as_slice(), load.as_slice(), conf.as_slice());
+    let (status, out) = answer(rt, alloc, case.words, &mut shelf, 1000);
+    let output = spread(rt, alloc, case.output);
+    assert_eq!(rt; out.bytes(), output.as_slice(), "{line}");
+    assert_eq!(rt; case.status.parse::<u8>(), Ok(status), "{line}");
+}
+
+/// Walks a table.
+fn compare_all(rt: &impl Abort, alloc: Global, table: &str) {
+    for line in table.lines() {
+        compare(rt, alloc, line);
+    }
 }
 
 #[test]
-fn statements_are_priced(rt: HostRuntime) -> Result<(), Fail> {
-    for case in PRICES.lines() {
-        let (name, rest) = case.split_once('|').ok_or("no bar")?;
-        let (load, output) = rest.split_once('|').ok_or("no bar")?;
-        let cat = catalogue(rt.alloc(), name)?;
-        compare(
-            &rt,
-            rt.alloc(),
-            "cost CAT LOAD",
-            (cat.as_bytes(), load, ""),
-            (0, output),
-        )?;
-    }
-    Ok(())
+fn statements_are_priced(rt: HostRuntime) {
+    compare_all(&rt, rt.alloc(), PRICES);
 }
 
 #[test]
-fn inputs_are_refused(rt: HostRuntime) -> Result<(), Fail> {
-    let alloc = rt.alloc();
-    for case in REFUSALS.lines() {
-        let (name, rest) = case.split_once('|').ok_or("no bar")?;
-        let (load, why) = rest.split_once('|').ok_or("no bar")?;
-        let output = format!(in alloc; "refused: {why}~")?;
-        match name.strip_prefix("=") {
-            Some(text) => {
-                let cat = spread(alloc, text)?;
-                let files = (cat.as_slice(), load, "");
-                compare(
-                    &rt,
-                    rt.alloc(),
-                    "cost CAT LOAD",
-                    files,
-                    (5, output.as_str()),
-                )?;
-            }
-            None => {
-                let cat = catalogue(alloc, name)?;
-                let files = (cat.as_bytes(), load, "");
-                compare(
-                    &rt,
-                    rt.alloc(),
-                    "cost CAT LOAD",
-                    files,
-                    (5, output.as_str()),
-                )?;
-            }
-        }
-    }
-    Ok(())
+fn inputs_are_refused(rt: HostRuntime) {
+    compare_all(&rt, rt.alloc(), REFUSALS);
 }
 
 #[test]
-fn words_decide_what_is_done(rt: HostRuntime) -> Result<(), Fail> {
-    let cat = catalogue(rt.alloc(), "TI")?;
-    for case in COMMANDS.lines() {
-        let (number, rest) = case.split_once('|').ok_or("no bar")?;
-        let (line, rest) = rest.split_once('|').ok_or("no bar")?;
-        let (load, rest) = rest.split_once('|').ok_or("no bar")?;
-        let (conf, output) = rest.split_once('|').ok_or("no bar")?;
-        let status = number.parse::<u8>().ok().ok_or("no status")?;
-        compare(
-            &rt,
-            rt.alloc(),
-            line,
-            (cat.as_bytes(), load, conf),
-            (status, output),
-        )?;
-    }
-    Ok(())
+fn plans_are_explained(rt: HostRuntime) {
+    compare_all(&rt, rt.alloc(), PLANS);
+}
+
+#[test]
+fn candidates_are_listed(rt: HostRuntime) {
+    compare_all(&rt, rt.alloc(), CANDIDATES);
+}
+
+#[test]
+fn words_decide_what_is_done(rt: HostRuntime) {
+    compare_all(&rt, rt.alloc(), WORDS);
 }

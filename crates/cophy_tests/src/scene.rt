@@ -2,46 +2,55 @@
 use adv_shelf::{MemShelf, MemSink, Shelf};
 use cophy_core::run;
 use std::alloc::Global;
-use std::test::Fail;
+use std::process::Abort;
 
 /// The words of a line, with one space between them.
-pub(crate) fn split(alloc: Global, line: &str) -> Result<Vec<String>, Fail> {
+pub(crate) fn split(rt: &impl Abort, alloc: Global, line: &str) -> Vec<String> {
     let mut words = Vec::new(alloc);
     for word in line.split(' ') {
         if !word.is_empty() {
-            words.push(String::from_str(alloc, word)?)?;
+            let word = String::from_str(alloc, word).expect(rt, "memory");
+            words.push(word).expect(rt, "memory");
         }
     }
-    Ok(words)
+    words
 }
 
 /// A text in which `~` stands for a line feed.
-pub(crate) fn spread(alloc: Global, text: &str) -> Result<Vec<u8>, Fail> {
+pub(crate) fn spread(rt: &impl Abort, alloc: Global, text: &str) -> Vec<u8> {
     let mut bytes = Vec::new(alloc);
     for byte in text.as_bytes() {
-        bytes.push(if *byte == b'~' { b'\n' } else { *byte })?;
+        let byte = if *byte == b'~' { b'\n' } else { *byte };
+        bytes.push(byte).expect(rt, "memory");
     }
-    Ok(bytes)
+    bytes
 }
 
 /// The files CAT, LOAD and CONF.
-pub(crate) fn shelf(alloc: Global, cat: &[u8], load: &[u8], conf: &[u8]) -> Result<MemShelf, Fail> {
-    let mut shelf = MemShelf::new(alloc)?;
-    shelf.put("CAT", cat)?;
-    shelf.put("LOAD", load)?;
-    shelf.put("CONF", conf)?;
-    Ok(shelf)
+pub(crate) fn shelf(
+    rt: &impl Abort,
+    alloc: Global,
+    cat: &[u8],
+    load: &[u8],
+    conf: &[u8],
+) -> MemShelf {
+    let mut shelf = MemShelf::new(alloc).expect(rt, "memory");
+    shelf.put("CAT", cat).expect(rt, "memory");
+    shelf.put("LOAD", load).expect(rt, "memory");
+    shelf.put("CONF", conf).expect(rt, "memory");
+    shelf
 }
 
 /// The status and the output of a command line over a shelf, with room for so many bytes.
 pub(crate) fn answer(
+    rt: &impl Abort,
     alloc: Global,
     line: &str,
     shelf: &mut MemShelf,
     room: usize,
-) -> Result<(u8, MemSink), Fail> {
-    let mut out = MemSink::with_capacity(alloc, room)?;
-    let words = split(alloc, line)?;
+) -> (u8, MemSink) {
+    let mut out = MemSink::with_capacity(alloc, room).expect(rt, "memory");
+    let words = split(rt, alloc, line);
     let outcome = run(alloc, words.as_slice(), shelf, &mut out);
-    Ok((outcome.status, out))
+    (outcome.status, out)
 }

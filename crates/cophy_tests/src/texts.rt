@@ -1,25 +1,30 @@
-//! The texts of all answers, written out byte for byte.
-ghost use Rattle.std.specs.Prelude.{◌≡◌, ◌≤◌, IfSome, length};
-ghost use Rattle.adv_base.specs.declared.workload.Work.TheVariants.{Insert};
+//! The texts of refusals and faults, written out byte for byte.
+ghost use Rattle.std.specs.Prelude.{option_map};
+ghost use Rattle.report.specs.Settings.{the_setting};
+ghost use Rattle.report.specs.Texts.{FitsSetting};
 
-use adv_base::{
-    Bytes, Catalogue, Column, Kind, List, Name, Rates, Setting, Statement, Table, Work,
-};
+use crate::scene::split;
+use adv_base::{List, Setting};
 use binder::BindFault;
 use catalogue::{CatFault, KeyField, KeyPart, KeyPath};
-use plan_model::{GroupStep, Plan, Whole};
-use report::{Done, Explained, Prices, Refusal, Role, WordFault, text};
+use report::{Done, Prices, Refusal, Role, WordFault, text};
 use sql_reader::SqlFault;
-use std::alloc::{AllocError, Global};
-use std::test::Fail;
+use std::alloc::Global;
+use std::process::Abort;
 
-/// A command with its three files.
-fn words(alloc: Global) -> Result<Vec<String>, AllocError> {
-    let mut words = Vec::new(alloc);
-    for word in ["explain", "shop.toml", "load.sql", "none.conf"] {
-        words.push(String::from_str(alloc, word)?)?;
-    }
-    Ok(words)
+/// The text of an answer to a command with three files.
+fn assert_text(
+    rt: &impl Abort,
+    alloc: Global,
+    done: &Done,
+    setting: Option<&Setting<'_>>,
+    want: &str,
+)
+    requires { FitsSetting (option_map (λ s. the_setting s.now) setting) done.now }
+{
+    let words = split(rt, alloc, "explain shop.toml load.sql none.conf");
+    let printed = text(alloc, done, words.as_slice(), setting).expect(rt, "memory");
+    assert_eq!(rt; printed.as_slice(), want.as_bytes(), "{want}");
 }
 
 /// The parts of a path: the table's number, the part, the number of the column or index, the key, and the number of the
@@ -38,9 +43,7 @@ fn path_of(parts: Parts) -> KeyPath {
 }
 
 #[test]
-fn faults_of_words_and_files(rt: HostRuntime) -> Result<(), Fail> {
-    let alloc = rt.alloc();
-    let words = words(alloc)?;
+fn faults_of_words_and_files(rt: HostRuntime) {
     for (fault, want) in [
         (WordFault::NoCommand, "usage: no command\n"),
         (
@@ -60,8 +63,7 @@ fn faults_of_words_and_files(rt: HostRuntime) -> Result<(), Fail> {
         ),
     ] {
         let done = Done::Usage(fault);
-        let printed = text(alloc, &done, words.as_slice(), None)?;
-        assert_eq!(rt; printed.as_slice(), want.as_bytes(), "{want}");
+        assert_text(&rt, rt.alloc(), &done, None, want);
     }
     for (role, want) in [
         (Role::Catalogue, "read fault: shop.toml\n"),
@@ -69,20 +71,14 @@ fn faults_of_words_and_files(rt: HostRuntime) -> Result<(), Fail> {
         (Role::Third, "read fault: none.conf\n"),
     ] {
         let done = Done::ReadFault(role);
-        let printed = text(alloc, &done, words.as_slice(), None)?;
-        assert_eq!(rt; printed.as_slice(), want.as_bytes(), "{want}");
+        assert_text(&rt, rt.alloc(), &done, None, want);
     }
-    let printed = text(alloc, &Done::WriteFault, words.as_slice(), None)?;
-    assert!(rt; printed.as_slice().is_empty());
-    let printed = text(alloc, &Done::Memory, words.as_slice(), None)?;
-    assert!(rt; printed.as_slice().is_empty());
-    Ok(())
+    assert_text(&rt, rt.alloc(), &Done::WriteFault, None, "");
+    assert_text(&rt, rt.alloc(), &Done::Memory, None, "");
 }
 
 #[test]
-fn refusals(rt: HostRuntime) -> Result<(), Fail> {
-    let alloc = rt.alloc();
-    let words = words(alloc)?;
+fn refusals(rt: HostRuntime) {
     for (why, want) in [
         (
             Refusal::TooLong(Role::Catalogue),
@@ -150,18 +146,15 @@ fn refusals(rt: HostRuntime) -> Result<(), Fail> {
         ),
         (Refusal::NoStatement(2, 1), "refused: no statement 2 of 1\n"),
         (Refusal::BadConf(10), "refused: configuration line 10\n"),
-        (Refusal::NotBuilt(0), "refused: not built\n"),
-        (Refusal::NotBuilt(3), "refused: statement 3 not built\n"),
+        (Refusal::NotBuilt, "refused: not built\n"),
     ] {
         let done = Done::Refused(why);
-        let printed = text(alloc, &done, words.as_slice(), None)?;
-        assert_eq!(rt; printed.as_slice(), want.as_bytes(), "{want}");
+        assert_text(&rt, rt.alloc(), &done, None, want);
     }
-    Ok(())
 }
 
 #[test]
-fn refusals_of_a_catalogue(rt: HostRuntime) -> Result<(), Fail> {
+fn refusals_of_a_catalogue(rt: HostRuntime) {
     let alloc = rt.alloc();
     let path = path_of((2, KeyPart::Index, 1, KeyField::Keys, 2));
     for (fault, want) in [
@@ -188,8 +181,7 @@ fn refusals_of_a_catalogue(rt: HostRuntime) -> Result<(), Fail> {
         ),
     ] {
         let done = Done::Refused(Refusal::Cat(fault));
-        let printed = text(alloc, &done, &[], None)?;
-        assert_eq!(rt; printed.as_slice(), want.as_bytes(), "{want}");
+        assert_text(&rt, rt.alloc(), &done, None, want);
     }
     for (parts, path) in [
         ((0, KeyPart::Whole, 0, KeyField::Version, 0), "version"),
@@ -278,140 +270,17 @@ fn refusals_of_a_catalogue(rt: HostRuntime) -> Result<(), Fail> {
         ),
     ] {
         let done = Done::Refused(Refusal::Cat(CatFault::Missing(path_of(parts))));
-        let printed = text(alloc, &done, &[], None)?;
-        let want = format!(in alloc; "refused: missing {path}\n")?;
-        assert_eq!(rt; printed.as_slice(), want.as_bytes(), "{path}");
-    }
-    Ok(())
-}
-
-/// A catalogue of one table with one column.
-fn one_table(alloc: Global) -> Option<Catalogue>
-    ensures { IfSome result (λ cat. length cat.tables ≡ 1) }
-{
-    let column = Column {
-        name: Name {
-            items: Vec::new(alloc),
-        },
-        kind: Kind::Int,
-        width: 4,
-        distinct: None,
-        low: None,
-        high: None,
-    };
-    let table = Table {
-        name: Name {
-            items: Vec::new(alloc),
-        },
-        rows: 1000,
-        pages: 20,
-        columns: List {
-            items: Vec::from_array(alloc, [column]).ok()?,
-        },
-        indexes: List::new(alloc),
-    };
-    let rates = Rates {
-        seq_page: 1000,
-        rand_page: 4000,
-        row_cpu: 10,
-        sort_cpu: 5,
-        merge_cpu: 5,
-        hash_cpu: 8,
-        group_cpu: 5,
-    };
-    Some(Catalogue {
-        rates,
-        tables: List {
-            items: Vec::from_array(alloc, [table]).ok()?,
-        },
-    })
-}
-
-/// A statement of that weight over the table.
-fn statement(weight: u32) -> Statement
-    requires least { 1 ≤ weight }
-    requires most { weight ≤ 1000000 }
-    ensures { result.work ≡ Insert 0 1 }
-{
-    Statement {
-        weight,
-        work: Work::Insert { table: 0, rows: 1 },
+        let want = format!(in rt.alloc(); "refused: missing {path}\n").expect(&rt, "memory");
+        assert_text(&rt, rt.alloc(), &done, None, want.as_str());
     }
 }
 
 #[test]
-fn prices(rt: HostRuntime) -> Result<(), Fail> {
-    let alloc = rt.alloc();
-    let cat = one_table(alloc).ok_or("a catalogue")?;
-    let statements = [statement(10), statement(11)];
-    let setting = Setting {
-        cat: &cat,
-        statements: &statements,
-        shapes: &[],
-    };
-    for (size, want) in [
-        (
-            None,
-            "statement 1 weight 10 cost 80000\nstatement 2 weight 11 cost 14000\ntotal 954000\n",
-        ),
-        (
-            Some(4),
-            "size 4\nstatement 1 weight 10 cost 80000\nstatement 2 weight 11 cost 14000\ntotal 954000\n",
-        ),
-    ] {
-        let done = Done::Priced(Prices {
-            size,
-            costs: List {
-                items: Vec::from_array(alloc, [80000, 14000])?,
-            },
-            total: 954000,
-        });
-        let printed = text(alloc, &done, &[], Some(&setting))?;
-        assert_eq!(rt; printed.as_slice(), want.as_bytes());
-    }
+fn a_size_stands_before_the_prices(rt: HostRuntime) {
     let done = Done::Priced(Prices {
-        size: None,
-        costs: List::new(alloc),
+        size: Some(4),
+        costs: List::new(rt.alloc()),
         total: 0,
     });
-    let printed = text(alloc, &done, &[], None)?;
-    assert_eq!(rt; printed.as_slice(), b"total 0\n".as_slice());
-    Ok(())
-}
-
-#[test]
-fn explained_plans(rt: HostRuntime) -> Result<(), Fail> {
-    let alloc = rt.alloc();
-    let done = Done::Explained(Explained {
-        number: 1,
-        plan: Some(Whole {
-            body: Plan::Leaf { slot: 0, offer: 0 },
-            group: GroupStep::Nothing,
-            final_sort: true,
-        }),
-        cost: 80000,
-        upkeep: 0,
-        text: Bytes {
-            items: b"final sort t.c cost 80000\n  heap on t cost 30000\n".to_vec(alloc)?,
-        },
-    });
-    let printed = text(alloc, &done, &[], None)?;
-    let want =
-        "statement 1 plan 80000 upkeep 0\nfinal sort t.c cost 80000\n  heap on t cost 30000\n";
-    assert_eq!(rt; printed.as_slice(), want.as_bytes());
-    let done = Done::Explained(Explained {
-        number: 12,
-        plan: None,
-        cost: 0,
-        upkeep: 9020,
-        text: Bytes {
-            items: Vec::new(alloc),
-        },
-    });
-    let printed = text(alloc, &done, &[], None)?;
-    assert_eq!(rt;
-        printed.as_slice(),
-        b"statement 12 insert upkeep 9020\n".as_slice()
-    );
-    Ok(())
+    assert_text(&rt, rt.alloc(), &done, None, "size 4\ntotal 0\n");
 }

@@ -1,7 +1,9 @@
 //! Command lines and configuration files.
 use crate::scene::{split, spread};
+use adv_base::Config;
 use cophy_core::{read_conf, read_words};
-use std::test::Fail;
+use std::alloc::Global;
+use std::process::Abort;
 
 /// What is read, `|`, and the words.
 const COMMAND_LINES: &str = r#"Err(NoCommand)|
@@ -49,7 +51,7 @@ Err(Missing(6))|advise c l 10 --cert
 Err(Missing(6))|advise c l 10 --nodes"#;
 
 /// The bytes of configuration files over three candidates, in which `~` stands for a line feed: the first faulty line,
-/// or the candidates, `|` and the bytes.
+/// or the candidates with a blank behind each, `|` and the bytes.
 const CONFIGURATIONS: &str = "line 1|1\n\
 line 2|2~2~\n\
 line 2|2~1~\n\
@@ -62,42 +64,51 @@ line 2|1~4~\n\
 line 1|0~\n\
 line 3|1~2~3\n\
 line 4|1~2~3~~\n\
-none|\n\
-1 3|1~3~\n\
-1 2 3|1~2~3~\n\
-2|2~";
+|\n\
+1 3 |1~3~\n\
+1 2 3 |1~2~3~\n\
+2 |2~";
 
-#[test]
-fn command_lines(rt: HostRuntime) -> Result<(), Fail> {
-    for case in COMMAND_LINES.lines() {
-        let (want, line) = case.split_once('|').ok_or("no bar")?;
-        let words = split(rt.alloc(), line)?;
-        let found = format!(in rt.alloc(); "{:?}", read_words(words.as_slice()))?;
-        assert_eq!(rt; found.as_str(), want, "{line}");
-    }
-    Ok(())
+/// What is read of a command line.
+fn assert_words(rt: &impl Abort, alloc: Global, case: &str) {
+    let (want, line) = case.split_once('|').expect(rt, "a bar");
+    let words = split(rt, alloc, line);
+    let found = format!(in alloc; "{:?}", read_words(words.as_slice())).expect(rt, "memory");
+    assert_eq!(rt; found.as_str(), want, "{line}");
 }
 
 #[test]
-fn configurations(rt: HostRuntime) -> Result<(), Fail> {
-    for case in CONFIGURATIONS.lines() {
-        let (want, written) = case.split_once('|').ok_or("no bar")?;
-        let bytes = spread(rt.alloc(), written)?;
-        let mut found = String::new(rt.alloc());
-        match read_conf(bytes.as_slice(), 3) {
-            Err(line) => found = format!(in rt.alloc(); "line {line}")?,
-            Ok(config) => {
-                for at in 0..256usize {
-                    if config.on[at] {
-                        let number = at + 1;
-                        let blank = if found.is_empty() { "" } else { " " };
-                        found = format!(in rt.alloc(); "{found}{blank}{number}")?;
-                    }
-                }
-            }
-        }
-        let want = if want == "none" { "" } else { want };
-        assert_eq!(rt; found.as_str(), want, "{written}");
+fn command_lines(rt: HostRuntime) {
+    for case in COMMAND_LINES.lines() {
+        assert_words(&rt, rt.alloc(), case);
     }
-    Ok(())
+}
+
+/// The numbers of the candidates that a configuration has, with a blank behind each.
+fn numbers(rt: &impl Abort, alloc: Global, config: &Config) -> String {
+    let mut found = String::new(alloc);
+    for number in 1..257u16 {
+        if config.has(number) {
+            found = format!(in alloc; "{found}{number} ").expect(rt, "memory");
+        }
+    }
+    found
+}
+
+/// What is read of a configuration file.
+fn assert_conf(rt: &impl Abort, alloc: Global, case: &str) {
+    let (want, written) = case.split_once('|').expect(rt, "a bar");
+    let bytes = spread(rt, alloc, written);
+    let found = match read_conf(bytes.as_slice(), 3) {
+        Err(line) => format!(in alloc; "line {line}").expect(rt, "memory"),
+        Ok(config) => numbers(rt, alloc, &config),
+    };
+    assert_eq!(rt; found.as_str(), want, "{written}");
+}
+
+#[test]
+fn configurations(rt: HostRuntime) {
+    for case in CONFIGURATIONS.lines() {
+        assert_conf(&rt, rt.alloc(), case);
+    }
 }

@@ -1,1 +1,2 @@
 pub mod CostLines
+pub mod CandidateLines

@@ -1,3 +1,4 @@
 pub mod Settings
 pub mod Paths
+pub mod Listings
 pub mod Texts

@@ -1,14 +1,16 @@
 -- The texts that stand for answers. Each line ends with a line feed.
-use Rattle.std.specs.Prelude.{◌≡◌, ℕ, ◌+◌, ◌==◌, if◌then◌else◌, List, [], ◌∷◌, ◌++◌, length, codes, decimal, Option, Some, None, slice_get, unwrap_or}
+use Rattle.std.specs.Prelude.{◌≡◌, ℕ, ◌+◌, All, List, [], ◌∷◌, ◌++◌, length, codes, decimal, Option, Some, None, slice_get, unwrap_or}
 use Rattle.adv_base.specs.declared.workload.Statement.{Statement}
+use Rattle.adv_base.specs.Named.{NamesShape}
 use Rattle.binder.specs.declared.fault.BindFault.{BindFault}
 use Rattle.binder.specs.declared.fault.BindFault.TheVariants as bind
+use Rattle.candidates.specs.declared.answer.Candidates.{Candidates}
 use Rattle.catalogue.specs.declared.fault.CatFault.{CatFault}
 use Rattle.catalogue.specs.declared.fault.CatFault.TheVariants as cat
 use Rattle.sql_reader.specs.declared.parsed.SqlFault.{SqlFault}
 use Rattle.sql_reader.specs.declared.parsed.SqlFault.TheVariants as sql
 use Rattle.report.specs.declared.done.Done.{Done}
-use Rattle.report.specs.declared.done.Done.TheVariants.{Usage, ReadFault, Refused, Priced, Explained as ExplainedDone}
+use Rattle.report.specs.declared.done.Done.TheVariants.{Usage, ReadFault, Refused, Priced, Listed, Explained as ExplainedDone}
 use Rattle.report.specs.declared.done.Explained.{Explained}
 use Rattle.report.specs.declared.done.Prices.{Prices}
 use Rattle.report.specs.declared.done.Refusal.{Refusal}
@@ -17,6 +19,7 @@ use Rattle.report.specs.declared.done.Role.{Role}
 use Rattle.report.specs.declared.done.Role.TheVariants.{Catalogue, Workload, Third}
 use Rattle.report.specs.declared.done.WordFault.{WordFault}
 use Rattle.report.specs.declared.done.WordFault.TheVariants.{NoCommand, UnknownCommand, Missing, Extra, UnknownOption, Twice, BadNumber}
+use Rattle.report.specs.Listings.{candidate_lines}
 use Rattle.report.specs.Paths.{path_text}
 use Rattle.adv_base.specs.Settings.{TheSetting}
 
@@ -72,9 +75,6 @@ bind_fault (bind.TooManySlots p) = numbered (codes "more than 8 slots at ") p
 bind_fault (bind.Unjoined p) = numbered (codes "unjoined at ") p
 bind_fault (bind.TooManySlotsInAll p) = numbered (codes "more than 2000 slots at ") p
 
-abbrev pub not_built : ℕ → List ℕ
-not_built n = if n == 0 then codes "not built" else (numbered (codes "statement ") n ++ codes " not built")
-
 -- a refusal, behind `refused: `
 abbrev pub refusal : List (List ℕ) → Refusal → List ℕ
 refusal words (TooLong role) = codes "too long " ++ file_name words role
@@ -83,7 +83,7 @@ refusal words (Sql fault) = sql_fault fault
 refusal words (Bind fault) = bind_fault fault
 refusal words (NoStatement n count) = numbered (codes "no statement ") n ++ numbered (codes " of ") count
 refusal words (BadConf line) = numbered (codes "configuration line ") line
-refusal words (NotBuilt n) = not_built n
+refusal words NotBuilt = codes "not built"
 
 abbrev pub line : List ℕ → List ℕ
 line text = text ++ 10 ∷ []
@@ -127,16 +127,29 @@ abbrev pub statements_in : Option TheSetting → List Statement
 statements_in None = []
 statements_in (Some setting) = setting.statements
 
+-- a line for each candidate, with the names of the setting's catalogue, and how many more there were
+abbrev pub listed_text : Option TheSetting → Candidates → List ℕ
+listed_text None found = []
+listed_text (Some setting) found =
+    candidate_lines setting.cat 1 found.list ++ line (numbered (codes "left over ") found.left_over)
+
 -- the text of an answer to these words, over the setting of which it speaks
 abbrev pub done_text : List (List ℕ) → Option TheSetting → Done → List ℕ
 done_text words setting (Usage fault) = line (codes "usage: " ++ word_fault fault)
 done_text words setting (ReadFault role) = line (codes "read fault: " ++ file_name words role)
 done_text words setting (Refused why) = line (codes "refused: " ++ refusal words why)
 done_text words setting (Priced prices) = prices_text (statements_in setting) prices
+done_text words setting (Listed found) = listed_text setting found
 done_text words setting (ExplainedDone explained) = explained_text explained
 done_text words setting done = []
 
--- prices have a cost for each statement of their setting
-abbrev pub HasPrices : Option TheSetting → Done → Type 0
-HasPrices setting (Priced prices) = length prices.costs ≡ length (statements_in setting)
-HasPrices setting done = Unit {0}
+-- candidates name what the catalogue of their setting has
+abbrev pub AreNamedIn : Option TheSetting → Candidates → Type 0
+AreNamedIn None found = ⊥
+AreNamedIn (Some setting) found = All (NamesShape setting.cat) found.list
+
+-- prices have a cost for each statement of their setting, and candidates are of its catalogue
+abbrev pub FitsSetting : Option TheSetting → Done → Type 0
+FitsSetting setting (Priced prices) = length prices.costs ≡ length (statements_in setting)
+FitsSetting setting (Listed found) = AreNamedIn setting found
+FitsSetting setting done = Unit {0}

@@ -1,6 +1,7 @@
 //! Answers.
 use adv_base::{Bytes, List};
 use binder::BindFault;
+use candidates::Candidates;
 use catalogue::CatFault;
 use plan_model::Whole;
 use sql_reader::SqlFault;
@@ -41,8 +42,8 @@ pub enum Refusal {
     NoStatement(u32, u32),
     /// The configuration is at fault in that line.
     BadConf(u64),
-    /// The command, where the number is 0, or the statement of that number isn't built yet.
-    NotBuilt(u32),
+    /// The command isn't built yet.
+    NotBuilt,
 }
 
 /// The cost of each statement, without its weight, and the total with the weights. `size` is the pages of the
@@ -74,5 +75,6 @@ pub enum Done {
     Refused(Refusal),
     Memory,
     Priced(Prices),
+    Listed(Candidates),
     Explained(Explained),
 }

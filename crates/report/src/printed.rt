@@ -1,12 +1,15 @@
 //! The text of an answer.
-ghost use Rattle.std.specs.Prelude.{◌≡◌, ◌++◌, OnOk, IfOk, length, map, codes, string_bytes, option_map};
+ghost use Rattle.std.specs.Prelude.{◌≡◌, ◌++◌, OnOk, IfOk, All, length, map, codes, string_bytes, option_map, Some};
+ghost use Rattle.adv_base.specs.Named.{NamesShape};
 ghost use Rattle.report.specs.Settings.{the_setting};
-ghost use Rattle.report.specs.Texts.{size_line, cost_line, cost_lines, prices_text, plan_part, explained_text, done_text, line, word_fault, file_name, refusal, statements_in, HasPrices};
+ghost use Rattle.report.specs.Texts.{size_line, cost_line, cost_lines, prices_text, plan_part, explained_text, done_text, line, word_fault, file_name, refusal, statements_in, listed_text, AreNamedIn, FitsSetting};
 
+use crate::listed::push_candidates;
 use crate::refusal::{push_about_file, push_refusal};
 use crate::usage::{push_numbered, push_word_fault};
 use crate::{Done, Explained, Prices, Refusal, Role, WordFault};
 use adv_base::{Bytes, NoMemory, Setting, Statement};
+use candidates::Candidates;
 use std::alloc::{AllocError, Global};
 
 /// Adds the pages of a configuration, where there is one.
@@ -70,6 +73,37 @@ fn push_prices(
     push_costs(alloc, out, statements, prices.costs.as_slice())?;
     push_numbered(alloc, out, b"total ", prices.total)?;
     out.extend_from_slice(b"\n")
+}
+
+/// Adds the text of candidates of a setting.
+fn push_found(
+    alloc: Global,
+    out: &mut Vec<u8>,
+    setting: &Setting<'_>,
+    found: &Candidates,
+) -> Result<(), AllocError>
+    requires { All (NamesShape setting.now.cat.now) found.now.list }
+    ensures { OnOk result (out.new.items ≡ out.old.items ++ listed_text (Some (the_setting setting.now)) found.now) }
+{
+    push_candidates(alloc, out, setting.cat, found.list.as_slice())?;
+    push_numbered(alloc, out, b"left over ", found.left_over as u128)?;
+    out.extend_from_slice(b"\n")
+}
+
+/// Adds the text of candidates over the setting that is there.
+fn push_listed(
+    alloc: Global,
+    out: &mut Vec<u8>,
+    setting: Option<&Setting<'_>>,
+    found: &Candidates,
+) -> Result<(), AllocError>
+    requires { AreNamedIn (option_map (λ s. the_setting s.now) setting) found.now }
+    ensures { OnOk result (out.new.items ≡ out.old.items ++ listed_text (option_map (λ s. the_setting s.now) setting.entry) found.now) }
+{
+    match setting {
+        None => Ok(()),
+        Some(setting) => push_found(alloc, out, setting, found),
+    }
 }
 
 /// Adds what a plan costs.
@@ -144,7 +178,7 @@ fn push_done(
     words: &[String],
     setting: Option<&Setting<'_>>,
 ) -> Result<(), AllocError>
-    requires { HasPrices (option_map (λ s. the_setting s.now) setting) done.now }
+    requires { FitsSetting (option_map (λ s. the_setting s.now) setting) done.now }
     ensures { OnOk result (out.new.items ≡ out.old.items
         ++ done_text (map string_bytes words.now) (option_map (λ s. the_setting s.now) setting.entry) done.now) }
 {
@@ -153,21 +187,22 @@ fn push_done(
         Done::ReadFault(role) => push_read_fault(out, words, *role),
         Done::Refused(why) => push_refused(alloc, out, words, *why),
         Done::Priced(prices) => push_prices(alloc, out, statements_of(setting), prices),
+        Done::Listed(found) => push_listed(alloc, out, setting, found),
         Done::Explained(explained) => push_explained(alloc, out, explained),
         Done::WriteFault => Ok(()),
         Done::Memory => Ok(()),
     }
 }
 
-/// The text of an answer to the words. Prices want the setting whose statements they price, one price each. `NoMemory` is
-/// want of memory.
+/// The text of an answer to the words. Prices want the setting whose statements they price, one price each, and
+/// candidates that whose catalogue has their tables and columns. `NoMemory` is want of memory.
 pub fn text(
     alloc: Global,
     done: &Done,
     words: &[String],
     setting: Option<&Setting<'_>>,
 ) -> Result<Bytes, NoMemory>
-    requires { HasPrices (option_map (λ s. the_setting s.now) setting) done.now }
+    requires { FitsSetting (option_map (λ s. the_setting s.now) setting) done.now }
     ensures { IfOk result (λ bytes. bytes ≡ done_text (map string_bytes words.now) (option_map (λ s. the_setting s.now) setting.entry) done.now) }
 {
     let mut out = Vec::new(alloc);

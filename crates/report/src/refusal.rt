@@ -1,6 +1,6 @@
 //! The texts of refusals.
 ghost use Rattle.std.specs.Prelude.{◌≡◌, ◌++◌, OnOk, codes, map, string_bytes};
-ghost use Rattle.report.specs.Texts.{role_word, file_name as name_of_file, cat_fault, sql_fault, bind_fault, not_built, refusal, numbered};
+ghost use Rattle.report.specs.Texts.{role_word, file_name as name_of_file, cat_fault, sql_fault, bind_fault, refusal, numbered};
 ghost use Rattle.report.specs.Paths.{path_text};
 
 use crate::path::push_path;
@@ -112,18 +112,6 @@ fn push_bind_fault(alloc: Global, out: &mut Vec<u8>, fault: BindFault) -> Result
     }
 }
 
-/// Adds that a command or a statement isn't built.
-fn push_not_built(alloc: Global, out: &mut Vec<u8>, number: u32) -> Result<(), AllocError>
-    ensures { OnOk result (out.new.items ≡ out.old.items ++ not_built number) }
-{
-    if number == 0 {
-        return out.extend_from_slice(b"not built");
-    }
-    push_numbered(alloc, out, b"statement ", number as u128)?;
-    out.extend_from_slice(b" not built")?;
-    Ok(())
-}
-
 /// Adds that there is no statement of a number.
 fn push_no_statement(
     alloc: Global,
@@ -156,6 +144,6 @@ pub(crate) fn push_refusal(
         Refusal::BadConf(line) => {
             push_numbered(alloc, out, b"configuration line ", line as u128)
         }
-        Refusal::NotBuilt(number) => push_not_built(alloc, out, number),
+        Refusal::NotBuilt => out.extend_from_slice(b"not built"),
     }
 }

@@ -1,47 +1,52 @@
 //! `cost`: the price of a workload over the indexes that exist.
-ghost use Rattle.std.specs.Prelude.{◌≡◌, ◌+◌, ◌≤◌, ◌<◌, ◌∷◌, [], ◌++◌, IfOk, IfErr, OnOk, All, length, Some, None, true};
-ghost use Rattle.adv_base.specs.Named.{NamesBlock, NamesWork};
-ghost use Rattle.plan_model.specs.Totals.{IsBlockCost, IsCost, AreCosts, weighted_sum, no_candidates};
+ghost use Rattle.std.specs.Prelude.{◌≡◌, ◌+◌, ◌≤◌, ◌<◌, ◌∷◌, [], ◌++◌, IfOk, OnOk, All, length, Some, None};
+ghost use Rattle.adv_base.specs.Named.{NamesWork};
+ghost use Rattle.plan_model.specs.Totals as totals;
+ghost use Rattle.plan_model.specs.declared.plan.TheConstants.{MOST_COST, MOST_TOTAL};
 ghost use Rattle.report.specs.Settings.{the_setting};
-ghost use Rattle.report.specs.Texts.{HasPrices};
-ghost use Rattle.cophy_core.specs.Built.{is_select, unbuilt_from};
-ghost use Rattle.cophy_core.specs.Causes.{IsBounded};
-ghost use Rattle.cophy_core.specs.Stops.{StopsAt};
+ghost use Rattle.report.specs.Texts.{FitsSetting};
+ghost use Rattle.cophy_core.specs.Causes.{most_statement_cost, IsBounded};
 ghost use Rattle.cophy_core.specs.commands.Cost as spec;
 
 use crate::planned::plan_block;
-use crate::statements::first_unbuilt;
-use crate::stop::Stop;
-use adv_base::{Block, Config, List, NoMemory, Setting, Statement, Work};
-use report::{Done, Prices, Refusal};
+use crate::statements::{block_of, upkeep_of};
+use adv_base::{Config, List, NoMemory, Setting, Statement, Work};
+use report::{Done, Prices};
 use std::alloc::Global;
 
-/// What a least plan of a block costs over the indexes that exist.
-fn block_cost(alloc: Global, setting: &Setting<'_>, block: &Block) -> Result<u128, NoMemory>
-    requires { NamesBlock setting.now.cat.now block.now }
-    ensures least { IfOk result (IsBlockCost setting.now.cat.now setting.now.shapes.now no_candidates block.now) }
-    ensures bound { IfOk result (λ cost. cost < 1000000000000000000000) }
-{
-    let none = Config { on: [false; 256] };
-    let found = plan_block(alloc, setting, &none, block)?;
-    Ok(found.cost)
-}
-
-/// What a SELECT costs over the indexes that exist. It has no upkeep.
-fn select_cost(
+/// What a least plan of a statement costs under a configuration. An INSERT has none.
+fn plan_cost(
     alloc: Global,
     setting: &Setting<'_>,
+    config: &Config,
+    work: &Work,
+) -> Result<u128, NoMemory>
+    requires { NamesWork setting.now.cat.now work.now }
+    ensures least { IfOk result (totals.IsPlanCost setting.now.cat.now setting.now.shapes.now config.now work.now) }
+    ensures bound { IfOk result (λ cost. cost < MOST_COST) }
+{
+    match block_of(work) {
+        Some(block) => {
+            let found = plan_block(alloc, setting, config, block)?;
+            Ok(found.cost)
+        }
+        None => Ok(0),
+    }
+}
+
+/// What a statement costs under a configuration, without its weight: a least plan and the upkeep of all indexes.
+fn statement_cost(
+    alloc: Global,
+    setting: &Setting<'_>,
+    config: &Config,
     statement: &Statement,
 ) -> Result<u128, NoMemory>
-    requires named { NamesWork setting.now.cat.now statement.now.work }
-    requires built { is_select statement.now.work ≡ true }
-    ensures cost { IfOk result (IsCost setting.now.cat.now setting.now.shapes.now no_candidates statement.now.work) }
-    ensures bound { IfOk result (λ cost. cost < 1000000000000000000000) }
+    requires { NamesWork setting.now.cat.now statement.now.work }
+    ensures cost { IfOk result (totals.IsCost setting.now.cat.now setting.now.shapes.now config.now statement.now.work) }
+    ensures bound { IfOk result (λ cost. cost < most_statement_cost) }
 {
-    match &statement.work {
-        Work::Select(block) => block_cost(alloc, setting, block),
-        Work::Update(_, _) | Work::Delete(_) | Work::Insert { .. } => unreachable!(),
-    }
+    let plan = plan_cost(alloc, setting, config, &statement.work)?;
+    Ok(plan + upkeep_of(setting, config, statement))
 }
 
 /// Puts the cost of the next statement at the end.
@@ -51,19 +56,21 @@ fn put(costs: &mut Vec<u128>, cost: u128) -> Result<(), NoMemory>
     costs.push(cost).map_err(|_| NoMemory)
 }
 
-/// The cost of each SELECT, in thousandths of a sequential page read, and the sum of weight times cost.
-fn prices_of(alloc: Global, setting: &Setting<'_>) -> Result<Prices, NoMemory>
-    requires built { unbuilt_from 1 setting.now.statements.now ≡ None }
-    ensures prices { IfOk result (spec.ArePrices (the_setting setting.now)) }
+/// The cost of each statement under a configuration, in thousandths of a sequential page read, and the sum of weight times
+/// cost.
+fn prices_of(alloc: Global, setting: &Setting<'_>, config: &Config) -> Result<Prices, NoMemory>
+    ensures no_size { IfOk result (λ prices. prices.size ≡ None) }
+    ensures costs { IfOk result (λ prices. totals.AreCosts setting.now.cat.now setting.now.shapes.now config.now setting.now.statements.now prices.costs) }
+    ensures sum { IfOk result (λ prices. prices.total ≡ totals.weighted_sum setting.now.statements.now prices.costs) }
     ensures each { IfOk result (λ prices. length prices.costs ≡ length setting.now.statements.now) }
-    ensures bound { IfOk result (λ prices. All (λ cost. cost < 1000000000000000000000) prices.costs) }
-    ensures total { IfOk result (λ prices. prices.total < 10000000000000000000000000000000) }
+    ensures bound { IfOk result (λ prices. All (λ cost. cost < most_statement_cost) prices.costs) }
+    ensures total { IfOk result (λ prices. prices.total < MOST_TOTAL) }
 {
     let mut costs = Vec::new(alloc);
     let mut total: u128 = 0;
     'statements: for at in 0..setting.statements.len() {
         let statement = &setting.statements[at];
-        let cost = select_cost(alloc, setting, statement)?;
+        let cost = statement_cost(alloc, setting, config, statement)?;
         total += statement.weight as u128 * cost;
         put(&mut costs, cost)?;
     }
@@ -74,17 +81,14 @@ fn prices_of(alloc: Global, setting: &Setting<'_>) -> Result<Prices, NoMemory>
     })
 }
 
-/// The prices of all statements over the indexes that exist, or the first that isn't built. Each cost is that of a least
-/// plan: no valid plan of the statement costs less (System R's search, over bushy plans).
-pub(crate) fn cost(alloc: Global, setting: &Setting<'_>) -> Result<Done, Stop>
+/// The prices of all statements over the indexes that exist. Each cost is that of a least plan (System R's search, over
+/// bushy plans) and of the upkeep of the indexes that the statement writes; an INSERT has no plan.
+pub(crate) fn cost(alloc: Global, setting: &Setting<'_>) -> Result<Done, NoMemory>
     ensures gives { IfOk result (spec.Gives (the_setting setting.now)) }
-    ensures prices { IfOk result (HasPrices (Some (the_setting setting.now))) }
+    ensures fits { IfOk result (FitsSetting (Some (the_setting setting.now))) }
     ensures bound { IfOk result IsBounded }
-    ensures stop { IfErr result (StopsAt (spec.Refuses (the_setting setting.now))) }
 {
-    if let Some(unbuilt) = first_unbuilt(setting.statements) {
-        return Err(Stop::Refused(Refusal::NotBuilt(unbuilt)));
-    }
-    let prices = prices_of(alloc, setting)?;
+    let none = Config::none();
+    let prices = prices_of(alloc, setting, &none)?;
     Ok(Done::Priced(prices))
 }

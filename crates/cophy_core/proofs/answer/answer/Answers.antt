@@ -35,10 +35,10 @@ returns-in_err-done-clause-stop g c =
     let setting = the_setting c.setting-setting.result in
     let before = counts (g.S.Shelf.read_faults c.args.shelf.now) (g.S.Shelf.read_faults_at c.args.shelf.now) in
     let after = counts (g.S.Shelf.read_faults c.read_files.new.shelf) (g.S.Shelf.read_faults_at c.read_files.new.shelf) in
-    let opened : IsSetting (input inputs 0) (input inputs 1) (setting_in c.in_ok-opened.opened) 0 = rw (c.bytes_at.ensures, c.bytes_at-2.ensures) at c.in_ok-opened.ensures.setting in
-    let is : IsSetting (input inputs 0) (input inputs 1) setting 0 = subst (λ (s : TheSetting). IsSetting (input inputs 0) (input inputs 1) s 0) (sym c.setting-setting.ensures) opened in
+    let opened : IsSetting (input inputs 0) (input inputs 1) (setting_in c.in_ok-opened.opened) c.in_ok-opened.opened.left_over = rw (c.bytes_at.ensures, c.bytes_at-2.ensures) at c.in_ok-opened.ensures.setting in
+    let is : IsSetting (input inputs 0) (input inputs 1) setting c.in_ok-opened.opened.left_over = subst (λ (s : TheSetting). IsSetting (input inputs 0) (input inputs 1) s c.in_ok-opened.opened.left_over) (sym c.setting-setting.ensures) opened in
     let h : StopsAtFiles command (g.S.Shelf.files c.args.shelf.now) before after stop =
-    work_stops command (g.S.Shelf.files c.args.shelf.now) before after inputs setting 0 stop c.in_ok-inputs.ensures.built c.in_ok-inputs.ensures.inputs is c.in_err-done.ensures.stop in
+    work_stops command (g.S.Shelf.files c.args.shelf.now) before after inputs setting c.in_ok-opened.opened.left_over stop c.in_ok-inputs.ensures.built c.in_ok-inputs.ensures.inputs is c.in_err-done.ensures.stop in
     search (rules, h)
 
 pub returns-clause-reply : goal.returns-clause-reply
@@ -47,10 +47,10 @@ returns-clause-reply g c =
     let files = g.S.Shelf.files c.args.shelf.now in
     let inputs = c.in_ok-inputs.inputs in
     let setting = the_setting c.setting-setting.result in
-    let opened : IsSetting (input inputs 0) (input inputs 1) (setting_in c.in_ok-opened.opened) 0 = rw (c.bytes_at.ensures, c.bytes_at-2.ensures) at c.in_ok-opened.ensures.setting in
-    let is : IsSetting (input inputs 0) (input inputs 1) setting 0 = subst (λ (s : TheSetting). IsSetting (input inputs 0) (input inputs 1) s 0) (sym c.setting-setting.ensures) opened in
+    let opened : IsSetting (input inputs 0) (input inputs 1) (setting_in c.in_ok-opened.opened) c.in_ok-opened.opened.left_over = rw (c.bytes_at.ensures, c.bytes_at-2.ensures) at c.in_ok-opened.ensures.setting in
+    let is : IsSetting (input inputs 0) (input inputs 1) setting c.in_ok-opened.opened.left_over = subst (λ (s : TheSetting). IsSetting (input inputs 0) (input inputs 1) s c.in_ok-opened.opened.left_over) (sym c.setting-setting.ensures) opened in
     record {
-      answers = work_gives command files inputs setting 0 c.in_ok-done.done c.in_ok-inputs.ensures.built c.in_ok-inputs.ensures.inputs is c.in_ok-done.ensures.gives;
+      answers = work_gives command files inputs setting c.in_ok-opened.opened.left_over c.in_ok-done.done c.in_ok-inputs.ensures.built c.in_ok-inputs.ensures.inputs is c.in_ok-done.ensures.gives;
       no_puts = ap plain_puts c.new.ensures;
-      text_is = work_told command files (texts c.args.words.now) inputs setting 0 c.in_ok-done.done c.in_ok-text.text c.in_ok-inputs.ensures.inputs is c.in_ok-done.ensures.gives c.in_ok-text.ensures;
+      text_is = work_told command files (texts c.args.words.now) inputs setting c.in_ok-opened.opened.left_over c.in_ok-done.done c.in_ok-text.text c.in_ok-inputs.ensures.inputs is c.in_ok-done.ensures.gives c.in_ok-text.ensures;
     }

@@ -42,9 +42,9 @@ invariant_of-result c = record {
   limits = record {
     statements_most = c.in_ok-statements.ensures.most;
     slots_most = c.in_ok-statements.ensures.few;
-    shapes_most = search rules;
+    shapes_most = c.in_ok-found.ensures.few;
     statements_named = c.in_ok-statements.ensures.named;
-    shapes_named = search rules;
+    shapes_named = c.in_ok-found.ensures.named;
   };
 }
 
@@ -56,5 +56,5 @@ returns-clause-setting c = record {
     is_workload = c.in_ok-parsed.ensures.found;
     bound = rw c.in_ok-parsed.ensures.same_text at c.in_ok-statements.ensures.exact;
   };
-  candidates_are = (search rules, refl);
+  candidates_are = record { lists = rw c.as_slice.ensures at c.in_ok-found.ensures.list; plain = c.in_ok-found.ensures.plain; rest = rw c.as_slice.ensures at c.in_ok-found.ensures.left_over };
 }

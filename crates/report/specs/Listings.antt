@@ -1,0 +1,36 @@
+-- Candidate indexes as they are printed: `2 t(a, b) 5 pages`.
+use Rattle.std.specs.Prelude.{ℕ, ◌+◌, List, [], ◌∷◌, ◌++◌, codes, decimal, slice_get}
+use Rattle.std.specs.List.{join_by}
+use Rattle.std.specs.Option.{option_map_or}
+use Rattle.adv_base.specs.declared.catalogue.Catalogue.{Catalogue}
+use Rattle.adv_base.specs.declared.catalogue.index.IndexShape.{IndexShape}
+use Rattle.adv_base.specs.declared.catalogue.table.Table.{Table}
+use Rattle.adv_base.specs.Lookups as lookups
+use Rattle.adv_base.specs.Sizes as sizes
+
+-- the name of a table's column
+abbrev pub column_words : Table → ℕ → List ℕ
+column_words table c = option_map_or (λ column. column.name) (slice_get table.columns c) []
+
+-- the columns of keys, with commas between them
+abbrev pub key_words : Table → List ℕ → List ℕ
+key_words table keys = join_by (column_words table) (codes ", ") keys
+
+-- a table, and key columns in parentheses
+abbrev pub index_words : Table → List ℕ → List ℕ
+index_words table keys = table.name ++ (codes "(" ++ (key_words table keys ++ codes ")"))
+
+-- those of an index
+abbrev pub shape_words : Catalogue → IndexShape → List ℕ
+shape_words cat shape = option_map_or (λ table. index_words table shape.keys) (lookups.table_at cat shape.table) []
+
+-- a candidate by its number, its table and columns, and its pages
+unfoldable pub candidate_words : Catalogue → ℕ → IndexShape → List ℕ
+candidate_words cat number shape =
+    decimal number ++ (codes " " ++ (shape_words cat shape ++ (codes " " ++ (decimal (sizes.shape_pages cat shape) ++ codes " pages"))))
+
+-- a line for each, numbered from there on
+unfoldable pub candidate_lines : Catalogue → ℕ → List IndexShape → List ℕ
+candidate_lines cat number [] = []
+candidate_lines cat number (shape ∷ shapes) =
+    candidate_words cat number shape ++ 10 ∷ [] ++ candidate_lines cat (number + 1) shapes
