@@ -1,11 +1,10 @@
 -- Fixing never lowers the Lagrangian value: a side of a branch has no more candidates to rent than its node.
-use Rattle.std.proofs.Common.{◌≡◌, ◌∙◌, ◌⊎◌, inl, inr, ℕ, zero, suc, ◌+◌, ◌-◌, ◌*◌, ◌<◌, ◌≤◌, ◌==◌, Bool, true, false, cond, not, ◌&&◌, ◌||◌, List, [], ◌∷◌, ◌++◌, length, map, All, get_or, ℤ, pos, negsuc, refl, sym, ap, subst, arith}
+use Rattle.std.proofs.Common.{◌≡◌, ◌∙◌, ◌⊎◌, inl, inr, ℕ, zero, suc, ◌+◌, ◌-◌, ◌*◌, ◌≤◌, Bool, true, false, cond, not, ◌&&◌, ◌||◌, List, [], ◌∷◌, ◌++◌, map, ℤ, pos, negsuc, refl, sym, ap, subst, arith}
 use Rattle.std.specs.Prelude.{Option, Some, None, if◌then◌else◌, filter, nat_le, slice_get, ◌≤ℤ◌}
 use Rattle.std.specs.Option.{option_map_or}
 use Rattle.std.proofs.Math.Nat.{mul-le-mul}
 use Rattle.std.proofs.lemmas.Bool.{cases_Bool, false≢true}
 use Rattle.std.proofs.lemmas.Bool.Decides.{nat_tests}
-use Rattle.std.proofs.lemmas.List.{map-append}
 use Rattle.std.proofs.lemmas.Option.{slice_get_cases, slice_get_within}
 use Rattle.adv_base.specs.declared.catalogue.Catalogue.{Catalogue}
 use Rattle.adv_base.specs.declared.catalogue.index.IndexShape.{IndexShape}
@@ -16,18 +15,16 @@ use Rattle.adv_base.specs.declared.workload.Work.{Work}
 use Rattle.adv_base.specs.declared.workload.Work.TheVariants.{Select, Update, Delete, Insert}
 use Rattle.adv_base.specs.declared.workload.block.Block.{Block}
 use Rattle.adv_base.specs.declared.workload.parts.Slot.{Slot}
-use Rattle.adv_base.specs.Access.{index_order, index_price}
 use Rattle.adv_base.specs.Configs.{has_candidate, config_pages}
 use Rattle.adv_base.specs.Laws.{IsRent}
 use Rattle.adv_base.specs.Lookups.{table_at}
 use Rattle.adv_base.specs.Nodes as nodes
 use Rattle.adv_base.specs.Nodes.{is_free, is_open, is_available, candidate_pages, available}
-use Rattle.adv_base.specs.Offers.{Offer, OfferTable, Path, Heap, Existing, Candidate, candidate_path, numbered_on, paths_on, charged_path_offer, charged_offers_on, charged_offers_of, charged_offers}
-use Rattle.adv_base.specs.OfferTables.{price_at, order_at}
+use Rattle.adv_base.specs.Offers.{Offer, Heap, Existing, candidate_path, numbered_on, paths_on, charged_path_offer, charged_offers_on, charged_offers_of, charged_offers}
 use Rattle.adv_base.specs.Settings.{TheSetting}
 use Rattle.adv_base.proofs.OfferBounds.{charged-limits}
 use Rattle.plan_model.specs.declared.task.Task.{Task}
-use Rattle.plan_model.specs.Comparisons.{HasOffer, HasOffersOf}
+use Rattle.plan_model.specs.Comparisons.{HasOffersOf}
 use Rattle.plan_model.specs.Least.{Least}
 use Rattle.plan_model.specs.Lagrangian.{TheMultipliers, IsRentedCost, IsRentedPlan, AreRentedPlans, IsWithin, weighted_kept, candidate_cost, candidate_rents, costs_inside, earnings, IsRoundedUp, IsLagrangian}
 use Rattle.plan_model.specs.Totals.{weighted_sum}

@@ -1,5 +1,5 @@
 -- What a tree shows: a bound on the total of every fitting configuration below its root.
-use Rattle.std.proofs.Common.{◌≡◌, ◌∙◌, ◌⊎◌, inl, inr, ℕ, zero, suc, ◌+◌, ◌-◌, ◌<◌, ◌≤◌, ◌==◌, Bool, true, false, ◌||◌, List, [], ◌∷◌, length, All, replicate, ℤ, pos, negsuc, refl, sym, ap, subst, arith}
+use Rattle.std.proofs.Common.{◌≡◌, ◌∙◌, ◌⊎◌, inl, inr, ℕ, zero, suc, ◌+◌, ◌-◌, ◌≤◌, Bool, true, false, List, [], ◌∷◌, replicate, ℤ, pos, negsuc, refl, sym, ap, arith}
 use Rattle.std.specs.Prelude.{slice_index_or, slice_set, ◌≤ℤ◌}
 use lib.Dec.{leb→le}
 use Rattle.std.proofs.lemmas.Bool.{cases_Bool, false≢true}
@@ -8,20 +8,19 @@ use Rattle.adv_base.specs.declared.catalogue.index.IndexShape.{IndexShape}
 use Rattle.adv_base.specs.declared.limits.TheConstants.{MOST_CANDIDATES}
 use Rattle.adv_base.specs.declared.setting.Config.{Config}
 use Rattle.adv_base.specs.declared.workload.Statement.{Statement}
-use Rattle.adv_base.specs.declared.workload.block.Block.{Block}
 use Rattle.adv_base.specs.Configs.{has_candidate, config_pages, IsConfigOf, Fits}
 use Rattle.adv_base.specs.Nodes as nodes
 use Rattle.adv_base.specs.Nodes.{flags_from, config_of, IsBelow}
 use Rattle.adv_base.specs.Settings.{TheSetting, KeepsLimits}
 use Rattle.adv_base.specs.Sizes.{shape_pages}
 use Rattle.adv_base.proofs.OfferBounds.{offers-limits}
-use Rattle.plan_model.specs.Lagrangian.{TheMultipliers, IsLagrangian, IsAtMost}
+use Rattle.plan_model.specs.Lagrangian.{TheMultipliers, IsAtMost}
 use Rattle.plan_model.specs.Totals.{no_candidates, IsTotal, OffersKeepLimits}
 use Rattle.plan_model.proofs.Duality.{weak-duality}
 use Rattle.plan_model.proofs.Renting.{flag-of}
 use Rattle.plan_model.proofs.Sums.{sum-total, passing, chosen-passing, passing-more}
 use Rattle.bip_model.specs.declared.answer.Node.{Node}
-use Rattle.bip_model.specs.Trees.{Tree, Branches, Leaf, Full, with_candidate, in_side, out_side, IsBounded, IsBranch, Shows}
+use Rattle.bip_model.specs.Trees.{Tree, Branches, Leaf, Full, with_candidate, in_side, out_side, Shows}
 use Rattle.bip_model.specs.Proves.{free_node, Proves}
 use Rattle.bip_model.proofs.Standing.{flags-are}
 

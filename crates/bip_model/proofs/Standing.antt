@@ -1,5 +1,5 @@
 -- In a programme that stands for a setting, the cost of a part is the cost of a least plan of its block.
-use Rattle.std.proofs.Common.{◌≡◌, ◌∙◌, ◌⊎◌, inl, inr, ℕ, zero, suc, ◌+◌, ◌-◌, ◌<◌, ◌≤◌, ◌==◌, Bool, true, false, List, [], ◌∷◌, ◌++◌, length, All, fold, map, take, get_or, replicate, refl, sym, ap, subst, arith}
+use Rattle.std.proofs.Common.{◌≡◌, ◌∙◌, inl, inr, ℕ, zero, suc, ◌+◌, ◌<◌, ◌≤◌, ◌==◌, Bool, true, false, List, [], ◌∷◌, ◌++◌, length, All, fold, map, take, refl, sym, ap, subst, arith}
 use Rattle.std.specs.Prelude.{Option, Some, None, if◌then◌else◌, filter, slice_get, slice_index_or, option_and_then, unwrap_or}
 use Rattle.std.specs.List.{enumerate_from}
 use Rattle.std.specs.Option.{option_map_or}
@@ -18,29 +18,27 @@ use Rattle.adv_base.specs.Configs.{chosen, has_candidate}
 use Rattle.adv_base.specs.Items.{Order, BeginsWith, is_same_order}
 use Rattle.adv_base.specs.Lookups.{table_at}
 use Rattle.adv_base.specs.Named.{NamesBlock}
-use Rattle.adv_base.specs.Offers.{Offer, OfferTable, Path, Heap, Existing, Candidate, candidate_path, numbered_on, path_offer, index_offer, offers_on, offers_of, offers}
-use Rattle.adv_base.specs.OfferTables.{price_at, order_at}
+use Rattle.adv_base.specs.Offers.{Offer, OfferTable, Path, Heap, Existing, candidate_path, numbered_on, path_offer, index_offer, offers_on, offers_of, offers}
 use Rattle.adv_base.specs.Settings.{TheSetting}
 use Rattle.adv_base.proofs.Begins.{begins_decides, begins_nil}
 use Rattle.adv_base.proofs.ConfigLaws.{chosen-none}
 use Rattle.adv_base.proofs.OfferBounds.{offers-limits, tables-offered}
 use Rattle.plan_model.specs.declared.task.Task.{Task}
 use Rattle.plan_model.specs.declared.template.Template.{Template}
-use Rattle.plan_model.specs.Combinations.{Orders, IsOffered, IsLeastPrice, IsPriced, CachedBy, needed, IsIn}
+use Rattle.plan_model.specs.Combinations.{IsOffered, IsLeastPrice, CachedBy, needed, IsIn}
 use Rattle.plan_model.specs.Exchange.{sum_below}
 use Rattle.plan_model.specs.Least.{Least}
 use Rattle.plan_model.specs.Orders.{interesting_orders}
 use Rattle.plan_model.specs.Totals.{no_candidates}
 use Rattle.plan_model.proofs.Renting.{flag-of}
-use Rattle.plan_model.proofs.SetLaws.{sum_below-same}
 use Rattle.plan_model.proofs.Sums.{AreFlags}
 use Rattle.bip_model.specs.declared.grant.Grant.{Grant}
 use Rattle.bip_model.specs.declared.slot_part.SlotPart.{SlotPart}
 use Rattle.bip_model.specs.declared.part.Part.{Part}
 use Rattle.bip_model.specs.Limits.Parts.{TemplateLimits}
 use Rattle.bip_model.specs.Values.{lesser, plus, price_of, granted, slot_price, need, needed_price, cost_below, template_cost, least_cost, part_cost}
-use Rattle.bip_model.specs.StandsFor.{given, least_given, candidates_on, AreEach, IsGrant, IsSlotPart, SomeAsksNothing, Blocked, IsPart}
-use Rattle.bip_model.proofs.Least.{IsSome, IsMade, least-made, least-most, least-filter, least-map}
+use Rattle.bip_model.specs.StandsFor.{given, least_given, candidates_on, AreEach, IsGrant, IsSlotPart, Blocked, IsPart}
+use Rattle.bip_model.proofs.Least.{IsSome, least-made, least-most, least-filter, least-map}
 
 -- ## The candidates of a configuration on a table
 

@@ -1,5 +1,5 @@
 -- The value of a programme that stands for a setting is the total of the setting's workload.
-use Rattle.std.proofs.Common.{◌≡◌, ◌∙◌, ℕ, zero, suc, ◌+◌, ◌*◌, Bool, true, false, List, [], ◌∷◌, length, map, All, fold, refl, sym, ap, subst, arith}
+use Rattle.std.proofs.Common.{◌≡◌, ◌∙◌, ℕ, suc, ◌+◌, ◌*◌, Bool, true, false, List, [], ◌∷◌, map, All, fold, refl, sym, ap, subst, arith}
 use Rattle.std.specs.Prelude.{Option, Some, None, sum, sum_by}
 use Rattle.std.proofs.Math.Nat.{mul-add}
 use Rattle.std.proofs.lemmas.List.Elements.{All-head, All-tail}
@@ -15,12 +15,12 @@ use Rattle.adv_base.specs.Named.{NamesBlock, NamesWork}
 use Rattle.adv_base.specs.Settings.{TheSetting, KeepsLimits}
 use Rattle.adv_base.specs.Upkeep.{upkeep, kept_upkeep, config_upkeep}
 use Rattle.plan_model.specs.Lagrangian.{weighted_upkeep, weighted_kept}
-use Rattle.plan_model.specs.Totals.{block_of, IsBlockCost, IsPlanCost, IsCost, AreCosts, weighted_sum, IsTotal}
+use Rattle.plan_model.specs.Totals.{block_of, IsBlockCost, IsPlanCost, AreCosts, weighted_sum, IsTotal}
 use Rattle.plan_model.proofs.Sums.{total, sum-total, total-same, total-add, total-scale, total-swap}
 use Rattle.bip_model.specs.declared.part.Part.{Part}
 use Rattle.bip_model.specs.declared.programme.Programme.{Programme}
 use Rattle.bip_model.specs.Values.{part_cost, value}
-use Rattle.bip_model.specs.StandsFor.{AreEach, Blocked, IsPart, blocked_in, blocked_from, StandsFor}
+use Rattle.bip_model.specs.StandsFor.{AreEach, IsPart, blocked_in, blocked_from, StandsFor}
 use Rattle.bip_model.proofs.Pricing.{sum-start}
 use Rattle.bip_model.proofs.Standing.{part-least}
 

@@ -13,7 +13,7 @@ use Rattle.adv_base.specs.declared.workload.Work.{Work}
 use Rattle.adv_base.specs.declared.workload.Work.TheVariants.{Select, Update, Delete, Insert}
 use Rattle.adv_base.specs.declared.workload.block.Block.{Block}
 use Rattle.adv_base.specs.declared.workload.parts.Slot.{Slot}
-use Rattle.adv_base.specs.Configs.{has_candidate, IsConfigOf, chosen, candidates_in}
+use Rattle.adv_base.specs.Configs.{has_candidate, IsConfigOf, chosen}
 use Rattle.adv_base.specs.Laws.{IsRent}
 use Rattle.adv_base.specs.Named.{NamesBlock, NamesWork}
 use Rattle.adv_base.specs.Nodes as nodes
@@ -25,7 +25,7 @@ use Rattle.adv_base.proofs.ConfigLaws.{config_of-has}
 use Rattle.adv_base.proofs.OfferBounds.{offers-limits}
 use Rattle.plan_model.specs.declared.task.Task.{Task}
 use Rattle.plan_model.specs.Least.{Least}
-use Rattle.plan_model.specs.Lagrangian.{TheMultipliers, IsRentedCost, IsRentedPlan, AreRentedPlans, IsWithin, weighted_upkeep, weighted_kept, slot_rents, weighted_rents, candidate_cost, candidate_rents, costs_inside, earnings, IsRoundedUp, IsLagrangian}
+use Rattle.plan_model.specs.Lagrangian.{IsRentedCost, IsRentedPlan, AreRentedPlans, IsWithin, weighted_upkeep, weighted_kept, slot_rents, weighted_rents, candidate_cost, candidate_rents, costs_inside, earnings, IsRoundedUp, IsLagrangian}
 use Rattle.plan_model.specs.Totals.{block_of, IsBlockCost, IsPlanCost, AreCosts, weighted_sum, IsTotal}
 use Rattle.plan_model.proofs.Comparing.{least-never-rises}
 use Rattle.plan_model.proofs.Renting.{flag-of}

@@ -1,13 +1,11 @@
 -- At a node where no open candidate is useful, the Lagrangian value without rents is the total of what is in.
-use Rattle.std.proofs.Common.{◌≡◌, ◌∙◌, ◌⊎◌, inl, inr, ℕ, zero, suc, ◌+◌, ◌-◌, ◌*◌, ◌<◌, ◌≤◌, ◌==◌, Bool, true, false, cond, not, ◌&&◌, ◌||◌, List, [], ◌∷◌, ◌++◌, length, map, sum, All, get_or, ℤ, pos, negsuc, refl, sym, ap, subst, arith}
-use Rattle.std.specs.Prelude.{Option, Some, None, if◌then◌else◌, filter, nat_le, slice_get, slice_index_or, option_and_then}
+use Rattle.std.proofs.Common.{◌≡◌, ◌∙◌, ◌⊎◌, inl, inr, ℕ, zero, suc, ◌+◌, ◌-◌, ◌<◌, ◌≤◌, ◌==◌, Bool, true, false, cond, List, [], ◌∷◌, ◌++◌, length, map, All, get_or, refl, sym, ap, subst, arith}
+use Rattle.std.specs.Prelude.{Option, Some, filter, nat_le, slice_get, slice_index_or, option_and_then}
 use Rattle.std.specs.List.{enumerate_from, list_any}
 use Rattle.std.specs.Option.{option_map_or}
-use Rattle.std.proofs.Math.Nat.{mul-add}
 use Rattle.std.proofs.lemmas.Bool.{cases_Bool, cases_lt, eqb-true, false≢true}
 use Rattle.std.proofs.lemmas.Bool.Decides.{nat_tests}
 use Rattle.std.proofs.lemmas.Option.{slice_get_cases, slice_get_within}
-use Rattle.adv_base.specs.declared.catalogue.Catalogue.{Catalogue}
 use Rattle.adv_base.specs.declared.catalogue.index.IndexShape.{IndexShape}
 use Rattle.adv_base.specs.declared.catalogue.table.Table.{Table}
 use Rattle.adv_base.specs.declared.limits.TheConstants.{MOST_CANDIDATES}
@@ -15,7 +13,7 @@ use Rattle.adv_base.specs.declared.setting.Config.{Config}
 use Rattle.adv_base.specs.declared.workload.Statement.{Statement}
 use Rattle.adv_base.specs.declared.workload.block.Block.{Block}
 use Rattle.adv_base.specs.declared.workload.parts.Slot.{Slot}
-use Rattle.adv_base.specs.Configs.{has_candidate, config_pages, IsConfigOf}
+use Rattle.adv_base.specs.Configs.{has_candidate, config_pages}
 use Rattle.adv_base.specs.Items.{Order, BeginsWith, is_same_order}
 use Rattle.adv_base.specs.Lookups.{table_at}
 use Rattle.adv_base.specs.Named.{NamesBlock}
@@ -23,26 +21,22 @@ use Rattle.adv_base.specs.Nodes as nodes
 use Rattle.adv_base.specs.Nodes.{flags_from, config_of, is_free, is_open, is_available, candidate_pages, available}
 use Rattle.adv_base.specs.Offers.{Offer, OfferTable, numbered_on, index_offer, offers}
 use Rattle.adv_base.specs.OfferTables.{price_at, order_at}
-use Rattle.adv_base.specs.Settings.{TheSetting, KeepsLimits}
+use Rattle.adv_base.specs.Settings.{TheSetting}
 use Rattle.adv_base.specs.Sizes.{shape_pages}
 use Rattle.adv_base.proofs.Begins.{begins_cases, begins_trans}
-use Rattle.adv_base.proofs.ConfigLaws.{config_of-has}
-use Rattle.adv_base.proofs.OfferBounds.{offers-limits, slot_table-some}
+use Rattle.adv_base.proofs.OfferBounds.{slot_table-some}
 use Rattle.plan_model.specs.declared.task.Task.{Task}
 use Rattle.plan_model.specs.BlockTask.{IsTaskOf}
 use Rattle.plan_model.specs.Comparisons.{IsBetter, NoDearer}
 use Rattle.plan_model.specs.Exchange.{ServesLike}
 use Rattle.plan_model.specs.Orders.{interesting_orders}
-use Rattle.plan_model.specs.Totals.{no_candidates, block_of, IsBlockCost}
-use Rattle.plan_model.specs.Useful.{IsCheaper, IsUseful}
-use Rattle.plan_model.proofs.Comparing.{least-never-rises}
+use Rattle.plan_model.specs.Totals.{no_candidates, block_of}
+use Rattle.plan_model.specs.Useful.{IsUseful}
 use Rattle.plan_model.proofs.Decomposing.{core}
 use Rattle.plan_model.proofs.Renting.{flag-of}
-use Rattle.plan_model.proofs.Unique.{one-task}
-use Rattle.plan_model.specs.Least.{Least}
 use Rattle.bip_model.specs.Laws.{NoneUseful}
 use Rattle.bip_model.specs.StandsFor.{candidates_on}
-use Rattle.bip_model.proofs.Fixing.{Has, IsImage, image-of, mapped-at, either, both}
+use Rattle.bip_model.proofs.Fixing.{Has, image-of, mapped-at, either, both}
 use Rattle.bip_model.proofs.Standing.{chosen-on, offers-split}
 
 -- ## What passes a test

@@ -1,6 +1,6 @@
 -- What a programme says a configuration costs: at each slot the least price of each order, for each template what it and
 -- its slots cost, and the least over a part's templates.
-use Rattle.std.specs.Prelude.{ℕ, zero, suc, ◌+◌, ◌*◌, ◌^◌, min, Bool, if◌then◌else◌, List, length, fold, sum, sum_by, Option, Some, None, unwrap_or, option_and_then, slice_get, slice_index_or}
+use Rattle.std.specs.Prelude.{ℕ, zero, suc, ◌+◌, ◌*◌, ◌^◌, min, if◌then◌else◌, List, length, fold, sum, sum_by, Option, Some, None, unwrap_or, option_and_then, slice_get, slice_index_or}
 use Rattle.adv_base.specs.declared.limits.TheConstants.{MOST_SLOTS}
 use Rattle.adv_base.specs.declared.setting.Config.{Config}
 use Rattle.adv_base.specs.Configs.{has_candidate, chosen}

@@ -1,12 +1,11 @@
 -- Nodes and multipliers, as the definitions of plan_model see them.
-use Rattle.std.specs.Prelude.{◌≡◌, ℕ, zero, suc, ◌+◌, ◌==◌, ◌≤◌, Bool, true, false, ◌&&◌, if◌then◌else◌, List, [], ◌∷◌, ◌++◌, length, map, All}
+use Rattle.std.specs.Prelude.{◌≡◌, ℕ, suc, ◌==◌, ◌≤◌, Bool, true, false, ◌&&◌, if◌then◌else◌, List, [], ◌∷◌, ◌++◌, length, map, All}
 use Rattle.adv_base.specs.declared.limits.TheConstants.{MOST_PAGE_PRICE, MOST_RENT}
 use Rattle.adv_base.specs.Nodes as nodes
 use Rattle.plan_model.specs.Lagrangian.{TheMultipliers}
 use Rattle.bip_model.specs.declared.fix.Fix.{Fix}
 use Rattle.bip_model.specs.declared.fix.State.{State}
-use Rattle.bip_model.specs.declared.fix.State.TheVariants.{Free, In, Out}
-use Rattle.bip_model.specs.declared.grant.Grant.{Grant}
+use Rattle.bip_model.specs.declared.fix.State.TheVariants.{In, Out}
 use Rattle.bip_model.specs.declared.slot_part.SlotPart.{SlotPart}
 use Rattle.bip_model.specs.declared.part.Part.{Part}
 use Rattle.bip_model.specs.declared.programme.Programme.{Programme}

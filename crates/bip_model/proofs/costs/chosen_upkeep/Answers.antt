@@ -1,4 +1,4 @@
-use Rattle.std.proofs.Common.{◌≡◌, ◌<◌, ◌≤◌, ◌*◌, length, get_or, arith, rules}
+use Rattle.std.proofs.Common.{◌<◌, ◌≤◌, ◌*◌, length, get_or, arith, rules}
 use Rattle.adv_base.specs.declared.limits.TheConstants.{MOST_STATEMENTS, MOST_UPKEEP, MOST_WEIGHT}
 use Rattle.bip_model.proofs.Pricing.{chosen-drop, chosen-past}
 use Rattle.bip_model.proofs.costs.chosen_upkeep.Goals as goal

@@ -1,4 +1,4 @@
-use Rattle.std.proofs.Common.{◌≡◌, ◌+◌, ◌≤◌, suc, refl, sym, arith, rules}
+use Rattle.std.proofs.Common.{◌≡◌, suc, sym, arith}
 use Rattle.std.specs.Prelude.{None}
 use Rattle.bip_model.specs.inner.Words.{row_cost}
 use Rattle.bip_model.proofs.Pricing.{row_cost-none}

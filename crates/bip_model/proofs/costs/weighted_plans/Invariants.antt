@@ -2,7 +2,6 @@ use Rattle.std.proofs.Common.{◌≡◌, ◌*◌, ◌≤◌, take}
 use Rattle.std.specs.Prelude.{sum_by}
 use Rattle.adv_base.specs.declared.limits.TheConstants.{MOST_WEIGHT}
 use Rattle.bip_model.specs.Values as values
-use Rattle.bip_model.specs.inner.Words as words
 use Rattle.bip_model.proofs.costs.weighted_plans.Given as goal
 
 abbrev pub invariant-loop-part : goal.invariant-loop-part

@@ -1,4 +1,4 @@
-use Rattle.std.proofs.Common.{◌<◌, ◌≤◌, length, arith, rules}
+use Rattle.std.proofs.Common.{◌≤◌, length, arith, rules}
 use Rattle.bip_model.proofs.Pricing.{get-some, rows-step}
 use Rattle.bip_model.proofs.costs.write_rows.Goals as goal
 
