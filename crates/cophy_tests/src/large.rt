@@ -26,11 +26,12 @@ fn repeated(rt: &impl Abort, alloc: Global, parts: (&[u8], &str, &str), len: usi
 
 /// Prices a workload over a catalogue, and compares the status and the output, in which `~` stands for a line feed.
 fn assert_cost(rt: &impl Abort, alloc: Global, cat: &[u8], load: &[u8], want: (u8, &str)) {
+    let (wanted, text) = want;
     let mut shelf = shelf(rt, alloc, cat, load, b"");
     let (status, out) = answer(rt, alloc, "cost CAT LOAD", &mut shelf, 50000);
-    let output = spread(rt, alloc, want.1);
+    let output = spread(rt, alloc, text);
     assert_eq!(rt; out.bytes(), output.as_slice());
-    assert_eq!(rt; status, want.0, "{}", want.1);
+    assert_eq!(rt; status, wanted, "{text}");
 }
 
 /// Workloads at the limit: a front, a piece as often as it fits, an end, the status and the output. The piece of `/*` is
