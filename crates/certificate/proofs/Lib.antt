@@ -1,0 +1,14 @@
+pub mod WideDigits
+pub mod WordLaws
+pub mod FormLaws
+pub mod NodeLaws
+pub mod StepLaws
+pub mod Taken
+pub mod LineSteps
+pub mod Keeps
+pub mod Viable
+pub mod ReadLaws
+pub mod Complete
+pub mod Deterministic
+pub mod Splits
+pub mod Breaks

@@ -1,0 +1,5 @@
+pub mod Texts
+pub mod Limits
+pub mod Certificates
+pub mod Order
+pub mod inner

@@ -1,0 +1,5 @@
+-- What retells the reader's steps.
+pub mod Words
+pub mod Steps
+pub mod Drafts
+pub mod Runs
