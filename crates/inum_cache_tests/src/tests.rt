@@ -84,11 +84,11 @@ fn too_many_combinations(rt: HostRuntime) -> Result<(), Fail> {
 fn as_the_planner(rt: HostRuntime) -> Result<(), Fail> {
     let alloc = rt.alloc();
     let mut draws = Draws::new(2007);
-    let mut kept = 0;
+    let mut kept: u64 = 0;
     for number in 0..300 {
         let task = made_task(alloc, &mut draws)?;
         let cache = build(alloc, &task).map_err(|_| "no cache")?;
-        kept += cache.templates().len() as u64;
+        kept = kept.saturating_add(cache.templates().len() as u64);
         for raise in [0, 0, 1, 60_000] {
             let table = made_table(alloc, &mut draws, task.slots, raise)?;
             let (planned, cached) = costs(alloc, &task, &cache, &table)?;
