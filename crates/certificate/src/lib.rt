@@ -12,8 +12,6 @@ mod draft;
 mod forms;
 mod laws;
 mod read;
-#[cfg(test)]
-mod tests;
 mod words;
 
 pub use cert::{Cert, CertFault, Entry, SparseSet};

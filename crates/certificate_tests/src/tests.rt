@@ -1,5 +1,6 @@
-use crate::{CertFault, read_cert};
+//! Certificates that are read, and texts that no certificate has, each with the line at which it breaks, counted by hand.
 use bip_model::Node;
+use certificate::{CertFault, read_cert};
 use std::test::Fail;
 
 /// A certificate of the knapsack of two indexes, in eleven lines.
@@ -11,7 +12,11 @@ const TWO_SETS: &str = "cophy certificate 1\nbudget 0\nconfig\ncost 0\nbound -1\
 
 /// The line, from 1, in which the byte of an offset stands.
 fn line_of(text: &[u8], offset: usize) -> u64 {
-    text[..offset].iter().filter(|byte| **byte == b'\n').count() as u64 + 1
+    text.iter()
+        .take(offset)
+        .filter(|byte| **byte == b'\n')
+        .count() as u64
+        + 1
 }
 
 #[test]
