@@ -5,4 +5,6 @@ pub mod Views
 pub mod Trees
 pub mod Proves
 pub mod Laws
+pub mod Uses
+pub mod Best
 pub mod inner
