@@ -1,0 +1,2 @@
+-- What retells the code of the search; nothing above this crate cites it.
+pub mod Runs
