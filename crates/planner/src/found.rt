@@ -64,11 +64,11 @@ fn find<O: Offers>(alloc: Global, task: &Task, offers: &O) -> Result<Found, Allo
     Ok(found)
 }
 
-/// A least plan of a task over a table of offers, with its cost, which is less than 10^21. The plan is valid and whole, it
-/// costs `cost`, and no valid whole plan costs less: over all bushy trees, merges on every crossing edge in both directions, hash joins, sorts
-/// under merges and groups by any list, both ways to group, and final sorts. Which of several least plans is given is
-/// left open. Each sort in the body is by the list to group by, or else to order by, or by a need of an edge. Each slot
-/// has an offer. The search is that of System R (Selinger and others, 1979), over bushy trees and
+/// A least plan of a task over a table of offers, with its cost. The plan is valid and whole, it costs `cost`, which is
+/// less than 10^21, and no valid whole plan costs less: over all bushy trees, merges on every crossing edge in both
+/// directions, hash joins, sorts under merges and groups by any list, both ways to group, and final sorts. Which of several
+/// least plans is given is left open. Each sort in the body is by the list to group by, or else to order by, or by a need
+/// of an edge. Each slot has an offer. The search is that of System R (Selinger and others, 1979), over bushy trees and
 /// with hash joins. `NoMemory` is want of memory.
 pub fn least<O: Offers>(alloc: Global, task: &Task, offers: &O) -> Result<Found, NoMemory>
     requires { HasOffers task.now.slots (O.table offers.now) }
