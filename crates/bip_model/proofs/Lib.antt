@@ -6,3 +6,5 @@ pub mod Showing
 pub mod Fixing
 pub mod Useless
 pub mod Unrented
+pub mod Lists
+pub mod Sides

@@ -76,12 +76,16 @@ pub record IsTight (setting : TheSetting) (budget : ℕ) (bound : ℤ) (sets : L
   pub value_is : IsLagrangian setting budget leaf.node multipliers bound
   pub highest : (k : ℕ) (other : TheMultipliers) → set_at sets k ≡ Some other → HasLagrangian setting budget leaf.node other (λ value. value ≤ℤ bound)
 
+-- what the sets of an answer say of a setting
+abbrev pub sets_in : TheSetting → Answer → List TheMultipliers
+sets_in setting answer = map (multipliers_in setting) answer.sets
+
 -- all nodes are spent but perhaps one, which no branch could use; they were fewer than a whole tree over the useful
 -- candidates has; and the bound is as high as the tree and the sets show
-pub record HasGivenUp (setting : TheSetting) (budget node_budget useful : ℕ) (bound : ℤ) (sets : List TheMultipliers) (list : List Subproblem) : Type 0 where
-  pub spent : node_budget ≤ length list + 1
-  pub fewer : node_budget < 2 ^ (useful + 1) - 1
-  pub tight : IsTight setting budget bound sets list
+pub record HasGivenUp (setting : TheSetting) (budget node_budget : ℕ) (answer : Answer) (list : List Subproblem) : Type 0 where
+  pub spent : node_budget ≤ length answer.tree + 1
+  pub fewer : node_budget < 2 ^ (answer.useful + 1) - 1
+  pub tight : IsTight setting budget answer.bound (sets_in setting answer) list
 
 -- ## No cheaper configuration was passed over
 
@@ -92,14 +96,14 @@ without_candidate config a = record { on = slice_set config.on (a - 1) false }
 -- no fitting configuration with one candidate more costs less, none with one less costs as little; only candidates that the
 -- root leaves free are tried
 pub record IsLocallyBest (setting : TheSetting) (budget : ℕ) (root : nodes.Node) (config : Config) (cost : ℕ) : Type 0 where
-  pub with_one_more : (a : ℕ) → 1 ≤ a → a ≤ length setting.shapes → nodes.is_free root a ≡ true →
+  pub with_one_more : (a : ℕ) → 1 ≤ a → a ≤ length setting.shapes → nodes.is_free root a ≡ true → has_candidate config a ≡ false →
       Fits setting.cat setting.shapes (with_candidate config a) budget → HasTotal setting (with_candidate config a) (λ total. cost ≤ total)
   pub with_one_less : (a : ℕ) → nodes.is_free root a ≡ true → has_candidate config a ≡ true →
       HasTotal setting (without_candidate config a) (λ total. cost < total)
 
 -- what is in at a node of the tree, where it fits, costs no less
-abbrev pub CostsNoMore : TheSetting → ℕ → List Subproblem → ℕ → Type 0
-CostsNoMore setting budget list cost =
+abbrev pub NoneCostsLess : TheSetting → ℕ → List Subproblem → ℕ → Type 0
+NoneCostsLess setting budget list cost =
     (i : ℕ) (subproblem : Subproblem) → slice_get list i ≡ Some subproblem →
     Fits setting.cat setting.shapes subproblem.node.inside budget → HasTotal setting subproblem.node.inside (λ total. cost ≤ total)
 
@@ -122,10 +126,6 @@ pub record AreSets (setting : TheSetting) (sets : List Multipliers) : Type 0 whe
 
 -- ## Best
 
--- what the sets of an answer say of a setting
-abbrev pub sets_in : TheSetting → Answer → List TheMultipliers
-sets_in setting answer = map (multipliers_in setting) answer.sets
-
 -- An answer of a search from a root with a space budget, in pages, and a budget of nodes is best.
 pub record IsBest (setting : TheSetting) (budget node_budget : ℕ) (root : nodes.Node) (answer : Answer) : Type 0 where
   -- it is proved, its configuration obeys the root, and its bound is at most its cost
@@ -137,10 +137,10 @@ pub record IsBest (setting : TheSetting) (budget node_budget : ℕ) (root : node
   pub nodes_most : length answer.tree ≤ node_budget
   -- where the bound is below the cost, the search gave up
   pub gave_up : answer.bound <ℤ pos answer.cost →
-      HasGivenUp setting budget node_budget answer.useful answer.bound (sets_in setting answer) (subproblems root proves.shown.tree)
+      HasGivenUp setting budget node_budget answer (subproblems root proves.shown.tree)
   -- no cheaper configuration was passed over
-  pub local : IsLocallyBest setting budget root answer.config answer.cost
-  pub in_tree : CostsNoMore setting budget (subproblems root proves.shown.tree) answer.cost
+  pub locally_best : IsLocallyBest setting budget root answer.config answer.cost
+  pub in_tree : NoneCostsLess setting budget (subproblems root proves.shown.tree) answer.cost
   -- the bound is at least those of the 41 rent multipliers, whose prices of a page are 0 and the powers of 2 below 2^40
   pub rents_none : IsAtLeastRents setting budget root answer.bound 0
   pub rents : (j : ℕ) → j < 40 → IsAtLeastRents setting budget root answer.bound (2 ^ j)

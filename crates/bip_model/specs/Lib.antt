@@ -7,4 +7,5 @@ pub mod Proves
 pub mod Laws
 pub mod Uses
 pub mod Best
+pub mod Candidates
 pub mod inner
