@@ -1,5 +1,5 @@
 //! Nodes of a search, and the configuration of what is in at one.
-ghost use Rattle.std.specs.Prelude.{◌≡◌, ◌*◌, ◌<◌, ◌≤◌, All, length, sum, if◌then◌else◌, slice_set};
+ghost use Rattle.std.specs.Prelude.{◌≡◌, ◌*◌, ◌<◌, ◌≤◌, All, length, map, sum, if◌then◌else◌, slice_set};
 ghost use Rattle.adv_base.specs.Configs as configs;
 ghost use Rattle.adv_base.specs.declared.limits.TheConstants.{MOST_CANDIDATES, MOST_INDEX_PAGES};
 ghost use Rattle.bip_model.specs.Views as views;
@@ -39,12 +39,24 @@ pub(crate) fn fixed(fix: &Fix, index: usize, state: State) -> Fix
     next
 }
 
+/// A flag for each state, which is on where the candidate is in.
+fn flags_in(states: &[State]) -> [bool; MOST_CANDIDATES]
+    requires { length states.now ≡ MOST_CANDIDATES }
+    ensures { result ≡ map views.is_in states.now }
+{
+    let mut on = [false; MOST_CANDIDATES];
+    for i in 0..MOST_CANDIDATES {
+        on[i] = is_in(states[i]);
+    }
+    on
+}
+
 /// The configuration of the candidates that are in.
 pub(crate) fn inside(fix: &Fix) -> Config
     ensures { result ≡ sides.inside fix.now }
 {
     Config {
-        on: fix.state.map(is_in),
+        on: flags_in(&fix.state),
     }
 }
 

@@ -7,16 +7,15 @@
 //! room.
 #![tactic(auto)]
 
-//mod climb;
+mod climb;
 mod explore;
 mod fixing;
 mod found;
 mod frame;
 mod node;
-//mod rents;
-//mod room;
+mod room;
 //mod search;
 //mod useful;
 
-//pub use room::Room;
+pub use room::Room;
 //pub use search::search;
