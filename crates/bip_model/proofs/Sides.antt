@@ -14,11 +14,11 @@ use Rattle.bip_model.specs.Trees.{in_side, out_side}
 use Rattle.bip_model.specs.Views.{is_in, is_out, node_of}
 use Rattle.bip_model.proofs.Lists.{map-set, set-same, set-back}
 
-off-of : (b : Bool) → not b ≡ true → b ≡ false
+pub off-of : (b : Bool) → not b ≡ true → b ≡ false
 off-of true e = absurd (false≢true e)
 off-of false e = refl
 
-both-of : (a b : Bool) → (a && b) ≡ true → (a ≡ true) × (b ≡ true)
+pub both-of : (a b : Bool) → (a && b) ≡ true → (a ≡ true) × (b ≡ true)
 both-of true b e = (refl, e)
 both-of false b e = absurd (false≢true e)
 
