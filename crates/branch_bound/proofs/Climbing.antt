@@ -1,11 +1,11 @@
 -- Steps from a configuration to one with a candidate more or less.
-use Rattle.std.proofs.Common.{◌≡◌, ◌∙◌, ◌≢◌, ◌⊎◌, inl, inr, ℕ, zero, suc, ◌+◌, ◌*◌, ◌<◌, ◌≤◌, Bool, true, false, List, [], ◌∷◌, length, get_or, take, sum, refl, sym, ap, subst, arith, get_or-set_other}
+use Rattle.std.proofs.Common.{◌≡◌, ◌∙◌, ◌≢◌, ◌⊎◌, inl, inr, ℕ, zero, suc, ◌+◌, ◌*◌, ◌<◌, ◌≤◌, Bool, true, false, cond, List, [], ◌∷◌, length, get_or, take, sum, refl, sym, ap, subst, arith, get_or-set_other}
 use Rattle.std.specs.Prelude.{Option, Some, None, count_by, min}
 use Rattle.std.proofs.Math.ListN.{set}
 use Rattle.std.proofs.Math.Seq.{take-set-lt}
 use Rattle.std.proofs.lemmas.Bool.{cases_lt, false≢true}
 use Rattle.std.proofs.lemmas.List.{length-take}
-use Rattle.std.proofs.lemmas.List.Sums.{count_by-le-length}
+use Rattle.std.proofs.lemmas.List.Sums.{count_by-le-length, sum_by-cons}
 use Rattle.adv_base.specs.declared.setting.Config.{Config}
 use Rattle.adv_base.specs.Configs.{chosen}
 use Rattle.bip_model.specs.declared.fix.Fix.{Fix}
@@ -25,24 +25,63 @@ free-is Out free = absurd (false≢true free)
 
 -- ## One flag off
 
-pages-off : (flags : List Bool) (xs : List ℕ) (i : ℕ) → sum (chosen (set flags i false) xs) ≤ sum (chosen flags xs)
+sum-more : (x : ℕ) (xs : List ℕ) → sum (x ∷ xs) ≡ x + sum xs
+sum-more x xs = sum_by-cons (λ (n : ℕ). n) x xs
+
+past : (a b x : ℕ) → b ≡ x + a → a ≤ b
+past a b x is = omega (arith, is)
+
+both : (a b x fewer more : ℕ) → a ≡ x + fewer → b ≡ x + more → fewer ≤ more → a ≤ b
+both a b x fewer more first second less = omega (arith, first, second, less)
+
+pub pages-off : (flags : List Bool) (xs : List ℕ) (i : ℕ) → sum (chosen (set flags i false) xs) ≤ sum (chosen flags xs)
 pages-off [] xs i = omega arith
 pages-off (flag ∷ flags) [] zero = omega arith
 pages-off (flag ∷ flags) [] (suc i) = omega arith
-pages-off (true ∷ flags) (x ∷ xs) zero = omega arith
+pages-off (true ∷ flags) (x ∷ xs) zero = past (sum (chosen flags xs)) (sum (x ∷ chosen flags xs)) x (sum-more x (chosen flags xs))
 pages-off (false ∷ flags) (x ∷ xs) zero = omega arith
-pages-off (true ∷ flags) (x ∷ xs) (suc i) = let rest = pages-off flags xs i in omega (arith, rest)
+pages-off (true ∷ flags) (x ∷ xs) (suc i) =
+    both (sum (x ∷ chosen (set flags i false) xs)) (sum (x ∷ chosen flags xs)) x (sum (chosen (set flags i false) xs)) (sum (chosen flags xs)) (sum-more x (chosen (set flags i false) xs))
+    (sum-more x (chosen flags xs)) (pages-off flags xs i)
 pages-off (false ∷ flags) (x ∷ xs) (suc i) = pages-off flags xs i
+
+-- and one flag on
+pub pages-on : (flags : List Bool) (xs : List ℕ) (i : ℕ) → sum (chosen (set flags i true) xs) ≤ sum (chosen flags xs) + get_or xs i 0
+pages-on [] xs i = omega arith
+pages-on (flag ∷ flags) [] zero = omega arith
+pages-on (flag ∷ flags) [] (suc i) = omega arith
+pages-on (true ∷ flags) (x ∷ xs) zero = omega arith
+pages-on (false ∷ flags) (x ∷ xs) zero = let more = sum-more x (chosen flags xs) in one (sum (x ∷ chosen flags xs)) x (sum (chosen flags xs)) more
+  where
+    one : (a x b : ℕ) → a ≡ x + b → a ≤ b + x
+    one a x b is = omega (arith, is)
+pages-on (true ∷ flags) (x ∷ xs) (suc i) =
+    later (sum (x ∷ chosen (set flags i true) xs)) (sum (x ∷ chosen flags xs)) x (sum (chosen (set flags i true) xs)) (sum (chosen flags xs)) (get_or xs i 0)
+    (sum-more x (chosen (set flags i true) xs)) (sum-more x (chosen flags xs)) (pages-on flags xs i)
+  where
+    later : (a b x c d y : ℕ) → a ≡ x + c → b ≡ x + d → c ≤ d + y → a ≤ b + y
+    later a b x c d y first second less = omega (arith, first, second, less)
+pages-on (false ∷ flags) (x ∷ xs) (suc i) = pages-on flags xs i
 
 abbrev count_on : List Bool → ℕ
 count_on flags = count_by (λ flag. flag) flags
 
+count-more : (flag : Bool) (flags : List Bool) → count_on (flag ∷ flags) ≡ cond flag 1 0 + count_on flags
+count-more flag flags = sum_by-cons (λ (f : Bool). cond f 1 0) flag flags
+
+one-off : (a b c : ℕ) → a ≡ 0 + c → b ≡ 1 + c → a + 1 ≡ b
+one-off a b c first second = omega (arith, first, second)
+
+later-off : (a b x c d : ℕ) → a ≡ x + c → b ≡ x + d → c + 1 ≡ d → a + 1 ≡ b
+later-off a b x c d first second rest = omega (arith, first, second, rest)
+
 count-off : (flags : List Bool) (i : ℕ) → get_or flags i false ≡ true → count_on (set flags i false) + 1 ≡ count_on flags
 count-off [] i on = absurd (false≢true on)
-count-off (true ∷ flags) zero on = omega arith
+count-off (true ∷ flags) zero on = one-off (count_on (false ∷ flags)) (count_on (true ∷ flags)) (count_on flags) (count-more false flags) (count-more true flags)
 count-off (false ∷ flags) zero on = absurd (false≢true on)
-count-off (true ∷ flags) (suc i) on = let rest = count-off flags i on in omega (arith, rest)
-count-off (false ∷ flags) (suc i) on = let rest = count-off flags i on in omega (arith, rest)
+count-off (flag ∷ flags) (suc i) on =
+    later-off (count_on (flag ∷ set flags i false)) (count_on (flag ∷ flags)) (cond flag 1 0) (count_on (set flags i false)) (count_on flags) (count-more flag (set flags i false)) (count-more flag flags)
+    (count-off flags i on)
 
 in-front : (flags : List Bool) (n i : ℕ) → i < n → get_or (take n flags) i false ≡ get_or flags i false
 in-front [] zero i within = refl

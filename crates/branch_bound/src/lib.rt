@@ -15,7 +15,7 @@ mod frame;
 mod node;
 mod room;
 //mod search;
-//mod useful;
+mod useful;
 
 pub use room::Room;
 //pub use search::search;
