@@ -38,6 +38,7 @@ use Rattle.bip_model.proofs.Counting.{tight-smaller}
 use Rattle.bip_model.proofs.Deciding.{pages-same}
 use Rattle.bip_model.proofs.Descending.{useful-branches, value-below, subproblems-length}
 use Rattle.bip_model.proofs.Exploring.{AreExplored, explored-worthwhile}
+use Rattle.bip_model.proofs.Places.{rents-use, entries-most}
 use Rattle.bip_model.proofs.Showing.{shown}
 use Rattle.adv_base.proofs.OfferBounds.{offers-limits}
 use Rattle.bip_model.proofs.Totalling.{value-total}
@@ -47,7 +48,7 @@ use Rattle.lagrange_bound.specs.Bounds.{state_at}
 use Rattle.branch_bound.specs.declared.found.Found.{Found}
 use Rattle.branch_bound.specs.Sides.{inside, pages, total, IsRoot}
 use Rattle.branch_bound.specs.inner.Climbs.{flag_at, changed, IsSound, GainsNothing, IsTop}
-use Rattle.branch_bound.specs.inner.Runs.{Rules, lag, visited, Runs, least_bound}
+use Rattle.branch_bound.specs.inner.Runs.{Rules, lag, MOST_LOW, start, Runs, least_bound}
 use Rattle.branch_bound.proofs.Climbing.{free-is}
 use Rattle.branch_bound.proofs.Running.{AreRulesFor, own_sets, rents-value, runs-explored, runs-later, runs-shows, less-of, not-less-of}
 use Rattle.branch_bound.proofs.Sound.{under-root, runs-sound, sound-inside}
@@ -147,14 +148,6 @@ one-less setting rules root config cost are sound top (suc i) free on =
       total_is = value-total setting rules.programme (without_candidate config (suc i)) are.limits are.stands;
       holds = gains.less (ap (state_at root) place ∙ free-is (state_at root i) (free-of root i free)) (ap (flag_at config) place ∙ flag);
     }
-
--- ## The start
-
-abbrev pub MOST_LOW : ℕ
-MOST_LOW = 2 ^ 127 - 1
-
-abbrev pub start : Programme → Fix → Found
-start programme root = record { config = inside root; cost = total programme root; low = pos MOST_LOW; made = 1 }
 
 -- ## Where the search gave up
 
@@ -314,7 +307,7 @@ best-answer setting rules root tree after config cost sets list useful are is_ro
           record {
             most = omega (arith, ap length sets_are);
             each = subst (λ (ms : List Multipliers). All (AreMultipliersIn setting) ms) (sym sets_are) (one-all (AreMultipliersIn setting) rules.rents (multipliers-kept setting rules.programme rules.rents are.stands are.rents_fit));
-            entries_most = ?;
+            entries_most = subst (λ (ms : List Multipliers). entry_count ms ≤ MOST_ENTRIES) (sym sets_are) (entries-most setting rules.rents are.limits (multipliers-kept setting rules.programme rules.rents are.stands are.rents_fit));
           };
     }
   where
@@ -338,4 +331,6 @@ best-answer setting rules root tree after config cost sets list useful are is_ro
     one-all P x holds (suc k) d within = absurd (omega (arith, within))
 
     uses-all : (setting : TheSetting) (sets : List Multipliers) → All (RentsUses setting) (map (multipliers_in setting) sets)
-    uses-all setting sets = ?
+    uses-all setting [] k d within = absurd (omega (arith, within))
+    uses-all setting (set ∷ sets) zero d within = rents-use setting set
+    uses-all setting (set ∷ sets) (suc k) d within = uses-all setting sets k d (omega (arith, within))

@@ -15,7 +15,7 @@ pub(crate) struct Costed {
 }
 
 /// A configuration with one flag changed.
-fn changed(config: &Config, index: usize, flag: bool) -> Config
+pub(crate) fn changed(config: &Config, index: usize, flag: bool) -> Config
     requires { index < MOST_CANDIDATES }
     ensures { result ≡ climbs.changed config.now index flag }
 {

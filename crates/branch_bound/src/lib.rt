@@ -14,8 +14,8 @@ mod found;
 mod frame;
 mod node;
 mod room;
-//mod search;
+mod search;
 mod useful;
 
 pub use room::Room;
-//pub use search::search;
+pub use search::search;

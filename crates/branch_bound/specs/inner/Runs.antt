@@ -1,5 +1,5 @@
 -- A run of the search below a node: what it had found before and what after, and the tree that it wrote.
-use Rattle.std.specs.Prelude.{◌≡◌, ℕ, ◌+◌, ◌-◌, ◌<◌, ◌≤◌, ◌==◌, nat_lt, nat_le, Bool, true, false, ◌&&◌, if◌then◌else◌, ◌⊎◌, List, ◌++◌, length, Option, Some, None, slice_index_or, ℤ, pos, negsuc, ◌≤ℤ◌}
+use Rattle.std.specs.Prelude.{◌≡◌, ℕ, ◌+◌, ◌-◌, ◌^◌, ◌<◌, ◌≤◌, ◌==◌, nat_lt, nat_le, Bool, true, false, ◌&&◌, if◌then◌else◌, ◌⊎◌, List, ◌++◌, length, Option, Some, None, slice_index_or, ℤ, pos, negsuc, ◌≤ℤ◌}
 use Rattle.std.specs.Int.{int_min}
 use Rattle.bip_model.specs.declared.answer.Node.{Node}
 use Rattle.bip_model.specs.declared.fix.Fix.{Fix}
@@ -130,6 +130,13 @@ Runs rules fix before (Branches a inside_tree outside_tree) after =
     (λ i middle. Runs rules (fixed fix i In) (branched (visited rules fix before)) inside_tree middle)
     (λ i middle. Runs rules (fixed fix i Out) middle outside_tree after)
 Runs rules fix before Full after = ⊥
+
+-- what a search knows at its root
+abbrev pub MOST_LOW : ℕ
+MOST_LOW = 2 ^ 127 - 1
+
+abbrev pub start : Programme → Fix → Found
+start programme root = record { config = inside root; cost = total programme root; low = pos MOST_LOW; made = 1 }
 
 -- a run, whose tree was appended to a list
 pub record IsExplored (rules : Rules) (fix : Fix) (before : Found) (old : List Node) (after : Found) (new : List Node) : Type 0 where
