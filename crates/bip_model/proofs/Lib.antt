@@ -14,3 +14,4 @@ pub mod Usefulness
 pub mod Descending
 pub mod Counting
 pub mod Exploring
+pub mod Sharing
