@@ -1,7 +1,7 @@
 -- A tree whose branches name useful candidates is no larger than a whole tree over these; a leaf at which one is still free
 -- makes it smaller.
-use Rattle.std.proofs.Common.{◌≡◌, ◌∙◌, ◌⊎◌, inl, inr, ℕ, zero, suc, ◌+◌, ◌-◌, ◌*◌, ◌^◌, ◌<◌, ◌≤◌, Bool, true, false, cond, not, ◌&&◌, List, [], ◌∷◌, ◌++◌, length, ℤ, pos, refl, sym, ap, subst, arith}
-use Rattle.std.specs.Prelude.{Option, Some, ◌↔◌, count_by, nat_le, slice_get, slice_index_or, ◌≤ℤ◌, ◌<ℤ◌}
+use Rattle.std.proofs.Common.{◌≡◌, ◌∙◌, ◌⊎◌, inl, inr, ℕ, zero, suc, ◌+◌, ◌-◌, ◌*◌, ◌^◌, ◌≤◌, Bool, true, false, cond, List, [], ◌∷◌, length, ℤ, pos, refl, sym, ap, subst, arith}
+use Rattle.std.specs.Prelude.{Some, count_by, nat_le, slice_get, slice_index_or, ◌≤ℤ◌, ◌<ℤ◌}
 use Rattle.std.proofs.Math.Nat.{pow-succ'}
 use Rattle.std.proofs.Math.Pow.{pow_mono}
 use Rattle.std.proofs.lemmas.Bool.{cases_Bool, false≢true}
@@ -14,24 +14,20 @@ use Rattle.adv_base.specs.Nodes as nodes
 use Rattle.adv_base.specs.Nodes.{is_free, candidate_pages}
 use Rattle.adv_base.specs.Settings.{TheSetting, KeepsLimits}
 use Rattle.plan_model.specs.Lagrangian.{TheMultipliers, IsLagrangian}
-use Rattle.plan_model.specs.Totals.{IsTotal}
 use Rattle.plan_model.specs.Useful.{IsUseful, AreUseful}
 use Rattle.plan_model.proofs.Renting.{flag-of}
 use Rattle.plan_model.proofs.Sums.{total, sum-total, passing, passing-more, passing-one_more}
-use Rattle.bip_model.specs.Best.{Subproblem, subproblems, AreWorthwhile, NoneCostsLess, HasTotal, HasLagrangian, IsTight}
+use Rattle.bip_model.specs.Best.{Subproblem, subproblems, AreWorthwhile, NoneCostsLess, HasTotal, IsTight}
 use Rattle.bip_model.specs.Laws.{NoneUseful}
-use Rattle.bip_model.specs.Trees.{Tree, Branches, Leaf, Full, with_candidate, in_side, out_side, zeros, set_at}
-use Rattle.bip_model.proofs.Descending.{AtBranches, IsUsefulBranch, useful-branches, each-node, fits-below, config-below}
+use Rattle.bip_model.specs.SearchLaws.{IsWhole}
+use Rattle.bip_model.specs.Trees.{Tree, Branches, Leaf, Full, with_candidate, in_side, out_side, zeros}
+use Rattle.bip_model.proofs.Descending.{AtBranches, IsUsefulBranch, useful-branches, fits-below, config-below}
 use Rattle.bip_model.proofs.Lists.{either-of, set-there, get-on}
 use Rattle.bip_model.proofs.Showing.{with_candidate-keeps}
-use Rattle.bip_model.proofs.Sides.{off-of, both-of, free-parts, parts-free}
+use Rattle.bip_model.proofs.Sides.{both-of, free-parts, parts-free}
 use Rattle.bip_model.proofs.Unrented.{useless-total}
 
 -- ## Nodes with a flag for each candidate that there may be
-
-pub record IsWhole (node : nodes.Node) : Type 0 where
-  pub inside : length node.inside.on ≡ MOST_CANDIDATES
-  pub outside : length node.outside.on ≡ MOST_CANDIDATES
 
 in-whole : (node : nodes.Node) (a : ℕ) → IsWhole node → IsWhole (in_side node a)
 in-whole node a is = record { inside = length-set node.inside.on (a - 1) true ∙ is.inside; outside = is.outside }
@@ -114,17 +110,17 @@ pub record AreFlagsOf (setting : TheSetting) (budget : ℕ) (flags : List Bool) 
   pub each : (a : ℕ) → IsUseful setting budget a → slice_index_or flags (a - 1) false ≡ true
 
 -- how many of them are free
-free : nodes.Node → List Bool → ℕ
-free node flags = counted (is_free node) flags
+pub free_count : nodes.Node → List Bool → ℕ
+free_count node flags = counted (is_free node) flags
 
-in-fewer : (setting : TheSetting) (budget : ℕ) (flags : List Bool) (node : nodes.Node) (a : ℕ) → length setting.shapes ≤ MOST_CANDIDATES → AreFlagsOf setting budget flags → IsWhole node → IsUsefulBranch setting budget node a → free (in_side node a) flags + 1 ≤ free node flags
-unfolding free
+in-fewer : (setting : TheSetting) (budget : ℕ) (flags : List Bool) (node : nodes.Node) (a : ℕ) → length setting.shapes ≤ MOST_CANDIDATES → AreFlagsOf setting budget flags → IsWhole node → IsUsefulBranch setting budget node a → free_count (in_side node a) flags + 1 ≤ free_count node flags
+unfolding free_count
 in-fewer setting budget flags node a few are whole p =
     counted-one (is_free (in_side node a)) (is_free node) flags a (in-free node a) p.branch.some (are.each a p.useful)
     (in-taken node a p.branch.some (omega (arith, p.branch.within, few)) whole) p.branch.free
 
-out-fewer : (setting : TheSetting) (budget : ℕ) (flags : List Bool) (node : nodes.Node) (a : ℕ) → length setting.shapes ≤ MOST_CANDIDATES → AreFlagsOf setting budget flags → IsWhole node → IsUsefulBranch setting budget node a → free (out_side node a) flags + 1 ≤ free node flags
-unfolding free
+out-fewer : (setting : TheSetting) (budget : ℕ) (flags : List Bool) (node : nodes.Node) (a : ℕ) → length setting.shapes ≤ MOST_CANDIDATES → AreFlagsOf setting budget flags → IsWhole node → IsUsefulBranch setting budget node a → free_count (out_side node a) flags + 1 ≤ free_count node flags
+unfolding free_count
 out-fewer setting budget flags node a few are whole p =
     counted-one (is_free (out_side node a)) (is_free node) flags a (out-free node a) p.branch.some (are.each a p.useful)
     (out-taken node a p.branch.some (omega (arith, p.branch.within, few)) whole) p.branch.free
@@ -140,23 +136,23 @@ double n f less =
 
 -- as large as a whole tree over the useful candidates that are free, at most
 pub tree-small : (setting : TheSetting) (budget : ℕ) (flags : List Bool) (node : nodes.Node) (tree : Tree) → length setting.shapes ≤ MOST_CANDIDATES → AreFlagsOf setting budget flags → IsWhole node →
-    AtBranches (IsUsefulBranch setting budget) node tree → length (subproblems node tree) + 1 ≤ 2 ^ (free node flags + 1)
+    AtBranches (IsUsefulBranch setting budget) node tree → length (subproblems node tree) + 1 ≤ 2 ^ (free_count node flags + 1)
 tree-small setting budget flags node (Branches a inside outside) few are whole at' =
     let one = tree-small setting budget flags (in_side node a) inside few are (in-whole node a whole) at'.1 in
     let two = tree-small setting budget flags (out_side node a) outside few are (out-whole node a whole) at'.2 in
-    let left : free (in_side node a) flags + 1 ≤ free node flags = in-fewer setting budget flags node a few are whole at'.0 in
-    let right : free (out_side node a) flags + 1 ≤ free node flags = out-fewer setting budget flags node a few are whole at'.0 in
-    let twice = double (free (in_side node a) flags) (free node flags) left in
-    let again = double (free (out_side node a) flags) (free node flags) right in
+    let left : free_count (in_side node a) flags + 1 ≤ free_count node flags = in-fewer setting budget flags node a few are whole at'.0 in
+    let right : free_count (out_side node a) flags + 1 ≤ free_count node flags = out-fewer setting budget flags node a few are whole at'.0 in
+    let twice = double (free_count (in_side node a) flags) (free_count node flags) left in
+    let again = double (free_count (out_side node a) flags) (free_count node flags) right in
     let joined = length-append (subproblems (in_side node a) inside) (subproblems (out_side node a) outside) in
     omega (arith, one, two, twice, again, joined)
 tree-small setting budget flags node (Leaf k) few are whole at' =
-    let least : 1 ≤ free node flags + 1 = omega arith in
-    let up : 2 ^ 1 ≤ 2 ^ (free node flags + 1) = pow_mono least in
+    let least : 1 ≤ free_count node flags + 1 = omega arith in
+    let up : 2 ^ 1 ≤ 2 ^ (free_count node flags + 1) = pow_mono least in
     omega (arith, up)
 tree-small setting budget flags node Full few are whole at' =
-    let least : 1 ≤ free node flags + 1 = omega arith in
-    let up : 2 ^ 1 ≤ 2 ^ (free node flags + 1) = pow_mono least in
+    let least : 1 ≤ free_count node flags + 1 = omega arith in
+    let up : 2 ^ 1 ≤ 2 ^ (free_count node flags + 1) = pow_mono least in
     omega (arith, up)
 
 leaf-small : (f : ℕ) → 1 ≤ f → 1 + 3 ≤ 2 ^ (f + 1)
@@ -167,8 +163,8 @@ leaf-small f some =
 
 -- smaller where a bounded leaf leaves one of them free
 pub tree-smaller : (setting : TheSetting) (budget : ℕ) (flags : List Bool) (node : nodes.Node) (tree : Tree) → length setting.shapes ≤ MOST_CANDIDATES → AreFlagsOf setting budget flags → IsWhole node →
-    AtBranches (IsUsefulBranch setting budget) node tree → (i : ℕ) (leaf : Subproblem) (set : ℕ) → slice_get (subproblems node tree) i ≡ Some leaf → leaf.tree ≡ Leaf set → 1 ≤ free leaf.node flags →
-    length (subproblems node tree) + 3 ≤ 2 ^ (free node flags + 1)
+    AtBranches (IsUsefulBranch setting budget) node tree → (i : ℕ) (leaf : Subproblem) (set : ℕ) → slice_get (subproblems node tree) i ≡ Some leaf → leaf.tree ≡ Leaf set → 1 ≤ free_count leaf.node flags →
+    length (subproblems node tree) + 3 ≤ 2 ^ (free_count node flags + 1)
 tree-smaller setting budget flags node (Branches a inside outside) few are whole at' zero leaf set found is some =
     let same : record { node = node; tree = Branches a inside outside } ≡ leaf = cc in
     let wrong : Branches a inside outside ≡ Leaf set = ap (λ (s : Subproblem). s.tree) same ∙ is in
@@ -176,10 +172,10 @@ tree-smaller setting budget flags node (Branches a inside outside) few are whole
 tree-smaller setting budget flags node (Branches a inside outside) few are whole at' (suc i) leaf set found is some =
     let xs : List Subproblem = subproblems (in_side node a) inside in
     let ys : List Subproblem = subproblems (out_side node a) outside in
-    let left : free (in_side node a) flags + 1 ≤ free node flags = in-fewer setting budget flags node a few are whole at'.0 in
-    let right : free (out_side node a) flags + 1 ≤ free node flags = out-fewer setting budget flags node a few are whole at'.0 in
-    let twice = double (free (in_side node a) flags) (free node flags) left in
-    let again = double (free (out_side node a) flags) (free node flags) right in
+    let left : free_count (in_side node a) flags + 1 ≤ free_count node flags = in-fewer setting budget flags node a few are whole at'.0 in
+    let right : free_count (out_side node a) flags + 1 ≤ free_count node flags = out-fewer setting budget flags node a few are whole at'.0 in
+    let twice = double (free_count (in_side node a) flags) (free_count node flags) left in
+    let again = double (free_count (out_side node a) flags) (free_count node flags) right in
     let joined = length-append xs ys in
     elim (either-of xs ys i leaf found) [
       | inl front ↦
@@ -193,7 +189,7 @@ tree-smaller setting budget flags node (Branches a inside outside) few are whole
     ]
 tree-smaller setting budget flags node (Leaf k) few are whole at' zero leaf set found is some =
     let same : record { node = node; tree = Leaf k } ≡ leaf = cc in
-    leaf-small (free node flags) (subst (λ (s : Subproblem). 1 ≤ free s.node flags) (sym same) some)
+    leaf-small (free_count node flags) (subst (λ (s : Subproblem). 1 ≤ free_count s.node flags) (sym same) some)
 tree-smaller setting budget flags node (Leaf k) few are whole at' (suc i) leaf set found is some = absurd (cc)
 tree-smaller setting budget flags node Full few are whole at' zero leaf set found is some =
     let same : record { node = node; tree = Full } ≡ leaf = cc in
@@ -212,8 +208,8 @@ open-free : (setting : TheSetting) (budget : ℕ) (node : nodes.Node) (k : ℕ) 
 open-free setting budget node k open' = (both-of (is_free node k) (nat_le (config_pages setting.cat setting.shapes node.inside + candidate_pages setting.cat setting.shapes k) budget) open').0
 
 some-free : (setting : TheSetting) (budget : ℕ) (flags : List Bool) (node : nodes.Node) (value bound : ℤ) (cost : ℕ) → KeepsLimits setting → AreFlagsOf setting budget flags → IsConfigOf setting.shapes node.inside →
-    IsLagrangian setting budget node zeros value → value ≤ℤ bound → bound <ℤ pos cost → HasTotal setting node.inside (λ total. cost ≤ total) → 1 ≤ free node flags
-unfolding free
+    IsLagrangian setting budget node zeros value → value ≤ℤ bound → bound <ℤ pos cost → HasTotal setting node.inside (λ total. cost ≤ total) → 1 ≤ free_count node flags
+unfolding free_count
 some-free setting budget flags node value bound cost limits are is lag at_most below in_cost =
     let opens : ℕ → Bool = nodes.is_open setting.cat setting.shapes budget node in
     let more : counted opens flags ≤ counted (is_free node) flags = counted-more opens (is_free node) flags (open-free setting budget node) in
@@ -235,8 +231,8 @@ some-free setting budget flags node value bound cost limits are is lag at_most b
     clash : (value bound : ℤ) (cost total : ℕ) → value ≡ pos total → value ≤ℤ bound → bound <ℤ pos cost → cost ≤ total → ⊥
     clash value bound cost total same one two three = omega (arith, ints, same, one, two, three)
 
-free-most : (node : nodes.Node) (flags : List Bool) (count : ℕ) → count ≡ count_by (λ flag. flag) flags → free node flags ≤ count
-unfolding free
+free-most : (node : nodes.Node) (flags : List Bool) (count : ℕ) → count ≡ count_by (λ flag. flag) flags → free_count node flags ≤ count
+unfolding free_count
 free-most node flags count is = let most = counted-most (is_free node) flags in omega (arith, most, is)
 
 -- So a tree with a tight leaf below the cost is smaller than a whole one over the useful candidates, by two nodes at least.
@@ -253,6 +249,6 @@ tight-smaller setting budget useful root tree sets bound cost limits are_useful 
     let zero_set = tight.highest 0 zeros refl in
     let some = some-free setting budget flags leaf.node zero_set.value bound cost limits are leaf_is zero_set.value_is zero_set.holds below (costs tight.number leaf tight.leaf_found leaf_fits) in
     let size = tree-smaller setting budget flags root tree limits.shapes_most are whole at' tight.number leaf tight.set tight.leaf_found tight.leaf_is some in
-    let most : free root flags ≤ useful = free-most root flags useful are_useful.counted in
-    let up : 2 ^ (free root flags + 1) ≤ 2 ^ (useful + 1) = pow_mono (omega (arith, most)) in
+    let most : free_count root flags ≤ useful = free-most root flags useful are_useful.counted in
+    let up : 2 ^ (free_count root flags + 1) ≤ 2 ^ (useful + 1) = pow_mono (omega (arith, most)) in
     omega (arith, size, up)

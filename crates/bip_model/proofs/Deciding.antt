@@ -1,44 +1,20 @@
 -- In a programme that stands for a setting, pages, open candidates and useful candidates are the setting's.
-use Rattle.std.proofs.Common.{◌≡◌, ◌∙◌, ◌⊎◌, inl, inr, ℕ, zero, suc, ◌+◌, ◌-◌, ◌<◌, ◌≤◌, ◌==◌, Bool, true, false, cond, ◌&&◌, ◌||◌, List, [], ◌∷◌, ◌++◌, length, map, sum, All, refl, sym, ap, subst, arith}
-use Rattle.std.specs.Prelude.{Option, Some, None, ◌↔◌, count_by, filter, nat_le, nat_lt, slice_get, slice_index_or}
-use Rattle.std.specs.List.{enumerate_from, list_any}
-use Rattle.std.specs.Option.{option_map_or}
-use Rattle.std.proofs.lemmas.Bool.{cases_Bool, eqb-true, false≢true}
-use Rattle.std.proofs.lemmas.Bool.Decides.{nat_tests}
-use Rattle.std.proofs.lemmas.List.{length-map, get_or-map}
-use Rattle.std.proofs.lemmas.Option.{slice_get_cases, slice_get_within}
-use Rattle.adv_base.specs.declared.catalogue.index.IndexShape.{IndexShape}
-use Rattle.adv_base.specs.declared.catalogue.table.Table.{Table}
+use Rattle.std.proofs.Common.{◌≡◌, ◌∙◌, ℕ, zero, suc, ◌+◌, ◌-◌, ◌&&◌, List, [], ◌∷◌, sum, refl, sym, ap, subst, arith}
+use Rattle.std.specs.Prelude.{Option, Some, None, nat_le, slice_get, slice_index_or}
 use Rattle.adv_base.specs.declared.setting.Config.{Config}
 use Rattle.adv_base.specs.declared.workload.Statement.{Statement}
 use Rattle.adv_base.specs.declared.workload.block.Block.{Block}
-use Rattle.adv_base.specs.declared.workload.parts.Slot.{Slot}
 use Rattle.adv_base.specs.Configs.{config_pages, candidates_in, chosen}
-use Rattle.adv_base.specs.Items.{Order, BeginsWith, is_same_order}
-use Rattle.adv_base.specs.Lookups.{table_at}
 use Rattle.adv_base.specs.Nodes as nodes
-use Rattle.adv_base.specs.Offers.{Offer, offers, index_offer}
 use Rattle.adv_base.specs.Settings.{TheSetting}
 use Rattle.adv_base.specs.Sizes.{shape_pages}
-use Rattle.adv_base.proofs.ItemLaws.{is_same_order-decides, order_same}
-use Rattle.plan_model.specs.declared.task.Task.{Task}
-use Rattle.plan_model.specs.BlockTask.{IsTaskOf}
-use Rattle.plan_model.specs.Combinations.{IsOffered, IsLeastPrice}
-use Rattle.plan_model.specs.Orders.{interesting_orders}
-use Rattle.plan_model.specs.Totals.{no_candidates, block_of}
-use Rattle.plan_model.specs.Useful.{IsCheaper, IsUseful, AreUseful}
+use Rattle.plan_model.specs.Totals.{block_of}
 use Rattle.plan_model.proofs.Sums.{sum-total}
-use Rattle.plan_model.proofs.Unique.{one-task}
-use Rattle.bip_model.specs.declared.grant.Grant.{Grant}
-use Rattle.bip_model.specs.declared.slot_part.SlotPart.{SlotPart}
-use Rattle.bip_model.specs.declared.part.Part.{Part}
 use Rattle.bip_model.specs.declared.programme.Programme.{Programme}
 use Rattle.bip_model.specs.Candidates as candidates
 use Rattle.bip_model.specs.Candidates.{size_of, pages_of, is_cheaper, has_cheaper, helps_slot, helps_part, is_useful}
-use Rattle.bip_model.specs.StandsFor.{given, least_given, candidates_on, AreEach, IsGrant, IsSlotPart, Blocked, IsPart, blocked_in, blocked_from, StandsFor}
-use Rattle.bip_model.proofs.Least.{IsSome, least-made, least-most}
-use Rattle.bip_model.proofs.Lists.{IsFound, any-found, found-any, map-or, or-parts, or-first, or-second}
-use Rattle.bip_model.proofs.Standing.{given-gives, gives-given}
+use Rattle.bip_model.specs.StandsFor.{AreEach, Blocked, blocked_in, blocked_from, StandsFor}
+use Rattle.bip_model.proofs.Lists.{map-or}
 use Rattle.bip_model.proofs.Totalling.{chosen-sum}
 
 -- ## Pages, and what is open

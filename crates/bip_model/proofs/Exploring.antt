@@ -1,7 +1,6 @@
 -- A search that goes through its nodes in preorder with the least cost met so far: each branch hopes for less than that.
-use Rattle.std.proofs.Common.{◌≡◌, ◌∙◌, ◌⊎◌, inl, inr, ℕ, zero, suc, ◌+◌, ◌<◌, ◌≤◌, true, List, [], ◌∷◌, ◌++◌, length, ℤ, pos, refl, sym, ap, subst, arith}
+use Rattle.std.proofs.Common.{◌≡◌, ◌∙◌, inl, inr, ℕ, zero, suc, ◌<◌, ◌≤◌, true, List, [], ◌∷◌, ◌++◌, ℤ, pos, sym, ap, subst, arith}
 use Rattle.std.specs.Prelude.{Some, slice_get, ◌<ℤ◌}
-use Rattle.std.proofs.lemmas.Bool.{cases_lt}
 use Rattle.std.proofs.lemmas.Int.{ints}
 use Rattle.std.proofs.lemmas.Option.{slice_get_within}
 use Rattle.adv_base.specs.declared.setting.Config.{Config}
@@ -9,9 +8,9 @@ use Rattle.adv_base.specs.Configs.{Fits}
 use Rattle.adv_base.specs.Nodes as nodes
 use Rattle.adv_base.specs.Settings.{TheSetting}
 use Rattle.plan_model.specs.Useful.{IsUseful}
-use Rattle.bip_model.specs.Best.{Subproblem, HasTotal, HasLagrangian, IsBelowTotals, IsWorthwhile, AreWorthwhile, NoneCostsLess}
+use Rattle.bip_model.specs.Best.{Subproblem, HasTotal, HasLagrangian, AreWorthwhile, NoneCostsLess}
 use Rattle.bip_model.specs.Trees.{Tree, Branches, zeros}
-use Rattle.bip_model.proofs.Lists.{either-of, front-of}
+use Rattle.bip_model.proofs.Lists.{either-of}
 
 -- what is in at each of the first nodes, where that fits, costs no less than a level
 abbrev pub NoneCostsLessUpTo : TheSetting → ℕ → List Subproblem → ℕ → ℕ → Type 0

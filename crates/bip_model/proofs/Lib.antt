@@ -14,3 +14,5 @@ pub mod Usefulness
 pub mod Descending
 pub mod Counting
 pub mod Exploring
+pub mod Sharing
+pub mod Places

@@ -1,6 +1,6 @@
 -- A programme that stands for a setting tells which candidates are useful.
-use Rattle.std.proofs.Common.{◌≡◌, ◌∙◌, ◌⊎◌, inl, inr, ℕ, zero, suc, ◌+◌, ◌-◌, ◌<◌, ◌≤◌, ◌==◌, Bool, true, false, cond, ◌&&◌, ◌||◌, List, [], ◌∷◌, ◌++◌, length, map, All, refl, sym, ap, subst, arith}
-use Rattle.std.specs.Prelude.{Option, Some, None, ◌↔◌, count_by, nat_le, nat_lt, slice_get, slice_index_or}
+use Rattle.std.proofs.Common.{◌≡◌, ◌∙◌, inl, inr, ℕ, zero, suc, ◌+◌, ◌-◌, ◌<◌, ◌≤◌, ◌==◌, Bool, true, false, cond, ◌&&◌, List, [], ◌∷◌, ◌++◌, length, map, All, refl, sym, ap, subst, arith}
+use Rattle.std.specs.Prelude.{Option, Some, None, nat_le, nat_lt, slice_get}
 use Rattle.std.specs.List.{enumerate_from, list_any}
 use Rattle.std.specs.Option.{option_map_or}
 use Rattle.std.proofs.lemmas.Bool.{cases_lt, eq-eqb, eqb-true, false≢true}
@@ -12,7 +12,6 @@ use Rattle.adv_base.specs.declared.catalogue.table.Table.{Table}
 use Rattle.adv_base.specs.declared.workload.block.Block.{Block}
 use Rattle.adv_base.specs.declared.workload.parts.Slot.{Slot}
 use Rattle.adv_base.specs.Items.{Order, BeginsWith, is_same_order}
-use Rattle.adv_base.specs.Lookups.{table_at}
 use Rattle.adv_base.specs.Nodes.{candidate_pages}
 use Rattle.adv_base.specs.Offers.{Offer, offers, index_offer}
 use Rattle.adv_base.specs.Settings.{TheSetting}
@@ -31,7 +30,7 @@ use Rattle.bip_model.specs.declared.part.Part.{Part}
 use Rattle.bip_model.specs.declared.programme.Programme.{Programme}
 use Rattle.bip_model.specs.Candidates.{size_of, is_cheaper, has_cheaper, helps_slot, helps_part, is_useful, useful_below}
 use Rattle.bip_model.specs.StandsFor.{given, least_given, candidates_on, IsGrant, IsSlotPart, Blocked, IsPart, blocked_from, StandsFor}
-use Rattle.bip_model.proofs.Deciding.{size-same, IsBlockedFrom, blocked-from, IsBlockedAt, from-blocked, each-right, each-left}
+use Rattle.bip_model.proofs.Deciding.{size-same, blocked-from, from-blocked, each-right, each-left}
 use Rattle.bip_model.proofs.Fixing.{Has, mapped-at}
 use Rattle.bip_model.proofs.Least.{least-made, least-most}
 use Rattle.bip_model.proofs.Lists.{any-found, found-any, get-on, on-get, front-of, back-of, either-of, or-parts, or-first, or-second}
@@ -336,10 +335,10 @@ useful-counted setting programme budget stands =
       each = λ a some.
           let number : suc (a - 1) ≡ a = omega (arith, some) in (
             λ on.
-            useful-from setting programme budget a stands
+                useful-from setting programme budget a stands
                 (ap (is_useful programme budget) (sym number) ∙ flags_to-passes (is_useful programme budget) count (a - 1) (get-on flags (a - 1) on)),
             λ useful.
-            on-get flags (a - 1)
+                on-get flags (a - 1)
                 (flags_to-found (is_useful programme budget) count (a - 1)
                 (omega (arith, slice_get_within setting.shapes (a - 1) useful.shape useful.found, as_many))
                 (ap (is_useful programme budget) number ∙ useful-to setting programme budget a stands useful)),

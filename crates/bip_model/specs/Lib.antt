@@ -8,4 +8,5 @@ pub mod Laws
 pub mod Uses
 pub mod Best
 pub mod Candidates
+pub mod SearchLaws
 pub mod inner
