@@ -44,7 +44,7 @@ use Rattle.adv_base.proofs.OfferBounds.{offers-limits}
 use Rattle.bip_model.proofs.Totalling.{value-total}
 use Rattle.bip_model.proofs.Usefulness.{useful-counted}
 use Rattle.bip_model.proofs.Using.{multipliers-used, multipliers-kept}
-use Rattle.lagrange_bound.specs.Bounds.{state_at}
+use Rattle.lagrange_bound.specs.Bounds.{state_at, lagrangian}
 use Rattle.branch_bound.specs.declared.found.Found.{Found}
 use Rattle.branch_bound.specs.Sides.{inside, pages, total, IsRoot}
 use Rattle.branch_bound.specs.inner.Climbs.{flag_at, changed, IsSound, GainsNothing, IsTop}
@@ -141,7 +141,7 @@ one-less setting rules root config cost are sound top (suc i) free on =
     let place : suc i - 1 ≡ i = omega arith in
     let flag : flag_at config i ≡ true = sym (flag-of config i) ∙ on in
     let within : i < length rules.programme.sizes =
-    elim (cases_lt i (length rules.programme.sizes)) [ | inl below ↦ below | inr past ↦ absurd (false≢true (sym (sound.past i past) ∙ flag)) ] in
+    elim (cases_lt i (length rules.programme.sizes)) [ inl below ↦ below | inr past ↦ absurd (false≢true (sym (sound.past i past) ∙ flag)) ] in
     let gains = top (suc i - 1) (omega (arith, within)) in
     record {
       total = value rules.programme (without_candidate config (suc i));
@@ -241,6 +241,17 @@ root-bound setting rules root tree after config cost are config_is sound explore
 -- under the rent multipliers of a price the root's value is at most that under the set of the search
 pub AtMostRents : TheSetting → Rules → Fix → ℕ → Type 0
 AtMostRents setting rules root page = HasLagrangian setting rules.budget (node_of root) (rent_multipliers setting page) (λ value. value ≤ℤ lag rules root 1)
+
+pub at-most-rents : (setting : TheSetting) (rules : Rules) (root : Fix) (page : ℕ) (multipliers : Multipliers) → AreRulesFor setting rules → AreMultipliers rules.programme multipliers →
+    multipliers_of rules.programme multipliers ≡ rent_multipliers setting page → lagrangian rules.programme rules.budget root multipliers ≤ℤ lag rules root 1 → AtMostRents setting rules root page
+unfolding AtMostRents
+at-most-rents setting rules root page multipliers are fit same less =
+    record {
+      value = lagrangian rules.programme rules.budget root multipliers;
+      value_is =
+          subst (λ (m : TheMultipliers). IsLagrangian setting rules.budget (node_of root) m (lagrangian rules.programme rules.budget root multipliers)) same (are.values root multipliers fit);
+      holds = less;
+    }
 
 -- ## The answer
 

@@ -6,3 +6,4 @@ pub mod Sound
 pub mod Tight
 pub mod Finding
 pub mod Final
+pub mod Linking

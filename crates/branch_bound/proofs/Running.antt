@@ -288,8 +288,8 @@ runs-shows setting rules fix before (Branches a inside_tree outside_tree) after 
         free = ap (is_free (node_of fix)) run.numbered ∙ free-node fix i good.free;
       },
       subst (λ (n : nodes.Node). Shows setting rules.budget bound (own_sets rules) n inside_tree) (in-is fix a i run.numbered good.free)
-      (runs-shows setting rules (fixed fix i In) (branched (visited rules fix before)) inside_tree run.middle bound are run.inside_run (omega (arith, ints, most, later.cost)) (omega (arith, ints, low, later.low))),
+          (runs-shows setting rules (fixed fix i In) (branched (visited rules fix before)) inside_tree run.middle bound are run.inside_run (omega (arith, ints, most, later.cost)) (omega (arith, ints, low, later.low))),
       subst (λ (n : nodes.Node). Shows setting rules.budget bound (own_sets rules) n outside_tree) (out-is fix a i run.numbered good.free)
-      (runs-shows setting rules (fixed fix i Out) run.middle outside_tree after bound are run.outside_run most low),
+          (runs-shows setting rules (fixed fix i Out) run.middle outside_tree after bound are run.outside_run most low),
     )
 runs-shows setting rules fix before Full after bound are run most low = absurd run

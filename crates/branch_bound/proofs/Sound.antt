@@ -5,6 +5,7 @@ use Rattle.std.proofs.Math.ListN.{set, get_or-map}
 use Rattle.std.proofs.lemmas.Bool.{false≢true}
 use Rattle.adv_base.specs.declared.setting.Config.{Config}
 use Rattle.adv_base.specs.Configs.{chosen}
+use Rattle.bip_model.specs.declared.answer.Node.{Node}
 use Rattle.bip_model.specs.declared.fix.Fix.{Fix}
 use Rattle.bip_model.specs.declared.fix.State.{State}
 use Rattle.bip_model.specs.declared.fix.State.TheVariants.{Free, In, Out}
@@ -17,7 +18,7 @@ use Rattle.lagrange_bound.specs.Bounds.{state_at, fits_beside}
 use Rattle.branch_bound.specs.declared.found.Found.{Found}
 use Rattle.branch_bound.specs.Sides.{is_free_state, fixed, inside, pages, total, IsRoot}
 use Rattle.branch_bound.specs.inner.Climbs.{flag_at, IsSound}
-use Rattle.branch_bound.specs.inner.Runs.{Rules, lag, visited, IsChoice, branched, lowered, Runs}
+use Rattle.branch_bound.specs.inner.Runs.{Rules, lag, visited, start, IsChoice, IsExplored, branched, lowered, Runs}
 use Rattle.branch_bound.proofs.Climbing.{free-is, pages-off, pages-on}
 use Rattle.branch_bound.proofs.Running.{at-most-of}
 
@@ -97,3 +98,10 @@ runs-sound rules root fix before (Branches a inside_tree outside_tree) after und
     let first = runs-sound rules root (fixed fix i In) (branched (visited rules fix before)) inside_tree run.middle (under-in rules root fix i under run.branch.choice) here run.inside_run in
     runs-sound rules root (fixed fix i Out) run.middle outside_tree after (under-out rules root fix i under run.branch.choice) first run.outside_run
 runs-sound rules root fix before Full after under sound run = absurd run
+
+-- what is found below the root is sound
+pub explored-sound : (rules : Rules) (root : Fix) (before after : Found) (old new : List Node) → IsRoot rules.programme rules.budget root → before ≡ start rules.programme root →
+    IsExplored rules root before old after new → IsSoundFound rules root after
+explored-sound rules root before after old new is at_start explored =
+    let under = under-root rules.programme rules.budget root is in
+    runs-sound rules root root before explored.tree after under (subst (λ (f : Found). IsSoundFound rules root f) (sym at_start) (sound-inside rules.programme rules.budget root root under)) explored.run

@@ -56,7 +56,13 @@ fn added(programme: &Programme, budget: u64, from: &Costed, index: usize) -> Opt
 }
 
 /// The configuration with one flag changed, where the root leaves the candidate free and that gains something.
-fn tried(programme: &Programme, budget: u64, root: &Fix, from: &Costed, index: usize) -> Option<Costed>
+fn tried(
+    programme: &Programme,
+    budget: u64,
+    root: &Fix,
+    from: &Costed,
+    index: usize,
+) -> Option<Costed>
     requires within { index < length programme.now.sizes }
     requires sound { climbs.IsSoundHere programme.now budget root.now from.now }
     ensures { climbs.IsTrial programme.now budget root.now from.now index result }

@@ -42,7 +42,8 @@ pub(crate) fn fixed(fix: &Fix, index: usize, state: State) -> Fix
 /// A flag for each state, which is on where the candidate is in.
 fn flags_in(states: &[State]) -> [bool; MOST_CANDIDATES]
     requires { length states.now ≡ MOST_CANDIDATES }
-    ensures { result ≡ map views.is_in states.now }
+    ensures exact { result ≡ map views.is_in states.now }
+    ensures long { length states.now ≡ MOST_CANDIDATES }
 {
     let mut on = [false; MOST_CANDIDATES];
     for i in 0..MOST_CANDIDATES {
@@ -53,7 +54,8 @@ fn flags_in(states: &[State]) -> [bool; MOST_CANDIDATES]
 
 /// The configuration of the candidates that are in.
 pub(crate) fn inside(fix: &Fix) -> Config
-    ensures { result ≡ sides.inside fix.now }
+    ensures exact { result ≡ sides.inside fix.now }
+    ensures long { length fix.now.state ≡ MOST_CANDIDATES }
 {
     Config {
         on: flags_in(&fix.state),

@@ -8,6 +8,7 @@ use bip_model::{Multipliers, Programme};
 
 /// The programme, a budget of pages and one of nodes, both sets of multipliers, which candidates are useful, and what each
 /// alone would gain: a branch is on the open useful one that gains most.
+#[derive(Drop)]
 pub(crate) struct Frame<'a> {
     pub programme: &'a Programme,
     pub budget: u64,

@@ -74,11 +74,21 @@ fn better(frame: &Frame<'_>, best: usize, index: usize) -> usize
     requires index { index < MOST_CANDIDATES }
     ensures { (result ≡ best) ⊎ (result ≡ index) }
 {
-    if frame.gains[index] > frame.gains[best] { index } else { best }
+    if frame.gains[index] > frame.gains[best] {
+        index
+    } else {
+        best
+    }
 }
 
 /// The best choice of the candidates up to this one, of which the best before it is known.
-fn next_choice(frame: &Frame<'_>, fix: &Fix, used: u64, best: Option<usize>, index: usize) -> Option<usize>
+fn next_choice(
+    frame: &Frame<'_>,
+    fix: &Fix,
+    used: u64,
+    best: Option<usize>,
+    index: usize,
+) -> Option<usize>
     requires within { index < length frame.now.programme.now.sizes }
     requires used { used ≡ bounds.pages_inside frame.now.programme.now fix.now }
     requires most { used ≤ MOST_CANDIDATES * MOST_INDEX_PAGES }

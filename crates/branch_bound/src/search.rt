@@ -1,5 +1,5 @@
 //! Branch and bound.
-ghost use Rattle.std.specs.Prelude.{◌≡◌, ℕ, ◌<◌, ◌≤◌, [], ◌∷◌, ◌++◌, vec_len};
+ghost use Rattle.std.specs.Prelude.{◌≡◌, ℕ, ◌<◌, ◌≤◌, [], ◌∷◌, ◌++◌, length, vec_len};
 ghost use Rattle.std.specs.Vec.{vec_capacity};
 ghost use Rattle.adv_base.specs.declared.limits.TheConstants.{MOST_CANDIDATES, MOST_NODES, MOST_ROWS};
 ghost use Rattle.bip_model.specs.Views.{AreMultipliers};
@@ -60,6 +60,7 @@ fn keep(sets: &mut Vec<Multipliers>, set: Multipliers)
 fn start(programme: &Programme, root: &Fix) -> Found
     ensures exact { result ≡ runs.start programme.now root.now }
     ensures made { result.made ≡ 1 }
+    ensures long { length root.now.state ≡ MOST_CANDIDATES }
 {
     let config = inside(root);
     let cost = value(programme, &config);

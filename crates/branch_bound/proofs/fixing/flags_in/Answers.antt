@@ -15,6 +15,6 @@ loop-i-preserved c =
       long = search (rules, c.loop-i.invariant.long);
     }
 
-pub returns : goal.returns
-returns c =
+pub returns-clause-exact : goal.returns-clause-exact
+returns-clause-exact c =
     all-taken is_in c.args.states.now c.loop-i.on c.loop-i.i (omega (arith, c.requires, c.loop-i-test.false)) (omega (arith, c.requires, c.loop-i.invariant.long)) c.loop-i.invariant.done

@@ -15,8 +15,13 @@ loop-index-preserved c =
       flags =
           flags-more (λ (i : ℕ). is_useful c.args.programme.now c.args.budget (i + 1)) c.loop-index.flags c.loop-index.index c.is_useful-flag.result room c.loop-index.invariant.flags c.is_useful-flag.ensures;
       count =
-          omega (arith, useful-more c.args.programme.now c.args.budget c.loop-index.index, c.loop-index.invariant.count, c.one_if-count.ensures.exact,
-          ap (λ (b : Bool). cond b 1 0) c.is_useful-flag.ensures);
+          omega (
+            arith,
+            useful-more c.args.programme.now c.args.budget c.loop-index.index,
+            c.loop-index.invariant.count,
+            c.one_if-count.ensures.exact,
+            ap (λ (b : Bool). cond b 1 0) c.is_useful-flag.ensures,
+          );
       most = omega (arith, c.loop-index.invariant.most, c.one_if-count.ensures.most);
       long = search (rules, c.loop-index.invariant.long);
     }

@@ -1,0 +1,87 @@
+-- What the search's code shows, as the best answer of each setting.
+use Rattle.std.proofs.Common.{◌≡◌, ◌∙◌, ℕ, zero, suc, ◌+◌, ◌*◌, ◌^◌, ◌<◌, ◌≤◌, Bool, true, cond, false, List, [], ◌∷◌, ◌++◌, length, map, min, replicate, ℤ, refl, sym, ap, subst, arith}
+use Rattle.std.specs.Prelude.{slice_index_or, ◌≤ℤ◌}
+use Rattle.std.proofs.Math.Path.{fun_ext}
+use Rattle.adv_base.specs.declared.limits.TheConstants.{MOST_CANDIDATES}
+use Rattle.adv_base.specs.declared.setting.Config.{Config}
+use Rattle.adv_base.specs.Settings.{TheSetting, KeepsLimits}
+use Rattle.plan_model.specs.Lagrangian.{TheMultipliers, IsLagrangian}
+use Rattle.bip_model.specs.declared.answer.Node.{Node}
+use Rattle.bip_model.specs.declared.fix.Fix.{Fix}
+use Rattle.bip_model.specs.declared.multipliers.Multipliers.{Multipliers}
+use Rattle.bip_model.specs.declared.programme.Programme.{Programme}
+use Rattle.bip_model.specs.Candidates.{is_useful, useful_below}
+use Rattle.bip_model.specs.StandsFor.{StandsFor}
+use Rattle.bip_model.specs.Trees.{zeros}
+use Rattle.bip_model.specs.Uses as of_uses
+use Rattle.bip_model.specs.Values.{grant_count}
+use Rattle.bip_model.specs.Views.{Place, is_place, rent_at, places, node_of, multipliers_of, AreMultipliers}
+use Rattle.lagrange_bound.specs.Bounds.{lagrangian}
+use Rattle.lagrange_bound.specs.Rents.{rent_multipliers, tried_price}
+use Rattle.branch_bound.specs.declared.found.Found.{Found}
+use Rattle.branch_bound.specs.Answers.{IsBestForEach}
+use Rattle.branch_bound.specs.Sides.{IsRoot}
+use Rattle.branch_bound.specs.inner.Climbs.{IsSound, IsTop}
+use Rattle.branch_bound.specs.inner.Runs.{Rules, lag, start, IsExplored, least_bound}
+use Rattle.branch_bound.proofs.Running.{AreRulesFor}
+use Rattle.branch_bound.proofs.Final.{AtMostRents, at-most-rents, best-answer}
+
+-- ## What lower crates prove
+
+lagrangian-is : (setting : TheSetting) (programme : Programme) (budget : ℕ) (fix : Fix) (multipliers : Multipliers) → KeepsLimits setting → StandsFor setting programme → AreMultipliers programme multipliers →
+    IsLagrangian setting budget (node_of fix) (multipliers_of programme multipliers) (lagrangian programme budget fix multipliers)
+lagrangian-is setting programme budget fix multipliers limits stands are = ?
+
+rents-within : (programme : Programme) (i : ℕ) → i < 41 → AreMultipliers programme (rent_multipliers programme (tried_price i))
+rents-within programme i few = ?
+
+rents-linked : (setting : TheSetting) (programme : Programme) (page : ℕ) → StandsFor setting programme → multipliers_of programme (rent_multipliers programme page) ≡ of_uses.rent_multipliers setting page
+rents-linked setting programme page stands = ?
+
+-- ## Zeros
+
+zero-rent : (list : List Place) (n q s a : ℕ) → rent_at list (replicate n 0) q s a ≡ 0
+zero-rent [] n q s a = refl
+zero-rent (place ∷ list) zero q s a = refl
+zero-rent (place ∷ list) (suc n) q s a = to (is_place place q s a)
+  where
+    to : (b : Bool) → cond b 0 (rent_at list (replicate n 0) q s a) ≡ 0
+    to true = refl
+    to false = zero-rent list n q s a
+
+zeros-are : (programme : Programme) (multipliers : Multipliers) → multipliers.mu ≡ 0 → multipliers.lambda ≡ replicate (grant_count programme) 0 → multipliers_of programme multipliers ≡ zeros
+zeros-are programme multipliers page rents =
+    let each : (q s a : ℕ) → rent_at (places programme) multipliers.lambda q s a ≡ 0 = λ q s a. ap (λ (l : List ℕ). rent_at (places programme) l q s a) rents ∙ zero-rent (places programme) (grant_count programme) q s a in
+    let own : ℕ → ℕ → ℕ → ℕ = λ q s a. rent_at (places programme) multipliers.lambda q s a in
+    let none : ℕ → ℕ → ℕ → ℕ = λ q s a. 0 in
+    let all : own ≡ none = fun_ext (λ q. fun_ext (λ s. fun_ext (λ a. each q s a))) in
+    ap (λ (r : ℕ → ℕ → ℕ → ℕ). told r multipliers.mu) all ∙ ap (told none) page
+  where
+    told : (ℕ → ℕ → ℕ → ℕ) → ℕ → TheMultipliers
+    told r n = record { rent = r; page = n }
+
+-- ## The answer
+
+pub search-best : (rules : Rules) (root : Fix) (after : Found) (tree_list : List Node) (config : Config) (cost : ℕ) (sets : List Multipliers) (useful : ℕ) →
+    AreMultipliers rules.programme rules.zeros → AreMultipliers rules.programme rules.rents → rules.zeros.mu ≡ 0 → rules.zeros.lambda ≡ replicate (grant_count rules.programme) 0 →
+    ((i : ℕ) → i < length rules.programme.sizes → slice_index_or rules.useful i false ≡ is_useful rules.programme rules.budget (i + 1)) →
+    IsRoot rules.programme rules.budget root → length root.state ≡ MOST_CANDIDATES → IsExplored rules root (start rules.programme root) [] after tree_list →
+    length tree_list + 1 ≡ 0 + 1 + after.made → after.made ≤ rules.nodes → sets ≡ rules.rents ∷ [] → useful ≡ useful_below rules.programme rules.budget (length rules.programme.sizes) →
+    IsSound rules.programme rules.budget root config cost → cost ≤ after.cost → IsTop rules.programme rules.budget root config cost →
+    ((i : ℕ) → i < min 41 41 → lagrangian rules.programme rules.budget root (rent_multipliers rules.programme (tried_price i)) ≤ℤ lagrangian rules.programme rules.budget root rules.rents) →
+    IsBestForEach rules.programme rules.budget rules.nodes root (record { config = config; cost = cost; bound = least_bound cost after.low; sets = sets; tree = tree_list; useful = useful })
+search-best rules root after tree_list config cost sets useful zeros_fit rents_fit page lambda useful_are is_root long explored count most sets_are useful_is sound cheaper top tried setting limits stands =
+    let are : AreRulesFor setting rules =
+    record {
+      limits = limits;
+      stands = stands;
+      zeros_fit = zeros_fit;
+      rents_fit = rents_fit;
+      zeros_are = zeros-are rules.programme rules.zeros page lambda;
+      useful_are = useful_are;
+      values = λ fix multipliers fit. lagrangian-is setting rules.programme rules.budget fix multipliers limits stands fit;
+    } in
+    let at-most : (i : ℕ) → i < 41 → AtMostRents setting rules root (tried_price i) = λ i few.
+    at-most-rents setting rules root (tried_price i) (rent_multipliers rules.programme (tried_price i)) are (rents-within rules.programme i few) (rents-linked setting rules.programme (tried_price i) stands) (tried i (omega (arith, few))) in
+    best-answer setting rules root explored.tree after config cost sets tree_list useful are is_root long explored.run explored.list_is (omega (arith, count)) most sets_are useful_is sound cheaper top
+    (at-most 0 (omega arith)) (λ j few. at-most (suc j) (omega (arith, few)))
