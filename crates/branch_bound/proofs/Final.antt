@@ -177,14 +177,15 @@ given-up setting rules root tree after cost are config few run below =
 
 -- ## Rents
 
+pick-most : (b : Bool) (x y most : ℕ) → x ≤ most → y ≤ most → cond b x y ≤ most
+pick-most true x y most first second = first
+pick-most false x y most first second = second
+
 rent-most : (list : List Place) (rents : List ℕ) → ((i : ℕ) → get_or rents i 0 ≤ MOST_RENT) → (q s a : ℕ) → rent_at list rents q s a ≤ MOST_RENT
 rent-most [] rents most q s a = omega arith
 rent-most (place ∷ list) [] most q s a = omega arith
-rent-most (place ∷ list) (rent ∷ rents) most q s a = to (is_place place q s a)
-  where
-    to : (b : Bool) → cond b rent (rent_at list rents q s a) ≤ MOST_RENT
-    to true = most 0
-    to false = rent-most list rents (λ i. most (suc i)) q s a
+rent-most (place ∷ list) (rent ∷ rents) most q s a =
+    pick-most (is_place place q s a) rent (rent_at list rents q s a) MOST_RENT (most 0) (rent-most list rents (λ i. most (suc i)) q s a)
 
 each-most : (rents : List ℕ) → All (λ rent. rent ≤ MOST_RENT) rents → (i : ℕ) → get_or rents i 0 ≤ MOST_RENT
 each-most rents all i =

@@ -12,7 +12,7 @@ use Rattle.bip_model.specs.declared.multipliers.Multipliers.{Multipliers}
 use Rattle.bip_model.specs.declared.programme.Programme.{Programme}
 use Rattle.bip_model.specs.Candidates.{is_useful, useful_below}
 use Rattle.bip_model.specs.StandsFor.{StandsFor}
-use Rattle.bip_model.specs.Trees.{zeros}
+use Rattle.bip_model.specs.Trees.{preorder, zeros}
 use Rattle.bip_model.specs.Uses as of_uses
 use Rattle.bip_model.specs.Values.{grant_count}
 use Rattle.bip_model.specs.Views.{Place, is_place, rent_at, places, node_of, multipliers_of, AreMultipliers}
@@ -22,8 +22,8 @@ use Rattle.branch_bound.specs.declared.found.Found.{Found}
 use Rattle.branch_bound.specs.Answers.{IsBestForEach}
 use Rattle.branch_bound.specs.Sides.{IsRoot}
 use Rattle.branch_bound.specs.inner.Climbs.{IsSound, IsTop}
-use Rattle.branch_bound.specs.inner.Runs.{Rules, lag, start, IsExplored, least_bound}
-use Rattle.branch_bound.proofs.Running.{AreRulesFor}
+use Rattle.branch_bound.specs.inner.Runs.{Rules, lag, start, Runs, IsExplored, least_bound}
+use Rattle.branch_bound.proofs.Running.{AreRulesFor, runs-count}
 use Rattle.branch_bound.proofs.Final.{AtMostRents, at-most-rents, best-answer}
 
 -- ## What lower crates prove
@@ -40,14 +40,14 @@ rents-linked setting programme page stands = ?
 
 -- ## Zeros
 
+pick-zero : (b : Bool) (n : ℕ) → n ≡ 0 → cond b 0 n ≡ 0
+pick-zero true n is = refl
+pick-zero false n is = is
+
 zero-rent : (list : List Place) (n q s a : ℕ) → rent_at list (replicate n 0) q s a ≡ 0
 zero-rent [] n q s a = refl
 zero-rent (place ∷ list) zero q s a = refl
-zero-rent (place ∷ list) (suc n) q s a = to (is_place place q s a)
-  where
-    to : (b : Bool) → cond b 0 (rent_at list (replicate n 0) q s a) ≡ 0
-    to true = refl
-    to false = zero-rent list n q s a
+zero-rent (place ∷ list) (suc n) q s a = pick-zero (is_place place q s a) (rent_at list (replicate n 0) q s a) (zero-rent list n q s a)
 
 zeros-are : (programme : Programme) (multipliers : Multipliers) → multipliers.mu ≡ 0 → multipliers.lambda ≡ replicate (grant_count programme) 0 → multipliers_of programme multipliers ≡ zeros
 zeros-are programme multipliers page rents =
@@ -62,15 +62,15 @@ zeros-are programme multipliers page rents =
 
 -- ## The answer
 
-pub search-best : (rules : Rules) (root : Fix) (after : Found) (tree_list : List Node) (config : Config) (cost : ℕ) (sets : List Multipliers) (useful : ℕ) →
+pub search-best : (rules : Rules) (root : Fix) (before after : Found) (old tree_list : List Node) (config : Config) (cost : ℕ) (sets : List Multipliers) (useful : ℕ) →
     AreMultipliers rules.programme rules.zeros → AreMultipliers rules.programme rules.rents → rules.zeros.mu ≡ 0 → rules.zeros.lambda ≡ replicate (grant_count rules.programme) 0 →
     ((i : ℕ) → i < length rules.programme.sizes → slice_index_or rules.useful i false ≡ is_useful rules.programme rules.budget (i + 1)) →
-    IsRoot rules.programme rules.budget root → length root.state ≡ MOST_CANDIDATES → IsExplored rules root (start rules.programme root) [] after tree_list →
-    length tree_list + 1 ≡ 0 + 1 + after.made → after.made ≤ rules.nodes → sets ≡ rules.rents ∷ [] → useful ≡ useful_below rules.programme rules.budget (length rules.programme.sizes) →
+    IsRoot rules.programme rules.budget root → length root.state ≡ MOST_CANDIDATES → before ≡ start rules.programme root → old ≡ [] → IsExplored rules root before old after tree_list →
+    after.made ≤ rules.nodes → sets ≡ rules.rents ∷ [] → useful ≡ useful_below rules.programme rules.budget (length rules.programme.sizes) →
     IsSound rules.programme rules.budget root config cost → cost ≤ after.cost → IsTop rules.programme rules.budget root config cost →
     ((i : ℕ) → i < min 41 41 → lagrangian rules.programme rules.budget root (rent_multipliers rules.programme (tried_price i)) ≤ℤ lagrangian rules.programme rules.budget root rules.rents) →
     IsBestForEach rules.programme rules.budget rules.nodes root (record { config = config; cost = cost; bound = least_bound cost after.low; sets = sets; tree = tree_list; useful = useful })
-search-best rules root after tree_list config cost sets useful zeros_fit rents_fit page lambda useful_are is_root long explored count most sets_are useful_is sound cheaper top tried setting limits stands =
+search-best rules root before after old tree_list config cost sets useful zeros_fit rents_fit page lambda useful_are is_root long at_start empty explored most sets_are useful_is sound cheaper top tried setting limits stands =
     let are : AreRulesFor setting rules =
     record {
       limits = limits;
@@ -83,5 +83,8 @@ search-best rules root after tree_list config cost sets useful zeros_fit rents_f
     } in
     let at-most : (i : ℕ) → i < 41 → AtMostRents setting rules root (tried_price i) = λ i few.
     at-most-rents setting rules root (tried_price i) (rent_multipliers rules.programme (tried_price i)) are (rents-within rules.programme i few) (rents-linked setting rules.programme (tried_price i) stands) (tried i (omega (arith, few))) in
-    best-answer setting rules root explored.tree after config cost sets tree_list useful are is_root long explored.run explored.list_is (omega (arith, count)) most sets_are useful_is sound cheaper top
+    let run : Runs rules root (start rules.programme root) explored.tree after = subst (λ (f : Found). Runs rules root f explored.tree after) at_start explored.run in
+    let list_is : tree_list ≡ preorder explored.tree = explored.list_is ∙ ap (λ (front : List Node). front ++ preorder explored.tree) empty in
+    let made = runs-count rules root (start rules.programme root) explored.tree after run in
+    best-answer setting rules root explored.tree after config cost sets tree_list useful are is_root long run list_is (omega (arith, made, ap length list_is)) most sets_are useful_is sound cheaper top
     (at-most 0 (omega arith)) (λ j few. at-most (suc j) (omega (arith, few)))

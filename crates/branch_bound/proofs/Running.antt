@@ -6,7 +6,7 @@ use Rattle.std.proofs.Math.ListN.{get_or-map}
 use Rattle.std.proofs.lemmas.Bool.{cases_Bool, false≢true}
 use Rattle.std.proofs.lemmas.Bool.Decides.{nat_tests}
 use Rattle.std.proofs.lemmas.Int.{ints, int_min_is}
-use Rattle.std.proofs.lemmas.List.{length-map}
+use Rattle.std.proofs.lemmas.List.{length-append, length-map}
 use Rattle.adv_base.specs.declared.setting.Config.{Config}
 use Rattle.adv_base.specs.Configs.{has_candidate}
 use Rattle.adv_base.specs.Nodes as nodes
@@ -25,7 +25,7 @@ use Rattle.bip_model.specs.Best.{Subproblem, subproblems, HasTotal, HasLagrangia
 use Rattle.bip_model.specs.Candidates.{is_useful, is_open, pages_of, size_of}
 use Rattle.bip_model.specs.Laws.{NoneUseful}
 use Rattle.bip_model.specs.StandsFor.{StandsFor}
-use Rattle.bip_model.specs.Trees.{Tree, Branches, Leaf, Full, in_side, out_side, zeros, set_at, IsBounded, Shows}
+use Rattle.bip_model.specs.Trees.{Tree, Branches, Leaf, Full, preorder, in_side, out_side, zeros, set_at, IsBounded, Shows}
 use Rattle.bip_model.specs.Values.{value}
 use Rattle.bip_model.specs.Views.{is_in, is_out, node_of, multipliers_of, AreMultipliers}
 use Rattle.bip_model.proofs.Deciding.{open-same}
@@ -293,3 +293,20 @@ runs-shows setting rules fix before (Branches a inside_tree outside_tree) after 
           (runs-shows setting rules (fixed fix i Out) run.middle outside_tree after bound are run.outside_run most low),
     )
 runs-shows setting rules fix before Full after bound are run most low = absurd run
+
+-- ## How many nodes the tree has
+
+pub runs-count : (rules : Rules) (fix : Fix) (before : Found) (tree : Tree) (after : Found) → Runs rules fix before tree after → length (preorder tree) + before.made ≡ 1 + after.made
+runs-count rules fix before (Leaf k) after run =
+    let v = visit rules fix before in
+    elim run [
+      | inl closed ↦ let made = ap (λ (f : Found). f.made) closed.after_is in omega (arith, made, v.made)
+      | inr forced ↦ let made = ap (λ (f : Found). f.made) forced.after_is in omega (arith, made, v.made)
+    ]
+runs-count rules fix before (Branches a inside_tree outside_tree) after run =
+    let v = visit rules fix before in
+    let first = runs-count rules (fixed fix run.index In) (branched (visited rules fix before)) inside_tree run.middle run.inside_run in
+    let second = runs-count rules (fixed fix run.index Out) run.middle outside_tree after run.outside_run in
+    let split = length-append (preorder inside_tree) (preorder outside_tree) in
+    omega (arith, v.made, first, second, split)
+runs-count rules fix before Full after run = absurd run

@@ -44,7 +44,7 @@ is-free-of In a b = absurd (false≢true (sym a))
 is-free-of Out a b = absurd (false≢true (sym b))
 
 -- what is free at the node is free in its fix
-free-of : (fix : Fix) (i : ℕ) → is_free (node_of fix) (suc i) ≡ true → is_free_state (state_at fix i) ≡ true
+pub free-of : (fix : Fix) (i : ℕ) → is_free (node_of fix) (suc i) ≡ true → is_free_state (state_at fix i) ≡ true
 free-of fix i free =
     let parts = free-parts (node_of fix) (suc i) free in
     is-free-of (state_at fix i) (sym (get_or-map is_in fix.state i Free) ∙ sym (flag-of (node_of fix).inside i) ∙ parts.0) (sym (get_or-map is_out fix.state i Free) ∙ sym (flag-of (node_of fix).outside i) ∙ parts.1)

@@ -7,6 +7,7 @@
 //! room.
 #![tactic(auto)]
 
+mod best;
 mod climb;
 mod explore;
 mod fixing;
@@ -14,8 +15,7 @@ mod found;
 mod frame;
 mod node;
 mod room;
-mod search;
 mod useful;
 
+pub use best::search;
 pub use room::Room;
-pub use search::search;

@@ -20,7 +20,7 @@ loop-index-preserved c =
             useful-more c.args.programme.now c.args.budget c.loop-index.index,
             c.loop-index.invariant.count,
             c.one_if-count.ensures.exact,
-            ap (λ (b : Bool). cond b 1 0) c.is_useful-flag.ensures,
+            ap {B = ℕ} (λ (b : Bool). cond b 1 0) c.is_useful-flag.ensures,
           );
       most = omega (arith, c.loop-index.invariant.most, c.one_if-count.ensures.most);
       long = search (rules, c.loop-index.invariant.long);
