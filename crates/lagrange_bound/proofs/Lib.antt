@@ -1,0 +1,6 @@
+pub mod RentedPrices
+pub mod AvailableCandidates
+pub mod EarnedRents
+pub mod RentPlaces
+pub mod StandingRents
+pub mod StandingValue
