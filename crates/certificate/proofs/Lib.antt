@@ -12,3 +12,5 @@ pub mod Complete
 pub mod Deterministic
 pub mod Splits
 pub mod Breaks
+pub mod TreeLaws
+pub mod OneText

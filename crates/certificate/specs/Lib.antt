@@ -2,4 +2,5 @@ pub mod Texts
 pub mod Limits
 pub mod Certificates
 pub mod Order
+pub mod Trees
 pub mod inner

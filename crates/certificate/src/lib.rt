@@ -15,5 +15,5 @@ mod read;
 mod words;
 
 pub use cert::{Cert, CertFault, Entry, SparseSet};
-pub use laws::places_in_order;
+pub use laws::{places_in_order, texts_are_one, whole_trees_are_preorders};
 pub use read::read_cert;

@@ -13,7 +13,7 @@ use Rattle.plan_model.specs.Orders.{need_order}
 use Rattle.planner.specs.declared.front.Front.{Front}
 use Rattle.planner.specs.declared.front.Front.TheVariants.{Any, Listed, Need}
 use Rattle.planner.specs.declared.front.Link.{Link}
-use Rattle.planner.specs.Fronts.{asked, front_order, first_item, longer_front, need_front, is_need, needs_item, no_link, link_at, is_alike, listed, Ties, IsLink, IsGrowing, AreFronts, AreHeadsApart, AreHeads, AreLinks, AreNeeded, AreNeeds, IsAdded, IsKeeping}
+use Rattle.planner.specs.Fronts.{asked, front_order, first_item, longer_front, need_front, is_need, needs_item, no_link, link_at, is_alike, is_same_link, turned, turned_link, listed, Ties, Joins, IsLink, IsGrowing, AreFronts, AreHeadsApart, AreHeads, AreLinks, AreNeeded, AreNeeds, IsAdded, IsKeeping}
 use Rattle.planner.proofs.Begins.{same_item, item_same}
 
 pub growing_none : (fronts : List Front) → IsGrowing fronts fronts
@@ -122,9 +122,23 @@ link_grows : (list : Order) (x y : List Front) (edges : List TaskEdge) (link : L
 link_grows list x y edges link g l =
     record { number = l.number; tied = λ edge found. ties_grow list x y edge link g (l.tied edge found) }
 
--- links alike tie the same edges
-alike_ties : (list : Order) (fronts : List Front) (edge : TaskEdge) (x y : Link) → is_alike x y ≡ true → Ties list fronts edge x → Ties list fronts edge y
-alike_ties list fronts edge x y h t =
+joins_grow : (list : Order) (x y : List Front) (edge : TaskEdge) (link : Link) → IsGrowing x y → Joins list x edge link → Joins list y edge link
+joins_grow list x y edge link g (inl t) = inl (ties_grow list x y edge link g t)
+joins_grow list x y edge link g (inr t) = inr (ties_grow list x y (turned edge) link g t)
+
+turned_ties : (list : Order) (fronts : List Front) (edge : TaskEdge) (x : Link) → Ties list fronts edge x → Ties list fronts (turned edge) (turned_link x)
+turned_ties list fronts edge x t =
+    record {
+      left_slot = t.right_slot;
+      right_slot = t.left_slot;
+      left_in = t.right_in;
+      right_in = t.left_in;
+      left_asks = t.right_asks;
+      right_asks = t.left_asks;
+    }
+
+same_ties : (list : Order) (fronts : List Front) (edge : TaskEdge) (x y : Link) → is_same_link x y ≡ true → Ties list fronts edge x → Ties list fronts edge y
+same_ties list fronts edge x y h t =
     let p = and_parts _ _ h in
     let q = and_parts _ _ p.0 in
     let r = and_parts _ _ q.0 in
@@ -141,9 +155,20 @@ alike_ties list fronts edge x y h t =
       right_asks = ap (asked list fronts) (sym right_front) ∙ t.right_asks;
     }
 
-alike_self : (x : Link) → is_alike x x ≡ true
-alike_self x =
+-- links alike tie the same edges
+alike_joins : (list : Order) (fronts : List Front) (edge : TaskEdge) (x y : Link) → is_alike x y ≡ true → Ties list fronts edge x → Joins list fronts edge y
+alike_joins list fronts edge x y h t =
+    elim (or_cases (is_same_link x y) (is_same_link (turned_link x) y) h) [
+      | inl same ↦ inl (same_ties list fronts edge x y same t)
+      | inr other ↦ inr (same_ties list fronts (turned edge) (turned_link x) y other (turned_ties list fronts edge x t))
+    ]
+
+same_self : (x : Link) → is_same_link x x ≡ true
+same_self x =
     and_from _ _ (and_from _ _ (and_from _ _ (eq-eqb x.left x.left refl) (eq-eqb x.right x.right refl)) (eq-eqb x.left_front x.left_front refl)) (eq-eqb x.right_front x.right_front refl)
+
+alike_self : (x : Link) → is_alike x x ≡ true
+alike_self x = or_left (is_same_link x x) (is_same_link (turned_link x) x) (same_self x)
 
 alike_place : (x : Link) (links : List Link) → list_any (is_alike x) links ≡ true → (i : ℕ) × (i < length links) × (is_alike x (link_at links i) ≡ true)
 alike_place x [] h = absurd (false≢true h)
@@ -207,7 +232,7 @@ links_more list x y z edges old new k edge left right found g h left_in left_is 
             | inl less ↦ ∥∥₁_map (t.all j e less at) (λ w. record {
               link = w.link;
               link_in = (let inside = w.link_in in omega arith);
-              ties = subst (Ties list z e) (sym (kept.keeps w.link w.link_in)) (ties_grow list x z e (link_at old w.link) grown w.ties);
+              joins = subst (Joins list z e) (sym (kept.keeps w.link w.link_in)) (joins_grow list x z e (link_at old w.link) grown w.joins);
             })
             | inr past ↦
                 let same : k ≡ j = omega arith in
@@ -215,7 +240,7 @@ links_more list x y z edges old new k edge left right found g h left_in left_is 
                 ∣ record {
                   link = kept.place;
                   link_in = kept.place_in;
-                  ties = subst (λ d. Ties list z d (link_at new kept.place)) edges_same (alike_ties list z edge link (link_at new kept.place) kept.alike here);
+                  joins = subst (λ d. Joins list z d (link_at new kept.place)) edges_same (alike_joins list z edge link (link_at new kept.place) kept.alike here);
                 } ∣₁
           ];
     }

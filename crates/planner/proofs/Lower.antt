@@ -88,7 +88,7 @@ module _ (ways : Ways) (table : OfferTable) (rows : ℕ → List Cell) (closed :
         let rest : set - a ≡ b = omega arith in
         let x : ℕ = plan_cost ways.task.now table left in
         let y : ℕ = plan_cost ways.task.now table right in
-        let crossed : 0 < length (merges_of ways.links.items a b) = some_merge ways.task.now (listed ways.task.now) ways.fronts.items ways.links.items a b edge m.edge ways.known.needs.linked m.found m.crossing in
+        let crossed : 0 < length (merges_of ways.links.items a b) = some_merge ways.task.now (listed ways.task.now) ways.fronts.items ways.links.items a b edge m.edge ways.known.needs.linked apart m.found m.crossing in
         elim (cases_Bool (is_covered ways.covered.items a)) [
           | inr off ↦ omega (arith, uncovered a left (omega arith) off left_low left_valid refl, capped)
           | inl on_left ↦
@@ -102,7 +102,7 @@ module _ (ways : Ways) (table : OfferTable) (rows : ℕ → List Cell) (closed :
                     let bound = (((closed.each set within).joins k inside f front_in).merges) in
                     let price : cut.merge_price ≡ merge_price ways.task.now a b = facts.merge ∙ ap (λ t. merge_price ways.task.now t cut.right) is ∙ ap (merge_price ways.task.now a) other in
                     let crossings : merges_in ways cut ≡ merges_of ways.links.items a b = facts.crossings ∙ ap (λ t. merges_of ways.links.items t cut.right) is ∙ ap (merges_of ways.links.items a) other in
-                    merge_low ways.task.now (listed ways.task.now) ways.fronts.items ways.heads.items ways.links.items (rows cut.left) (rows cut.right) a b f (cost_at (rows set) f) cut.merge_price edge (merges_in ways cut) (delivers table left) (delivers table right) x y ways.known.needs.first ways.known.needs.linked front_in price crossings bound m begins (λ g g_in starts. subst (λ t. any_at (rows t) g ≤ x) (sym is) ((left_low.least_any g g_in).each left left_valid refl starts)) (λ h h_in starts. subst (λ t. any_at (rows t) h ≤ y) (sym other) ((right_low.least_any h h_in).each right right_valid refl starts)))
+                    merge_low ways.task.now (listed ways.task.now) ways.fronts.items ways.heads.items ways.links.items (rows cut.left) (rows cut.right) a b f (cost_at (rows set) f) cut.merge_price edge (merges_in ways cut) (delivers table left) (delivers table right) x y ways.known.needs.first ways.known.needs.linked apart front_in price crossings bound m begins (λ g g_in starts. subst (λ t. any_at (rows t) g ≤ x) (sym is) ((left_low.least_any g g_in).each left left_valid refl starts)) (λ h h_in starts. subst (λ t. any_at (rows t) h ≤ y) (sym other) ((right_low.least_any h h_in).each right right_valid refl starts)))
               ]
         ]
 
@@ -124,7 +124,7 @@ module _ (ways : Ways) (table : OfferTable) (rows : ℕ → List Cell) (closed :
         let x : ℕ = plan_cost ways.task.now table left in
         let y : ℕ = plan_cost ways.task.now table right in
         let m = crossing_of ways.task.now.edges a b any in
-        let crossed : 0 < length (merges_of ways.links.items a b) = some_merge ways.task.now (listed ways.task.now) ways.fronts.items ways.links.items a b m.number m.edge ways.known.needs.linked m.found m.crossing in
+        let crossed : 0 < length (merges_of ways.links.items a b) = some_merge ways.task.now (listed ways.task.now) ways.fronts.items ways.links.items a b m.number m.edge ways.known.needs.linked apart m.found m.crossing in
         elim (cases_Bool (is_covered ways.covered.items a)) [
           | inr off ↦ omega (arith, uncovered a left (omega arith) off left_low (unsorted left left_valid) refl, capped)
           | inl on_left ↦

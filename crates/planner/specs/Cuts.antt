@@ -90,27 +90,15 @@ pub record AreCuts (task : Task) (links : List Link) (cuts : List Cut) (merges :
   pub slots : (s slot : ℕ) → s < n → slot < task.slots → 2 ^ slot ≡ s → is_covered covered s ≡ true
   pub joined : (s : ℕ) → s < n → is_covered covered s ≡ false → slice_index starts s ≡ slice_index starts (s + 1)
 
--- a set stands in a list of sets
-pub record StandsIn (sets : List ℕ) (a : ℕ) : Type 0 where
-  pub place : ℕ
-  pub within : place < length sets
-  pub is : slice_index sets place ≡ a
-
--- the list of the sets that are covered, but for the empty one
-pub record ListsCovered (covered : List Bool) (sets : List ℕ) : Type 0 where
-  pub each : (i : ℕ) → i < length sets → (0 < slice_index sets i) × (slice_index sets i < length covered)
-  pub all : (a : ℕ) → 0 < a → is_covered covered a ≡ true → ∥ StandsIn sets a ∥₁
-
--- The list of cuts goes on with cuts of the set, and that of merges with their merges: each cut with a set a at a place from
--- m to n of a list, whose parts are covered and that links cross, is there.
-pub record AddsCuts (task : Task) (links : List Link) (covered : List Bool) (set : ℕ) (sets : List ℕ) (m n : ℕ) (cuts : List Cut) (merges : List Merge) (new_cuts : List Cut) (new_merges : List Merge) : Type 0 where
+-- The list of cuts goes on with cuts of the set, and that of merges with their merges: each cut with a left part from m to
+-- before n, whose parts are covered and that links cross, is there.
+pub record AddsCuts (task : Task) (links : List Link) (covered : List Bool) (set m n : ℕ) (cuts : List Cut) (merges : List Merge) (new_cuts : List Cut) (new_merges : List Merge) : Type 0 where
   pub more : List Cut
   pub cuts_are : new_cuts ≡ cuts ++ more
   pub more_merges : List Merge
   pub merges_are : new_merges ≡ merges ++ more_merges
   pub each : (k : ℕ) → k < length more → IsCutOf task links new_merges set (cut_at more k)
-  pub all : (i : ℕ) → m ≤ i → i < n → may_cut covered set (slice_index sets i) ≡ true
-      → 0 < length (merges_of links (slice_index sets i) (set - slice_index sets i)) → IsListed more (slice_index sets i)
+  pub all : (a : ℕ) → m ≤ a → a < n → may_cut covered set a ≡ true → 0 < length (merges_of links a (set - a)) → IsListed more a
 
 -- the fronts and links of the task, and the cuts of all its sets
 pub record AreWays (task : Task) (fronts : List Front) (heads : List (Option Item)) (links : List Link) (cuts : List Cut) (merges : List Merge) (starts : List ℕ) (covered : List Bool) : Type 0 where

@@ -1,5 +1,5 @@
 -- The orders that fronts ask for, and the links between slots.
-use Rattle.std.specs.Prelude.{ℕ, ◌≡◌, ◌<◌, ◌≤◌, ◌==◌, Bool, true, false, ◌&&◌, ◌||◌, if◌then◌else◌, List, [], ◌∷◌, length, Option, Some, None, unwrap_or, slice_get, slice_index_or}
+use Rattle.std.specs.Prelude.{ℕ, ◌≡◌, ◌<◌, ◌≤◌, ◌⊎◌, ◌==◌, Bool, true, false, ◌&&◌, ◌||◌, if◌then◌else◌, List, [], ◌∷◌, length, Option, Some, None, unwrap_or, slice_get, slice_index_or}
 use Rattle.std.specs.List.{list_any}
 use Rattle.adv_base.specs.Items.{Order, is_same_item}
 use Rattle.adv_base.specs.Sets.{has_slot, is_crossing}
@@ -82,11 +82,27 @@ pub record IsLink (list : Order) (fronts : List Front) (edges : List TaskEdge) (
   pub number : link.edge < length edges
   pub tied : (edge : TaskEdge) → slice_get edges link.edge ≡ Some edge → Ties list fronts edge link
 
+-- the edge with its sides exchanged
+abbrev pub turned : TaskEdge → TaskEdge
+turned edge =
+    record {
+      left = edge.right;
+      left_column = edge.right_column;
+      left_need = edge.right_need;
+      right = edge.left;
+      right_column = edge.left_column;
+      right_need = edge.left_need;
+    }
+
+-- a link has the slots and needs of an edge, either way round
+abbrev pub Joins : Order → List Front → TaskEdge → Link → Type 0
+Joins list fronts edge link = Ties list fronts edge link ⊎ Ties list fronts (turned edge) link
+
 -- some link has the slots and needs of the edge
 pub record IsTied (list : Order) (fronts : List Front) (edge : TaskEdge) (links : List Link) : Type 0 where
   pub link : ℕ
   pub link_in : link < length links
-  pub ties : Ties list fronts edge (link_at links link)
+  pub joins : Joins list fronts edge (link_at links link)
 
 -- links of edges, and one for each of the first n edges
 pub record AreLinks (list : Order) (fronts : List Front) (edges : List TaskEdge) (links : List Link) (n : ℕ) : Type 0 where
@@ -129,10 +145,19 @@ pub record AreFronts (fronts : List Front) : Type 0 where
   pub needs : (f : ℕ) → 2 ≤ f → f < length fronts → (item : Item) × (slice_index_or fronts f Any ≡ Need item)
   pub once : (x f : ℕ) → 2 ≤ x → x < f → f < length fronts → ¬ (slice_index_or fronts x Any ≡ slice_index_or fronts f Any)
 
--- whether links have the same slots and fronts
-abbrev pub is_alike : Link → Link → Bool
-is_alike x y =
+-- whether two links have the same slots and fronts
+abbrev pub is_same_link : Link → Link → Bool
+is_same_link x y =
     (x.left == y.left) && (x.right == y.right) && (x.left_front == y.left_front) && (x.right_front == y.right_front)
+
+-- the link with its sides exchanged
+abbrev pub turned_link : Link → Link
+turned_link x =
+    record { edge = x.edge; left = x.right; right = x.left; left_front = x.right_front; right_front = x.left_front }
+
+-- or the same either way round
+abbrev pub is_alike : Link → Link → Bool
+is_alike x y = is_same_link x y || is_same_link (turned_link x) y
 
 -- links that begin with others and have one alike; what was added is the link
 pub record IsKeeping (old new : List Link) (link : Link) : Type 0 where

@@ -3,7 +3,7 @@ ghost use Rattle.std.specs.Prelude.{◌≡◌, ◌<◌};
 ghost use Rattle.std.specs.List.{list_all};
 ghost use Rattle.adv_base.specs.Items.{is_same_item};
 ghost use Rattle.plan_model.specs.Plans.{is_column_of as is_column};
-ghost use Rattle.planner.specs.Fronts.{longer_front, crosses_link, side_front, front_order, begins_test, listed as list_of};
+ghost use Rattle.planner.specs.Fronts.{longer_front, crosses_link, side_front, front_order, begins_test, turned_link, listed as list_of};
 
 use adv_base::{Item, has_slot};
 use plan_model::{Task, is_column_of};
@@ -19,8 +19,8 @@ pub(crate) enum Front {
     Need(Item),
 }
 
-/// Two slots that an edge joins, and the numbers of the fronts that ask for its needs. Edges alike in all of these have one
-/// link, with the number of the first of them.
+/// Two slots that an edge joins, and the numbers of the fronts that ask for its needs. Edges alike in all of these, either
+/// way round, have one link, with the number of the first of them.
 #[derive(Clone, Copy)]
 pub(crate) struct Link {
     pub edge: u32,
@@ -28,6 +28,21 @@ pub(crate) struct Link {
     pub right: u8,
     pub left_front: usize,
     pub right_front: usize,
+}
+
+impl Link {
+    /// The link with its sides exchanged.
+    pub(crate) fn turned(&self) -> Link
+        ensures { result ≡ turned_link self.now }
+    {
+        Link {
+            edge: self.edge,
+            left: self.right,
+            right: self.left,
+            left_front: self.right_front,
+            right_front: self.left_front,
+        }
+    }
 }
 
 /// Of a need's front `x` and a front `f`, given by their first items, the one that asks for more; none where no order

@@ -4,7 +4,7 @@ ghost use Rattle.std.specs.List.{list_any};
 ghost use Rattle.std.specs.Option.{ForSome};
 ghost use Rattle.adv_base.specs.Items.{Order};
 ghost use Rattle.planner.specs.declared.front.Front.TheVariants.{Any as ANY, Need as NEED};
-ghost use Rattle.planner.specs.Fronts.{first_item, front_order, need_front, is_alike, listed as list_of, AreHeads, AreFronts, AreLinks, AreNeeded, AreNeeds, IsAdded, IsGrowing, IsKeeping};
+ghost use Rattle.planner.specs.Fronts.{first_item, front_order, need_front, is_alike, is_same_link, listed as list_of, AreHeads, AreFronts, AreLinks, AreNeeded, AreNeeds, IsAdded, IsGrowing, IsKeeping};
 
 use crate::front::{Front, Link, listed};
 use adv_base::Item;
@@ -91,13 +91,20 @@ fn add_front(fronts: &mut Vec<Front>, need: Option<Item>) -> Result<usize, Alloc
 }
 
 /// Whether two links have the same slots and fronts.
-fn are_alike(one: &Link, other: &Link) -> bool
-    ensures { result ≡ is_alike one.now other.now }
+fn are_same(one: &Link, other: &Link) -> bool
+    ensures { result ≡ is_same_link one.now other.now }
 {
     one.left == other.left
         && one.right == other.right
         && one.left_front == other.left_front
         && one.right_front == other.right_front
+}
+
+/// Whether they have them either way round.
+fn are_alike(one: &Link, other: &Link) -> bool
+    ensures { result ≡ is_alike one.now other.now }
+{
+    are_same(one, other) || are_same(&one.turned(), other)
 }
 
 /// Whether there is a link alike.
