@@ -38,6 +38,6 @@ pub config-is : (has : ℕ → Bool) (on : List Bool) → length on ≡ 256 → 
 config-is has on count each =
     ext_get_or false on (config_of has).on (count ∙ sym (length-config_of has))
     (λ k within.
-        let below : k < 256 = omega (arith, within, count) in
-        let there : has_candidate (config_of has) (suc k) ≡ has (suc k) = config_of-has has (suc k) (omega arith) (omega (arith, below)) in
-        each k below ∙ sym there ∙ flag-of (config_of has) k)
+    let below : k < 256 = omega (arith, within, count) in
+    let there : has_candidate (config_of has) (suc k) ≡ has (suc k) = config_of-has has (suc k) (omega arith) (omega (arith, below)) in
+    each k below ∙ sym there ∙ flag-of (config_of has) k)

@@ -4,3 +4,5 @@ pub mod EarnedRents
 pub mod RentPlaces
 pub mod StandingRents
 pub mod StandingValue
+pub mod CoveredRents
+pub mod CarriedCosts

@@ -68,9 +68,10 @@ slots-above f g s (slot ∷ slots) rents same are =
 
 parts-above : (f g : ℕ → ℕ → ℕ → ℕ) (q : ℕ) (parts : List Part) (rents : List ℕ) → PartsAscending q parts → ((r s a : ℕ) → q ≤ r → f r s a ≡ g r s a) → PartsAre f parts rents → PartsAre g parts rents
 parts-above f g q [] rents asc same are = tt
-parts-above f g q (part ∷ parts) rents asc same are =
-    (slots-above (f part.statement) (g part.statement) 0 part.slots rents (λ s a above. same part.statement s a asc.0) are.0,
-    parts-above f g (suc part.statement) parts (drop (part_grants part) rents) asc.2 (λ r s a above. same r s a (omega (arith, above, asc.0))) are.1)
+parts-above f g q (part ∷ parts) rents asc same are = (
+  slots-above (f part.statement) (g part.statement) 0 part.slots rents (λ s a above. same part.statement s a asc.0) are.0,
+  parts-above f g (suc part.statement) parts (drop (part_grants part) rents) asc.2 (λ r s a above. same r s a (omega (arith, above, asc.0))) are.1,
+)
 
 -- ## Places
 
@@ -110,11 +111,12 @@ unfolding place_of
 front-rents q s k [] rest rents asc enough = tt
 front-rents q s k (grant ∷ grants) rest [] asc enough = absurd (omega (arith, enough))
 front-rents q s k (grant ∷ grants) rest (rent ∷ rents) asc enough =
-    let places : List Place = map (place_of q s) grants ++ rest in
-    (ap (λ (b : Bool). if b then rent else rent_at places rents q s grant.candidate) (here-is q s grant.candidate),
-    rents-above (λ a. rent_at places rents q s a) (λ a. if is_place (place_of q s grant) q s a then rent else rent_at places rents q s a) (suc grant.candidate) grants rents asc.1
-    (λ a above. sym (ap (λ (b : Bool). if b then rent else rent_at places rents q s a) (other-candidate q s grant.candidate q s a (λ e. omega (arith, e, above)))))
-    (front-rents q s (suc grant.candidate) grants rest rents asc.1 (omega (arith, enough))))
+    let places : List Place = map (place_of q s) grants ++ rest in (
+      ap (λ (b : Bool). if b then rent else rent_at places rents q s grant.candidate) (here-is q s grant.candidate),
+      rents-above (λ a. rent_at places rents q s a) (λ a. if is_place (place_of q s grant) q s a then rent else rent_at places rents q s a) (suc grant.candidate) grants rents asc.1
+          (λ a above. sym (ap (λ (b : Bool). if b then rent else rent_at places rents q s a) (other-candidate q s grant.candidate q s a (λ e. omega (arith, e, above)))))
+          (front-rents q s (suc grant.candidate) grants rest rents asc.1 (omega (arith, enough))),
+    )
 
 skip-grants : (q s : ℕ) (grants : List Grant) (rest : List Place) (rents : List ℕ) (r t a : ℕ) → ((c : ℕ) → is_place (record { statement = q; slot = s; candidate = c }) r t a ≡ false) →
     rent_at (map (place_of q s) grants ++ rest) rents r t a ≡ rent_at rest (drop (length grants) rents) r t a
@@ -138,11 +140,12 @@ slots-rents q s (slot ∷ slots) rest rents asc enough =
     let front : List Place = map (place_of q s) slot.grants in
     let back : List Place = slot_places q (suc s) slots ++ rest in
     let left : List ℕ = drop (length slot.grants) rents in
-    subst (λ (places : List Place). SlotsAre (λ t a. rent_at places rents q t a) s (slot ∷ slots) rents) (sym (append_assoc front (slot_places q (suc s) slots) rest))
-    (front-rents q s 0 slot.grants back rents asc.0 (omega (arith, enough)),
-    slots-above (λ t a. rent_at back left q t a) (λ t a. rent_at (front ++ back) rents q t a) (suc s) slots left
-    (λ t a above. sym (skip-grants q s slot.grants back rents q t a (λ c. other-slot q s c q t a (λ e. omega (arith, e, above)))))
-    (slots-rents q (suc s) slots rest left asc.1 (enough-left (length slot.grants) (grants_in slots) rents enough)))
+    subst (λ (places : List Place). SlotsAre (λ t a. rent_at places rents q t a) s (slot ∷ slots) rents) (sym (append_assoc front (slot_places q (suc s) slots) rest)) (
+      front-rents q s 0 slot.grants back rents asc.0 (omega (arith, enough)),
+      slots-above (λ t a. rent_at back left q t a) (λ t a. rent_at (front ++ back) rents q t a) (suc s) slots left
+          (λ t a above. sym (skip-grants q s slot.grants back rents q t a (λ c. other-slot q s c q t a (λ e. omega (arith, e, above)))))
+          (slots-rents q (suc s) slots rest left asc.1 (enough-left (length slot.grants) (grants_in slots) rents enough)),
+    )
   where
     enough-left : (n m : ℕ) (rents : List ℕ) → n + m ≤ length rents → m ≤ length (drop n rents)
     enough-left zero m rents less = omega (arith, less)
@@ -173,13 +176,14 @@ parts-rents q (part ∷ parts) rents asc enough =
     let rest : List Place = part_places parts in
     let front : List Place = slot_places part.statement 0 part.slots in
     let left : List ℕ = drop (part_grants part) rents in
-    let count = part-total part in
-    (slots-rents part.statement 0 part.slots rest rents asc.1 (omega (arith, count, enough)),
-    parts-above (λ r s a. rent_at rest left r s a) (λ r s a. rent_at (front ++ rest) rents r s a) (suc part.statement) parts left asc.2
-    (λ r s a above.
-        sym (skip-slots part.statement 0 part.slots rest rents r s a (λ e. omega (arith, e, above))
-        ∙ ap (λ (n : ℕ). rent_at rest (drop n rents) r s a) (sym count)))
-    (parts-rents (suc part.statement) parts left asc.2 (left-enough (part_grants part) (total part_grants parts) rents enough)))
+    let count = part-total part in (
+      slots-rents part.statement 0 part.slots rest rents asc.1 (omega (arith, count, enough)),
+      parts-above (λ r s a. rent_at rest left r s a) (λ r s a. rent_at (front ++ rest) rents r s a) (suc part.statement) parts left asc.2
+          (λ r s a above.
+          sym (skip-slots part.statement 0 part.slots rest rents r s a (λ e. omega (arith, e, above))
+          ∙ ap (λ (n : ℕ). rent_at rest (drop n rents) r s a) (sym count)))
+          (parts-rents (suc part.statement) parts left asc.2 (left-enough (part_grants part) (total part_grants parts) rents enough)),
+    )
   where
     left-enough : (n m : ℕ) (rents : List ℕ) → n + m ≤ length rents → m ≤ length (drop n rents)
     left-enough zero m rents less = omega (arith, less)

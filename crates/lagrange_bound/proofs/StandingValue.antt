@@ -10,6 +10,7 @@ use Rattle.std.proofs.lemmas.List.{get_or-map, length-map}
 use Rattle.std.proofs.lemmas.List.Elements.{All-head, All-tail}
 use Rattle.std.proofs.lemmas.Option.{slice_get_cases}
 use Rattle.adv_base.specs.declared.catalogue.index.IndexShape.{IndexShape}
+use Rattle.adv_base.specs.declared.limits.TheConstants.{MOST_RENT}
 use Rattle.adv_base.specs.declared.setting.Config.{Config}
 use Rattle.adv_base.specs.declared.workload.Statement.{Statement}
 use Rattle.adv_base.specs.declared.workload.Work.{Work}
@@ -83,24 +84,22 @@ slots-of : (setting : TheSetting) (blocked : Blocked) (part : Part) → IsPart s
 slots-of setting blocked part is =
     each-from (AreOf setting.shapes) blocked.block.slots part.slots is.slots_count
     (λ s slot own slot_found own_found.
-        let there : IsSlotPart setting blocked.block is.task s slot own = is.slots_are s slot own slot_found own_found in
-        each-map (IsGrant setting blocked.block is.task s slot there.table) IsOf (λ n g grant. grant.candidate_is) (candidates_on setting.shapes slot.table) own.grants there.grants_are)
+    let there : IsSlotPart setting blocked.block is.task s slot own = is.slots_are s slot own slot_found own_found in
+    each-map (IsGrant setting blocked.block is.task s slot there.table) IsOf (λ n g grant. grant.candidate_is) (candidates_on setting.shapes slot.table) own.grants there.grants_are)
 
 -- so their numbers rise
 grants-ascending : (t k : ℕ) (shapes : List IndexShape) (grants : List Grant) → AreEach IsOf (filter (λ n. n.1.table == t) (enumerate_from k shapes)) grants → Ascending k grants
 grants-ascending t k [] [] are = tt
 grants-ascending t k [] (grant ∷ grants) are = absurd are
-grants-ascending t k (shape ∷ shapes) grants are = one (shape.table == t) grants are
+grants-ascending t k (shape ∷ shapes) grants are = one (shape.table == t) grants (λ gs each. grants-ascending t (k + 1) shapes gs each) are
   where
-    rest : List (ℕ × IndexShape)
-    rest = filter (λ n. n.1.table == t) (enumerate_from (k + 1) shapes)
-
-    one : (b : Bool) (grants : List Grant) → AreEach IsOf (if b then (k, shape) ∷ rest else rest) grants → Ascending k grants
-    one true [] are = tt
-    one true (grant ∷ grants) are =
+    one : (b : Bool) (grants : List Grant) → ((gs : List Grant) → AreEach IsOf (filter (λ n. n.1.table == t) (enumerate_from (k + 1) shapes)) gs → Ascending (k + 1) gs) →
+        AreEach IsOf (if b then (k, shape) ∷ (filter (λ n. n.1.table == t) (enumerate_from (k + 1) shapes)) else (filter (λ n. n.1.table == t) (enumerate_from (k + 1) shapes))) grants → Ascending k grants
+    one true [] more are = tt
+    one true (grant ∷ grants) more are =
         let next : k + 1 ≡ suc grant.candidate = omega (arith, are.0) in
-        (omega (arith, are.0), subst (λ n. Ascending n grants) next (grants-ascending t (k + 1) shapes grants are.1))
-    one false grants are = ascending-below (k + 1) k grants (omega arith) (grants-ascending t (k + 1) shapes grants are)
+        (omega (arith, are.0), subst (λ n. Ascending n grants) next (more grants are.1))
+    one false grants more are = ascending-below (k + 1) k grants (omega arith) (more grants are)
 
 slots-ascending : (shapes : List IndexShape) (slots : List Slot) (owns : List SlotPart) → AreEach (AreOf shapes) slots owns → SlotsAscending owns
 slots-ascending shapes [] [] are = tt
@@ -112,16 +111,19 @@ slots-ascending shapes (slot ∷ slots) (own ∷ owns) are =
 parts-ascending : (setting : TheSetting) (q : ℕ) (statements : List Statement) (parts : List Part) → AreEach (IsPart setting) (blocked_from q statements) parts → PartsAscending q parts
 parts-ascending setting q [] [] are = tt
 parts-ascending setting q [] (part ∷ parts) are = absurd are
-parts-ascending setting q (statement ∷ statements) parts are = one (block_of statement.work) parts are
+parts-ascending setting q (statement ∷ statements) parts are = one (block_of statement.work) parts (λ ps each. parts-ascending setting (suc q) statements ps each) are
   where
-    one : (there : Option Block) (parts : List Part) → AreEach (IsPart setting) (blocked_in q statement.weight there (blocked_from (suc q) statements)) parts → PartsAscending q parts
-    one None parts are = parts-below (suc q) q parts (omega arith) (parts-ascending setting (suc q) statements parts are)
-    one (Some block) [] are = tt
-    one (Some block) (part ∷ parts) are =
+    one : (there : Option Block) (parts : List Part) → ((ps : List Part) → AreEach (IsPart setting) (blocked_from (suc q) statements) ps → PartsAscending (suc q) ps) →
+        AreEach (IsPart setting) (blocked_in q statement.weight there (blocked_from (suc q) statements)) parts → PartsAscending q parts
+    one None parts more are = parts-below (suc q) q parts (omega arith) (more parts are)
+    one (Some block) [] more are = tt
+    one (Some block) (part ∷ parts) more are =
         let blocked : Blocked = record { number = q; weight = statement.weight; block = block } in
-        let number : part.statement ≡ q = are.0.statement_is in
-        (omega (arith, number), slots-ascending setting.shapes block.slots part.slots (slots-of setting blocked part are.0),
-        subst (λ n. PartsAscending n parts) (ap suc (sym number)) (parts-ascending setting (suc q) statements parts are.1))
+        let number : part.statement ≡ q = are.0.statement_is in (
+          omega (arith, number),
+          slots-ascending setting.shapes block.slots part.slots (slots-of setting blocked part are.0),
+          subst (λ n. PartsAscending n parts) (ap suc (sym number)) (more parts are.1),
+        )
 
 -- ## The rents of a candidate
 
@@ -138,8 +140,9 @@ grants-past a k [] rents below asc = refl
 grants-past a k (grant ∷ grants) [] below asc = refl
 grants-past a k (grant ∷ grants) (rent ∷ rents) below asc =
     let test : (grant.candidate == a) ≡ false = ne_eqb grant.candidate a (λ e. omega (arith, e, below, asc.0)) in
-    ap (λ (b : Bool). (if b then rent else 0) + grant_rents a grants rents) test
-    ∙ grants-past a (suc grant.candidate) grants rents (omega (arith, below, asc.0)) asc.1
+    let rest : grant_rents a grants rents ≡ 0 = grants-past a (suc grant.candidate) grants rents (omega (arith, below, asc.0)) asc.1 in
+    let none : 0 + grant_rents a grants rents ≡ 0 = omega (arith, rest) in
+    ap (λ (b : Bool). (if b then rent else 0) + grant_rents a grants rents) test ∙ none
 
 -- at a slot it has one grant, where it is on the slot's table
 grants-one : (f : ℕ → ℕ) (t k i : ℕ) (shape : IndexShape) (shapes : List IndexShape) (grants : List Grant) (rents : List ℕ) → slice_get shapes i ≡ Some shape →
@@ -150,10 +153,7 @@ grants-one f t k zero shape (x ∷ shapes) grants rents found are rented =
     let same : x ≡ shape = cc in
     one (x.table == t) grants rents are rented ∙ ap (λ (y : IndexShape). if y.table == t then f (k + 0) else 0) same
   where
-    rest : List (ℕ × IndexShape)
-    rest = filter (λ n. n.1.table == t) (enumerate_from (k + 1) shapes)
-
-    one : (b : Bool) (grants : List Grant) (rents : List ℕ) → AreEach IsOf (if b then (k, x) ∷ rest else rest) grants → RentsAre f grants rents →
+    one : (b : Bool) (grants : List Grant) (rents : List ℕ) → AreEach IsOf (if b then (k, x) ∷ (filter (λ n. n.1.table == t) (enumerate_from (k + 1) shapes)) else (filter (λ n. n.1.table == t) (enumerate_from (k + 1) shapes))) grants → RentsAre f grants rents →
         grant_rents (k + 0) grants rents ≡ (if b then f (k + 0) else 0)
     one true [] rents are rented = absurd are
     one true (grant ∷ grants) [] are rented = absurd rented
@@ -164,26 +164,23 @@ grants-one f t k zero shape (x ∷ shapes) grants rents found are rented =
         let sum : rent + grant_rents (k + 0) grants rents ≡ rent = omega (arith, none) in
         ap (λ (b : Bool). (if b then rent else 0) + grant_rents (k + 0) grants rents) test ∙ sum ∙ own
     one false grants rents are rented = grants-past (k + 0) (k + 1) grants rents (omega arith) (grants-ascending t (k + 1) shapes grants are)
-grants-one f t k (suc i) shape (x ∷ shapes) grants rents found are rented = one (x.table == t) grants rents are rented
+grants-one f t k (suc i) shape (x ∷ shapes) grants rents found are rented =
+    let next : k + 1 + i ≡ k + suc i = omega arith in
+    one (x.table == t) grants rents
+    (λ gs rs each own. subst (λ (n : ℕ). grant_rents n gs rs ≡ (if shape.table == t then f n else 0)) next (grants-one f t (k + 1) i shape shapes gs rs found each own))
+    are rented
   where
-    rest : List (ℕ × IndexShape)
-    rest = filter (λ n. n.1.table == t) (enumerate_from (k + 1) shapes)
-
-    later : (grants : List Grant) (rents : List ℕ) → AreEach IsOf rest grants → RentsAre f grants rents → grant_rents (k + suc i) grants rents ≡ (if shape.table == t then f (k + suc i) else 0)
-    unfolding rest
-    later grants rents are rented =
-        let next : k + 1 + i ≡ k + suc i = omega arith in
-        subst (λ (n : ℕ). grant_rents n grants rents ≡ (if shape.table == t then f n else 0)) next (grants-one f t (k + 1) i shape shapes grants rents found are rented)
-
-    one : (b : Bool) (grants : List Grant) (rents : List ℕ) → AreEach IsOf (if b then (k, x) ∷ rest else rest) grants → RentsAre f grants rents →
+    one : (b : Bool) (grants : List Grant) (rents : List ℕ) →
+        ((gs : List Grant) (rs : List ℕ) → AreEach IsOf (filter (λ n. n.1.table == t) (enumerate_from (k + 1) shapes)) gs → RentsAre f gs rs → grant_rents (k + suc i) gs rs ≡ (if shape.table == t then f (k + suc i) else 0)) →
+        AreEach IsOf (if b then (k, x) ∷ (filter (λ n. n.1.table == t) (enumerate_from (k + 1) shapes)) else (filter (λ n. n.1.table == t) (enumerate_from (k + 1) shapes))) grants → RentsAre f grants rents →
         grant_rents (k + suc i) grants rents ≡ (if shape.table == t then f (k + suc i) else 0)
-    one true [] rents are rented = absurd are
-    one true (grant ∷ grants) [] are rented = absurd rented
-    one true (grant ∷ grants) (rent ∷ rents) are rented =
+    one true [] rents later are rented = absurd are
+    one true (grant ∷ grants) [] later are rented = absurd rented
+    one true (grant ∷ grants) (rent ∷ rents) later are rented =
         let test : (grant.candidate == (k + suc i)) ≡ false = ne_eqb grant.candidate (k + suc i) (λ e. omega (arith, e, are.0)) in
         let none : 0 + grant_rents (k + suc i) grants rents ≡ grant_rents (k + suc i) grants rents = omega arith in
         ap (λ (b : Bool). (if b then rent else 0) + grant_rents (k + suc i) grants rents) test ∙ none ∙ later grants rents are.1 rented.1
-    one false grants rents are rented = later grants rents are rented
+    one false grants rents later are rented = later grants rents are rented
 
 slots-one : (f : ℕ → ℕ → ℕ) (i : ℕ) (shape : IndexShape) (shapes : List IndexShape) (s : ℕ) (slots : List Slot) (owns : List SlotPart) (rents : List ℕ) → slice_get shapes i ≡ Some shape →
     AreEach (AreOf shapes) slots owns → SlotsAre f s owns rents → slot_rents (suc i) owns rents ≡ plain.slot_rents (λ t. f t (suc i)) shape.table s slots
@@ -203,22 +200,19 @@ parts-one : (f : ℕ → ℕ → ℕ → ℕ) (setting : TheSetting) (i : ℕ) (
     AreEach (IsPart setting) (blocked_from q statements) parts → PartsAre f parts rents → part_rents (suc i) parts rents ≡ plain.weighted_rents (λ r s. f r s (suc i)) shape.table q statements
 parts-one f setting i shape q [] [] rents found are rented = refl
 parts-one f setting i shape q [] (part ∷ parts) rents found are rented = absurd are
-parts-one f setting i shape q (statement ∷ statements) parts rents found are rented = one (block_of statement.work) parts rents are rented
+parts-one f setting i shape q (statement ∷ statements) parts rents found are rented =
+    one (block_of statement.work) parts rents (λ ps rs each own. parts-one f setting i shape (suc q) statements ps rs found each own) are rented
   where
-    slots_at : Block → ℕ
-    slots_at block = plain.slot_rents (λ s. f q s (suc i)) shape.table 0 block.slots
-
-    later : ℕ
-    later = plain.weighted_rents (λ r s. f r s (suc i)) shape.table (suc q) statements
-
-    one : (there : Option Block) (parts : List Part) (rents : List ℕ) → AreEach (IsPart setting) (blocked_in q statement.weight there (blocked_from (suc q) statements)) parts → PartsAre f parts rents →
-        part_rents (suc i) parts rents ≡ statement.weight * option_map_or slots_at there 0 + later
-    unfolding slots_at later
-    one None parts rents are rented = let rest = parts-one f setting i shape (suc q) statements parts rents found are rented in omega (arith, rest)
-    one (Some block) [] rents are rented = absurd are
-    one (Some block) (part ∷ parts) rents are rented =
+    one : (there : Option Block) (parts : List Part) (rents : List ℕ) →
+        ((ps : List Part) (rs : List ℕ) → AreEach (IsPart setting) (blocked_from (suc q) statements) ps → PartsAre f ps rs → part_rents (suc i) ps rs ≡ plain.weighted_rents (λ r s. f r s (suc i)) shape.table (suc q) statements) →
+        AreEach (IsPart setting) (blocked_in q statement.weight there (blocked_from (suc q) statements)) parts → PartsAre f parts rents →
+        part_rents (suc i) parts rents
+        ≡ statement.weight * option_map_or (λ block. plain.slot_rents (λ s. f q s (suc i)) shape.table 0 block.slots) there 0 + plain.weighted_rents (λ r s. f r s (suc i)) shape.table (suc q) statements
+    one None parts rents more are rented = let rest = more parts rents are rented in omega (arith, rest)
+    one (Some block) [] rents more are rented = absurd are
+    one (Some block) (part ∷ parts) rents more are rented =
         let blocked : Blocked = record { number = q; weight = statement.weight; block = block } in
-        let rest = parts-one f setting i shape (suc q) statements parts (drop (part_grants part) rents) found are.1 rented.1 in
+        let rest = more parts (drop (part_grants part) rents) are.1 rented.1 in
         let own : slot_rents (suc i) part.slots rents ≡ plain.slot_rents (λ s. f part.statement s (suc i)) shape.table 0 block.slots =
         slots-one (f part.statement) i shape setting.shapes 0 block.slots part.slots rents found (slots-of setting blocked part are.0) rented.0 in
         let here : slot_rents (suc i) part.slots rents ≡ plain.slot_rents (λ s. f q s (suc i)) shape.table 0 block.slots =
@@ -229,15 +223,15 @@ parts-one f setting i shape q (statement ∷ statements) parts rents found are r
 
 -- ## Which candidates may be used
 
+flags-same : (f g : ℕ → Bool) (a n : ℕ) → ((i : ℕ) → f (suc i) ≡ g (suc i)) → flags_from f (suc a) n ≡ flags_from g (suc a) n
+unfolding flags_from
+flags-same f g a zero same = refl
+flags-same f g a (suc n) same =
+    ap (λ (b : Bool). b ∷ flags_from f (suc (suc a)) n) (same a) ∙ ap (λ (bs : List Bool). g (suc a) ∷ bs) (flags-same f g (suc a) n same)
+
 config_of-same : (f g : ℕ → Bool) → ((i : ℕ) → f (suc i) ≡ g (suc i)) → config_of f ≡ config_of g
 unfolding config_of
 config_of-same f g same = ap (λ (on : List Bool). record { on = on }) (flags-same f g 0 256 same)
-  where
-    flags-same : (f g : ℕ → Bool) (a n : ℕ) → ((i : ℕ) → f (suc i) ≡ g (suc i)) → flags_from f (suc a) n ≡ flags_from g (suc a) n
-    unfolding flags_from
-    flags-same f g a zero same = refl
-    flags-same f g a (suc n) same =
-        ap (λ (b : Bool). b ∷ flags_from f (suc (suc a)) n) (same a) ∙ ap (λ (bs : List Bool). g (suc a) ∷ bs) (flags-same f g (suc a) n same)
 
 map-default : {X Y : Type 0} (f : X → Y) (xs : List X) (i : ℕ) (d : X) → slice_index_or (map f xs) i (f d) ≡ f (slice_index_or xs i d)
 map-default f [] i d = refl
@@ -284,11 +278,11 @@ available-is : (setting : TheSetting) (programme : Programme) (budget : ℕ) (fi
 available-is setting programme budget fix stands =
     config_of-same (λ a. may_use (state_at fix (a - 1)) (fits_beside programme budget fix (a - 1))) (nodes.is_available setting.cat setting.shapes budget (node_of fix))
     (λ i.
-        let back : suc i - 1 ≡ i = omega arith in
-        ap (λ (k : ℕ). may_use (state_at fix k) (fits_beside programme budget fix k)) back
-        ∙ usable (state_at fix i) (fits_beside programme budget fix i)
-        ∙ ap (λ (b : Bool). b || ((not (is_in (state_at fix i)) && not (is_out (state_at fix i))) && fits_beside programme budget fix i)) (sym (inside-is fix i))
-        ∙ ap (λ (b : Bool). has_candidate (node_of fix).inside (suc i) || b) (sym (open-is setting programme budget fix i stands)))
+    let back : suc i - 1 ≡ i = omega arith in
+    ap (λ (k : ℕ). may_use (state_at fix k) (fits_beside programme budget fix k)) back
+    ∙ usable (state_at fix i) (fits_beside programme budget fix i)
+    ∙ ap (λ (b : Bool). b || ((not (is_in (state_at fix i)) && not (is_out (state_at fix i))) && fits_beside programme budget fix i)) (sym (inside-is fix i))
+    ∙ ap (λ (b : Bool). has_candidate (node_of fix).inside (suc i) || b) (sym (open-is setting programme budget fix i stands)))
   where
     usable : (state : State) (fits : Bool) → may_use state fits ≡ (is_in state || ((not (is_in state) && not (is_out state)) && fits))
     usable In fits = refl
@@ -312,12 +306,12 @@ sum-shapes : (f : ℕ → IndexShape → ℕ) (g : ℕ → ℕ) (shapes : List I
 sum-shapes f g shapes same =
     sum_below-same g (λ i. option_map_or (f (1 + i)) (slice_get shapes i) 0) (length shapes)
     (λ i below.
-        elim (slice_get_cases shapes i).1 [
-          | inl there ↦
-              let number : suc i ≡ 1 + i = omega arith in
-              same i there.0 there.2 ∙ ap (λ (n : ℕ). f n there.0) number ∙ sym (ap (λ (o : Option IndexShape). option_map_or (f (1 + i)) o 0) there.2)
-          | inr past ↦ absurd (omega (arith, below, past.0))
-        ])
+    elim (slice_get_cases shapes i).1 [
+      | inl there ↦
+          let number : suc i ≡ 1 + i = omega arith in
+          same i there.0 there.2 ∙ ap (λ (n : ℕ). f n there.0) number ∙ sym (ap (λ (o : Option IndexShape). option_map_or (f (1 + i)) o 0) there.2)
+      | inr past ↦ absurd (omega (arith, below, past.0))
+    ])
     ∙ sum_below-places f 1 shapes
 
 paid-is : (setting : TheSetting) (programme : Programme) (fix : Fix) (multipliers : Multipliers) → StandsFor setting programme →
@@ -330,9 +324,9 @@ paid-is setting programme fix multipliers stands =
     ap (sum_below (λ i. paid (state_at fix i) (candidate_cost programme multipliers.mu i))) count
     ∙ sum-shapes f (λ i. paid (state_at fix i) (candidate_cost programme multipliers.mu i)) setting.shapes
     (λ i shape found.
-        ap (paid (state_at fix i)) (cost-is setting programme M i shape stands found)
-        ∙ by-state (state_at fix i) (plain.candidate_cost setting M shape)
-        ∙ ap (λ (b : Bool). if b then plain.candidate_cost setting M shape else 0) (sym (inside-is fix i)))
+    ap (paid (state_at fix i)) (cost-is setting programme M i shape stands found)
+    ∙ by-state (state_at fix i) (plain.candidate_cost setting M shape)
+    ∙ ap (λ (b : Bool). if b then plain.candidate_cost setting M shape else 0) (sym (inside-is fix i)))
     ∙ costs M 1 setting.shapes
   where
     by-state : (state : State) (cost : ℕ) → paid state cost ≡ (if is_in state then cost else 0)
@@ -358,17 +352,17 @@ earned-is setting programme budget fix multipliers stands rented =
     ap (sum_below g) count
     ∙ sum-shapes f g setting.shapes
     (λ i shape found.
-        let rents : candidate_rents programme multipliers.lambda i ≡ plain.candidate_rents setting M (suc i) shape =
-        ap (λ (n : ℕ). 65536 * n) (parts-one M.rent setting i shape 1 setting.statements programme.parts multipliers.lambda found stands.parts_are rented) in
-        let state : State = state_at fix i in
-        let fits : Bool = fits_beside programme budget fix i in
-        let cost : ℕ = plain.candidate_cost setting M shape in
-        let own : ℕ = plain.candidate_rents setting M (suc i) shape in
-        ap (λ (n : ℕ). earned state fits n (candidate_rents programme multipliers.lambda i)) (cost-is setting programme M i shape stands found)
-        ∙ ap (earned state fits cost) rents
-        ∙ by-state state fits cost own
-        ∙ ap (λ (b : Bool). if b then own else if (not (is_in state) && not (is_out state)) && fits then own - cost else 0) (sym (inside-is fix i))
-        ∙ ap (λ (b : Bool). if has_candidate (node_of fix).inside (suc i) then own else if b then own - cost else 0) (sym (open-is setting programme budget fix i stands)))
+    let rents : candidate_rents programme multipliers.lambda i ≡ plain.candidate_rents setting M (suc i) shape =
+    ap (λ (n : ℕ). 65536 * n) (parts-one M.rent setting i shape 1 setting.statements programme.parts multipliers.lambda found stands.parts_are rented) in
+    let state : State = state_at fix i in
+    let fits : Bool = fits_beside programme budget fix i in
+    let cost : ℕ = plain.candidate_cost setting M shape in
+    let own : ℕ = plain.candidate_rents setting M (suc i) shape in
+    ap (λ (n : ℕ). earned state fits n (candidate_rents programme multipliers.lambda i)) (cost-is setting programme M i shape stands found)
+    ∙ ap (earned state fits cost) rents
+    ∙ by-state state fits cost own
+    ∙ ap (λ (b : Bool). if b then own else if (not (is_in state) && not (is_out state)) && fits then own - cost else 0) (sym (inside-is fix i))
+    ∙ ap (λ (b : Bool). if has_candidate (node_of fix).inside (suc i) then own else if b then own - cost else 0) (sym (open-is setting programme budget fix i stands)))
     ∙ sums M 1 setting.shapes
   where
     by-state : (state : State) (fits : Bool) (cost rents : ℕ) → earned state fits cost rents ≡ (if is_in state then rents else if (not (is_in state) && not (is_out state)) && fits then rents - cost else 0)
@@ -470,7 +464,7 @@ lagrangian-is setting programme budget fix multipliers limits stands are =
     let M : plain.TheMultipliers = multipliers_of programme multipliers in
     let config : Config = nodes.available setting.cat setting.shapes budget (node_of fix) in
     let rented : PartsAre M.rent programme.parts multipliers.lambda = parts-are setting programme multipliers stands are in
-    let limit : (r : ℕ) → IsRent (M.rent r) = λ r s a. rent-most (views.places programme) multipliers.lambda r s a _ are.rents_most in
+    let limit : (r : ℕ) → IsRent (M.rent r) = λ r s a. rent-most (views.places programme) multipliers.lambda r s a MOST_RENT are.rents_most in
     let plans = summed setting config M.rent limit 1 setting.statements programme.parts multipliers.lambda limits.statements_named stands.parts_are rented in
     let costs : weighted_costs programme.parts (costs_at programme budget fix multipliers) ≡ weighted_sum setting.statements plans.costs =
     ap (λ (c : Config). weighted_costs programme.parts (plan_costs c programme.parts multipliers.lambda)) (available-is setting programme budget fix stands) ∙ sym plans.sum in

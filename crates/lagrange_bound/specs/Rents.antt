@@ -17,8 +17,8 @@ slot_uses a slot = count_by (λ grant. grant.candidate == a) slot.grants
 abbrev pub part_uses : ℕ → Part → ℕ
 part_uses a part = sum_by (slot_uses a) part.slots
 
-unfoldable pub uses : Programme → ℕ → ℕ
-uses programme a = sum_by (part_uses a) programme.parts
+unfoldable pub uses : List Part → ℕ → ℕ
+uses parts a = sum_by (part_uses a) parts
 
 -- the rent of one use in a statement of some weight: a share of what the candidate costs, at most 10^18
 abbrev pub share : ℕ → ℕ → ℕ → ℕ
@@ -26,11 +26,14 @@ share cost weight count = min MOST_RENT (cost / (65536 * (weight * count)))
 
 abbrev pub grant_rent : Programme → ℕ → ℕ → Grant → ℕ
 grant_rent programme mu weight grant =
-    share (candidate_cost programme mu (grant.candidate - 1)) weight (uses programme grant.candidate)
+    share (candidate_cost programme mu (grant.candidate - 1)) weight (uses programme.parts grant.candidate)
 
--- one for each grant
+-- one for each grant of a slot, and of a part
+abbrev pub slot_list : Programme → ℕ → ℕ → SlotPart → List ℕ
+slot_list programme mu weight slot = map (grant_rent programme mu weight) slot.grants
+
 abbrev pub part_list : Programme → ℕ → Part → List ℕ
-part_list programme mu part = flat_map (λ slot. map (grant_rent programme mu part.weight) slot.grants) part.slots
+part_list programme mu part = flat_map (slot_list programme mu part.weight) part.slots
 
 abbrev pub rents_of : Programme → ℕ → List ℕ
 rents_of programme mu = flat_map (part_list programme mu) programme.parts

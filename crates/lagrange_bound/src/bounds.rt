@@ -21,7 +21,13 @@ fn rounded_up(more: u128, less: u128) -> i128
 
 /// The Lagrangian value of a node, where the weighted costs of plans are so much.
 #[tactic(auto, unfolding(crate::specs::Bounds::value_of_plans, bip_model::specs::Values::grant_count))]
-pub(crate) fn value_of_plans(programme: &Programme, budget: u64, fix: &Fix, multipliers: &Multipliers, plans: u128) -> i128
+pub(crate) fn value_of_plans(
+    programme: &Programme,
+    budget: u64,
+    fix: &Fix,
+    multipliers: &Multipliers,
+    plans: u128,
+) -> i128
     requires budget { budget ≤ MOST_ROWS }
     requires multipliers { AreMultipliers programme.now multipliers.now }
     requires plans { plans ≤ MOST_STATEMENTS * (MOST_WEIGHT * values.MOST_PLAN) }
@@ -29,7 +35,8 @@ pub(crate) fn value_of_plans(programme: &Programme, budget: u64, fix: &Fix, mult
 {
     let rents = earned_rents(programme.parts.as_slice(), multipliers.lambda.as_slice());
     let more = 65536 * (plans + programme.kept) + paid_in_all(programme, fix, multipliers);
-    let less = earned_in_all(programme, budget, fix, multipliers, &rents) + multipliers.mu * budget as u128;
+    let less = earned_in_all(programme, budget, fix, multipliers, &rents)
+        + multipliers.mu * budget as u128;
     rounded_up(more, less)
 }
 
@@ -43,6 +50,10 @@ pub fn bound(programme: &Programme, budget: u64, fix: &Fix, multipliers: &Multip
     ensures { result ≡ bounds.lagrangian programme.now budget fix.now multipliers.now }
 {
     let config = available(programme, budget, fix);
-    let plans = weighted_plans(programme.parts.as_slice(), &config, multipliers.lambda.as_slice());
+    let plans = weighted_plans(
+        programme.parts.as_slice(),
+        &config,
+        multipliers.lambda.as_slice(),
+    );
     value_of_plans(programme, budget, fix, multipliers, plans)
 }

@@ -116,7 +116,13 @@ fn earned(state: State, fits: bool, cost: u128, rents: u128) -> u128
 
 /// What a node earns by all candidates, by what the rents of each bring in.
 #[tactic(auto, unfolding(crate::specs::Bounds::earned_in_all, crate::specs::Bounds::candidate_rents))]
-pub(crate) fn earned_in_all(programme: &Programme, budget: u64, fix: &Fix, multipliers: &Multipliers, rents: &Earned) -> u128
+pub(crate) fn earned_in_all(
+    programme: &Programme,
+    budget: u64,
+    fix: &Fix,
+    multipliers: &Multipliers,
+    rents: &Earned,
+) -> u128
     requires page { multipliers.now.mu ≤ MOST_PAGE_PRICE }
     requires rents { (a : ℕ) → a < MOST_CANDIDATES → slice_index_or rents.now a 0 ≡ bounds.part_rents (suc a) programme.now.parts multipliers.now.lambda }
     requires most { All (λ sum. sum ≤ limits.MOST_RENTS) rents.now }

@@ -140,7 +140,13 @@ fn lesser(a: Option<u128>, b: Option<u128>) -> Option<u128>
 }
 
 /// The least cost over a part's templates; `rows` is filled on the way.
-fn least_cost(part: &Part, config: &Config, rents: &[u64], at: usize, rows: &mut Rows) -> Option<u128>
+fn least_cost(
+    part: &Part,
+    config: &Config,
+    rents: &[u64],
+    at: usize,
+    rows: &mut Rows,
+) -> Option<u128>
     requires room { at + values.part_grants part.now ≤ length rents.now }
     requires most { All (λ rent. rent ≤ MOST_RENT) rents.now }
     ensures exact { result ≡ rented.least_cost config.now part.now (drop at rents.now) }
@@ -157,7 +163,13 @@ fn least_cost(part: &Part, config: &Config, rents: &[u64], at: usize, rows: &mut
 
 /// The plan cost of a part's statement, where the rents of its grants begin at `at`; `rows` is filled on the way.
 #[tactic(auto, unfolding(crate::specs::Rented::rented_cost))]
-pub(crate) fn rented_cost(part: &Part, config: &Config, rents: &[u64], at: usize, rows: &mut Rows) -> u128
+pub(crate) fn rented_cost(
+    part: &Part,
+    config: &Config,
+    rents: &[u64],
+    at: usize,
+    rows: &mut Rows,
+) -> u128
     requires room { at + values.part_grants part.now ≤ length rents.now }
     requires most { All (λ rent. rent ≤ MOST_RENT) rents.now }
     ensures exact { result ≡ rented.rented_cost config.now part.now (drop at rents.now) }
