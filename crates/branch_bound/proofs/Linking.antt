@@ -2,7 +2,8 @@
 use Rattle.std.proofs.Common.{◌≡◌, ◌∙◌, ℕ, zero, suc, ◌+◌, ◌*◌, ◌^◌, ◌<◌, ◌≤◌, Bool, true, cond, false, List, [], ◌∷◌, ◌++◌, length, map, min, replicate, ℤ, refl, sym, ap, subst, arith}
 use Rattle.std.specs.Prelude.{slice_index_or, ◌≤ℤ◌}
 use Rattle.std.proofs.Math.Path.{fun_ext}
-use Rattle.adv_base.specs.declared.limits.TheConstants.{MOST_CANDIDATES}
+use Rattle.std.proofs.Math.Pow.{pow_mono}
+use Rattle.adv_base.specs.declared.limits.TheConstants.{MOST_CANDIDATES, MOST_PAGE_PRICE}
 use Rattle.adv_base.specs.declared.setting.Config.{Config}
 use Rattle.adv_base.specs.Settings.{TheSetting, KeepsLimits}
 use Rattle.plan_model.specs.Lagrangian.{TheMultipliers, IsLagrangian}
@@ -16,8 +17,11 @@ use Rattle.bip_model.specs.Trees.{preorder, zeros}
 use Rattle.bip_model.specs.Uses as of_uses
 use Rattle.bip_model.specs.Values.{grant_count}
 use Rattle.bip_model.specs.Views.{Place, is_place, rent_at, places, node_of, multipliers_of, AreMultipliers}
-use Rattle.lagrange_bound.specs.Bounds.{lagrangian}
-use Rattle.lagrange_bound.specs.Rents.{rent_multipliers, tried_price}
+use Rattle.bip_model.proofs.Sharing.{rents-same}
+use Rattle.lagrange_bound.specs.Bounds.{candidate_cost, lagrangian}
+use Rattle.lagrange_bound.specs.Rents.{uses, rent_multipliers, tried_price}
+use Rattle.lagrange_bound.proofs.StandingValue.{lagrangian-is}
+use Rattle.lagrange_bound.proofs.WrittenRents.{rents-within}
 use Rattle.branch_bound.specs.declared.found.Found.{Found}
 use Rattle.branch_bound.specs.Answers.{IsBestForEach}
 use Rattle.branch_bound.specs.Sides.{IsRoot}
@@ -26,17 +30,18 @@ use Rattle.branch_bound.specs.inner.Runs.{Rules, lag, start, Runs, IsExplored, l
 use Rattle.branch_bound.proofs.Running.{AreRulesFor, runs-count}
 use Rattle.branch_bound.proofs.Final.{AtMostRents, at-most-rents, best-answer}
 
--- ## What lower crates prove
+-- ## Rents
 
-lagrangian-is : (setting : TheSetting) (programme : Programme) (budget : ℕ) (fix : Fix) (multipliers : Multipliers) → KeepsLimits setting → StandsFor setting programme → AreMultipliers programme multipliers →
-    IsLagrangian setting budget (node_of fix) (multipliers_of programme multipliers) (lagrangian programme budget fix multipliers)
-lagrangian-is setting programme budget fix multipliers limits stands are = ?
+tried-most : (i : ℕ) → i < 41 → tried_price i ≤ MOST_PAGE_PRICE
+tried-most zero few = omega arith
+tried-most (suc j) few = let less : j ≤ 39 = omega (arith, few) in let up : 2 ^ j ≤ 2 ^ 39 = pow_mono less in omega (arith, up)
 
-rents-within : (programme : Programme) (i : ℕ) → i < 41 → AreMultipliers programme (rent_multipliers programme (tried_price i))
-rents-within programme i few = ?
+tried-within : (programme : Programme) (i : ℕ) → i < 41 → AreMultipliers programme (rent_multipliers programme (tried_price i))
+tried-within programme i few = rents-within programme (rent_multipliers programme (tried_price i)) (tried_price i) (tried-most i few) refl refl
 
 rents-linked : (setting : TheSetting) (programme : Programme) (page : ℕ) → StandsFor setting programme → multipliers_of programme (rent_multipliers programme page) ≡ of_uses.rent_multipliers setting page
-rents-linked setting programme page stands = ?
+unfolding candidate_cost uses
+rents-linked setting programme page stands = rents-same setting programme (rent_multipliers programme page) page stands refl refl
 
 -- ## Zeros
 
@@ -82,7 +87,7 @@ search-best rules root before after old tree_list config cost sets useful zeros_
       values = λ fix multipliers fit. lagrangian-is setting rules.programme rules.budget fix multipliers limits stands fit;
     } in
     let at-most : (i : ℕ) → i < 41 → AtMostRents setting rules root (tried_price i) = λ i few.
-    at-most-rents setting rules root (tried_price i) (rent_multipliers rules.programme (tried_price i)) are (rents-within rules.programme i few) (rents-linked setting rules.programme (tried_price i) stands) (tried i (omega (arith, few))) in
+    at-most-rents setting rules root (tried_price i) (rent_multipliers rules.programme (tried_price i)) are (tried-within rules.programme i few) (rents-linked setting rules.programme (tried_price i) stands) (tried i (omega (arith, few))) in
     let run : Runs rules root (start rules.programme root) explored.tree after = subst (λ (f : Found). Runs rules root f explored.tree after) at_start explored.run in
     let list_is : tree_list ≡ preorder explored.tree = explored.list_is ∙ ap (λ (front : List Node). front ++ preorder explored.tree) empty in
     let made = runs-count rules root (start rules.programme root) explored.tree after run in
