@@ -1,6 +1,6 @@
 -- Steps from a configuration to one with a candidate more or less.
-use Rattle.std.proofs.Common.{◌≡◌, ◌∙◌, ◌≢◌, ◌⊎◌, inl, inr, ℕ, zero, suc, ◌+◌, ◌*◌, ◌<◌, ◌≤◌, Bool, true, false, cond, List, [], ◌∷◌, length, get_or, take, sum, refl, sym, ap, subst, arith, get_or-set_other}
-use Rattle.std.specs.Prelude.{Option, Some, None, count_by, min}
+use Rattle.std.proofs.Common.{◌≡◌, ◌∙◌, ◌≢◌, ◌⊎◌, inl, inr, ℕ, zero, suc, ◌+◌, ◌<◌, ◌≤◌, Bool, true, false, cond, List, [], ◌∷◌, length, get_or, take, sum, refl, sym, ap, subst, arith, get_or-set_other}
+use Rattle.std.specs.Prelude.{Option, Some, None, count_by}
 use Rattle.std.proofs.Math.ListN.{set}
 use Rattle.std.proofs.Math.Seq.{take-set-lt}
 use Rattle.std.proofs.lemmas.Bool.{cases_lt, false≢true}
@@ -16,7 +16,7 @@ use Rattle.bip_model.specs.Values.{value}
 use Rattle.lagrange_bound.specs.Bounds.{state_at}
 use Rattle.branch_bound.specs.declared.climb.Costed.{Costed}
 use Rattle.branch_bound.specs.Sides.{is_free_state, pages}
-use Rattle.branch_bound.specs.inner.Climbs.{flag_at, changed, IsSound, IsSoundHere, GainsNothing, IsTopBelow, height, IsLower, IsTrial, AreTrials, IsRemoved, IsAdded}
+use Rattle.branch_bound.specs.inner.Climbs.{flag_at, changed, IsSound, IsSoundHere, GainsNothing, IsTopBelow, height, IsLower, IsTrial, IsRemoved, IsAdded}
 
 pub free-is : (state : State) → is_free_state state ≡ true → state ≡ Free
 free-is Free free = refl

@@ -1,10 +1,10 @@
 -- Runs of the search, put together from what the code does at a node.
-use Rattle.std.proofs.Common.{◌≡◌, ◌∙◌, inl, inr, ℕ, ◌+◌, List, [], ◌∷◌, ◌++◌, refl, sym, ap, subst, append_assoc, ℤ}
+use Rattle.std.proofs.Common.{◌≡◌, ◌∙◌, inl, inr, ℕ, ◌+◌, List, [], ◌∷◌, ◌++◌, refl, ap, subst, append_assoc}
 use Rattle.bip_model.specs.declared.answer.Node.{Node}
 use Rattle.bip_model.specs.declared.answer.Node.TheVariants.{Branch, Bounded}
 use Rattle.bip_model.specs.declared.fix.Fix.{Fix}
 use Rattle.bip_model.specs.declared.fix.State.TheVariants.{In, Out}
-use Rattle.bip_model.specs.Trees.{Tree, Branches, Leaf, preorder}
+use Rattle.bip_model.specs.Trees.{Branches, Leaf, preorder}
 use Rattle.branch_bound.specs.declared.found.Found.{Found}
 use Rattle.branch_bound.specs.Sides.{fixed}
 use Rattle.branch_bound.specs.inner.Runs.{Rules, lag, visited, IsClosed, IsForced, IsBranch, lowered, branched, Runs, IsExplored}

@@ -1,36 +1,34 @@
 -- A run from the root, a climb after it, and the bound of both: the best answer of each setting for which the programme stands.
-use Rattle.std.proofs.Common.{◌≡◌, ◌∙◌, ◌⊎◌, inl, inr, ℕ, zero, suc, ◌+◌, ◌-◌, ◌*◌, ◌^◌, ◌<◌, ◌≤◌, Bool, true, false, cond, not, List, [], ◌∷◌, ◌++◌, length, map, get_or, All, ℤ, pos, negsuc, refl, sym, ap, subst, arith}
-use Rattle.std.specs.Prelude.{Some, slice_get, slice_index_or, slice_set, nat_lt, ◌≤ℤ◌, ◌<ℤ◌}
+use Rattle.std.proofs.Common.{◌≡◌, ◌∙◌, ◌⊎◌, inl, inr, ℕ, zero, suc, ◌+◌, ◌-◌, ◌^◌, ◌<◌, ◌≤◌, Bool, true, false, cond, List, [], ◌∷◌, length, map, get_or, All, ℤ, pos, negsuc, refl, sym, ap, subst, arith}
+use Rattle.std.specs.Prelude.{Some, slice_get, slice_index_or, nat_lt, ◌≤ℤ◌, ◌<ℤ◌}
 use Rattle.std.proofs.Math.ListN.{get_or-map, get_or-eq_default}
-use Rattle.std.proofs.lemmas.Bool.{cases_Bool, cases_lt, false≢true}
+use Rattle.std.proofs.lemmas.Bool.{cases_lt, false≢true}
 use Rattle.std.proofs.lemmas.Int.{ints}
-use Rattle.std.proofs.lemmas.List.{length-map, length-set}
+use Rattle.std.proofs.lemmas.List.{length-map}
 use Rattle.adv_base.specs.declared.limits.TheConstants.{MOST_CANDIDATES, MOST_ENTRIES, MOST_RENT}
 use Rattle.adv_base.specs.declared.setting.Config.{Config}
-use Rattle.adv_base.specs.Configs.{has_candidate, config_pages, IsConfigOf, Fits}
+use Rattle.adv_base.specs.Configs.{has_candidate, IsConfigOf, Fits}
 use Rattle.adv_base.specs.Laws.{IsRent}
-use Rattle.adv_base.specs.Nodes as nodes
 use Rattle.adv_base.specs.Nodes.{is_free, IsBelow}
-use Rattle.adv_base.specs.Settings.{TheSetting, KeepsLimits}
+use Rattle.adv_base.specs.Settings.{TheSetting}
 use Rattle.adv_base.specs.Sizes.{shape_pages}
 use Rattle.plan_model.specs.declared.plan.TheConstants.{MOST_TOTAL}
 use Rattle.plan_model.specs.Lagrangian.{TheMultipliers, IsLagrangian, IsAtMost}
 use Rattle.plan_model.specs.Useful.{AreUseful}
-use Rattle.plan_model.specs.Totals.{IsTotal, OffersKeepLimits}
+use Rattle.plan_model.specs.Totals.{IsTotal}
 use Rattle.plan_model.proofs.Renting.{flag-of}
 use Rattle.plan_model.proofs.TotalBound.{total-below}
-use Rattle.bip_model.specs.declared.answer.Answer.{Answer}
 use Rattle.bip_model.specs.declared.answer.Node.{Node}
 use Rattle.bip_model.specs.declared.fix.Fix.{Fix}
 use Rattle.bip_model.specs.declared.fix.State.{State}
 use Rattle.bip_model.specs.declared.fix.State.TheVariants.{Free, In, Out}
 use Rattle.bip_model.specs.declared.multipliers.Multipliers.{Multipliers}
 use Rattle.bip_model.specs.declared.programme.Programme.{Programme}
-use Rattle.bip_model.specs.Best.{Subproblem, subproblems, NoneCostsLess, entry_count, HasTotal, HasLagrangian, IsTight, HasGivenUp, IsLocallyBest, IsBest, without_candidate}
+use Rattle.bip_model.specs.Best.{Subproblem, subproblems, NoneCostsLess, entry_count, HasTotal, HasLagrangian, IsTight, IsBest, without_candidate}
 use Rattle.bip_model.specs.Candidates.{useful_below}
 use Rattle.bip_model.specs.Proves.{RentsUses}
 use Rattle.bip_model.specs.SearchLaws.{IsWhole}
-use Rattle.bip_model.specs.Trees.{Tree, Leaf, preorder, with_candidate, zeros, Shows}
+use Rattle.bip_model.specs.Trees.{Tree, Leaf, preorder, with_candidate, Shows}
 use Rattle.bip_model.specs.Uses.{multipliers_in, AreMultipliersIn, rent_multipliers}
 use Rattle.bip_model.specs.Values.{value}
 use Rattle.bip_model.specs.Views.{Place, is_place, rent_at, places, is_in, is_out, node_of, multipliers_of, AreMultipliers}
@@ -46,12 +44,12 @@ use Rattle.bip_model.proofs.Usefulness.{useful-counted}
 use Rattle.bip_model.proofs.Using.{multipliers-used, multipliers-kept}
 use Rattle.lagrange_bound.specs.Bounds.{state_at, lagrangian}
 use Rattle.branch_bound.specs.declared.found.Found.{Found}
-use Rattle.branch_bound.specs.Sides.{inside, pages, total, IsRoot}
-use Rattle.branch_bound.specs.inner.Climbs.{flag_at, changed, IsSound, GainsNothing, IsTop}
+use Rattle.branch_bound.specs.Sides.{inside, total, IsRoot}
+use Rattle.branch_bound.specs.inner.Climbs.{flag_at, IsSound, IsTop}
 use Rattle.branch_bound.specs.inner.Runs.{Rules, lag, MOST_LOW, start, Runs, least_bound}
 use Rattle.branch_bound.proofs.Climbing.{free-is}
-use Rattle.branch_bound.proofs.Running.{AreRulesFor, own_sets, rents-value, runs-explored, runs-later, runs-shows, less-of, not-less-of}
-use Rattle.branch_bound.proofs.Sound.{under-root, runs-sound, sound-inside}
+use Rattle.branch_bound.proofs.Running.{AreRulesFor, own_sets, rents-value, runs-explored, runs-shows, less-of, not-less-of}
+use Rattle.branch_bound.proofs.Sound.{under-root, sound-inside}
 use Rattle.branch_bound.proofs.Tight.{free-of, IsLowest, runs-lowest}
 
 -- ## The bound

@@ -1,12 +1,12 @@
 -- What the search's code shows, as the best answer of each setting.
-use Rattle.std.proofs.Common.{◌≡◌, ◌∙◌, ℕ, zero, suc, ◌+◌, ◌*◌, ◌^◌, ◌<◌, ◌≤◌, Bool, true, cond, false, List, [], ◌∷◌, ◌++◌, length, map, min, replicate, ℤ, refl, sym, ap, subst, arith}
+use Rattle.std.proofs.Common.{◌≡◌, ◌∙◌, ℕ, zero, suc, ◌+◌, ◌^◌, ◌<◌, ◌≤◌, Bool, true, cond, false, List, [], ◌∷◌, ◌++◌, length, min, replicate, refl, ap, subst, arith}
 use Rattle.std.specs.Prelude.{slice_index_or, ◌≤ℤ◌}
 use Rattle.std.proofs.Math.Path.{fun_ext}
 use Rattle.std.proofs.Math.Pow.{pow_mono}
 use Rattle.adv_base.specs.declared.limits.TheConstants.{MOST_CANDIDATES, MOST_PAGE_PRICE}
 use Rattle.adv_base.specs.declared.setting.Config.{Config}
-use Rattle.adv_base.specs.Settings.{TheSetting, KeepsLimits}
-use Rattle.plan_model.specs.Lagrangian.{TheMultipliers, IsLagrangian}
+use Rattle.adv_base.specs.Settings.{TheSetting}
+use Rattle.plan_model.specs.Lagrangian.{TheMultipliers}
 use Rattle.bip_model.specs.declared.answer.Node.{Node}
 use Rattle.bip_model.specs.declared.fix.Fix.{Fix}
 use Rattle.bip_model.specs.declared.multipliers.Multipliers.{Multipliers}
@@ -16,7 +16,7 @@ use Rattle.bip_model.specs.StandsFor.{StandsFor}
 use Rattle.bip_model.specs.Trees.{preorder, zeros}
 use Rattle.bip_model.specs.Uses as of_uses
 use Rattle.bip_model.specs.Values.{grant_count}
-use Rattle.bip_model.specs.Views.{Place, is_place, rent_at, places, node_of, multipliers_of, AreMultipliers}
+use Rattle.bip_model.specs.Views.{Place, is_place, rent_at, places, multipliers_of, AreMultipliers}
 use Rattle.bip_model.proofs.Sharing.{rents-same}
 use Rattle.lagrange_bound.specs.Bounds.{candidate_cost, lagrangian}
 use Rattle.lagrange_bound.specs.Rents.{uses, rent_multipliers, tried_price}
@@ -26,7 +26,7 @@ use Rattle.branch_bound.specs.declared.found.Found.{Found}
 use Rattle.branch_bound.specs.Answers.{IsBestForEach}
 use Rattle.branch_bound.specs.Sides.{IsRoot}
 use Rattle.branch_bound.specs.inner.Climbs.{IsSound, IsTop}
-use Rattle.branch_bound.specs.inner.Runs.{Rules, lag, start, Runs, IsExplored, least_bound}
+use Rattle.branch_bound.specs.inner.Runs.{Rules, start, Runs, IsExplored, least_bound}
 use Rattle.branch_bound.proofs.Running.{AreRulesFor, runs-count}
 use Rattle.branch_bound.proofs.Final.{AtMostRents, at-most-rents, best-answer}
 

@@ -1,13 +1,12 @@
 -- What a run of the search shows of a setting for which its programme stands.
-use Rattle.std.proofs.Common.{◌≡◌, ◌∙◌, ◌≢◌, ◌⊎◌, inl, inr, ℕ, zero, suc, ◌+◌, ◌-◌, ◌<◌, ◌≤◌, Bool, true, false, cond, ◌&&◌, not, List, [], ◌∷◌, ◌++◌, length, map, get_or, ℤ, pos, negsuc, refl, sym, ap, subst, arith}
-use Rattle.std.specs.Prelude.{Some, slice_get, slice_index_or, slice_set, nat_le, nat_lt, ◌≤ℤ◌, ◌<ℤ◌}
+use Rattle.std.proofs.Common.{◌≡◌, ◌∙◌, inl, inr, ℕ, zero, suc, ◌+◌, ◌-◌, ◌<◌, ◌≤◌, Bool, true, false, cond, ◌&&◌, List, [], ◌∷◌, ◌++◌, length, ℤ, pos, negsuc, refl, sym, ap, subst, arith}
+use Rattle.std.specs.Prelude.{Some, slice_index_or, slice_set, nat_le, nat_lt, ◌≤ℤ◌, ◌<ℤ◌}
 use Rattle.std.specs.Int.{int_min}
 use Rattle.std.proofs.Math.ListN.{get_or-map}
-use Rattle.std.proofs.lemmas.Bool.{cases_Bool, false≢true}
+use Rattle.std.proofs.lemmas.Bool.{false≢true}
 use Rattle.std.proofs.lemmas.Bool.Decides.{nat_tests}
 use Rattle.std.proofs.lemmas.Int.{ints, int_min_is}
 use Rattle.std.proofs.lemmas.List.{length-append, length-map}
-use Rattle.adv_base.specs.declared.setting.Config.{Config}
 use Rattle.adv_base.specs.Configs.{has_candidate}
 use Rattle.adv_base.specs.Nodes as nodes
 use Rattle.adv_base.specs.Nodes.{is_free}
@@ -17,28 +16,23 @@ use Rattle.plan_model.specs.Lagrangian.{TheMultipliers, IsLagrangian}
 use Rattle.plan_model.specs.Useful.{IsUseful}
 use Rattle.plan_model.proofs.Renting.{flag-of}
 use Rattle.bip_model.specs.declared.fix.Fix.{Fix}
-use Rattle.bip_model.specs.declared.fix.State.{State}
 use Rattle.bip_model.specs.declared.fix.State.TheVariants.{Free, In, Out}
 use Rattle.bip_model.specs.declared.multipliers.Multipliers.{Multipliers}
-use Rattle.bip_model.specs.declared.programme.Programme.{Programme}
-use Rattle.bip_model.specs.Best.{Subproblem, subproblems, HasTotal, HasLagrangian, IsTight}
+use Rattle.bip_model.specs.Best.{subproblems, HasTotal}
 use Rattle.bip_model.specs.Candidates.{is_useful, is_open, pages_of, size_of}
-use Rattle.bip_model.specs.Laws.{NoneUseful}
 use Rattle.bip_model.specs.StandsFor.{StandsFor}
-use Rattle.bip_model.specs.Trees.{Tree, Branches, Leaf, Full, preorder, in_side, out_side, zeros, set_at, IsBounded, Shows}
+use Rattle.bip_model.specs.Trees.{Tree, Branches, Leaf, Full, preorder, in_side, out_side, zeros, set_at, Shows}
 use Rattle.bip_model.specs.Values.{value}
 use Rattle.bip_model.specs.Views.{is_in, is_out, node_of, multipliers_of, AreMultipliers}
 use Rattle.bip_model.proofs.Deciding.{open-same}
 use Rattle.bip_model.proofs.Exploring.{AreExplored, leaf-explored, branch-explored, both-explored}
-use Rattle.bip_model.proofs.Lists.{front-of, back-of}
-use Rattle.bip_model.proofs.Sides.{parts-free, free-parts, written-in, written-out, both-of}
+use Rattle.bip_model.proofs.Sides.{parts-free, written-in, written-out, both-of}
 use Rattle.bip_model.proofs.Totalling.{value-total}
-use Rattle.bip_model.proofs.Unrented.{useless-total}
-use Rattle.bip_model.proofs.Usefulness.{useful-from, useful-to}
+use Rattle.bip_model.proofs.Usefulness.{useful-from}
 use Rattle.lagrange_bound.specs.Bounds.{state_at, fits_beside, lagrangian}
 use Rattle.branch_bound.specs.declared.found.Found.{Found}
 use Rattle.branch_bound.specs.Sides.{is_free_state, fixed, inside, total}
-use Rattle.branch_bound.specs.inner.Runs.{Rules, set_of, lag, reaches, visited, is_choice, NoChoice, IsChoice, IsClosed, IsForced, IsBranch, IsClosedLeaf, IsForcedLeaf, lowered, branched, IsBranching, Runs}
+use Rattle.branch_bound.specs.inner.Runs.{Rules, lag, reaches, visited, IsChoice, lowered, branched, Runs}
 use Rattle.branch_bound.proofs.Climbing.{free-is}
 
 -- ## Rules over a programme that stands for a setting

@@ -1,9 +1,7 @@
 -- The configuration that a search finds fits, obeys the root and has its cost.
-use Rattle.std.proofs.Common.{◌≡◌, ◌∙◌, ◌≢◌, inl, inr, ℕ, ◌+◌, ◌<◌, ◌≤◌, Bool, true, false, cond, ◌&&◌, List, length, map, get_or, sum, refl, sym, ap, subst, arith, get_or-set_other}
-use Rattle.std.specs.Prelude.{slice_index_or, slice_set, nat_lt, nat_le}
-use Rattle.std.proofs.Math.ListN.{set, get_or-map}
-use Rattle.std.proofs.lemmas.Bool.{false≢true}
-use Rattle.adv_base.specs.declared.setting.Config.{Config}
+use Rattle.std.proofs.Common.{◌≡◌, ◌∙◌, ◌≢◌, inl, inr, ℕ, ◌+◌, ◌<◌, ◌≤◌, Bool, true, false, cond, ◌&&◌, List, length, map, sum, refl, sym, ap, subst, arith, get_or-set_other}
+use Rattle.std.specs.Prelude.{slice_index_or, nat_lt}
+use Rattle.std.proofs.Math.ListN.{get_or-map}
 use Rattle.adv_base.specs.Configs.{chosen}
 use Rattle.bip_model.specs.declared.answer.Node.{Node}
 use Rattle.bip_model.specs.declared.fix.Fix.{Fix}
@@ -17,8 +15,8 @@ use Rattle.bip_model.proofs.Sides.{both-of}
 use Rattle.lagrange_bound.specs.Bounds.{state_at, fits_beside}
 use Rattle.branch_bound.specs.declared.found.Found.{Found}
 use Rattle.branch_bound.specs.Sides.{is_free_state, fixed, inside, pages, total, IsRoot}
-use Rattle.branch_bound.specs.inner.Climbs.{flag_at, IsSound}
-use Rattle.branch_bound.specs.inner.Runs.{Rules, lag, visited, start, IsChoice, IsExplored, branched, lowered, Runs}
+use Rattle.branch_bound.specs.inner.Climbs.{IsSound}
+use Rattle.branch_bound.specs.inner.Runs.{Rules, visited, start, IsChoice, IsExplored, branched, Runs}
 use Rattle.branch_bound.proofs.Climbing.{free-is, pages-off, pages-on}
 use Rattle.branch_bound.proofs.Running.{at-most-of}
 

@@ -1,25 +1,24 @@
 -- Where a search gave up: the leaf with the least value.
-use Rattle.std.proofs.Common.{◌≡◌, ◌∙◌, ◌⊎◌, inl, inr, ℕ, zero, suc, ◌+◌, ◌-◌, ◌<◌, ◌≤◌, Bool, true, false, cond, ◌&&◌, not, List, [], ◌∷◌, ◌++◌, length, map, get_or, ℤ, pos, negsuc, refl, sym, ap, subst, arith}
+use Rattle.std.proofs.Common.{◌≡◌, ◌∙◌, ◌⊎◌, inl, inr, ℕ, zero, suc, ◌+◌, ◌-◌, ◌<◌, ◌≤◌, Bool, true, false, cond, ◌&&◌, List, length, ℤ, pos, refl, sym, ap, subst, arith}
 use Rattle.std.specs.Prelude.{Some, slice_get, slice_index_or, nat_le, ◌≤ℤ◌, int_lt}
 use Rattle.std.specs.Int.{int_min}
 use Rattle.std.proofs.Math.ListN.{get_or-map}
-use Rattle.std.proofs.lemmas.Bool.{cases_Bool, false≢true}
+use Rattle.std.proofs.lemmas.Bool.{false≢true}
 use Rattle.std.proofs.lemmas.Int.{ints}
 use Rattle.std.proofs.lemmas.List.{length-map}
 use Rattle.std.proofs.lemmas.Option.{slice_get_within}
-use Rattle.adv_base.specs.Configs.{has_candidate, IsConfigOf}
+use Rattle.adv_base.specs.Configs.{IsConfigOf}
 use Rattle.adv_base.specs.Nodes as nodes
 use Rattle.adv_base.specs.Nodes.{is_free}
 use Rattle.adv_base.specs.Settings.{TheSetting}
 use Rattle.adv_base.specs.Sizes.{shape_pages}
 use Rattle.plan_model.specs.Lagrangian.{TheMultipliers, IsLagrangian}
-use Rattle.plan_model.specs.Useful.{IsUseful}
 use Rattle.plan_model.proofs.Renting.{flag-of}
 use Rattle.bip_model.specs.declared.fix.Fix.{Fix}
 use Rattle.bip_model.specs.declared.fix.State.{State}
 use Rattle.bip_model.specs.declared.fix.State.TheVariants.{Free, In, Out}
 use Rattle.bip_model.specs.Best.{Subproblem, subproblems, HasLagrangian, IsTight}
-use Rattle.bip_model.specs.Candidates.{is_open, is_useful, pages_of, size_of}
+use Rattle.bip_model.specs.Candidates.{is_useful, pages_of, size_of}
 use Rattle.bip_model.specs.Laws.{NoneUseful}
 use Rattle.bip_model.specs.Trees.{Tree, Branches, Leaf, Full, in_side, out_side, zeros, set_at}
 use Rattle.bip_model.specs.Views.{is_in, is_out, node_of, multipliers_of}
@@ -33,8 +32,8 @@ use Rattle.bip_model.proofs.Usefulness.{useful-to}
 use Rattle.lagrange_bound.specs.Bounds.{state_at, fits_beside}
 use Rattle.branch_bound.specs.declared.found.Found.{Found}
 use Rattle.branch_bound.specs.Sides.{is_free_state, fixed, inside, total}
-use Rattle.branch_bound.specs.inner.Runs.{Rules, lag, reaches, visited, is_choice, NoChoice, IsForced, IsForcedLeaf, branched, lowered, Runs}
-use Rattle.branch_bound.proofs.Running.{AreRulesFor, own_sets, zeros-value, rents-value, HasSet, leaf-set, IsVisit, visit, test-of, at-most-of, from-both, in-is, out-is, good-choice, IsLater, runs-later}
+use Rattle.branch_bound.specs.inner.Runs.{Rules, lag, reaches, visited, NoChoice, IsForced, branched, Runs}
+use Rattle.branch_bound.proofs.Running.{AreRulesFor, own_sets, zeros-value, rents-value, leaf-set, visit, test-of, from-both, in-is, out-is, good-choice, runs-later}
 
 -- ## A leaf without a choice is closed
 

@@ -1,10 +1,10 @@
 -- Nodes of a search and configurations, as a programme sees them.
-use Rattle.std.specs.Prelude.{◌≡◌, ℕ, ◌<◌, ◌≤◌, Bool, true, false, length, map, sum, slice_index_or, slice_set}
+use Rattle.std.specs.Prelude.{◌≡◌, ℕ, ◌≤◌, Bool, true, false, length, map, sum, slice_set}
 use Rattle.adv_base.specs.declared.setting.Config.{Config}
 use Rattle.adv_base.specs.Configs.{chosen}
 use Rattle.bip_model.specs.declared.fix.Fix.{Fix}
 use Rattle.bip_model.specs.declared.fix.State.{State}
-use Rattle.bip_model.specs.declared.fix.State.TheVariants.{Free, In, Out}
+use Rattle.bip_model.specs.declared.fix.State.TheVariants.{Free}
 use Rattle.bip_model.specs.declared.programme.Programme.{Programme}
 use Rattle.bip_model.specs.Values.{value}
 use Rattle.bip_model.specs.Views.{is_in}

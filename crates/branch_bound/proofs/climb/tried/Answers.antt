@@ -1,4 +1,4 @@
-use Rattle.std.proofs.Common.{◌≡◌, ◌<◌, ◌≤◌, true, false, length, rules}
+use Rattle.std.proofs.Common.{◌≡◌, ◌≤◌, true, false, length, rules}
 use Rattle.lagrange_bound.specs.Bounds.{state_at}
 use Rattle.branch_bound.specs.Sides.{is_free_state}
 use Rattle.branch_bound.specs.inner.Climbs.{flag_at}

@@ -1,4 +1,3 @@
-use Rattle.std.proofs.Common.{rules, subst}
 use Rattle.branch_bound.specs.inner.Runs as runs
 use Rattle.branch_bound.proofs.Explored.{closed-explored, forced-explored, branch-explored}
 use Rattle.branch_bound.proofs.explore.+explore.Goals as goal

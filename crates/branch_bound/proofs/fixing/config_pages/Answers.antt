@@ -1,4 +1,4 @@
-use Rattle.std.proofs.Common.{◌<◌, ◌≤◌, ◌*◌, length, get_or, arith, rules}
+use Rattle.std.proofs.Common.{◌<◌, ◌≤◌, length, get_or, arith, rules}
 use Rattle.adv_base.specs.declared.limits.TheConstants.{MOST_INDEX_PAGES}
 use Rattle.bip_model.proofs.Pricing.{chosen-drop, chosen-past}
 use Rattle.branch_bound.proofs.fixing.config_pages.Goals as goal

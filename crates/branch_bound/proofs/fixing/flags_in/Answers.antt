@@ -1,4 +1,4 @@
-use Rattle.std.proofs.Common.{◌≡◌, ◌∙◌, ◌<◌, ◌≤◌, ◌+◌, Bool, length, take, ap, arith, rules}
+use Rattle.std.proofs.Common.{◌≡◌, ◌∙◌, ◌<◌, ◌+◌, Bool, length, take, ap, arith, rules}
 use Rattle.std.proofs.Math.ListN.{set}
 use Rattle.bip_model.specs.Views.{is_in}
 use Rattle.branch_bound.proofs.Steps.{mapped-step, all-taken}
