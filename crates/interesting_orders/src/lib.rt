@@ -10,5 +10,3 @@ mod orders;
 
 pub use orders::{combinations, slot_orders};
 
-#[cfg(test)]
-mod tests;
