@@ -24,7 +24,7 @@ pub(crate) fn blank_rows(alloc: Global, row: &[Cell], sets: usize) -> Result<Vec
     ensures count { IfOk result (λ cells. length cells.items ≡ sets * length row.now) }
     ensures blank { IfOk result (λ cells. All (λ cell. cell ≡ row_cells.blank) cells.items) }
 {
-    let mut cells = Vec::new(alloc);
+    let mut cells = Vec::with_capacity(alloc, sets.saturating_mul(row.len()))?;
     for _set in 0..sets {
         cells.extend_from_slice(row)?;
     }
