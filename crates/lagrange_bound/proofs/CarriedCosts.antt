@@ -1,8 +1,9 @@
 -- Laws of plan costs that are kept from node to node.
-use Rattle.std.proofs.Common.{◌≡◌, ◌∙◌, inl, inr, ℕ, zero, suc, ◌+◌, ◌*◌, ◌^◌, ◌<◌, ◌≤◌, Bool, true, false, List, [], ◌∷◌, ◌++◌, length, get_or, take, drop, fold, min, All, refl, sym, ap, subst, append-nil, append_assoc, arith}
+use Rattle.std.proofs.Common.{◌≡◌, ◌∙◌, inl, inr, ℕ, zero, suc, ◌+◌, ◌*◌, ◌^◌, ◌<◌, ◌≤◌, Bool, true, false, not, List, [], ◌∷◌, ◌++◌, length, get_or, take, drop, fold, min, All, refl, sym, ap, subst, append-nil, append_assoc, arith}
 use Rattle.std.specs.Prelude.{Option, Some, None, if◌then◌else◌, slice_get, slice_set, slice_index_or, option_and_then, unwrap_or}
 use Rattle.std.specs.Option.{ForSome, option_map}
-use Rattle.std.proofs.lemmas.List.{drop_all, drop_more, drop-drop, take_all, take_more_set}
+use Rattle.std.proofs.lemmas.Bool.{false≢true}
+use Rattle.std.proofs.lemmas.List.{drop_all, drop_more, drop-drop, take_all, take_more, take_more_set}
 use Rattle.std.proofs.lemmas.List.Elements.{All-head, All-tail}
 use Rattle.std.proofs.lemmas.Option.{slice_get_cases}
 use Rattle.adv_base.specs.declared.limits.TheConstants.{MOST_PRICE, MOST_RENT}
@@ -79,6 +80,26 @@ AreAlike from to grants = All (λ grant. has_candidate from grant.candidate ≡ 
 
 abbrev pub SlotsAlike : Config → Config → List SlotPart → Type 0
 SlotsAlike from to slots = All (λ slot. AreAlike from to slot.grants) slots
+
+-- of two flags neither is on alone
+pub alone-false : (a b x y r : Bool) → r ≡ (if a then not b else b) → a ≡ x → b ≡ y → r ≡ false → x ≡ y
+alone-false true true x y r is first second none = sym first ∙ second
+alone-false true false x y r is first second none = absurd (false≢true (sym none ∙ is))
+alone-false false true x y r is first second none = absurd (false≢true (sym none ∙ is))
+alone-false false false x y r is first second none = sym first ∙ second
+
+all-append : {X : Type 0} (P : X → Type 0) (xs ys : List X) → All P xs → All P ys → All P (xs ++ ys)
+all-append P [] ys first second k d within = second k d within
+all-append P (x ∷ xs) ys first second zero d within = first 0 d (omega arith)
+all-append P (x ∷ xs) ys first second (suc k) d within = all-append P xs ys (λ j e inside. first (suc j) e (omega (arith, inside))) second k d (omega (arith, within))
+
+all-one : {X : Type 0} (P : X → Type 0) (x : X) → P x → All P (x ∷ [])
+all-one P x is zero d within = is
+all-one P x is (suc k) d within = absurd (omega (arith, within))
+
+pub all-more : {X : Type 0} (P : X → Type 0) (xs : List X) (i : ℕ) (x : X) → i < length xs → x ≡ get_or xs i x → All P (take i xs) → P x → All P (take (i + 1) xs)
+all-more P xs i x within is before here =
+    subst (All P) (sym (take_more xs i x within)) (all-append P (take i xs) (get_or xs i x ∷ []) before (all-one P (get_or xs i x) (subst P is here)))
 
 asked-same : (from to : Config) (o : ℕ) (best : Option ℕ) (grants : List Grant) (rents : List ℕ) → AreAlike from to grants → least_asked from o best grants rents ≡ least_asked to o best grants rents
 asked-same from to o best [] rents alike = refl

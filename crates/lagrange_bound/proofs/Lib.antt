@@ -6,3 +6,4 @@ pub mod StandingRents
 pub mod StandingValue
 pub mod CoveredRents
 pub mod CarriedCosts
+pub mod WrittenRents
