@@ -39,12 +39,7 @@ fn catalogue_of(rt: &impl Abort, alloc: Global, text: &[u8]) -> Catalogue {
     }
 }
 
-fn statements_of(
-    rt: &impl Abort,
-    alloc: Global,
-    cat: &Catalogue,
-    text: &[u8],
-) -> List<Statement>
+fn statements_of(rt: &impl Abort, alloc: Global, cat: &Catalogue, text: &[u8]) -> List<Statement>
     ensures named { All (λ statement. NamesWork cat.now statement.work) result }
     ensures most { length result ≤ MOST_STATEMENTS }
     ensures few { sum_by (λ statement. slot_count statement.work) result ≤ MOST_SLOTS_IN_ALL }
