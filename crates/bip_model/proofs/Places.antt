@@ -1,16 +1,15 @@
 -- A rent stands only where a candidate may be used; and how many rents there may be.
-use Rattle.std.proofs.Common.{◌≡◌, ◌∙◌, ◌⊎◌, inl, inr, ℕ, zero, suc, ◌+◌, ◌-◌, ◌*◌, ◌<◌, ◌≤◌, ◌==◌, Bool, true, false, cond, not, ◌&&◌, List, [], ◌∷◌, ◌++◌, length, map, All, refl, sym, ap, subst, arith}
-use Rattle.std.specs.Prelude.{Option, Some, None, filter, if◌then◌else◌, count_by, sum_by, slice_get}
+use Rattle.std.proofs.Common.{◌≡◌, ◌∙◌, inl, inr, ℕ, suc, ◌+◌, ◌-◌, ◌*◌, ◌<◌, ◌≤◌, ◌==◌, Bool, true, false, cond, not, ◌&&◌, List, [], ◌∷◌, length, map, All, refl, sym, ap, subst, arith}
+use Rattle.std.specs.Prelude.{Some, filter, if◌then◌else◌, count_by, slice_get}
 use Rattle.std.specs.List.{enumerate_from}
-use Rattle.std.proofs.lemmas.Bool.{cases_Bool, eqb-true, false≢true}
+use Rattle.std.proofs.lemmas.Bool.{cases_Bool, eqb-true}
 use Rattle.std.proofs.lemmas.List.{length-append, length-map}
 use Rattle.std.proofs.lemmas.List.Elements.{All-head, All-tail}
 use Rattle.adv_base.specs.declared.catalogue.index.IndexShape.{IndexShape}
-use Rattle.adv_base.specs.declared.limits.TheConstants.{MOST_CANDIDATES, MOST_ENTRIES, MOST_SLOTS_IN_ALL}
+use Rattle.adv_base.specs.declared.limits.TheConstants.{MOST_ENTRIES}
 use Rattle.adv_base.specs.declared.workload.Statement.{Statement}
 use Rattle.adv_base.specs.declared.workload.Work.{Work}
 use Rattle.adv_base.specs.declared.workload.Work.TheVariants.{Select, Update, Delete, Insert}
-use Rattle.adv_base.specs.declared.workload.block.Block.{Block}
 use Rattle.adv_base.specs.declared.workload.parts.Slot.{Slot}
 use Rattle.adv_base.specs.Limits.Settings.{slot_count}
 use Rattle.adv_base.specs.Settings.{TheSetting, KeepsLimits}
@@ -20,7 +19,7 @@ use Rattle.bip_model.specs.declared.multipliers.Multipliers.{Multipliers}
 use Rattle.bip_model.specs.Best.{entry_count}
 use Rattle.bip_model.specs.Proves.{NamesUse, RentsUses}
 use Rattle.bip_model.specs.StandsFor.{candidates_on, Blocked, blocked_in, blocked_from}
-use Rattle.bip_model.specs.Uses.{slot_uses, blocked_uses, uses, multipliers_in, AreMultipliersIn, rent_multipliers}
+use Rattle.bip_model.specs.Uses.{slot_uses, blocked_uses, uses, multipliers_in, AreMultipliersIn}
 use Rattle.bip_model.specs.Views.{Place, is_place, rent_at}
 use Rattle.bip_model.proofs.Deciding.{blocked-from}
 use Rattle.bip_model.proofs.Fixing.{Has, image-of}

@@ -14,3 +14,6 @@ pub mod Splits
 pub mod Breaks
 pub mod TreeLaws
 pub mod OneText
+pub mod WriteLaws
+pub mod Places
+pub mod InOrder

@@ -3,4 +3,5 @@ pub mod Limits
 pub mod Certificates
 pub mod Order
 pub mod Trees
+pub mod Answers
 pub mod inner

@@ -1,5 +1,6 @@
 //! Laws of certificates.
 ghost use Rattle.std.specs.Prelude.{◌↔◌, ◌<◌};
+ghost use Rattle.certificate.specs.Answers as answers;
 ghost use Rattle.certificate.specs.Certificates as certificates;
 ghost use Rattle.certificate.specs.Limits as limits;
 ghost use Rattle.certificate.specs.Order as order;
@@ -23,4 +24,9 @@ pub fn whole_trees_are_preorders()
 pub fn texts_are_one()
     ensures certificate { certificates.OneCertificate }
     ensures text { certificates.OneText }
+{}
+
+/// The parts and grants of a programme that stands for a setting are in order.
+pub fn standing_programmes_are_in_order()
+    ensures { answers.StandingInOrder }
 {}
