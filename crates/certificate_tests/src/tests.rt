@@ -4,11 +4,18 @@ mod written;
 
 use bip_model::Node;
 use certificate::{CertFault, read_cert};
+use std::alloc::Global;
+use std::process::Abort;
 use std::test::Fail;
 
 /// A certificate of the knapsack of two indexes, in eleven lines.
 pub const CERTK: &str =
     "cophy certificate 1\nbudget 4\nconfig 2\ncost 954000\nbound 954000\nsets 0\ntree 3\nB 1\nL 0\nL 0\nend\n";
+
+/// What may stand in place of each byte of that certificate: at `d` any digit, at `n` any but 0, at `s` a minus too,
+/// elsewhere nothing else.
+const CLASSES: &str =
+    "...................\n.......d\n.......n\n.....nddddd\n......sddddd\n......\n......\n..n\n...\n...\n...\n";
 
 /// What comes before the lines of two sets.
 const TWO_SETS: &str = "cophy certificate 1\nbudget 0\nconfig\ncost 0\nbound -1\nsets 2\n";
@@ -46,6 +53,43 @@ fn prefixes_break_at_their_last_line(rt: HostRuntime) {
             matches!(read, Err(CertFault::Malformed(line)) if line == want),
             "{len}"
         );
+    }
+}
+
+fn may_stand(class: u8, byte: u8) -> bool {
+    match class {
+        b'd' => byte.is_ascii_digit(),
+        b'n' => byte != b'0' && byte.is_ascii_digit(),
+        b's' => byte == b'-' || (byte != b'0' && byte.is_ascii_digit()),
+        _ => false,
+    }
+}
+
+/// A text with another byte at a place.
+fn changed(rt: &impl Abort, alloc: Global, text: &[u8], place: usize, byte: u8) -> Vec<u8> {
+    let mut bytes = Vec::from_slice(alloc, text).expect(rt, "memory");
+    if place < bytes.len() {
+        bytes[place] = byte;
+    }
+    bytes
+}
+
+#[test]
+fn every_other_byte_breaks_or_says_something_else(rt: HostRuntime) {
+    let alloc = rt.alloc();
+    let text = CERTK.as_bytes();
+    let classes = CLASSES.as_bytes();
+    assert_eq!(rt; text.len(), 93);
+    assert_eq!(rt; classes.len(), 93);
+    for place in 0..93 {
+        for number in 0..256usize {
+            let byte = number as u8;
+            if byte != text[place] {
+                let other = changed(&rt, alloc, text, place, byte);
+                let read = read_cert(alloc, other.as_slice()).is_ok();
+                assert_eq!(rt; read, may_stand(classes[place], byte), "{place} {byte}");
+            }
+        }
     }
 }
 
