@@ -40,7 +40,7 @@ fn has_all_flags(config: &Config)
 /// The text of the certificate of an answer: the budget, in pages, and the answer's configuration, cost, bound, sets of
 /// multipliers, without the rents that are 0, and tree. `read_cert` reads it as that certificate. The programme's parts and
 /// grants are in order, as those of a programme that stands for a setting are. Want of memory is the one error; memory is
-/// taken for the text alone, and time is linear in it and in the rents.
+/// taken for the text and for the digits of one number at a time, and time is linear in the text and in the rents.
 pub fn write_cert(
     alloc: Global,
     prog: &Programme,
