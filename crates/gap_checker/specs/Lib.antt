@@ -1,0 +1,4 @@
+pub mod Views
+pub mod Visits
+pub mod Faults
+pub mod inner

@@ -1,0 +1,3 @@
+-- What retells the checker's steps.
+pub mod Rows
+pub mod Figures
