@@ -13,13 +13,13 @@ pub record Visit : Type 0 where
   pub at : nodes.Node
   pub node : Node
 
--- Trees in preorder, one behind another; `open` has the nodes of the search at which they begin.
+-- Trees in preorder, one behind another; `starts` has the nodes of the search at which they begin.
 abbrev pub visits : List nodes.Node → List Node → List Visit
-visits open [] = []
+visits starts [] = []
 visits [] (node ∷ list) = []
-visits (at ∷ open) (Branch a ∷ list) = record { at = at; node = Branch a } ∷ visits (in_side at a ∷ out_side at a ∷ open) list
-visits (at ∷ open) (Bounded k ∷ list) = record { at = at; node = Bounded k } ∷ visits open list
-visits (at ∷ open) (Overfull ∷ list) = record { at = at; node = Overfull } ∷ visits open list
+visits (at ∷ starts) (Branch a ∷ list) = record { at = at; node = Branch a } ∷ visits (in_side at a ∷ out_side at a ∷ starts) list
+visits (at ∷ starts) (Bounded k ∷ list) = record { at = at; node = Bounded k } ∷ visits starts list
+visits (at ∷ starts) (Overfull ∷ list) = record { at = at; node = Overfull } ∷ visits starts list
 
 -- what a node has to show where it stands: a branch, that its candidate is free; a leaf, its bound; one that is called
 -- overfull, that what is in doesn't fit
