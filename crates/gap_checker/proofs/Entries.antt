@@ -1,12 +1,14 @@
 -- Entries in order, and the rents that they give.
 use Rattle.std.proofs.Common.{◌≡◌, ◌∙◌, ◌⊎◌, inl, inr, ℕ, zero, suc, ◌+◌, ◌*◌, ◌<◌, ◌≤◌, Bool, true, false, List, [], ◌∷◌, length, get_or, refl, sym, ap, rules, arith}
 use Rattle.std.specs.Prelude.{Option, Some, None, slice_get, if◌then◌else◌, ◌==◌, ◌&&◌}
+use Rattle.std.proofs.lemmas.Option.{get_or_from_slice_get, slice_get_within}
 use Rattle.std.proofs.lemmas.Bool.{cases_Bool, eqb-true, false≢true}
 use Rattle.adv_base.specs.declared.limits.TheConstants.{MOST_RENT}
 use Rattle.bip_model.proofs.Fixing.{both}
 use Rattle.certificate.specs.declared.cert.Entry.{Entry}
 use Rattle.certificate.specs.Limits.{EntryLimits, EntriesFrom, entry_place}
 use Rattle.gap_checker.specs.Views.{is_entry_of, rent_in}
+use Rattle.gap_checker.specs.inner.Searches.{IsCut, rent_of}
 
 -- where a use stands
 abbrev pub use_place : ℕ → ℕ → ℕ → ℕ
@@ -36,11 +38,6 @@ rent-behind [] least q s a rise before = refl
 rent-behind (entry ∷ entries) least q s a rise before =
     rent-other entry entries q s a (λ e. omega (arith, e, rise.1, before))
     ∙ rent-behind entries (entry_place entry + 1) q s a rise.2 (omega (arith, rise.1, before))
-
--- what the entry at a place gives a use
-abbrev pub rent_of : Option Entry → ℕ → ℕ → ℕ → ℕ
-rent_of (Some entry) q s a = if is_entry_of entry q s a then entry.lambda else 0
-rent_of None q s a = 0
 
 -- the rent is that of the first entry that doesn't stand before the use
 pub rent-at : (entries : List Entry) (least q s a at : ℕ) → EntriesFrom least entries →
@@ -82,3 +79,34 @@ places-rise (entry ∷ entries) least zero (suc j) d rise less within =
     places-least (entry ∷ entries) least (suc j) d rise within = omega (arith, rise.1, places-least entries (entry_place entry + 1) j d rise.2 (omega (arith, within)))
 places-rise (entry ∷ entries) least (suc i) zero d rise less within = absurd (omega (arith, less))
 places-rise (entry ∷ entries) least (suc i) (suc j) d rise less within = places-rise entries (entry_place entry + 1) i j d rise.2 (omega (arith, less)) (omega (arith, within))
+
+-- ## Halving
+
+places-at : (entries : List Entry) (i j : ℕ) (d e : Entry) → EntriesFrom 0 entries → i ≤ j → j < length entries → slice_get entries i ≡ Some d → slice_get entries j ≡ Some e → entry_place d ≤ entry_place e
+places-at entries i j d e rise less within here there =
+    let first : get_or entries i d ≡ d = get_or_from_slice_get entries i d d here in
+    let second : get_or entries j d ≡ e = get_or_from_slice_get entries j e d there in
+    omega (arith, places-rise entries 0 i j d rise less within, ap entry_place first, ap entry_place second)
+
+pub cut-above : (entries : List Entry) (place from to middle : ℕ) (entry : Entry) → EntriesFrom 0 entries → IsCut entries place from to → middle < to → slice_get entries middle ≡ Some entry → entry_place entry < place →
+    IsCut entries place (middle + 1) to
+cut-above entries place from to middle entry rise cut below there before =
+    record {
+      before = λ k e less here. omega (arith, before, places-at entries k middle e entry rise (omega (arith, less)) (omega (arith, below, cut.within)) here there);
+      behind = cut.behind;
+      order = omega (arith, below);
+      within = cut.within;
+    }
+
+pub cut-below : (entries : List Entry) (place from to middle : ℕ) (entry : Entry) → EntriesFrom 0 entries → IsCut entries place from to → from ≤ middle → middle < to → slice_get entries middle ≡ Some entry → place ≤ entry_place entry →
+    IsCut entries place from middle
+cut-below entries place from to middle entry rise cut above below there behind =
+    record {
+      before = cut.before;
+      behind = λ k e less here. omega (arith, behind, places-at entries middle k entry e rise less (slice_get_within entries k e here) there here);
+      order = above;
+      within = omega (arith, below, cut.within);
+    }
+
+pub rent-cut : (entries : List Entry) (q s a at : ℕ) → EntriesFrom 0 entries → IsCut entries (use_place q s a) at at → rent_in entries q s a ≡ rent_of (slice_get entries at) q s a
+rent-cut entries q s a at rise cut = rent-at entries 0 q s a at rise cut.before cut.behind

@@ -1,10 +1,10 @@
 -- What is shown of the offers under all candidates are the offers of what is available, with rents.
-use Rattle.std.proofs.Common.{◌≡◌, ◌∙◌, ◌⊎◌, inl, inr, ℕ, zero, suc, ◌+◌, ◌<◌, ◌≤◌, Bool, true, false, List, [], ◌∷◌, ◌++◌, length, map, filter, replicate, refl, sym, ap, arith}
+use Rattle.std.proofs.Common.{◌≡◌, ◌∙◌, ◌⊎◌, inl, inr, ℕ, zero, suc, ◌+◌, ◌<◌, ◌≤◌, Bool, true, false, List, [], ◌∷◌, ◌++◌, length, get_or, drop, drop-cons, append_assoc, length-append, map, filter, replicate, refl, sym, ap, arith}
 use Rattle.std.specs.Prelude.{Option, Some, None, slice_get, option_and_then, if◌then◌else◌, ◌==◌}
 use Rattle.std.specs.Option.{option_map_or}
 use Rattle.std.specs.List.{enumerate_from}
 use Rattle.std.proofs.lemmas.Bool.{cases_Bool, cases_lt}
-use Rattle.std.proofs.lemmas.Option.{slice_get_past, slice_get_within}
+use Rattle.std.proofs.lemmas.Option.{slice_get_past, slice_get-get_or}
 use Rattle.std.proofs.lemmas.List.{length-map}
 use Rattle.std.proofs.Math.Path.{fun_ext}
 use Rattle.access_paths.specs.declared.slot_offers.SlotOffers.{SlotOffers}
@@ -26,11 +26,11 @@ use Rattle.bip_model.specs.StandsFor.{candidates_on}
 use Rattle.bip_model.proofs.Standing.{chosen-on}
 use Rattle.gap_checker.specs.declared.row.Row.{Row}
 use Rattle.gap_checker.specs.inner.Parts.{every_candidate}
-use Rattle.gap_checker.specs.inner.Rows.{table_of, offers_of as row_offers, shown_of, shown_from}
+use Rattle.gap_checker.specs.inner.Rows.{table_of, IsRowsOf, offers_of as row_offers, shown_of, shown_from}
 
 -- a path that is there under the configuration
 abbrev stays : Config → Path → Bool
-stays config path = option_map_or (has_candidate config) true (path_candidate path)
+stays config path = option_map_or (has_candidate config) (path_candidate path) true
 
 -- ## Candidates
 
@@ -150,3 +150,46 @@ offers-few slots s = few (slice_get slots s)
     few : (o : Option SlotOffers) → length (option_map_or (λ o. pairs_of o.offers.items) o []) ≤ MOST_OFFERS
     few None = omega arith
     few (Some o) = omega (arith, o.few, length-map o.offers.items offer_kept)
+
+-- ## One more
+
+pub show-step : (config : Config) (rent : ℕ → ℕ) (candidate : ℕ → Option ℕ) (offered : List Offer) (i : ℕ) (old new whole : List Offer) → i < length offered →
+    new ≡ old ++ shown_of config rent (candidate i) (option_map_or (λ (o : Offer). o.0) (slice_get offered i) [], option_map_or (λ (o : Offer). o.1) (slice_get offered i) 0) →
+    old ++ shown_from config rent candidate i (drop i offered) ≡ whole → new ++ shown_from config rent candidate (i + 1) (drop (i + 1) offered) ≡ whole
+show-step config rent candidate offered i old new whole within is before =
+    let nothing : Offer = ([], 0) in
+    let offer : Offer = get_or offered i nothing in
+    let found : slice_get offered i ≡ Some offer = slice_get-get_or offered i nothing within in
+    let next : i + 1 ≡ suc i = omega arith in
+    let rest : List Offer = shown_from config rent candidate (suc i) (drop (suc i) offered) in
+    let made : new ≡ old ++ shown_of config rent (candidate i) offer =
+    is ∙ ap (λ (o : Option Offer). old ++ shown_of config rent (candidate i) (option_map_or (λ (o : Offer). o.0) o [], option_map_or (λ (o : Offer). o.1) o 0)) found in
+    let cut : drop i offered ≡ offer ∷ drop (suc i) offered = drop-cons offered i nothing within in
+    rw next
+    (ap (λ (front : List Offer). front ++ rest) made ∙ append_assoc old (shown_of config rent (candidate i) offer) rest
+    ∙ ap (λ (list : List Offer). old ++ shown_from config rent candidate i list) (sym cut) ∙ before)
+
+get-front : {X : Type 0} (xs ys : List X) (i : ℕ) → i < length xs → slice_get (xs ++ ys) i ≡ slice_get xs i
+get-front [] ys i within = absurd (omega (arith, within))
+get-front (x ∷ xs) ys zero within = refl
+get-front (x ∷ xs) ys (suc i) within = get-front xs ys i (omega (arith, within))
+
+get-last : {X : Type 0} (xs : List X) (x : X) → slice_get (xs ++ x ∷ []) (length xs) ≡ Some x
+get-last [] x = refl
+get-last (y ∷ xs) x = get-last xs x
+
+-- the rows of one slot more
+pub rows-more : (rows : List Row) (row : Row) (n : ℕ) (table : OfferTable) → (count : length rows ≡ n) → ((s : ℕ) → s < n → table_of rows s ≡ table s) → row_offers row.shown.items ≡ table n →
+    IsRowsOf (rows ++ row ∷ []) (n + 1) table
+rows-more rows row n table count before last =
+    record {
+      count = length-append rows (row ∷ []) ∙ ap (λ (k : ℕ). k + 1) count;
+      rows_are = λ s below.
+          elim (cases_lt s n) [
+            | inl less ↦ ap (λ (o : Option Row). option_map_or (λ (r : Row). row_offers r.shown.items) o []) (get-front rows (row ∷ []) s (omega (arith, less, count))) ∙ before s less
+            | inr past ↦
+                let same : s ≡ length rows = omega (arith, past, below, count) in
+                let here : s ≡ n = omega (arith, past, below) in
+                ap (λ (k : ℕ). table_of (rows ++ row ∷ []) k) same ∙ ap (λ (o : Option Row). option_map_or (λ (r : Row). row_offers r.shown.items) o []) (get-last rows row) ∙ last ∙ ap table (sym here)
+          ];
+    }

@@ -10,3 +10,4 @@ pub mod Uses
 pub mod Claims
 pub mod Judges
 pub mod Walks
+pub mod Searches

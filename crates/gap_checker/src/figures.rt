@@ -1,5 +1,5 @@
 //! Figures of a setting, found once.
-ghost use Rattle.std.specs.Prelude.{◌≡◌, ◌*◌, ◌≤◌, IfOk, All, map};
+ghost use Rattle.std.specs.Prelude.{◌≡◌, ◌*◌, ◌<◌, ◌≤◌, IfOk, All, Some, length, map, slice_get};
 ghost use Rattle.adv_base.specs.Named.{NamesShape};
 ghost use Rattle.adv_base.specs.Sizes.{shape_pages};
 ghost use Rattle.adv_base.specs.declared.limits.TheConstants.{MOST_INDEXES, MOST_INDEX_PAGES, MOST_STATEMENTS, MOST_UPKEEP, MOST_WEIGHT};
@@ -69,6 +69,17 @@ fn weighted_kept(setting: &Setting<'_>) -> u128
         sum += statement.weight as u128 * kept_upkeep(setting.cat, statement);
     }
     sum
+}
+
+/// What the searches of a statement start from, by the statement's place.
+pub(crate) fn part_at<'b>(figures: &'b Figures<'_>, place: usize) -> &'b Option<Part>
+    requires { place < length figures.now.parts.items }
+    ensures { slice_get figures.now.parts.items place ≡ Some result.now }
+{
+    match figures.parts.get(place) {
+        Some(part) => part,
+        None => unreachable!(),
+    }
 }
 
 impl<'a> Figures<'a> {

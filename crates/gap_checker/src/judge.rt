@@ -1,5 +1,5 @@
 //! Judging nodes of the tree.
-ghost use Rattle.std.specs.Prelude.{◌≡◌, ◌+◌, ◌<◌, ◌≤◌, IfOk, IfErr, OnOk, ◌++◌, ◌∷◌, [], length};
+ghost use Rattle.std.specs.Prelude.{◌≡◌, ◌+◌, ◌<◌, ◌≤◌, IfOk, IfErr, OnOk, ◌++◌, ◌∷◌, [], Some, length, slice_get};
 ghost use Rattle.std.specs.List.{AllByRecursion};
 ghost use Rattle.bip_model.specs.StandsFor.{AreEach};
 ghost use Rattle.bip_model.specs.declared.answer.Node.TheVariants.{Branch, Bounded, Overfull};
@@ -86,6 +86,17 @@ fn kept_sets<'a>(
     Ok(kept)
 }
 
+/// The set of a number.
+fn kept_set_at<'b, 'a>(sets: &'b [Multipliers<'a>], at: usize) -> &'b Multipliers<'a>
+    requires { at < length sets.now }
+    ensures { slice_get sets.now at ≡ Some result.now }
+{
+    match sets.get(at) {
+        Some(set) => set,
+        None => unreachable!(),
+    }
+}
+
 impl<'a> Judge<'a> {
     /// The judge of a certificate.
     pub(crate) fn new(
@@ -130,7 +141,7 @@ impl<'a> Judge<'a> {
         ensures right { OnOk result (visits.IsRightAt (setting_of self.now.figures.now) cert.now.budget cert.now.bound (views.sets_of cert.now) (node_of at.now) (Bounded set)) }
         ensures wrong { IfErr result (judges.IsWrong (setting_of self.now.figures.now) cert.now number (node_of at.now) (Bounded set)) }
     {
-        let multipliers = &self.sets.as_slice()[set as usize];
+        let multipliers = kept_set_at(self.sets.as_slice(), set as usize);
         let value = lagrangian_value(alloc, self.figures, multipliers, self.budget, at)?;
         if value < self.bound {
             return Err(CheckFault::LeafBelow(number, value, self.bound));

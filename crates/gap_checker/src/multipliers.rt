@@ -10,7 +10,7 @@ ghost use Rattle.gap_checker.specs.inner.Earnings as earning;
 
 use crate::part::block_of;
 use crate::rents::Rents;
-use adv_base::{Block, NoMemory, Setting, Statement};
+use adv_base::{NoMemory, Setting, Slot, Statement};
 use std::alloc::Global;
 
 /// A set of multipliers, and for each candidate the sum of weight times rent over its uses.
@@ -21,29 +21,42 @@ pub(crate) struct Multipliers<'a> {
 }
 
 /// A rent where a slot is on the candidate's table, and else 0.
-fn rent_if(rents: &Rents<'_>, statement: u16, slot: u8, candidate: u16, on_table: bool) -> u64
-    requires slot_in { slot < MOST_SLOTS }
+fn slot_rent(
+    rents: &Rents<'_>,
+    statement: u16,
+    number: u8,
+    slot: &Slot,
+    table: u16,
+    candidate: u16,
+) -> u64
+    requires slot_in { number < MOST_SLOTS }
     requires rise { EntriesFrom 0 rents.now.entries.now }
-    ensures exact { result ≡ (if on_table then views.rent_in rents.now.entries.now statement slot candidate else 0) }
+    ensures exact { result ≡ (if slot.now.table == table then views.rent_in rents.now.entries.now statement number candidate else 0) }
     ensures most { result ≤ MOST_RENT }
 {
-    if on_table {
-        rents.rent(statement, slot, candidate)
+    if slot.table == table {
+        rents.rent(statement, number, candidate)
     } else {
         0
     }
 }
 
 /// The rents of a candidate's uses at the slots of a block.
-fn slot_rents(rents: &Rents<'_>, statement: u16, block: &Block, table: u16, candidate: u16) -> u128
-    requires { EntriesFrom 0 rents.now.entries.now }
-    ensures exact { result ≡ lagrangian.slot_rents (λ s. views.rent_in rents.now.entries.now statement s candidate) table 0 block.now.slots }
+fn slot_rents(
+    rents: &Rents<'_>,
+    statement: u16,
+    slots: &[Slot],
+    table: u16,
+    candidate: u16,
+) -> u128
+    requires few { length slots.now ≤ MOST_SLOTS }
+    requires rise { EntriesFrom 0 rents.now.entries.now }
+    ensures exact { result ≡ lagrangian.slot_rents (λ s. views.rent_in rents.now.entries.now statement s candidate) table 0 slots.now }
     ensures most { result ≤ MOST_SLOTS * MOST_RENT }
 {
     let mut sum: u128 = 0;
-    for s in 0..block.slots.len() {
-        let on_table = block.slots.as_slice()[s].table == table;
-        sum += rent_if(rents, statement, s as u8, candidate, on_table) as u128;
+    for s in 0..slots.len() {
+        sum += slot_rent(rents, statement, s as u8, &slots[s], table, candidate) as u128;
     }
     sum
 }
@@ -61,7 +74,7 @@ fn statement_rents(
     ensures most { result ≤ MOST_SLOTS * MOST_RENT }
 {
     match block_of(&statement.work) {
-        Some(block) => slot_rents(rents, number, block, table, candidate),
+        Some(block) => slot_rents(rents, number, block.slots.as_slice(), table, candidate),
         None => 0,
     }
 }

@@ -1,8 +1,9 @@
 //! Sets of multipliers.
-ghost use Rattle.std.specs.Prelude.{◌≡◌, ◌+◌, ◌-◌, ◌*◌, ◌<◌, ◌≤◌};
+ghost use Rattle.std.specs.Prelude.{◌≡◌, ◌+◌, ◌-◌, ◌*◌, ◌<◌, ◌≤◌, IsTrue, false, length, slice_get, Some};
 ghost use Rattle.adv_base.specs.declared.limits.TheConstants.{MOST_RENT, MOST_SLOTS};
-ghost use Rattle.certificate.specs.Limits.{EntriesFrom};
+ghost use Rattle.certificate.specs.Limits.{EntriesFrom, entry_place};
 ghost use Rattle.gap_checker.specs.Views as views;
+ghost use Rattle.gap_checker.specs.inner.Searches as searches;
 
 use certificate::Entry;
 
@@ -21,12 +22,72 @@ fn place_of(statement: u16, slot: u8, candidate: u16) -> u32
     statement as u32 * 2048 + slot as u32 * 256 + candidate as u32
 }
 
-/// Whether an entry is a use's; `slot` counts from 1.
-fn is_use(entry: &Entry, statement: u16, slot: u8, candidate: u16) -> bool
-    requires { 1 ≤ slot }
-    ensures { result ≡ views.is_entry_of entry.now statement (slot - 1) candidate }
+/// Whether an entry stands before a place.
+fn is_before(entry: &Entry, place: u32) -> bool
+    ensures yes { IsTrue result → entry_place entry.now < place }
+    ensures no { result ≡ false → place ≤ entry_place entry.now }
 {
-    entry.statement == statement && entry.slot == slot && entry.candidate == candidate
+    place_of(entry.statement, entry.slot, entry.candidate) < place
+}
+
+/// The entry of a number.
+fn entry_at(entries: &[Entry], at: usize) -> &Entry
+    requires { at < length entries.now }
+    ensures { slice_get entries.now at ≡ Some result.now }
+{
+    match entries.get(at) {
+        Some(entry) => entry,
+        None => unreachable!(),
+    }
+}
+
+/// Halves the part of the entries in which the first that doesn't stand before a place is looked for.
+fn halved(entries: &[Entry], place: u32, from: usize, to: usize) -> (usize, usize)
+    requires rise { EntriesFrom 0 entries.now }
+    requires cut { searches.IsCut entries.now place from to }
+    requires some { from < to }
+    ensures cut { searches.IsCut entries.now place result.0 result.1 }
+    ensures smaller { result.1 + from < to + result.0 }
+{
+    let middle = from + (to - from) / 2;
+    let entry = entry_at(entries, middle);
+    if is_before(entry, place) {
+        (middle + 1, to)
+    } else {
+        (from, middle)
+    }
+}
+
+/// The first entry that doesn't stand before a place, or the end, by a binary search.
+fn first_at(entries: &[Entry], place: u32) -> usize
+    requires { EntriesFrom 0 entries.now }
+    ensures { searches.IsCut entries.now place result result }
+{
+    let mut from = 0;
+    let mut to = entries.len();
+    'halve: while from < to {
+        let (first, end) = halved(entries, place, from, to);
+        from = first;
+        to = end;
+    }
+    from
+}
+
+/// The rent of a use where the entry of a number is the use's, and else 0; `slot` counts from 1.
+fn entry_rent(entries: &[Entry], at: usize, statement: u16, slot: u8, candidate: u16) -> u64
+    requires { 1 ≤ slot }
+    ensures { result ≡ searches.rent_of (slice_get entries.now at) statement (slot - 1) candidate }
+{
+    match entries.get(at) {
+        Some(entry) => {
+            if entry.statement == statement && entry.slot == slot && entry.candidate == candidate {
+                entry.lambda
+            } else {
+                0
+            }
+        }
+        None => 0,
+    }
 }
 
 impl Rents<'_> {
@@ -38,18 +99,7 @@ impl Rents<'_> {
         ensures most { result ≤ MOST_RENT }
     {
         let place = place_of(statement, slot + 1, candidate);
-        let at = self.entries.partition_point(|entry| {
-            place_of(entry.statement, entry.slot, entry.candidate) < place
-        });
-        match self.entries.get(at) {
-            Some(entry) => {
-                if is_use(entry, statement, slot + 1, candidate) {
-                    entry.lambda
-                } else {
-                    0
-                }
-            }
-            None => 0,
-        }
+        let at = first_at(self.entries, place);
+        entry_rent(self.entries, at, statement, slot + 1, candidate)
     }
 }

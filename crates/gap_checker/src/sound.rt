@@ -15,7 +15,7 @@ ghost use Rattle.gap_checker.specs.inner.Parts.{HasPart};
 
 use crate::candidates::pages_in;
 use crate::fault::CheckFault;
-use crate::figures::Figures;
+use crate::figures::{Figures, part_at};
 use crate::part::Part;
 use crate::planning::plan_cost;
 use crate::rents::Rents;
@@ -104,11 +104,10 @@ fn total_cost(alloc: Global, figures: &Figures<'_>, config: &Config) -> Result<u
     ensures { IfOk result (totals.IsTotal figures.now.setting.now.cat.now figures.now.setting.now.shapes.now config.now figures.now.setting.now.statements.now) }
 {
     let setting = figures.setting;
-    let parts = figures.parts.as_slice();
     let mut total: u128 = 0;
     'statements: for i in 0..setting.statements.len() {
         let statement = &setting.statements[i];
-        let part = &parts[i];
+        let part = part_at(figures, i);
         let cost = statement_cost(alloc, setting, statement, part, config, i as u16 + 1)?;
         total += statement.weight as u128 * cost;
     }

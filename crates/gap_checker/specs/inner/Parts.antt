@@ -1,11 +1,12 @@
 -- What is kept of each statement for its searches.
 use Rattle.std.specs.Prelude.{◌≡◌, true, replicate, Option, Some, None}
-use Rattle.adv_base.specs.declared.limits.TheConstants.{MOST_CANDIDATES}
+use Rattle.adv_base.specs.declared.limits.TheConstants.{MOST_CANDIDATES, MOST_INDEX_PRICE}
 use Rattle.adv_base.specs.declared.setting.Config.{Config}
 use Rattle.adv_base.specs.declared.workload.Statement.{Statement}
 use Rattle.adv_base.specs.declared.workload.block.Block.{Block}
+use Rattle.adv_base.specs.OfferTables.{PricesWithin}
 use Rattle.adv_base.specs.Settings.{TheSetting}
-use Rattle.access_paths.specs.ConfigOffers.{AreOffersOf}
+use Rattle.access_paths.specs.ConfigOffers.{AreOffersOf, table_of}
 use Rattle.plan_model.specs.BlockTask.{IsTaskOf}
 use Rattle.plan_model.specs.Totals.{block_of}
 use Rattle.gap_checker.specs.declared.part.Part.{Part}
@@ -18,6 +19,7 @@ every_candidate = record { on = replicate MOST_CANDIDATES true }
 pub record IsPart (setting : TheSetting) (block : Block) (part : Part) : Type 0 where
   pub task_is : IsTaskOf setting.cat block part.task
   pub offers_are : AreOffersOf setting.cat block setting.shapes every_candidate part.offers.slots.items
+  pub prices : PricesWithin MOST_INDEX_PRICE (table_of part.offers.slots.items)
 
 -- the same of the statement's block, where it has one
 pub record IsPlanned (setting : TheSetting) (statement : Statement) (part : Part) : Type 0 where

@@ -1,5 +1,5 @@
 -- The offers of a slot that are shown to a search.
-use Rattle.std.specs.Prelude.{ℕ, suc, ◌+◌, if◌then◌else◌, List, [], ◌∷◌, ◌++◌, map, Option, Some, None, slice_get}
+use Rattle.std.specs.Prelude.{◌≡◌, ℕ, suc, ◌+◌, ◌<◌, if◌then◌else◌, List, [], ◌∷◌, ◌++◌, length, map, Option, Some, None, slice_get}
 use Rattle.std.specs.Option.{option_map_or}
 use Rattle.adv_base.specs.declared.setting.Config.{Config}
 use Rattle.adv_base.specs.Configs.{has_candidate}
@@ -27,3 +27,8 @@ abbrev pub shown_from : Config → (ℕ → ℕ) → (ℕ → Option ℕ) → �
 shown_from config rent candidate i [] = []
 shown_from config rent candidate i (offer ∷ offers) =
     shown_of config rent (candidate i) offer ++ shown_from config rent candidate (suc i) offers
+
+-- the rows of the slots below n
+pub record IsRowsOf (rows : List Row) (n : ℕ) (table : OfferTable) : Type 0 where
+  pub count : length rows ≡ n
+  pub rows_are : (s : ℕ) → s < n → table_of rows s ≡ table s

@@ -16,6 +16,24 @@ abbrev pub slot_of : TheSetting → ℕ → ℕ → Option Slot
 slot_of setting q s =
     option_and_then (λ statement. option_and_then (λ block. slice_get block.slots s) (block_of statement.work)) (slice_get setting.statements (q - 1))
 
+-- a candidate, by its number from 1, is on a slot's table
+abbrev pub is_on : TheSetting → Slot → ℕ → Bool
+is_on setting slot a = option_map_or (λ shape. shape.table == slot.table) (slice_get setting.shapes (a - 1)) false
+
+abbrev pub names_use : TheSetting → ℕ → ℕ → ℕ → Bool
+names_use setting q s a = option_map_or (λ slot. is_on setting slot a) (slot_of setting q s) false
+
+-- the entry of a place names no use, or names one
+pub record IsBadAt (setting : TheSetting) (set : SparseSet) (place : ℕ) : Type 0 where
+  pub entry : Entry
+  pub found : slice_get set.entries place ≡ Some entry
+  pub none : ¬ (NamesPair setting entry)
+
+pub record IsNamedAt (setting : TheSetting) (set : SparseSet) (place : ℕ) : Type 0 where
+  pub entry : Entry
+  pub found : slice_get set.entries place ≡ Some entry
+  pub names : NamesPair setting entry
+
 -- the place of a set's first entry that names no use
 pub record IsBadEntry (setting : TheSetting) (set : SparseSet) (place : ℕ) : Type 0 where
   pub some : 0 < place

@@ -1,4 +1,3 @@
-use Rattle.std.proofs.Common.{◌≡◌, ◌<◌, ℕ, length}
 use Rattle.adv_base.specs.Offers.{charged_offers}
 use Rattle.gap_checker.specs.inner.Charges.{charge_of}
 use Rattle.gap_checker.specs.inner.Rows as rows
@@ -6,7 +5,4 @@ use Rattle.gap_checker.proofs.planning.board_of.Given as goal
 
 abbrev pub invariant-loop-slot : goal.invariant-loop-slot
 invariant-loop-slot l =
-    record {
-      count : length l.list.items ≡ l.slot;
-      rows_are : (s : ℕ) → s < l.slot → rows.table_of l.list.items s ≡ charged_offers (charge_of l.terms l.statement) l.setting.cat.now l.block l.setting.shapes.now l.terms.config.now s;
-    }
+    rows.IsRowsOf l.list.items l.slot (charged_offers (charge_of l.terms l.statement) l.setting.cat.now l.block l.setting.shapes.now l.terms.config.now)

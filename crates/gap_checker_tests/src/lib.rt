@@ -1,0 +1,5 @@
+//! Tests of `gap_checker`'s public call, apart from it, so that it is proved once.
+#![tactic(auto)]
+
+#[cfg(test)]
+mod tests;
