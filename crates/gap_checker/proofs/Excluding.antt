@@ -1,6 +1,7 @@
 -- A fault and a proof exclude each other.
 use Rattle.std.proofs.Common.{◌≡◌, ◌∙◌, ℕ, zero, suc, ◌+◌, ◌-◌, ◌<◌, ◌≤◌, ℤ, Bool, true, false, List, [], ◌∷◌, ◌++◌, length, get_or, map, refl, sym, ap, subst, arith}
 use Rattle.std.specs.Prelude.{All, Some, None, slice_get, option_map, ◌≤ℤ◌, ◌<ℤ◌}
+use Rattle.std.specs.List.{AllByRecursion}
 use Rattle.std.proofs.lemmas.Option.{slice_get-map, slice_get-get_or, get_or_from_slice_get, slice_get_within}
 use Rattle.std.proofs.lemmas.Int.{ints}
 use Rattle.std.proofs.lemmas.List.Elements.{All-head}
@@ -16,7 +17,7 @@ use Rattle.bip_model.specs.Trees.{with_candidate, preorder, set_at}
 use Rattle.bip_model.proofs.Showing.{with_candidate-keeps}
 use Rattle.certificate.specs.declared.cert.Cert.{Cert}
 use Rattle.certificate.specs.declared.cert.SparseSet.{SparseSet}
-use Rattle.certificate.specs.Limits.{CertLimits, Rise, EntriesFrom}
+use Rattle.certificate.specs.Limits.{CertLimits, SetLimits, EntriesFrom}
 use Rattle.plan_model.specs.Lagrangian.{TheMultipliers, IsLagrangian}
 use Rattle.gap_checker.specs.declared.fault.CheckFault.{CheckFault}
 use Rattle.gap_checker.specs.declared.fault.CheckFault.TheVariants as faults
@@ -89,3 +90,15 @@ excluded setting cert (faults.LeafBelow n computed claimed) limits rise proof is
 excluded setting cert (faults.NotInfeasible n size) limits rise proof is =
     let right = right-there setting cert n is.at Overfull proof is.node_is in
     absurd (omega (arith, right, is.size_is, is.fits))
+
+-- the entries of a certificate's sets are in order
+pub sets-rise : (sets : List SparseSet) → AllByRecursion SetLimits sets → (j : ℕ) (set : SparseSet) → slice_get sets j ≡ Some set → EntriesFrom 0 set.entries
+sets-rise [] limits j set there = absurd (none j there)
+  where
+    none : (j : ℕ) → None ≡ Some set → ⊥
+    none j e = cc
+sets-rise (first ∷ sets) limits zero set there = subst (λ (s : SparseSet). EntriesFrom 0 s.entries) (is first set there) limits.0.entries
+  where
+    is : (x y : SparseSet) → Some x ≡ Some y → x ≡ y
+    is x y e = cc
+sets-rise (first ∷ sets) limits (suc j) set there = sets-rise sets limits.1 j set there

@@ -7,5 +7,4 @@ pub mod Adding
 pub mod Valuing
 pub mod Visiting
 pub mod Walking
-pub mod Judging
 pub mod Excluding

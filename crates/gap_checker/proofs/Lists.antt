@@ -1,7 +1,8 @@
 -- Lists whose elements belong together, pair by pair.
 use Rattle.std.proofs.Common.{◌≡◌, ◌∙◌, ℕ, zero, suc, ◌+◌, ◌<◌, ◌≤◌, List, [], ◌∷◌, ◌++◌, length, length-take, get_or, map, take, refl, sym, ap, subst, arith}
-use Rattle.std.specs.Prelude.{Option, Some, None, slice_get}
+use Rattle.std.specs.Prelude.{All, Option, Some, None, slice_get}
 use Rattle.std.proofs.lemmas.List.{take_more}
+use Rattle.std.proofs.lemmas.Option.{get_or_from_slice_get, slice_get_within}
 use Rattle.adv_base.specs.declared.setting.Config.{Config}
 use Rattle.adv_base.specs.declared.workload.Work.{Work}
 use Rattle.adv_base.specs.declared.workload.Work.TheVariants.{Select, Update, Delete, Insert}
@@ -94,3 +95,7 @@ unrented-plan setting config (Select block) cost is = (unrented-plain setting co
 unrented-plan setting config (Update block columns) cost is = (unrented-plain setting config block cost).0 is
 unrented-plan setting config (Delete block) cost is = (unrented-plain setting config block cost).0 is
 unrented-plan setting config (Insert table rows) cost is = is
+
+-- what holds of all holds of the element of a number
+pub all-at : {X : Type 0} (P : X → Type 0) (xs : List X) (i : ℕ) (x : X) → All P xs → slice_get xs i ≡ Some x → P x
+all-at P xs i x all there = subst P (get_or_from_slice_get xs i x x there) (all i x (slice_get_within xs i x there))

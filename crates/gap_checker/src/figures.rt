@@ -71,6 +71,17 @@ fn weighted_kept(setting: &Setting<'_>) -> u128
     sum
 }
 
+/// The statement of a place.
+pub(crate) fn statement_at<'b>(setting: &Setting<'b>, place: usize) -> &'b Statement
+    requires { place < length setting.now.statements.now }
+    ensures { slice_get setting.now.statements.now place ≡ Some result.now }
+{
+    match setting.statements.get(place) {
+        Some(statement) => statement,
+        None => unreachable!(),
+    }
+}
+
 /// What the searches of a statement start from, by the statement's place.
 pub(crate) fn part_at<'b>(figures: &'b Figures<'_>, place: usize) -> &'b Option<Part>
     requires { place < length figures.now.parts.items }

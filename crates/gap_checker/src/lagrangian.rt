@@ -13,7 +13,7 @@ ghost use Rattle.gap_checker.specs.inner.Nodes.{node_of};
 ghost use Rattle.gap_checker.specs.inner.Sums as sums;
 
 use crate::available::available;
-use crate::figures::{Figures, part_at};
+use crate::figures::{Figures, part_at, statement_at};
 use crate::multipliers::Multipliers;
 use crate::planning::plan_cost;
 use crate::subproblem::Subproblem;
@@ -34,7 +34,7 @@ fn weighted_plans(alloc: Global, figures: &Figures<'_>, terms: &Terms<'_>) -> Re
     let setting = figures.setting;
     let mut sum: u128 = 0;
     'statements: for i in 0..setting.statements.len() {
-        let statement = &setting.statements[i];
+        let statement = statement_at(setting, i);
         let part = part_at(figures, i);
         let cost = plan_cost(alloc, setting, statement, part, terms, i as u16 + 1)?;
         sum += statement.weight as u128 * cost;

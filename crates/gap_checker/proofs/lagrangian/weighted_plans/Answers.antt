@@ -1,8 +1,9 @@
-use Rattle.std.proofs.Common.{◌≡◌, ◌∙◌, ◌+◌, ◌*◌, ◌≤◌, ◌++◌, ◌∷◌, [], ℕ, get_or, length, take, refl, sym, ap, subst, arith}
+use Rattle.std.proofs.Common.{◌≡◌, ◌∙◌, ◌+◌, ◌*◌, ◌≤◌, ◌++◌, ◌∷◌, [], ℕ, length, take, refl, sym, ap, subst, arith}
 use Rattle.std.proofs.Math.Nat.{mul-le-mul}
 use Rattle.std.specs.Prelude.{List}
 use Rattle.adv_base.specs.declared.limits.TheConstants.{MOST_WEIGHT}
 use Rattle.adv_base.specs.declared.workload.Statement.{Statement}
+use Rattle.adv_base.specs.Named.{NamesWork}
 use Rattle.plan_model.specs.Lagrangian as lagrangian
 use Rattle.plan_model.specs.Totals as totals
 use Rattle.plan_model.specs.declared.plan.TheConstants.{MOST_COST}
@@ -10,13 +11,24 @@ use Rattle.gap_checker.specs.inner.Charges.{charge_of}
 use Rattle.gap_checker.specs.inner.Figures.{setting_of}
 use Rattle.gap_checker.specs.inner.Parts.{HasPart}
 use Rattle.gap_checker.proofs.Adding.{plans-more, plans-sum}
-use Rattle.gap_checker.proofs.Lists.{each-length, take-next, take-whole, length-front}
+use Rattle.gap_checker.proofs.Lists.{all-at, each-at, each-length, take-at, take-whole, length-front}
 use Rattle.gap_checker.proofs.lagrangian.weighted_plans.Goals as goal
 
 pub part_at-part-requires : goal.part_at-part-requires
 part_at-part-requires c =
     let figures = c.args.figures.now in
     omega (arith, each-length (HasPart (setting_of figures)) figures.setting.now.statements.now figures.parts.items c.requires.figures_are.parts_are, c.statements-test.true)
+
+pub plan_cost-requires-clause-part_is : goal.plan_cost-requires-clause-part_is
+plan_cost-requires-clause-part_is c =
+    let figures = c.args.figures.now in
+    each-at (HasPart (setting_of figures)) figures.setting.now.statements.now figures.parts.items c.statements.i c.statement_at-statement.result.now c.part_at-part.result.now c.requires.figures_are.parts_are
+    c.statement_at-statement.ensures c.part_at-part.ensures
+
+pub plan_cost-requires-clause-named : goal.plan_cost-requires-clause-named
+plan_cost-requires-clause-named c =
+    let setting = c.args.figures.now.setting.now in
+    all-at (λ (s : Statement). NamesWork setting.cat.now s.work) setting.statements.now c.statements.i c.statement_at-statement.result.now setting.limits.statements_named c.statement_at-statement.ensures
 
 pub statements-init : goal.statements-init
 statements-init c = record { costs = []; costs_are = tt; sum_is = refl; small = omega arith }
@@ -28,10 +40,9 @@ statements-preserved c =
     let rent = charge_of c.args.terms.now in
     let ss = c.args.figures.now.setting.now.statements.now in
     let i = c.statements.i in
-    let statement = get_or ss i c.index-setting-i.result in
-    let is : statement ≡ get_or ss i statement = ap (λ (s : Statement). get_or ss i s) c.index-setting-i.is in
+    let statement = c.statement_at-statement.result.now in
     let cost = c.in_ok-cost.cost in
-    let more = take-next ss i statement c.statements-test.true is in
+    let more = take-at ss i statement c.statement_at-statement.ensures in
     let place : 1 + length (take i ss) ≡ i + 1 = omega (arith, length-front ss i (omega (arith, c.statements-test.true))) in
     let one : lagrangian.IsRentedPlan setting config (rent (1 + length (take i ss))) statement.work cost =
     subst (λ (q : ℕ). lagrangian.IsRentedPlan setting config (rent q) statement.work cost) (sym place) c.in_ok-cost.ensures.least in

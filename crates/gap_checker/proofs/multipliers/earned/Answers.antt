@@ -1,6 +1,7 @@
-use Rattle.std.proofs.Common.{◌≡◌, ◌∙◌, ◌+◌, ◌++◌, ◌∷◌, [], ℕ, get_or, length, take, sym, ap, arith}
-use Rattle.std.specs.Prelude.{List, All}
+use Rattle.std.proofs.Common.{◌≡◌, ◌∙◌, ◌+◌, ◌*◌, ◌≤◌, ◌++◌, ◌∷◌, [], ℕ, get_or, length, take, sym, ap, arith}
+use Rattle.std.specs.Prelude.{List}
 use Rattle.std.proofs.lemmas.List.Elements.{All-push}
+use Rattle.adv_base.specs.declared.limits.TheConstants.{MOST_RENT, MOST_SLOTS, MOST_STATEMENTS, MOST_WEIGHT}
 use Rattle.adv_base.specs.declared.catalogue.index.IndexShape.{IndexShape}
 use Rattle.plan_model.specs.Lagrangian as lagrangian
 use Rattle.gap_checker.specs.inner.Earnings as earning
@@ -23,5 +24,5 @@ loop-a-preserved c =
       are =
           c.in_ok-push.ensures.items ∙ ap (λ (list : List ℕ). list ++ c.weighted_rents.result ∷ []) c.loop-a.invariant.are ∙ ap (λ (n : ℕ). old ++ n ∷ []) own
           ∙ sym (earned-more rent statements 1 (take a shapes) shape) ∙ ap (earning.earned_from rent statements 1) (sym (take-next shapes a shape c.loop-a-test.true is));
-      most = rw c.in_ok-push.ensures.items (All-push _ c.loop-a.list.items c.weighted_rents.result c.loop-a.invariant.most c.weighted_rents.ensures.most);
+      most = rw c.in_ok-push.ensures.items (All-push (λ (sum : ℕ). sum ≤ MOST_STATEMENTS * (MOST_WEIGHT * (MOST_SLOTS * MOST_RENT))) c.loop-a.list.items c.weighted_rents.result c.loop-a.invariant.most c.weighted_rents.ensures.most);
     }
