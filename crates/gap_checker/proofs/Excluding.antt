@@ -8,13 +8,14 @@ use Rattle.std.proofs.lemmas.List.Elements.{All-head}
 use Rattle.adv_base.specs.declared.setting.Config.{Config}
 use Rattle.adv_base.specs.Configs.{has_candidate}
 use Rattle.adv_base.specs.Nodes as nodes
-use Rattle.adv_base.specs.Settings.{TheSetting}
+use Rattle.adv_base.specs.Settings.{TheSetting, KeepsLimits}
 use Rattle.plan_model.proofs.Unique.{one-total, one-lagrangian}
 use Rattle.bip_model.specs.declared.answer.Node.{Node}
 use Rattle.bip_model.specs.declared.answer.Node.TheVariants.{Branch, Bounded, Overfull}
+use Rattle.bip_model.specs.Laws.{BoundsAll}
 use Rattle.bip_model.specs.Proves.{free_node, RentsUses}
 use Rattle.bip_model.specs.Trees.{with_candidate, preorder, set_at}
-use Rattle.bip_model.proofs.Showing.{with_candidate-keeps}
+use Rattle.bip_model.proofs.Showing.{proved-bound, below-free}
 use Rattle.certificate.specs.declared.cert.Cert.{Cert}
 use Rattle.certificate.specs.declared.cert.SparseSet.{SparseSet}
 use Rattle.certificate.specs.Limits.{CertLimits, SetLimits, EntriesFrom}
@@ -102,3 +103,11 @@ sets-rise (first ∷ sets) limits zero set there = subst (λ (s : SparseSet). En
     is : (x y : SparseSet) → Some x ≡ Some y → x ≡ y
     is x y e = cc
 sets-rise (first ∷ sets) limits (suc j) set there = sets-rise sets limits.1 j set there
+
+-- a proof bounds every fitting configuration
+pub bounds-all : (setting : TheSetting) (cert : Cert) → KeepsLimits setting → IsProof setting cert → BoundsAll setting cert.budget cert.cost cert.bound
+bounds-all setting cert limits proof =
+    record {
+      all = λ other sum is fits sum_is. proved-bound setting cert.budget free_node (config_of cert) cert.cost cert.bound (sets_of cert) cert.tree other sum limits proof is fits (below-free other) sum_is;
+      own = proved-bound setting cert.budget free_node (config_of cert) cert.cost cert.bound (sets_of cert) cert.tree (config_of cert) cert.cost limits proof proof.members proof.fits (below-free (config_of cert)) proof.cost_is;
+    }

@@ -8,3 +8,4 @@ pub mod Valuing
 pub mod Visiting
 pub mod Walking
 pub mod Excluding
+pub mod Judging

@@ -70,6 +70,7 @@ uses-named setting q s a some_statement some_candidate is = at-slot (slot_of set
           shape_found = found;
           on_table = eqb-true shape.table slot.table on;
         }
+
     at-slot : (o : Option Slot) → slot_of setting q s ≡ o → option_map_or (λ slot. is_on setting slot a) o false ≡ true → NamesUse setting q s a
     at-slot None found on = absurd (false-true on)
     at-slot (Some slot) found on = at-shape slot (slot-parts (slice_get setting.statements (q - 1)) s slot found) (slice_get setting.shapes (a - 1)) refl on

@@ -12,7 +12,10 @@ use Rattle.bip_model.specs.Trees.{with_candidate}
 use Rattle.bip_model.proofs.Showing.{with_candidate-has, with_candidate-keeps, none-off}
 use Rattle.plan_model.specs.Totals.{no_candidates}
 use Rattle.plan_model.proofs.Renting.{flag-of}
+use Rattle.adv_base.specs.Settings.{TheSetting}
+use Rattle.certificate.specs.declared.cert.Cert.{Cert}
 use Rattle.certificate.specs.Limits.{Rise}
+use Rattle.gap_checker.specs.Faults.{IsBadConfig}
 use Rattle.gap_checker.specs.Views.{config_with}
 use Rattle.gap_checker.specs.inner.Claims.{IsFirstPast}
 
@@ -105,8 +108,10 @@ number-has least numbers place number some rise there = from least no_candidates
   where
     number-is : (x y : ℕ) → Some x ≡ Some y → x ≡ y
     number-is x y e = cc
+
     no-number : (x : ℕ) → None ≡ Some x → ⊥
     no-number x e = cc
+
     from : (least : ℕ) (config : Config) (numbers : List ℕ) (place : ℕ) → length config.on ≡ MOST_CANDIDATES → 1 ≤ least → Rise least numbers → slice_get numbers place ≡ Some number →
         (has_candidate (fold with_candidate config numbers) number ≡ true) × (number ≤ MOST_CANDIDATES)
     from least config [] place count some rise there = absurd (no-number number there)
@@ -124,3 +129,8 @@ pub first-past : (numbers : List ℕ) (count i number : ℕ) → i < length numb
     ((k n : ℕ) → k < i → slice_get numbers k ≡ Some n → n ≤ count) → Some (get_or numbers i 0) ≡ Some number → IsFirstPast numbers count number
 first-past numbers count i number within past before is =
     record { place = i; found = slice_get-get_or numbers i 0 within ∙ is; past = omega (arith, past, number-is (get_or numbers i 0) number is); before = before }
+
+pub past-bad : (setting : TheSetting) (cert : Cert) (numbers : List ℕ) (number : ℕ) → numbers ≡ cert.config → IsFirstPast numbers (length setting.shapes) number → IsBadConfig setting cert number
+past-bad setting cert numbers number same first =
+    let moved = subst (λ (ns : List ℕ). IsFirstPast ns (length setting.shapes) number) same first in
+    record { place = moved.place; found = moved.found; past = moved.past; before = moved.before }

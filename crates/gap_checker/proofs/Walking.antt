@@ -65,12 +65,12 @@ walk-step setting cert i at starts node walk there right =
     let list : List Node = drop (suc i) cert.tree in
     rw next
     (let made : IsWalk setting cert (suc i) (sides at node starts) = record {
-       before = walk.before ++ visit ∷ [];
-       count_is = omega (arith, walk.count_is, length-append walk.before (visit ∷ []));
-       parts = walk-parts setting cert i at starts node walk there ∙ sym (append_assoc walk.before (visit ∷ []) (visits (sides at node starts) list));
-       right = All-append P walk.before (visit ∷ []) walk.right (All-cons P visit [] right (All-nil P));
-       trees = next-trees at starts node list (subst (AreTrees (length (at ∷ starts))) (cut-at cert.tree i node there) walk.trees);
-     } in made)
+      before = walk.before ++ visit ∷ [];
+      count_is = omega (arith, walk.count_is, length-append walk.before (visit ∷ []));
+      parts = walk-parts setting cert i at starts node walk there ∙ sym (append_assoc walk.before (visit ∷ []) (visits (sides at node starts) list));
+      right = All-append P walk.before (visit ∷ []) walk.right (All-cons P visit [] right (All-nil P));
+      trees = next-trees at starts node list (subst (AreTrees (length (at ∷ starts))) (cut-at cert.tree i node there) walk.trees);
+    } in made)
 
 -- ## Faults
 

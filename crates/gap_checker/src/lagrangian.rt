@@ -93,7 +93,13 @@ fn costs_inside(figures: &Figures<'_>, set: &Multipliers<'_>, node: &Subproblem)
 }
 
 /// What a candidate earns: its rents where it is in; where it is open, as far as they exceed what it costs.
-fn earning(figures: &Figures<'_>, set: &Multipliers<'_>, node: &Subproblem, config: &Config, a: usize) -> u128
+fn earning(
+    figures: &Figures<'_>,
+    set: &Multipliers<'_>,
+    node: &Subproblem,
+    config: &Config,
+    a: usize,
+) -> u128
     requires figures_are { AreFigures figures.now }
     requires within { a < length figures.now.setting.now.shapes.now }
     requires earned { AreEarned (setting_of figures.now) set.now }
@@ -112,7 +118,13 @@ fn earning(figures: &Figures<'_>, set: &Multipliers<'_>, node: &Subproblem, conf
 }
 
 /// What the candidates that are available earn.
-fn earnings(figures: &Figures<'_>, set: &Multipliers<'_>, budget: u64, node: &Subproblem, config: &Config) -> u128
+fn earnings(
+    figures: &Figures<'_>,
+    set: &Multipliers<'_>,
+    budget: u64,
+    node: &Subproblem,
+    config: &Config,
+) -> u128
     requires figures_are { AreFigures figures.now }
     requires earned { AreEarned (setting_of figures.now) set.now }
     requires price { set.now.rents.mu ≤ MOST_PAGE_PRICE }

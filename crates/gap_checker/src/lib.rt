@@ -1,16 +1,18 @@
-//! What a checker of certificates stands on, which trusts the planner alone.
+//! A checker of certificates, which trusts the planner alone.
 //!
-//! Costs come from searches of least plans over what is available at a node of the search, with the rents of a set of
-//! multipliers added; no cache of plans and no programme is read. `specs/Views` has a certificate as the definitions of
-//! `bip_model` see it, `specs/Faults` what a checker is to answer, and `laws` that a fault and a proof exclude each other.
-//! The call that judges a whole certificate is to come.
+//! In go a setting and a certificate; out comes what the certificate proves, or the first place at which it proves nothing.
+//! Costs come from searches of least plans: of each statement under the configuration, and at each leaf of the tree over
+//! what is available there, with the rents of the leaf's set of multipliers added. No cache of plans and no programme is
+//! read. `specs/Views` has the certificate as the definitions of `bip_model` see it, `specs/Faults` what each answer says.
 #![tactic(auto)]
 
 mod available;
 mod board;
 mod candidates;
+mod checking;
 mod fault;
 mod figures;
+mod judge;
 mod lagrangian;
 mod laws;
 mod multipliers;
@@ -19,9 +21,12 @@ mod planning;
 mod rents;
 mod row;
 mod shown;
+mod sound;
 mod subproblem;
 mod terms;
+mod tree;
 mod uses;
 
+pub use checking::check;
 pub use fault::{CheckFault, Checked};
 pub use laws::faults_exclude_proofs;

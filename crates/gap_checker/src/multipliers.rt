@@ -42,13 +42,7 @@ fn slot_rent(
 }
 
 /// The rents of a candidate's uses at the slots of a block.
-fn slot_rents(
-    rents: &Rents<'_>,
-    statement: u16,
-    slots: &[Slot],
-    table: u16,
-    candidate: u16,
-) -> u128
+fn slot_rents(rents: &Rents<'_>, statement: u16, slots: &[Slot], table: u16, candidate: u16) -> u128
     requires few { length slots.now ≤ MOST_SLOTS }
     requires rise { EntriesFrom 0 rents.now.entries.now }
     ensures exact { result ≡ lagrangian.slot_rents (λ s. views.rent_in rents.now.entries.now statement s candidate) table 0 slots.now }

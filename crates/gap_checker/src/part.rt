@@ -70,10 +70,7 @@ fn part_of(
 }
 
 /// The same of each statement.
-pub(crate) fn parts_of(
-    alloc: Global,
-    setting: &Setting<'_>,
-) -> Result<Vec<Option<Part>>, NoMemory>
+pub(crate) fn parts_of(alloc: Global, setting: &Setting<'_>) -> Result<Vec<Option<Part>>, NoMemory>
     ensures { IfOk result (λ parts. AreEach (kept.HasPart (the_setting setting.now)) setting.now.statements.now parts.items) }
 {
     let mut parts = Vec::new(alloc);

@@ -17,9 +17,14 @@ use certificate::{Cert, Entry, SparseSet};
 fn slot_at<'a>(setting: &Setting<'a>, statement: u16, slot: u8) -> Option<&'a Slot>
     ensures { option_map (λ s. s.now) result ≡ uses.slot_of (the_setting setting.now) statement (slot - 1) }
 {
-    let statement = setting.statements.get((statement as usize).saturating_sub(1))?;
+    let statement = setting
+        .statements
+        .get((statement as usize).saturating_sub(1))?;
     let block = block_of(&statement.work)?;
-    block.slots.as_slice().get((slot as usize).saturating_sub(1))
+    block
+        .slots
+        .as_slice()
+        .get((slot as usize).saturating_sub(1))
 }
 
 /// Whether a candidate is on a slot's table.

@@ -1,19 +1,48 @@
--- What may be wrong with a node, and how far a walk over the tree has come.
+-- What a judge of nodes holds, and what it says of one.
 use Rattle.std.specs.Prelude.{◌≡◌, ℕ, ◌<◌, ◌≤◌, ℤ, ◌<ℤ◌, List, [], ◌∷◌, ◌++◌, length, drop, All, Some}
+use Rattle.adv_base.specs.declared.limits.TheConstants.{MOST_PAGE_PRICE, MOST_ROWS}
 use Rattle.adv_base.specs.Configs.{config_pages}
 use Rattle.adv_base.specs.Nodes as nodes
 use Rattle.adv_base.specs.Settings.{TheSetting}
 use Rattle.bip_model.specs.declared.answer.Node.{Node}
 use Rattle.bip_model.specs.declared.answer.Node.TheVariants.{Branch, Bounded, Overfull}
+use Rattle.bip_model.specs.StandsFor.{AreEach}
 use Rattle.bip_model.specs.Trees.{IsBranch, set_at}
 use Rattle.bip_model.specs.Proves.{free_node}
 use Rattle.certificate.specs.declared.cert.Cert.{Cert}
-use Rattle.certificate.specs.Limits.{AreTrees}
+use Rattle.certificate.specs.declared.cert.SparseSet.{SparseSet}
+use Rattle.certificate.specs.Limits.{EntriesFrom, AreTrees}
 use Rattle.plan_model.specs.Lagrangian.{TheMultipliers, IsLagrangian}
 use Rattle.gap_checker.specs.declared.fault.CheckFault.{CheckFault}
 use Rattle.gap_checker.specs.declared.fault.CheckFault.TheVariants as faults
+use Rattle.gap_checker.specs.declared.judge.Judge.{Judge}
+use Rattle.gap_checker.specs.declared.multipliers.Multipliers.{Multipliers}
 use Rattle.gap_checker.specs.Views.{sets_of}
 use Rattle.gap_checker.specs.Visits.{Visit, visits, IsRight}
+use Rattle.gap_checker.specs.inner.Earnings.{AreEarned}
+use Rattle.gap_checker.specs.inner.Figures.{AreFigures, setting_of}
+
+-- the set without rents, and the sets of a certificate behind it
+abbrev pub zero_set : SparseSet
+zero_set = record { mu = 0; entries = [] }
+
+abbrev pub all_sets : Cert → List SparseSet
+all_sets cert = zero_set ∷ cert.sets
+
+-- a set as it is kept, with what candidates earn under it
+pub record IsKept (setting : TheSetting) (sparse : SparseSet) (set : Multipliers) : Type 0 where
+  pub mu_is : set.rents.mu ≡ sparse.mu
+  pub entries_are : set.rents.entries.now ≡ sparse.entries
+  pub mu_most : sparse.mu ≤ MOST_PAGE_PRICE
+  pub rise : EntriesFrom 0 sparse.entries
+  pub earned : AreEarned setting set
+
+pub record IsJudge (judge : Judge) (cert : Cert) : Type 0 where
+  pub figures_are : AreFigures judge.figures.now
+  pub budget_is : judge.budget ≡ cert.budget
+  pub budget_most : judge.budget ≤ MOST_ROWS
+  pub bound_is : judge.bound ≡ cert.bound
+  pub sets_are : AreEach (IsKept (setting_of judge.figures.now)) (all_sets cert) judge.sets.items
 
 -- ## What may be wrong with a node
 
