@@ -6,3 +6,13 @@ pub mod Showing
 pub mod Fixing
 pub mod Useless
 pub mod Unrented
+pub mod Lists
+pub mod Sides
+pub mod Using
+pub mod Deciding
+pub mod Usefulness
+pub mod Descending
+pub mod Counting
+pub mod Exploring
+pub mod Sharing
+pub mod Places

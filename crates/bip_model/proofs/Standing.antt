@@ -167,7 +167,7 @@ slot-given setting block task s slot own config o found is within =
 
 -- ## That is a least price
 
-given-gives : (order : Order) (offer : Offer) (p : ℕ) → given order offer ≡ Some p → BeginsWith offer.0 order × (offer.1 ≡ p)
+pub given-gives : (order : Order) (offer : Offer) (p : ℕ) → given order offer ≡ Some p → BeginsWith offer.0 order × (offer.1 ≡ p)
 given-gives order offer p e =
     elim (cases_Bool (is_same_order (take (length order) offer.0) order)) [
       | inl so ↦ let here : Some offer.1 ≡ Some p = sym (ap (λ (b : Bool). if b then Some offer.1 else None) so) ∙ e in ((begins_decides offer.0 order).0 so, cc)

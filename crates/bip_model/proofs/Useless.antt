@@ -70,7 +70,7 @@ front-or-back (z ∷ xs) ys (suc i) x found = front-or-back xs ys i x found
 
 -- ## Candidates and their numbers
 
-filter-test : {X : Type 0} (test : X → Bool) (xs : List X) (x : X) → Has (filter test xs) x → Has xs x × (test x ≡ true)
+pub filter-test : {X : Type 0} (test : X → Bool) (xs : List X) (x : X) → Has (filter test xs) x → Has xs x × (test x ≡ true)
 filter-test test [] x h = absurd (let none = h.found in cc)
 filter-test {X} test (y ∷ ys) x h = choose (test y) refl (filter-test test ys x) h
   where
@@ -86,11 +86,11 @@ filter-test {X} test (y ∷ ys) x h = choose (test y) refl (filter-test test ys 
         at' (suc i) found = let r = rest (record { number = i; found = found }) in (later r.0, r.1)
 
 -- an element with its number
-record IsNumbered (xs : List IndexShape) (a : ℕ) (n : ℕ × IndexShape) : Type 0 where
-  least : a ≤ n.0
-  found : slice_get xs (n.0 - a) ≡ Some n.1
+pub record IsNumbered (xs : List IndexShape) (a : ℕ) (n : ℕ × IndexShape) : Type 0 where
+  pub least : a ≤ n.0
+  pub found : slice_get xs (n.0 - a) ≡ Some n.1
 
-numbered-is : (a : ℕ) (xs : List IndexShape) (i : ℕ) (n : ℕ × IndexShape) → slice_get (enumerate_from a xs) i ≡ Some n → IsNumbered xs a n
+pub numbered-is : (a : ℕ) (xs : List IndexShape) (i : ℕ) (n : ℕ × IndexShape) → slice_get (enumerate_from a xs) i ≡ Some n → IsNumbered xs a n
 numbered-is a [] i n found = absurd (cc)
 numbered-is a (x ∷ xs) zero n found =
     let same : (a, x) ≡ n = cc in
@@ -152,7 +152,7 @@ better-of task old new s i k offer other old_found new_found serves less =
       cheaper = omega (arith, a.2, b.2, less);
     }
 
-filter-has : {X : Type 0} (test : X → Bool) (xs : List X) (i : ℕ) (x : X) → slice_get xs i ≡ Some x → test x ≡ true → Has (filter test xs) x
+pub filter-has : {X : Type 0} (test : X → Bool) (xs : List X) (i : ℕ) (x : X) → slice_get xs i ≡ Some x → test x ≡ true → Has (filter test xs) x
 filter-has test [] i x found passes = absurd (cc)
 filter-has {X} test (y ∷ ys) zero x found passes =
     let same : y ≡ x = cc in

@@ -5,4 +5,8 @@ pub mod Views
 pub mod Trees
 pub mod Proves
 pub mod Laws
+pub mod Uses
+pub mod Best
+pub mod Candidates
+pub mod SearchLaws
 pub mod inner

@@ -1,6 +1,7 @@
 //! Laws of programmes and of trees, each proved of all settings: that a programme tells what each configuration costs, and
-//! that a tree with its multipliers bounds what every fitting configuration costs.
+//! that a tree with its multipliers bounds what every fitting configuration costs; and what a search may rely on.
 ghost use Rattle.bip_model.specs.Laws.{ValueIsTotal, PartCostIsLeast, TreesBound, ProofsBound, FreeProofsBound, OutNeverLowers, InNeverLowers, NoneUsefulIsTotal};
+ghost use Rattle.bip_model.specs.SearchLaws.{PagesAreDecided, OpenIsDecided, UsefulIsDecided, UsefulAreCounted, GrantsAreUses, LimitsAreThose, ValuesNeverFall, NodesFit, TreesStaySmall};
 
 /// Of a programme that stands for a setting, `value` is the total of the workload under every configuration, and
 /// `part_cost` the cost of a least plan of the part's block.
@@ -28,4 +29,27 @@ pub fn fixing_never_lowers()
 /// candidates that are in.
 pub fn none_useful_is_total()
     ensures { NoneUsefulIsTotal }
+{}
+
+/// A programme that stands for a setting tells the pages of a configuration, which candidates are open at a node, which are
+/// useful, and how many; and its multipliers are multipliers of the setting's uses of candidates.
+pub fn programme_decides()
+    ensures pages { PagesAreDecided }
+    ensures open { OpenIsDecided }
+    ensures useful { UsefulIsDecided }
+    ensures count { UsefulAreCounted }
+    ensures multipliers { GrantsAreUses }
+    ensures limits { LimitsAreThose }
+{}
+
+/// In a tree whose branches are on open and useful candidates, no Lagrangian value falls below that of the root, and what is
+/// in fits at every node where it does at the root.
+pub fn values_never_fall()
+    ensures value { ValuesNeverFall }
+    ensures fits { NodesFit }
+{}
+
+/// Such a tree is smaller than a whole tree over the useful candidates where it leaves a bound below the cost.
+pub fn trees_stay_small()
+    ensures { TreesStaySmall }
 {}

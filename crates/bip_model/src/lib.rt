@@ -21,7 +21,10 @@ pub use answer::{Answer, Node};
 pub use costs::{part_cost, value};
 pub use fix::{Fix, State};
 pub use grant::Grant;
-pub use laws::{fixing_never_lowers, none_useful_is_total, shown_bounds, value_is_total};
+pub use laws::{
+    fixing_never_lowers, none_useful_is_total, programme_decides, shown_bounds, trees_stay_small,
+    value_is_total, values_never_fall,
+};
 pub use multipliers::{Multipliers, grant_count};
 pub use part::Part;
 pub use programme::Programme;

@@ -1,5 +1,5 @@
 -- Where bytes break.
-use Rattle.std.proofs.Common.{◌≡◌, ◌≢◌, ◌∙◌, ℕ, zero, suc, ◌+◌, ◌<◌, ◌≤◌, List, [], ◌∷◌, ◌++◌, length, sym, ap, subst, refl, arith, length-append}
+use Rattle.std.proofs.Common.{◌≡◌, ◌∙◌, ℕ, suc, ◌+◌, List, [], ◌∷◌, ◌++◌, length, sym, ap, subst, refl, arith, length-append}
 use Rattle.adv_base.specs.Numbers.{BeginsWithLine}
 use Rattle.certificate.specs.Certificates.{BreaksAt, GoesOn}
 use Rattle.certificate.specs.declared.draft.Draft.{Draft}

@@ -1,13 +1,12 @@
 -- The lines of a certificate lead to the end.
-use Rattle.std.proofs.Common.{◌≡◌, ◌≢◌, ◌∙◌, ℕ, zero, suc, ◌+◌, ◌-◌, ◌*◌, ◌%◌, ◌<◌, ◌≤◌, ◌^◌, List, [], ◌∷◌, ◌++◌, length, map, sym, ap, subst, refl, arith, length-append}
+use Rattle.std.proofs.Common.{◌≡◌, ◌∙◌, ℕ, zero, suc, ◌+◌, ◌-◌, ◌%◌, ◌<◌, ◌≤◌, List, [], ◌∷◌, ◌++◌, length, map, sym, subst, refl, arith, length-append}
 use Rattle.std.specs.List.{AllByRecursion}
 use Rattle.std.proofs.lemmas.List.Sums.{sum_by-append}
-use Rattle.std.proofs.lemmas.List.{append_assoc}
-use Rattle.adv_base.specs.declared.limits.TheConstants.{MOST_ENTRIES, MOST_NODES, MOST_PAGE_PRICE}
+use Rattle.adv_base.specs.declared.limits.TheConstants.{MOST_NODES, MOST_PAGE_PRICE}
 use Rattle.bip_model.specs.declared.answer.Node.{Node}
 use Rattle.bip_model.specs.declared.answer.Node.TheVariants.{Branch, Bounded, Overfull}
 use Rattle.certificate.specs.Limits.{NodeLimits, EntryLimits, EntriesFrom, SetLimits, AreTrees, CertLimits, entry_place, entry_count}
-use Rattle.certificate.specs.Texts.{title_line, budget_line, config_line, cost_line, bound_line, sets_line, set_line, entry_line, tree_line, node_line, end_line, head_lines, set_lines, sets_lines, tree_lines, cert_lines}
+use Rattle.certificate.specs.Texts.{set_line, entry_line, tree_line, node_line, end_line, set_lines, sets_lines, tree_lines, cert_lines}
 use Rattle.certificate.specs.declared.cert.Cert.{Cert}
 use Rattle.certificate.specs.declared.cert.Entry.{Entry}
 use Rattle.certificate.specs.declared.cert.SparseSet.{SparseSet}
@@ -15,7 +14,7 @@ use Rattle.certificate.specs.declared.draft.Draft.{Draft}
 use Rattle.certificate.specs.declared.draft.Stage.{Stage}
 use Rattle.certificate.specs.declared.draft.Stage.TheVariants as stages
 use Rattle.certificate.specs.declared.draft.TheConstants.{FIRST_PLACE, LAST_PLACE}
-use Rattle.certificate.specs.inner.Steps.{start, trees_after, closed, closed_by, with_set, with_entry, StepAt, BodyStep, NodeStep}
+use Rattle.certificate.specs.inner.Steps.{start, trees_after, closed, with_set, with_entry, StepAt, BodyStep, NodeStep}
 use Rattle.certificate.specs.inner.Runs.{Run}
 
 run-append : (xs ys : List (List ℕ)) (d e f : Draft) → Run d xs e → Run e ys f → Run d (xs ++ ys) f

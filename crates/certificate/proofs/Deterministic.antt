@@ -1,5 +1,5 @@
 -- A line leads from a draft to one draft.
-use Rattle.std.proofs.Common.{◌≡◌, ◌∙◌, ℕ, zero, suc, ◌+◌, ◌-◌, ◌<◌, ◌≤◌, ◌^◌, List, [], ◌∷◌, ◌++◌, length, sym, ap, subst, refl, arith}
+use Rattle.std.proofs.Common.{◌≡◌, ◌∙◌, ℕ, zero, suc, ◌<◌, ◌^◌, List, [], ◌∷◌, ◌++◌, length, sym, ap, subst, refl, arith}
 use Rattle.std.specs.Prelude.{ℤ}
 use Rattle.bip_model.specs.declared.answer.Node.{Node}
 use Rattle.certificate.specs.declared.cert.Entry.{Entry}

@@ -1,18 +1,17 @@
 -- A step keeps what drafts keep.
-use Rattle.std.proofs.Common.{◌≡◌, ◌≢◌, ◌∙◌, ◌⊎◌, inl, inr, ℕ, zero, suc, ◌+◌, ◌-◌, ◌%◌, ◌<◌, ◌≤◌, ◌^◌, List, [], ◌∷◌, ◌++◌, length, map, sym, ap, subst, refl, arith, length-append}
+use Rattle.std.proofs.Common.{◌≡◌, ◌∙◌, ℕ, zero, suc, ◌+◌, ◌-◌, ◌%◌, ◌<◌, List, [], ◌∷◌, ◌++◌, length, map, sym, ap, subst, refl, arith, length-append}
 use Rattle.std.specs.List.{AllByRecursion}
 use Rattle.std.proofs.lemmas.List.{append-nil, append_assoc}
-use Rattle.adv_base.specs.declared.limits.TheConstants.{MOST_NODES}
 use Rattle.bip_model.specs.declared.answer.Node.{Node}
 use Rattle.bip_model.specs.declared.answer.Node.TheVariants.{Branch, Bounded, Overfull}
 use Rattle.certificate.specs.Limits.{NodeLimits, CertLimits, entry_place}
-use Rattle.certificate.specs.Texts.{sets_line, sets_lines, tree_line, node_line, end_line, head_lines, cert_lines}
+use Rattle.certificate.specs.Texts.{sets_lines, tree_line, node_line, end_line, head_lines, cert_lines}
 use Rattle.certificate.specs.declared.draft.Draft.{Draft}
 use Rattle.certificate.specs.declared.draft.Stage.{Stage}
 use Rattle.certificate.specs.declared.draft.Stage.TheVariants as stages
-use Rattle.certificate.specs.declared.draft.TheConstants.{FIRST_PLACE, LAST_PLACE}
+use Rattle.certificate.specs.declared.draft.TheConstants.{FIRST_PLACE}
 use Rattle.certificate.specs.inner.Steps.{trees_after, closed, closed_by, with_set, with_entry, StepAt, BodyStep, NodeStep}
-use Rattle.certificate.specs.inner.Drafts.{Leave, HeadFits, BodyFits, SetsFit, TreeFits, IsFresh, IsBody, IsTree, StageFits, DraftFits, cert_of}
+use Rattle.certificate.specs.inner.Drafts.{Leave, HeadFits, BodyFits, TreeFits, IsFresh, IsBody, IsTree, StageFits, DraftFits, cert_of}
 use Rattle.certificate.specs.inner.Runs.{lines_at, Run}
 use Rattle.certificate.proofs.StepLaws.{all-more, Leave-more, trees-whole, with_set-fits, with_entry-fits}
 use Rattle.certificate.proofs.LineSteps.{line-step}

@@ -12,3 +12,8 @@ pub mod Complete
 pub mod Deterministic
 pub mod Splits
 pub mod Breaks
+pub mod TreeLaws
+pub mod OneText
+pub mod WriteLaws
+pub mod Places
+pub mod InOrder

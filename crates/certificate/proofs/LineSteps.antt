@@ -1,19 +1,18 @@
 -- A step takes its line.
-use Rattle.std.proofs.Common.{◌≡◌, ◌≢◌, ◌∙◌, ℕ, zero, suc, ◌+◌, ◌-◌, ◌%◌, ◌<◌, ◌≤◌, ◌^◌, List, [], ◌∷◌, ◌++◌, length, map, sym, ap, subst, refl, arith, length-append}
+use Rattle.std.proofs.Common.{◌≡◌, ◌∙◌, ℕ, zero, suc, ◌+◌, ◌-◌, ◌<◌, List, [], ◌∷◌, ◌++◌, length, map, sym, ap, subst, refl, arith, length-append}
 use Rattle.std.proofs.lemmas.List.{append-nil, append_assoc, map_push}
 use Rattle.bip_model.specs.declared.answer.Node.{Node}
 use Rattle.certificate.specs.Limits.{entry_place}
-use Rattle.certificate.specs.Texts.{title_line, budget_line, config_line, cost_line, bound_line, sets_line, set_line, entry_line, tree_line, node_line, end_line, head_lines, set_lines, sets_lines}
+use Rattle.certificate.specs.Texts.{sets_line, set_line, entry_line, tree_line, node_line, head_lines, set_lines, sets_lines}
 use Rattle.certificate.specs.declared.cert.Entry.{Entry}
 use Rattle.certificate.specs.declared.cert.SparseSet.{SparseSet}
 use Rattle.certificate.specs.declared.draft.Draft.{Draft}
 use Rattle.certificate.specs.declared.draft.Stage.{Stage}
 use Rattle.certificate.specs.declared.draft.Stage.TheVariants as stages
-use Rattle.certificate.specs.declared.draft.TheConstants.{FIRST_PLACE, LAST_PLACE}
-use Rattle.certificate.specs.inner.Words.{IsSetLine}
+use Rattle.certificate.specs.declared.draft.TheConstants.{FIRST_PLACE}
 use Rattle.certificate.specs.inner.Steps.{trees_after, closed, closed_by, with_set, with_entry, StepAt, BodyStep, NodeStep}
-use Rattle.certificate.specs.inner.Drafts.{BodyFits, IsFresh, IsBody, IsTree, StageFits, DraftFits}
-use Rattle.certificate.specs.inner.Runs.{begun_lines, head_of, tree_of, lines_at, Run}
+use Rattle.certificate.specs.inner.Drafts.{IsFresh, IsBody, StageFits, DraftFits}
+use Rattle.certificate.specs.inner.Runs.{begun_lines, head_of, tree_of, lines_at}
 
 sets_lines-more : (ss : List SparseSet) (s : SparseSet) → sets_lines (ss ++ s ∷ []) ≡ sets_lines ss ++ set_lines s
 sets_lines-more [] s = append-nil (set_lines s)

@@ -1,5 +1,5 @@
 -- The lines of a tree.
-use Rattle.std.proofs.Common.{◌≡◌, ◌≢◌, ℕ, ◌≤◌, List, arith}
+use Rattle.std.proofs.Common.{◌≡◌, ◌≢◌, ℕ, List, arith}
 use Rattle.std.specs.Prelude.{codes}
 use Rattle.adv_base.specs.declared.limits.TheConstants.{MOST_CANDIDATES}
 use Rattle.bip_model.specs.declared.answer.Node.{Node}

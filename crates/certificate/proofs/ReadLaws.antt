@@ -1,19 +1,18 @@
 -- What the lines that were read say of the bytes.
-use Rattle.std.proofs.Common.{◌≡◌, ◌≢◌, ◌∙◌, ℕ, zero, suc, ◌+◌, ◌<◌, ◌≤◌, List, [], ◌∷◌, ◌++◌, length, sym, ap, subst, refl, arith, length-append}
+use Rattle.std.proofs.Common.{◌≡◌, ◌∙◌, ℕ, ◌+◌, ◌≤◌, List, [], ◌∷◌, ◌++◌, length, sym, ap, subst, refl, arith}
 use Rattle.std.specs.List.{AllByRecursion}
 use Rattle.std.proofs.lemmas.List.{append-nil, append_assoc}
 use Rattle.adv_base.specs.Numbers.{BeginsWithLine}
 use Rattle.certificate.specs.Certificates.{IsCertificate, IsLine, GoesOn}
 use Rattle.certificate.specs.Limits.{CertLimits}
-use Rattle.certificate.specs.Texts.{text_of, cert_lines, cert_text}
+use Rattle.certificate.specs.Texts.{text_of, cert_lines}
 use Rattle.certificate.specs.declared.draft.Draft.{Draft}
 use Rattle.certificate.specs.declared.draft.Stage.TheVariants as stages
 use Rattle.certificate.specs.inner.Drafts.{DraftFits, cert_of}
 use Rattle.certificate.specs.inner.Runs.{lines_at, Run}
 use Rattle.certificate.specs.inner.Steps.{start}
-use Rattle.certificate.proofs.StepLaws.{all-more}
 use Rattle.certificate.proofs.Keeps.{run-lines, done-cert}
-use Rattle.certificate.proofs.Viable.{Ends, ends}
+use Rattle.certificate.proofs.Viable.{ends}
 
 -- nothing that was read fits
 pub start-fits : DraftFits start

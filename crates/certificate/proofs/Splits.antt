@@ -1,5 +1,5 @@
 -- A text has its lines alone.
-use Rattle.std.proofs.Common.{◌≡◌, ◌≢◌, ◌∙◌, ℕ, zero, suc, ◌+◌, ◌<◌, ◌≤◌, ◌^◌, true, false, Bool, List, [], ◌∷◌, ◌++◌, length, map, sym, ap, subst, refl, arith, length-append}
+use Rattle.std.proofs.Common.{◌≡◌, ◌≢◌, ◌∙◌, ℕ, suc, ◌+◌, ◌<◌, ◌≤◌, ◌^◌, true, Bool, List, [], ◌∷◌, ◌++◌, length, map, sym, ap, subst, refl, arith, length-append}
 use Rattle.std.specs.Prelude.{ℤ, pos, negsuc, decimal, codes, nat_lt, ◌&&◌}
 use Rattle.std.specs.Fmt.{signed_decimal}
 use Rattle.std.specs.List.{AllByRecursion}
@@ -16,13 +16,12 @@ use Rattle.bip_model.specs.declared.answer.Node.TheVariants.{Branch, Bounded, Ov
 use Rattle.certificate.specs.Certificates.{IsCertificate, IsLine, GoesOn}
 use Rattle.certificate.specs.Limits.{Rise, IsSmall, EntryLimits, EntriesFrom, SetLimits, NodeLimits, CertLimits, entry_count, entry_place}
 use Rattle.adv_base.specs.declared.limits.TheConstants.{MOST_ENTRIES}
-use Rattle.certificate.specs.Texts.{text_of, word, words, title_line, budget_line, config_line, cost_line, bound_line, sets_line, set_line, entry_line, tree_line, node_line, end_line, set_lines, sets_lines, tree_lines, cert_lines, cert_text}
+use Rattle.certificate.specs.Texts.{text_of, word, words, title_line, budget_line, config_line, cost_line, bound_line, sets_line, set_line, entry_line, tree_line, node_line, end_line, set_lines, sets_lines, tree_lines, cert_lines}
 use Rattle.certificate.specs.declared.cert.Cert.{Cert}
 use Rattle.certificate.specs.declared.cert.Entry.{Entry}
 use Rattle.certificate.specs.declared.cert.SparseSet.{SparseSet}
 use Rattle.certificate.specs.declared.draft.Draft.{Draft}
 use Rattle.certificate.specs.declared.draft.Stage.TheVariants as stages
-use Rattle.certificate.specs.inner.Drafts.{DraftFits}
 use Rattle.certificate.specs.inner.Runs.{Run}
 use Rattle.certificate.specs.inner.Steps.{start, StepAt}
 use Rattle.certificate.proofs.WideDigits.{wide-digits}

@@ -1,22 +1,17 @@
 -- What a step keeps.
-use Rattle.std.proofs.Common.{◌≡◌, ◌≢◌, ◌∙◌, ℕ, zero, suc, ◌+◌, ◌-◌, ◌%◌, ◌<◌, ◌≤◌, ◌^◌, List, [], ◌∷◌, ◌++◌, length, map, sym, ap, subst, refl, arith, length-append}
-use Rattle.std.specs.Prelude.{ℤ}
-use Rattle.std.specs.List.{AllByRecursion, sum_by}
-use Rattle.std.proofs.lemmas.List.{append-nil, append_assoc}
+use Rattle.std.proofs.Common.{◌≡◌, ℕ, zero, suc, ◌+◌, ◌-◌, ◌<◌, ◌≤◌, List, [], ◌∷◌, ◌++◌, length, sym, ap, subst, refl, arith, length-append}
+use Rattle.std.specs.List.{AllByRecursion}
 use Rattle.std.proofs.lemmas.List.Sums.{sum_by-append}
-use Rattle.adv_base.specs.declared.limits.TheConstants.{MOST_CANDIDATES, MOST_ENTRIES, MOST_SETS, MOST_NODES, MOST_PAGE_PRICE}
+use Rattle.adv_base.specs.declared.limits.TheConstants.{MOST_PAGE_PRICE}
 use Rattle.bip_model.specs.declared.answer.Node.{Node}
 use Rattle.bip_model.specs.declared.answer.Node.TheVariants.{Branch, Bounded, Overfull}
-use Rattle.certificate.specs.Limits.{EntryLimits, EntriesFrom, SetLimits, NodeLimits, AreTrees, entry_place, entry_count}
+use Rattle.certificate.specs.Limits.{EntryLimits, EntriesFrom, SetLimits, AreTrees, entry_place}
 use Rattle.certificate.specs.declared.cert.Entry.{Entry}
 use Rattle.certificate.specs.declared.cert.SparseSet.{SparseSet}
 use Rattle.certificate.specs.declared.draft.Draft.{Draft}
-use Rattle.certificate.specs.declared.draft.Stage.{Stage}
-use Rattle.certificate.specs.declared.draft.Stage.TheVariants as stages
 use Rattle.certificate.specs.declared.draft.TheConstants.{FIRST_PLACE, LAST_PLACE}
-use Rattle.certificate.specs.inner.Words.{IsSetLine}
-use Rattle.certificate.specs.inner.Steps.{trees_after, closed, closed_by, with_set, with_entry, StepAt, BodyStep, NodeStep}
-use Rattle.certificate.specs.inner.Drafts.{next_place, Leave, BodyFits, HasBegun, HeadFits, SetsFit, TreeFits, IsFresh, IsBody, IsTree, StageFits, DraftFits}
+use Rattle.certificate.specs.inner.Steps.{trees_after, closed, closed_by, with_set, with_entry}
+use Rattle.certificate.specs.inner.Drafts.{next_place, Leave, BodyFits, HasBegun}
 
 -- all of a list, and one more
 pub all-more : {X : Type 0} (P : X → Type 0) (xs : List X) (x : X) → AllByRecursion P xs → P x → AllByRecursion P (xs ++ x ∷ [])

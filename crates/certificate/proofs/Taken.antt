@@ -1,24 +1,22 @@
 -- What it takes to make a step, and to have none.
-use Rattle.std.proofs.Common.{◌≡◌, ◌≢◌, ◌∙◌, ℕ, zero, suc, ◌+◌, ◌-◌, ◌%◌, ◌<◌, ◌≤◌, ◌^◌, List, [], ◌∷◌, ◌++◌, length, get_or, drop, sym, ap, subst, refl, arith}
+use Rattle.std.proofs.Common.{◌≡◌, ◌≢◌, ◌∙◌, ℕ, zero, suc, ◌+◌, ◌-◌, ◌<◌, ◌≤◌, ◌^◌, List, [], ◌∷◌, ◌++◌, length, get_or, drop, sym, ap, refl, arith}
 use Rattle.std.specs.Prelude.{ℤ, pos, negsuc, decimal, codes}
 use Rattle.std.specs.Fmt.{signed_decimal}
 use Rattle.std.proofs.lemmas.List.{append_cancel_left}
-use Rattle.adv_base.specs.declared.limits.TheConstants.{MOST_CANDIDATES, MOST_STATEMENTS, MOST_SLOTS, MOST_RENT, MOST_PAGE_PRICE, MOST_NODES, MOST_ROWS, MOST_SETS}
+use Rattle.adv_base.specs.declared.limits.TheConstants.{MOST_CANDIDATES, MOST_STATEMENTS, MOST_SLOTS, MOST_PAGE_PRICE, MOST_NODES, MOST_ROWS, MOST_SETS}
 use Rattle.bip_model.specs.declared.answer.Node.{Node}
 use Rattle.bip_model.specs.declared.answer.Node.TheVariants.{Branch, Bounded, Overfull}
 use Rattle.certificate.specs.Limits.{Rise, IsSmall, EntryLimits, NodeLimits, entry_place}
-use Rattle.certificate.specs.Texts.{word, words, title_line, budget_line, config_line, cost_line, bound_line, sets_line, set_line, entry_line, tree_line, node_line, end_line}
+use Rattle.certificate.specs.Texts.{word, words, budget_line, config_line, cost_line, bound_line, sets_line, set_line, entry_line, tree_line, node_line}
 use Rattle.certificate.specs.declared.cert.Entry.{Entry}
 use Rattle.certificate.specs.declared.cert.SparseSet.{SparseSet}
 use Rattle.certificate.specs.declared.draft.Draft.{Draft}
-use Rattle.certificate.specs.declared.draft.Stage.{Stage}
-use Rattle.certificate.specs.declared.draft.Stage.TheVariants as stages
 use Rattle.certificate.specs.declared.draft.TheConstants.{FIRST_PLACE, LAST_PLACE}
-use Rattle.certificate.specs.inner.Words.{BeginsWithNumber, GoesOnWithNumber, IsSpacedNumber, IsNumberLine, IsSetLine}
-use Rattle.certificate.specs.inner.Steps.{trees_after, closed, closed_by, with_set, with_entry, StepAt, BodyStep, NodeStep}
+use Rattle.certificate.specs.inner.Words.{IsSetLine}
+use Rattle.certificate.specs.inner.Steps.{trees_after, closed, closed_by, with_set, with_entry, BodyStep, NodeStep}
 use Rattle.certificate.proofs.WideDigits.{wide-injective}
 use Rattle.certificate.proofs.WordLaws.{one-front, one-next, minus-none}
-use Rattle.certificate.proofs.FormLaws.{words-end, entry-statement, entry-slot, entry-candidate, entry-lambda}
+use Rattle.certificate.proofs.FormLaws.{words-end, entry-statement, entry-slot, entry-candidate}
 
 -- a line has one number behind a word
 pub one-word : (front : List ℕ) (n p : ℕ) → n < 2 ^ 128 → p < 2 ^ 128 → front ++ 32 ∷ decimal n ≡ front ++ 32 ∷ decimal p → n ≡ p

@@ -1,9 +1,9 @@
 -- From every draft that fits some lines lead to the end.
-use Rattle.std.proofs.Common.{◌≡◌, ◌≢◌, ◌∙◌, ◌⊎◌, inl, inr, ℕ, zero, suc, ◌+◌, ◌-◌, ◌*◌, ◌/◌, ◌%◌, ◌<◌, ◌≤◌, ◌^◌, List, [], ◌∷◌, ◌++◌, length, sym, ap, subst, refl, arith}
+use Rattle.std.proofs.Common.{◌≡◌, ◌∙◌, inl, inr, ℕ, zero, suc, ◌+◌, ◌-◌, ◌/◌, ◌%◌, ◌<◌, ◌≤◌, List, [], ◌∷◌, ◌++◌, length, sym, ap, subst, refl, arith}
 use Rattle.std.specs.Prelude.{pos}
 use Rattle.std.proofs.lemmas.Bool.{cases_lt}
 use Rattle.bip_model.specs.declared.answer.Node.{Node}
-use Rattle.bip_model.specs.declared.answer.Node.TheVariants.{Branch, Bounded, Overfull}
+use Rattle.bip_model.specs.declared.answer.Node.TheVariants.{Branch, Overfull}
 use Rattle.certificate.specs.Limits.{NodeLimits, EntryLimits, EntriesFrom, entry_place}
 use Rattle.certificate.specs.Texts.{title_line, budget_line, config_line, cost_line, bound_line, sets_line, set_line, entry_line, tree_line, node_line, end_line}
 use Rattle.certificate.specs.declared.cert.Entry.{Entry}
@@ -11,8 +11,8 @@ use Rattle.certificate.specs.declared.draft.Draft.{Draft}
 use Rattle.certificate.specs.declared.draft.Stage.{Stage}
 use Rattle.certificate.specs.declared.draft.Stage.TheVariants as stages
 use Rattle.certificate.specs.declared.draft.TheConstants.{FIRST_PLACE, LAST_PLACE}
-use Rattle.certificate.specs.inner.Steps.{trees_after, closed, closed_by, with_set, with_entry, StepAt, BodyStep, NodeStep}
-use Rattle.certificate.specs.inner.Drafts.{IsBody, IsTree, StageFits, DraftFits, next_place}
+use Rattle.certificate.specs.inner.Steps.{trees_after, closed, with_set, with_entry, StepAt, BodyStep, NodeStep}
+use Rattle.certificate.specs.inner.Drafts.{DraftFits, next_place}
 use Rattle.certificate.specs.inner.Runs.{Run}
 use Rattle.certificate.proofs.Keeps.{fits-step}
 

@@ -1,5 +1,5 @@
 -- Which bytes are a certificate's text, and at which line other bytes break.
-use Rattle.std.specs.Prelude.{◌≡◌, ◌≢◌, ℕ, suc, List, ◌∷◌, ◌++◌, length, All}
+use Rattle.std.specs.Prelude.{◌≡◌, ◌≢◌, ℕ, suc, List, ◌++◌, length, All}
 use Rattle.std.specs.List.{AllByRecursion}
 use Rattle.certificate.specs.Limits.{CertLimits}
 use Rattle.certificate.specs.Texts.{text_of, cert_text}
@@ -40,3 +40,11 @@ pub record BreaksAt (bytes : List ℕ) (number : ℕ) : Type 0 where
 abbrev pub Faults : List ℕ → CertFault → Type 0
 Faults bytes faults.Memory = Unit {0}
 Faults bytes (faults.Malformed number) = BreaksAt bytes number
+
+-- a text is that of at most one certificate
+abbrev pub OneCertificate : Type 0
+OneCertificate = (bytes : List ℕ) (cert other : Cert) → IsCertificate bytes cert → IsCertificate bytes other → cert ≡ other
+
+-- a certificate has one text
+abbrev pub OneText : Type 0
+OneText = (cert : Cert) (bytes other : List ℕ) → IsCertificate bytes cert → IsCertificate other cert → bytes ≡ other

@@ -1,5 +1,5 @@
 -- What a certificate keeps.
-use Rattle.std.specs.Prelude.{◌≡◌, ℕ, zero, suc, ◌+◌, ◌*◌, ◌<◌, ◌≤◌, ◌^◌, ℤ, pos, negsuc, List, [], ◌∷◌, length, sum_by}
+use Rattle.std.specs.Prelude.{ℕ, zero, suc, ◌+◌, ◌*◌, ◌<◌, ◌≤◌, ◌^◌, ℤ, pos, negsuc, List, [], ◌∷◌, length, sum_by}
 use Rattle.std.specs.List.{AllByRecursion}
 use Rattle.adv_base.specs.declared.limits.TheConstants.{MOST_ROWS, MOST_CANDIDATES, MOST_STATEMENTS, MOST_SLOTS, MOST_RENT, MOST_PAGE_PRICE, MOST_SETS, MOST_ENTRIES, MOST_NODES}
 use Rattle.bip_model.specs.declared.answer.Node.{Node}

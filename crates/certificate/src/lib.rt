@@ -2,18 +2,25 @@
 //!
 //! A certificate has what a search answered: the space budget, the chosen candidates, what the workload costs under them,
 //! a bound that no fitting configuration undercuts, and the multipliers and the tree that show it. `read_cert` gives the
-//! certificate of a text, or the first line at which no certificate goes on. `specs/Texts.antt`
-//! has the text, `specs/Limits.antt` what a certificate keeps, `specs/Certificates.antt` which bytes are a certificate's and
-//! at which line others break. Whether a certificate proves its bound is left to others.
+//! certificate of a text, or the first line at which no certificate goes on; `write_cert` gives the text of an answer's.
+//! `specs/Texts.antt` has the text, `specs/Limits.antt` what a certificate keeps, `specs/Certificates.antt` which bytes are
+//! a certificate's and at which line others break, `specs/Answers.antt` the certificate of an answer. Whether a certificate
+//! proves its bound is left to others.
 #![tactic(auto)]
 
 mod cert;
 mod draft;
 mod forms;
 mod laws;
+mod lines;
 mod read;
+mod sets;
 mod words;
+mod write;
 
 pub use cert::{Cert, CertFault, Entry, SparseSet};
-pub use laws::places_in_order;
+pub use laws::{
+    places_in_order, standing_programmes_are_in_order, texts_are_one, whole_trees_are_preorders,
+};
 pub use read::read_cert;
+pub use write::write_cert;

@@ -11,7 +11,7 @@ use Rattle.report.specs.declared.done.Refusal.TheVariants.{TooLong, Cat, Sql, Bi
 use Rattle.cophy_core.specs.declared.stop.Stop.{Stop}
 use Rattle.cophy_core.specs.declared.stop.Stop.TheVariants.{Memory, Failed, Refused}
 use Rattle.cophy_core.specs.Answers.{RefusesOver, GivesOver, OfSetting, AnswersOver, Answers, IsBuilt}
-use Rattle.cophy_core.specs.ReadWords.{PlainCommand, Candidates, Cost, Explain}
+use Rattle.cophy_core.specs.ReadWords.{PlainCommand, Candidates, Cost, WhatIf, Explain}
 use Rattle.cophy_core.specs.Files.{files_of, AreInputs, input, ReadCounts}
 use Rattle.cophy_core.specs.Reading.{StopsReading, StopsAtFiles}
 use Rattle.cophy_core.specs.Settings.{IsSetting, IsSettingRefusal}
@@ -37,6 +37,7 @@ IsGiven done = ⊥
 over : (command : PlainCommand) (files : Option Files) (done : Done) → IsBuilt command → AnswersOver command files done → Answers command files done
 over (Candidates cat load) files done built h = h
 over (Cost cat load) files done built h = h
+over (WhatIf cat load conf) files done built h = h
 over (Explain cat load conf number) files done built h = h
 over command files done built h = absurd built
 
@@ -48,6 +49,9 @@ second_short (Candidates cat load) files (a ∷ b ∷ more) built are = are.1.0.
 second_short (Cost cat load) files [] built are = absurd are
 second_short (Cost cat load) files (a ∷ []) built are = absurd are.1
 second_short (Cost cat load) files (a ∷ b ∷ more) built are = are.1.0.short
+second_short (WhatIf cat load conf) files [] built are = absurd are
+second_short (WhatIf cat load conf) files (a ∷ []) built are = absurd are.1
+second_short (WhatIf cat load conf) files (a ∷ b ∷ more) built are = are.1.0.short
 second_short (Explain cat load conf number) files [] built are = absurd are
 second_short (Explain cat load conf number) files (a ∷ []) built are = absurd are.1
 second_short (Explain cat load conf number) files (a ∷ b ∷ more) built are = are.1.0.short
@@ -74,6 +78,11 @@ setting_stops command files before after inputs (Refused why) built are h = absu
 
 -- what a command refuses by itself is no refusal of the files or of the setting
 own : (command : PlainCommand) (inputs : List (List ℕ)) (setting : TheSetting) (why : Refusal) → RefusesOver command inputs setting why → IsOwn why
+own (WhatIf cat load conf) inputs setting (TooLong role) h = h
+own (WhatIf cat load conf) inputs setting (Cat fault) h = h
+own (WhatIf cat load conf) inputs setting (Sql fault) h = h
+own (WhatIf cat load conf) inputs setting (Bind fault) h = h
+own (WhatIf cat load conf) inputs setting why h = tt
 own (Explain cat load conf number) inputs setting (TooLong role) h = h
 own (Explain cat load conf number) inputs setting (Cat fault) h = h
 own (Explain cat load conf number) inputs setting (Sql fault) h = h
@@ -104,6 +113,8 @@ given (Candidates cat load) inputs setting (answers.Listed found) h = tt
 given (Candidates cat load) inputs setting done h = absurd h
 given (Cost cat load) inputs setting (answers.Priced prices) h = tt
 given (Cost cat load) inputs setting done h = absurd h
+given (WhatIf cat load conf) inputs setting (answers.Priced prices) h = tt
+given (WhatIf cat load conf) inputs setting done h = absurd h
 given (Explain cat load conf number) inputs setting (answers.Explained explained) h = tt
 given (Explain cat load conf number) inputs setting done h = absurd h
 given command inputs setting done h = absurd h

@@ -11,7 +11,7 @@ use Rattle.report.specs.declared.done.Done.TheVariants.{Usage, ReadFault, WriteF
 use Rattle.report.specs.declared.done.WordFault.{WordFault}
 use Rattle.cophy_core.specs.Answers.{Answers}
 use Rattle.cophy_core.specs.Causes.{IsOrMemory, IsSteady, UsageIsTrue, ReadFaultIsTrue, WriteFaultIsTrue, RefusalIsTrue, MemoryWritesNothing, IsSound, IsWritten, IsBounded}
-use Rattle.cophy_core.specs.ReadWords.{PlainCommand, Candidates, Cost, Explain, command_of}
+use Rattle.cophy_core.specs.ReadWords.{PlainCommand, Candidates, Cost, WhatIf, Explain, command_of}
 use Rattle.cophy_core.specs.Endings.{Put, Outside, EndsWhole, EndsUnwritten, Ends}
 use Rattle.cophy_core.specs.Files.{ReadCounts, counts}
 use Rattle.cophy_core.specs.Reading.{StopsAtFiles}
@@ -35,6 +35,7 @@ is_answer command files (ExplainedDone explained) h = tt
 is_answer command files (Refused why) h = tt
 is_answer (Candidates cat load) files done h = absurd h.holds
 is_answer (Cost cat load) files done h = absurd h.holds
+is_answer (WhatIf cat load conf) files done h = absurd h.holds
 is_answer (Explain cat load conf number) files done h = absurd h.holds
 is_answer command files done h = absurd (let e = h in cc)
 

@@ -4,6 +4,7 @@ pub mod Lines
 pub mod Blocks
 pub mod Offered
 pub mod PriceLists
+pub mod Cached
 pub mod Stopped
 pub mod Mapped
 pub mod FilesRead

@@ -9,12 +9,14 @@ use Rattle.report.specs.declared.done.Refusal.TheVariants.{TooLong, Cat, Sql, Bi
 use Rattle.cophy_core.specs.commands.Candidates as candidates
 use Rattle.cophy_core.specs.commands.Cost as cost
 use Rattle.cophy_core.specs.commands.Explain as explain
-use Rattle.cophy_core.specs.ReadWords.{PlainCommand, Candidates, Cost, Explain}
+use Rattle.cophy_core.specs.commands.WhatIf as what_if
+use Rattle.cophy_core.specs.ReadWords.{PlainCommand, Candidates, Cost, WhatIf, Explain}
 use Rattle.cophy_core.specs.Files.{files_of, AreInputs, input, IsTooLong}
 use Rattle.cophy_core.specs.Settings.{IsSetting, HasCatFault, IsSqlRefusal, IsBindRefusal}
 
 -- what a command refuses of the bytes of its files and their setting, beyond the setting's own refusals
 abbrev pub RefusesOver : PlainCommand → List (List ℕ) → TheSetting → Refusal → Type 0
+RefusesOver (WhatIf cat load conf) inputs setting why = what_if.Refuses (input inputs 2) setting why
 RefusesOver (Explain cat load conf number) inputs setting why = explain.Refuses number (input inputs 2) setting why
 RefusesOver command inputs setting why = ⊥
 
@@ -22,6 +24,7 @@ RefusesOver command inputs setting why = ⊥
 abbrev pub GivesOver : PlainCommand → List (List ℕ) → TheSetting → Done → Type 0
 GivesOver (Candidates cat load) inputs setting done = candidates.Gives setting done
 GivesOver (Cost cat load) inputs setting done = cost.Gives setting done
+GivesOver (WhatIf cat load conf) inputs setting done = what_if.Gives (input inputs 2) setting done
 GivesOver (Explain cat load conf number) inputs setting done = explain.Gives number (input inputs 2) setting done
 GivesOver command inputs setting done = ⊥
 
@@ -54,6 +57,7 @@ AnswersOver command files done = OfSetting files command (λ inputs setting. Giv
 abbrev pub Answers : PlainCommand → Option Files → Done → Type 0
 Answers (Candidates cat load) files done = AnswersOver (Candidates cat load) files done
 Answers (Cost cat load) files done = AnswersOver (Cost cat load) files done
+Answers (WhatIf cat load conf) files done = AnswersOver (WhatIf cat load conf) files done
 Answers (Explain cat load conf number) files done = AnswersOver (Explain cat load conf number) files done
 Answers command files done = done ≡ Refused NotBuilt
 
@@ -61,5 +65,6 @@ Answers command files done = done ≡ Refused NotBuilt
 abbrev pub IsBuilt : PlainCommand → Type 0
 IsBuilt (Candidates cat load) = Unit {0}
 IsBuilt (Cost cat load) = Unit {0}
+IsBuilt (WhatIf cat load conf) = Unit {0}
 IsBuilt (Explain cat load conf number) = Unit {0}
 IsBuilt command = ⊥

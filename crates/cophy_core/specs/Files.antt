@@ -6,7 +6,7 @@ use Rattle.adv_shelf.specs.Shelf.{Files, HasFile, IsFile}
 use Rattle.report.specs.declared.done.Role.{Role}
 use Rattle.report.specs.declared.done.Role.TheVariants.{Catalogue, Workload, Third}
 use Rattle.cophy_core.specs.declared.files.FileUse.{FileUse}
-use Rattle.cophy_core.specs.ReadWords.{PlainCommand, Candidates, Cost, Explain}
+use Rattle.cophy_core.specs.ReadWords.{PlainCommand, Candidates, Cost, WhatIf, Explain}
 
 -- a file that a command reads: in which role, by what name, and of how many bytes at most
 pub record InputFile : Type 0 where
@@ -28,6 +28,7 @@ setting_files cat load = input_file Catalogue cat MOST_FILE_BYTES ∷ input_file
 abbrev pub files_of : PlainCommand → List InputFile
 files_of (Candidates cat load) = setting_files cat load
 files_of (Cost cat load) = setting_files cat load
+files_of (WhatIf cat load conf) = setting_files cat load ++ input_file Third conf MOST_FILE_BYTES ∷ []
 files_of (Explain cat load conf number) = setting_files cat load ++ input_file Third conf MOST_FILE_BYTES ∷ []
 files_of command = []
 

@@ -1,3 +1,4 @@
 pub mod Candidates
 pub mod Cost
 pub mod Explain
+pub mod WhatIf

@@ -14,6 +14,7 @@ ghost use Rattle.cophy_core.specs.Stops.{StopsAt};
 use crate::commands::cost::cost;
 use crate::commands::explain::explain;
 use crate::commands::list_candidates::list_candidates;
+use crate::commands::what_if::what_if;
 use crate::files::{bytes_at, read_files};
 use crate::reply::Reply;
 use crate::setting::open;
@@ -39,12 +40,10 @@ fn work(
 {
     match *command {
         Command::Cost { .. } => Ok(cost(alloc, setting)?),
+        Command::WhatIf { .. } => what_if(alloc, setting, bytes_at(inputs, 2)),
         Command::Explain { number, .. } => explain(alloc, setting, bytes_at(inputs, 2), number),
         Command::Candidates { .. } => Ok(list_candidates(alloc, setting)?),
-        Command::WhatIf { .. }
-        | Command::Advise { .. }
-        | Command::Check { .. }
-        | Command::Bench { .. } => unreachable!(),
+        Command::Advise { .. } | Command::Check { .. } | Command::Bench { .. } => unreachable!(),
     }
 }
 

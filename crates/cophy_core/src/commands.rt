@@ -2,3 +2,4 @@
 pub(crate) mod cost;
 pub(crate) mod explain;
 pub(crate) mod list_candidates;
+pub(crate) mod what_if;

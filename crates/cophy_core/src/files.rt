@@ -116,7 +116,8 @@ pub(crate) fn read_files<S: Shelf>(
             ];
             read_each(alloc, shelf, &files)
         }
-        Command::Explain {
+        Command::WhatIf { cat, load, conf }
+        | Command::Explain {
             cat,
             load,
             conf,
@@ -129,10 +130,9 @@ pub(crate) fn read_files<S: Shelf>(
             ];
             read_each(alloc, shelf, &files)
         }
-        Command::WhatIf { .. }
-        | Command::Advise { .. }
-        | Command::Check { .. }
-        | Command::Bench { .. } => Err(Stop::Refused(Refusal::NotBuilt)),
+        Command::Advise { .. } | Command::Check { .. } | Command::Bench { .. } => Err(Stop::Refused(
+            Refusal::NotBuilt,
+        )),
     }
 }
 

@@ -2,7 +2,7 @@
 //!
 //! `run` reads the words, the files that they name, the setting in them, does what the command asks for, and writes the
 //! text of the answer. Costs are in thousandths of a sequential page read. Which plan is least is found by `planner`, over
-//! the offers of `access_paths`; what is read, put and written goes through a shelf and a sink of `adv_shelf`.
+//! the offers of `access_paths`, or from the templates of `inum_cache`; what is read, put and written goes through a shelf and a sink of `adv_shelf`.
 #![tactic(auto)]
 
 mod answer;
@@ -16,6 +16,7 @@ mod reply;
 mod setting;
 mod statements;
 mod stop;
+mod tally;
 mod top;
 mod words;
 

@@ -77,6 +77,32 @@ const PLANS: &str =
 0|explain CAT LOAD CONF 2|TI|SELECT n FROM t ORDER BY n; INSERT INTO t VALUES (1, 2), (3, 4), (5, 6)|1~|statement 2 insert upkeep 48060~
 0|explain CAT LOAD CONF 1|T|INSERT INTO t VALUES (1)||statement 1 insert upkeep 0~"#;
 
+/// Prices under configurations, and the limit of combinations.
+const CONFIGURED: &str =
+    r#"0|whatif CAT LOAD CONF|T|SELECT c FROM t ORDER BY c -- 3 pages of the index, and all rows|1~|size 3~statement 1 weight 1 cost 13000~total 13000~
+0|whatif CAT LOAD CONF|T|SELECT c FROM t ORDER BY c||size 0~statement 1 weight 1 cost 80000~total 80000~
+0|whatif CAT LOAD CONF|T|SELECT c FROM t ORDER BY c; UPDATE t SET c = 1 -- two writes a row, 1000 * 8010 * 2, and all pages and rows|1~|size 3~statement 1 weight 1 cost 13000~statement 2 weight 1 cost 16050000~total 16063000~
+0|whatif CAT LOAD CONF|KNAP|-- weight 10~SELECT c FROM t ORDER BY c;~-- weight 11~SELECT d, e FROM v ORDER BY d, e;~||size 0~statement 1 weight 10 cost 80000~statement 2 weight 11 cost 80000~total 1680000~
+0|whatif CAT LOAD CONF|KNAP|-- weight 10~SELECT c FROM t ORDER BY c;~-- weight 11~SELECT d, e FROM v ORDER BY d, e;~|1~|size 3~statement 1 weight 10 cost 13000~statement 2 weight 11 cost 80000~total 1010000~
+0|whatif CAT LOAD CONF|KNAP|-- weight 10~SELECT c FROM t ORDER BY c;~-- weight 11~SELECT d, e FROM v ORDER BY d, e;~|2~|size 4~statement 1 weight 10 cost 80000~statement 2 weight 11 cost 14000~total 954000~
+0|whatif CAT LOAD CONF|KNAP|-- weight 10~SELECT c FROM t ORDER BY c;~-- weight 11~SELECT d, e FROM v ORDER BY d, e;~|1~2~|size 7~statement 1 weight 10 cost 13000~statement 2 weight 11 cost 14000~total 284000~
+0|whatif CAT LOAD CONF|ORDERS|-- weight 50~SELECT o.o_id, o.o_date, sum(l.l_price) AS revenue~FROM customer c JOIN orders o ON c.c_id = o.o_cust JOIN lineitem l ON l.l_order = o.o_id~WHERE c.c_segment = 'BUILDING' AND o.o_date BETWEEN DATE '1995-01-01' AND DATE '1995-03-31'~GROUP BY o.o_id, o.o_date ORDER BY revenue DESC, o.o_date LIMIT 10;~|2~6~8~|size 2708~statement 1 weight 50 cost 11675662~total 583783100~
+0|whatif CAT LOAD CONF|XZ|SELECT t.x, t.z FROM t, u WHERE t.x = u.y ORDER BY t.x, t.z -- two index leaves of 14000 and 13000, and a merge of 20000|2~|size 3~statement 1 weight 1 cost 47000~total 47000~
+0|whatif CAT LOAD CONF|AG|SELECT a, sum(b) FROM t GROUP BY a -- 4 pages, all rows, and a group of rows that come in order|2~|size 4~statement 1 weight 1 cost 19000~total 19000~
+0|whatif CAT LOAD CONF|TI|SELECT n FROM t ORDER BY n; INSERT INTO t VALUES (1, 2), (3, 4), (5, 6) -- three rows, two indexes|1~|size 3~statement 1 weight 1 cost 13000~statement 2 weight 1 cost 48060~total 61060~
+0|whatif CAT LOAD CONF|TI|DELETE FROM t WHERE n > 5 -- 334 rows, two indexes|1~|size 3~statement 1 weight 1 cost 5380680~total 5380680~
+0|whatif CAT LOAD CONF|TI|SELECT n FROM t ORDER BY n; UPDATE t SET n = n + 1 WHERE c = 5|1~|size 3~statement 1 weight 1 cost 13000~statement 2 weight 1 cost 21030~total 34030~
+0|whatif CAT LOAD CONF|T|||size 0~total 0~
+0|whatif CAT LOAD CONF|STAR|SELECT count(*) FROM p a, p b, p c, p d, p e, p f WHERE a.x = b.x AND a.y = b.y AND a.z = b.z AND a.x = c.x AND a.y = c.y AND a.z = c.z AND a.x = d.x AND a.y = d.y AND a.z = d.z AND a.x = e.x AND a.y = e.y AND a.z = e.z AND a.x = f.x AND a.y = f.y AND a.z = f.z -- 4096 combinations: six heaps, a hash of 24010 and four of 8026||size 0~statement 1 weight 1 cost 236114~total 236114~
+5|whatif CAT LOAD CONF|STAR|SELECT count(*) FROM hub, p, q, r, s WHERE k1 = p.x AND k2 = p.y AND k3 = p.z AND k4 = q.x AND k5 = q.y AND k6 = q.z AND k7 = r.x AND k8 = r.y AND k9 = r.z AND k10 = s.w AND k11 = s.x AND k12 = s.y AND k13 = s.z||refused: statement 1 has 4480 combinations~
+0|cost CAT LOAD|STAR|SELECT count(*) FROM hub, p, q, r, s WHERE k1 = p.x AND k2 = p.y AND k3 = p.z AND k4 = q.x AND k5 = q.y AND k6 = q.z AND k7 = r.x AND k8 = r.y AND k9 = r.z AND k10 = s.w AND k11 = s.x AND k12 = s.y AND k13 = s.z -- five heaps, a hash of 24010 and three of 8026||statement 1 weight 1 cost 198088~total 198088~
+5|whatif CAT LOAD CONF|STAR|SELECT k1 FROM hub; SELECT count(*) FROM hub, p, q, r, s WHERE k1 = p.x AND k2 = p.y AND k3 = p.z AND k4 = q.x AND k5 = q.y AND k6 = q.z AND k7 = r.x AND k8 = r.y AND k9 = r.z AND k10 = s.w AND k11 = s.x AND k12 = s.y AND k13 = s.z; SELECT k2 FROM hub; SELECT count(*) FROM hub, p, q, r, s WHERE k1 = p.x AND k2 = p.y AND k3 = p.z AND k4 = q.x AND k5 = q.y AND k6 = q.z AND k7 = r.x AND k8 = r.y AND k9 = r.z AND k10 = s.w AND k11 = s.x AND k12 = s.y AND k13 = s.z||refused: statement 2 has 4480 combinations~
+5|whatif CAT LOAD CONF|STAR|SELECT count(*) FROM hub, p, q, r, s WHERE k1 = p.x AND k2 = p.y AND k3 = p.z AND k4 = q.x AND k5 = q.y AND k6 = q.z AND k7 = r.x AND k8 = r.y AND k9 = r.z AND k10 = s.w AND k11 = s.x AND k12 = s.y AND k13 = s.z|1~1~|refused: configuration line 2~
+5|whatif CAT LOAD CONF|T|SELECT c FROM t ORDER BY c|2~|refused: configuration line 1~
+5|whatif CAT LOAD CONF|T|SELECT c FROM t ORDER BY c|1|refused: configuration line 1~
+5|whatif CAT LOAD CONF|T|SELECT c FROM|2~|refused: syntax at 14~
+3|whatif CAT LOAD none|T|SELECT c FROM||read fault: none~"#;
+
 /// Lists of candidates.
 const CANDIDATES: &str =
     r#"0|candidates CAT LOAD|ORDERS|-- weight 50~SELECT o.o_id, o.o_date, sum(l.l_price) AS revenue~FROM customer c JOIN orders o ON c.c_id = o.o_cust JOIN lineitem l ON l.l_order = o.o_id~WHERE c.c_segment = 'BUILDING' AND o.o_date BETWEEN DATE '1995-01-01' AND DATE '1995-03-31'~GROUP BY o.o_id, o.o_date ORDER BY revenue DESC, o.o_date LIMIT 10;~||1 customer(c_segment) 42 pages~2 customer(c_segment, c_id) 56 pages~3 orders(o_date) 294 pages~4 orders(o_cust) 368 pages~5 orders(o_id, o_date) 442 pages~6 orders(o_date, o_id, o_cust) 589 pages~7 lineitem(l_order) 1471 pages~8 lineitem(l_order, l_price) 2063 pages~left over 0~
@@ -98,14 +124,15 @@ const WORDS: &str = r#"2||TI|||usage: no command~
 2|advise c l 10 --node|TI|||usage: unknown option at word 5~
 2|bench 1 1 5 0|TI|||usage: bad number at word 3~
 5|advise none none 10|TI|||refused: not built~
-5|whatif none none none|TI|||refused: not built~
+3|whatif none none none|TI|||read fault: none~
+2|whatif CAT LOAD|TI|||usage: missing word 4~
 5|check none none none|TI|||refused: not built~
 5|bench 1 2 5 0|TI|||refused: not built~
 3|cost none LOAD|TI|||read fault: none~
 3|cost CAT none|TI|||read fault: none~"#;
 
 /// A line of a table.
-#[derive(Clone, Copy)]
+#[derive(Clone, Copy, Debug)]
 struct Case<'a> {
     status: &'a str,
     words: &'a str,
@@ -132,17 +159,35 @@ fn case_of<'a>(rt: &impl Abort, line: &'a str) -> Case<'a> {
     }
 }
 
-/// Runs a line and compares the output and the status.
-fn compare(rt: &impl Abort, alloc: Global, line: &str) {
-    let case = case_of(rt, line);
+/// Runs a case and compares the output and the status.
+fn compare_case(rt: &impl Abort, alloc: Global, case: &Case<'_>) {
     let cat = catalogue(rt, alloc, case.cat);
     let load = spread(rt, alloc, case.load);
     let conf = spread(rt, alloc, case.conf);
     let mut shelf = shelf(rt, alloc, cat.as_slice(), load.as_slice(), conf.as_slice());
     let (status, out) = answer(rt, alloc, case.words, &mut shelf, 1000);
     let output = spread(rt, alloc, case.output);
-    assert_eq!(rt; out.bytes(), output.as_slice(), "{line}");
-    assert_eq!(rt; case.status.parse::<u8>(), Ok(status), "{line}");
+    assert_eq!(rt; out.bytes(), output.as_slice(), "{case:?}");
+    assert_eq!(rt; case.status.parse::<u8>(), Ok(status), "{case:?}");
+}
+
+/// Runs a line.
+fn compare(rt: &impl Abort, alloc: Global, line: &str) {
+    let case = case_of(rt, line);
+    compare_case(rt, alloc, &case);
+}
+
+/// Runs a line of `cost` as one of `whatif` under the empty configuration, whose size of 0 stands before the same prices.
+fn compare_unconfigured(rt: &impl Abort, alloc: Global, line: &str) {
+    let case = case_of(rt, line);
+    let output = format!(in alloc; "size 0~{}", case.output).expect(rt, "memory");
+    let unconfigured = Case {
+        words: "whatif CAT LOAD CONF",
+        conf: "",
+        output: output.as_str(),
+        ..case
+    };
+    compare_case(rt, alloc, &unconfigured);
 }
 
 /// Walks a table.
@@ -165,6 +210,18 @@ fn inputs_are_refused(rt: HostRuntime) {
 #[test]
 fn plans_are_explained(rt: HostRuntime) {
     compare_all(&rt, rt.alloc(), PLANS);
+}
+
+#[test]
+fn configurations_are_priced(rt: HostRuntime) {
+    compare_all(&rt, rt.alloc(), CONFIGURED);
+}
+
+#[test]
+fn no_candidate_changes_no_price(rt: HostRuntime) {
+    for line in PRICES.lines() {
+        compare_unconfigured(&rt, rt.alloc(), line);
+    }
 }
 
 #[test]

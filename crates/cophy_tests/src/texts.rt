@@ -146,6 +146,10 @@ fn refusals(rt: HostRuntime) {
         ),
         (Refusal::NoStatement(2, 1), "refused: no statement 2 of 1\n"),
         (Refusal::BadConf(10), "refused: configuration line 10\n"),
+        (
+            Refusal::TooManyCombinations(3, 4480),
+            "refused: statement 3 has 4480 combinations\n",
+        ),
         (Refusal::NotBuilt, "refused: not built\n"),
     ] {
         let done = Done::Refused(why);

@@ -9,8 +9,8 @@ use crate::size::pages;
 use adv_base::limits::MOST_CANDIDATES;
 use adv_base::{Catalogue, Config, IndexShape};
 
-/// The pages of a configuration's candidates, of which there are at most 256.
-fn config_pages(cat: &Catalogue, shapes: &[IndexShape], config: &Config) -> u64
+/// The pages of a configuration's candidates, of which there are at most 256. It takes no memory.
+pub fn config_pages(cat: &Catalogue, shapes: &[IndexShape], config: &Config) -> u64
     requires { All (NamesShape cat.now) shapes.now }
     ensures exact { result ≡ configs.config_pages cat.now shapes.now config.now }
     ensures most { result ≤ MOST_CANDIDATES * MOST_INDEX_PAGES }

@@ -8,6 +8,6 @@ mod budget;
 mod size;
 mod writes;
 
-pub use budget::fits;
+pub use budget::{config_pages, fits};
 pub use size::{index_pages, pages};
 pub use writes::{config_upkeep, kept_upkeep, upkeep};

@@ -1,30 +1,32 @@
 -- The list of cuts, as it is made.
 use Rattle.std.proofs.Common.{◌≡◌, ℕ, ◌+◌, ◌-◌, ◌^◌, ◌<◌, ◌≤◌, inl, inr, Bool, true, false, cond, List, [], ◌∷◌, ◌++◌, length, take, drop, bit_and, ◌==◌, ◌&&◌, slice_index, slice_index_or, refl, sym, ap, ◌∙◌, subst, append_assoc, arith}
 use Rattle.std.specs.List.{slice_range}
-use Rattle.std.proofs.Math.Logic.{∥∥₁_map}
-use Rattle.std.proofs.lemmas.Bool.{false≢true, cases_lt, and_parts, eqb-true}
-use Rattle.std.proofs.lemmas.List.{get_or_past, get_or_append_left, get_or-append_right, get_or_push, length_push, take-append-le, drop-append-le, drop_at, take_all, length-append, length-drop, append-nil, drop_more, drop_all}
+use Rattle.std.proofs.lemmas.Bool.{false≢true, cases_lt, and_parts, eqb-true, eq-eqb}
+use Rattle.std.proofs.lemmas.Nat.{and_comm}
+use Rattle.std.proofs.lemmas.List.{get_or_append_left, get_or-append_right, get_or_push, length_push, take-append-le, drop-append-le, drop_at, take_all, length-append, length-drop, append-nil, drop_more, drop_all}
 use Rattle.plan_model.specs.declared.task.Task.{Task}
 use Rattle.planner.specs.declared.front.Link.{Link}
 use Rattle.planner.specs.declared.cut.Cut.{Cut}
 use Rattle.planner.specs.declared.cut.Merge.{Merge}
 use Rattle.planner.specs.Fronts.{crosses_link}
-use Rattle.planner.specs.Cuts.{merge_of, merges_of, no_cut, cut_at, cuts_at, is_covered, may_cut, hash_price, merge_price, IsCutOf, IsListed, AddsCuts, AreCutsOf, AreCuts, StandsIn, ListsCovered}
+use Rattle.planner.specs.Cuts.{link_merge, merges_of, no_cut, cut_at, cuts_at, is_covered, may_cut, IsCut, IsCutOf, IsListed, AreCutsOf, AreCuts}
+use Rattle.plan_model.specs.Costs.{hash_of, merge_of}
+use Rattle.planner.specs.inner.Cutting.{AddsCuts}
 
 -- the merges of one link, then those of the rest
 pub merges_more : (link : Link) (links : List Link) (a b : ℕ) → merges_of (link ∷ links) a b ≡ merges_of (link ∷ []) a b ++ merges_of links a b
 merges_more link links a b =
-    elim (crosses_link a b link) as (λ t. cond t (merge_of link a b ∷ merges_of links a b) (merges_of links a b) ≡ cond t (merge_of link a b ∷ []) [] ++ merges_of links a b) [
+    elim (crosses_link a b link) as (λ t. cond t (link_merge link a b ∷ merges_of links a b) (merges_of links a b) ≡ cond t (link_merge link a b ∷ []) [] ++ merges_of links a b) [
       | true ↦ refl
       | false ↦ refl
     ]
 
 pub merges_skip : (link : Link) (a b : ℕ) (merges : List Merge) → crosses_link a b link ≡ false → merges ≡ merges ++ merges_of (link ∷ []) a b
 merges_skip link a b merges e =
-    sym (append-nil merges) ∙ ap (λ t. merges ++ cond t (merge_of link a b ∷ []) []) (sym e)
+    sym (append-nil merges) ∙ ap (λ t. merges ++ cond t (link_merge link a b ∷ []) []) (sym e)
 
-pub merges_take : (link : Link) (a b : ℕ) → crosses_link a b link ≡ true → merges_of (link ∷ []) a b ≡ merge_of link a b ∷ []
-merges_take link a b e = ap (λ t. cond t (merge_of link a b ∷ []) []) e
+pub merges_take : (link : Link) (a b : ℕ) → crosses_link a b link ≡ true → merges_of (link ∷ []) a b ≡ link_merge link a b ∷ []
+merges_take link a b e = ap (λ t. cond t (link_merge link a b ∷ []) []) e
 
 -- one link more
 pub merges_step : (links : List Link) (a b i : ℕ) (old new all : List Merge) (d : Link) → i < length links → new ≡ old ++ merges_of (slice_index_or links i d ∷ []) a b → old ++ merges_of (drop i links) a b ≡ all → new ++ merges_of (drop (i + 1) links) a b ≡ all
@@ -75,76 +77,95 @@ cut_frame task links merges more new set cut is c =
       crossings = ap (λ ms. slice_range ms cut.from cut.to) is ∙ range_stays merges more cut.from cut.to within ∙ c.crossings;
     }
 
-pub apart_from_test : (covered : List Bool) (set a : ℕ) → may_cut covered set a ≡ true → bit_and a (set - a) ≡ 0
-apart_from_test covered set a h =
-    let p = and_parts _ _ h in
-    let q = and_parts _ _ p.0 in
-    eqb-true (bit_and a (set - a)) 0 q.0
+-- apart parts may be a cut where both are covered
+may_is : (covered : List Bool) (set a b : ℕ) → b ≡ set - a → bit_and a b ≡ 0 → may_cut covered set a ≡ (is_covered covered a && is_covered covered b)
+may_is covered set a b is apart =
+    let none : (bit_and a (set - a) == 0) ≡ true = eq-eqb (bit_and a (set - a)) 0 (ap (bit_and a) (sym is) ∙ apart) in
+    ap (λ t. t && is_covered covered a && is_covered covered (set - a)) none ∙ ap (λ t. is_covered covered a && is_covered covered t) (sym is)
 
-left_covered : (covered : List Bool) (set a : ℕ) → may_cut covered set a ≡ true → is_covered covered a ≡ true
-left_covered covered set a h =
-    let p = and_parts _ _ h in
-    let q = and_parts _ _ p.0 in
-    q.1
+may_right : (covered : List Bool) (set right : ℕ) → IsCut set right → may_cut covered set (set - right) ≡ (is_covered covered (set - right) && is_covered covered right)
+may_right covered set right cut =
+    let less = cut.less in
+    may_is covered set (set - right) right (omega arith) (and_comm (set - right) right ∙ cut.apart)
 
-pub adds_nothing : (task : Task) (links : List Link) (covered : List Bool) (set : ℕ) (sets : List ℕ) (m n : ℕ) (cuts : List Cut) (merges : List Merge) → ((i : ℕ) → m ≤ i → i < n → may_cut covered set (slice_index sets i) ≡ true → 0 < length (merges_of links (slice_index sets i) (set - slice_index sets i)) → IsListed [] (slice_index sets i)) → AddsCuts task links covered set sets m n cuts merges cuts merges
-adds_nothing task links covered set sets m n cuts merges none =
+-- no cut has its left part in the range
+pub adds_nothing : (task : Task) (links : List Link) (covered : List Bool) (set m n : ℕ) (cuts : List Cut) (merges : List Merge) → ((a : ℕ) → m ≤ a → a < n → may_cut covered set a ≡ true → ⊥) → AddsCuts task links covered set m n cuts merges cuts merges
+adds_nothing task links covered set m n cuts merges none =
     record {
       more = [];
       cuts_are = sym (append-nil cuts);
       more_merges = [];
       merges_are = sym (append-nil merges);
       each = λ k within. absurd (omega arith);
-      all = none;
+      all = λ a from to may crossed. absurd (none a from to may);
     }
 
--- a cut that may not be made
-pub adds_none : (task : Task) (links : List Link) (covered : List Bool) (set : ℕ) (sets : List ℕ) (i : ℕ) (cuts : List Cut) (merges : List Merge) → may_cut covered set (slice_index sets i) ≡ false → AddsCuts task links covered set sets i (i + 1) cuts merges cuts merges
-adds_none task links covered set sets i cuts merges refused =
-    adds_nothing task links covered set sets i (i + 1) cuts merges (λ j from to yes some.
-    let same : j ≡ i = omega arith in
-    absurd (false≢true (sym refused ∙ ap (λ t. may_cut covered set (slice_index sets t)) (sym same) ∙ yes)))
+apart_from_test : (covered : List Bool) (set a : ℕ) → may_cut covered set a ≡ true → bit_and a (set - a) ≡ 0
+apart_from_test covered set a h =
+    let p = and_parts _ _ h in
+    let q = and_parts _ _ p.0 in
+    eqb-true (bit_and a (set - a)) 0 q.0
+
+-- there is no part of the set between two right ones
+pub adds_skip : (task : Task) (links : List Link) (covered : List Bool) (set m right below : ℕ) (cuts : List Cut) (merges : List Merge) → right ≤ set → set - right < m → ((x : ℕ) → below < x → x < right → ¬ (bit_and x (set - x) ≡ 0)) → AddsCuts task links covered set m (set - below) cuts merges cuts merges
+adds_skip task links covered set m right below cuts merges within after none =
+    adds_nothing task links covered set m (set - below) cuts merges (λ a from to may.
+    let back : set - (set - a) ≡ a = omega arith in
+    let apart : bit_and (set - a) (set - (set - a)) ≡ 0 = and_comm (set - a) (set - (set - a)) ∙ ap (λ t. bit_and t (set - a)) back ∙ apart_from_test covered set a may in
+    none (set - a) (omega arith) (omega arith) apart)
+
+-- parts that aren't both covered
+pub adds_none : (task : Task) (links : List Link) (covered : List Bool) (set right : ℕ) (cuts : List Cut) (merges : List Merge) → IsCut set right → (is_covered covered (set - right) && is_covered covered right) ≡ false → AddsCuts task links covered set (set - right) (set - right + 1) cuts merges cuts merges
+adds_none task links covered set right cuts merges cut refused =
+    adds_nothing task links covered set (set - right) (set - right + 1) cuts merges (λ a from to may.
+    let same : a ≡ set - right = omega arith in
+    absurd (false≢true (sym refused ∙ sym (may_right covered set right cut) ∙ ap (may_cut covered set) (sym same) ∙ may)))
 
 -- a cut that no link crosses
-pub adds_uncrossed : (task : Task) (links : List Link) (covered : List Bool) (set : ℕ) (sets : List ℕ) (i : ℕ) (cuts : List Cut) (merges new : List Merge) → new ≡ merges ++ merges_of links (slice_index sets i) (set - slice_index sets i) → length merges ≡ length new → AddsCuts task links covered set sets i (i + 1) cuts merges cuts new
-adds_uncrossed task links covered set sets i cuts merges new is same =
-    let crossings = merges_of links (slice_index sets i) (set - slice_index sets i) in
+pub adds_uncrossed : (task : Task) (links : List Link) (covered : List Bool) (set right : ℕ) (cuts : List Cut) (merges new : List Merge) → IsCut set right → new ≡ merges ++ merges_of links (set - right) right → length merges ≡ length new → AddsCuts task links covered set (set - right) (set - right + 1) cuts merges cuts new
+adds_uncrossed task links covered set right cuts merges new cut is same =
+    let crossings = merges_of links (set - right) right in
     let sum : length new ≡ length merges + length crossings = ap length is ∙ length-append merges crossings in
+    let less = cut.less in
     record {
       more = [];
       cuts_are = sym (append-nil cuts);
       more_merges = crossings;
       merges_are = is;
       each = λ k within. absurd (omega arith);
-      all = λ j from to yes some.
-          let here : j ≡ i = omega arith in
-          let crossed : 0 < length (merges_of links (slice_index sets i) (set - slice_index sets i)) = subst (λ t. 0 < length (merges_of links (slice_index sets t) (set - slice_index sets t))) here some in
+      all = λ a from to may crossed.
+          let here : a ≡ set - right = omega arith in
+          let there : set - a ≡ right = omega arith in
+          let some : 0 < length (merges_of links (set - right) right) = subst (λ t. 0 < length (merges_of links (set - right) t)) there (subst (λ t. 0 < length (merges_of links t (set - a))) here crossed) in
           absurd (omega arith);
     }
 
 -- a cut that links cross
-pub adds_cut : (task : Task) (links : List Link) (covered : List Bool) (set : ℕ) (sets : List ℕ) (i a : ℕ) (cuts new_cuts : List Cut) (merges new : List Merge) (from to hash merge : ℕ) → a ≡ slice_index sets i → new_cuts ≡ cuts ++ record { left = a; right = set - a; hash_price = hash; merge_price = merge; from = from; to = to } ∷ [] → new ≡ merges ++ merges_of links a (set - a) → from ≡ length merges → to ≡ length new → ¬ (from ≡ to) → 0 < a → a < set → may_cut covered set a ≡ true → hash ≡ hash_price task a (set - a) → merge ≡ merge_price task a (set - a) → AddsCuts task links covered set sets i (i + 1) cuts merges new_cuts new
-adds_cut task links covered set sets i a cuts new_cuts merges new from to hash merge a_is cuts_are is from_is to_is differ some less may hash_is merge_is =
-    let cut : Cut = record { left = a; right = set - a; hash_price = hash; merge_price = merge; from = from; to = to } in
-    let sum : length new ≡ length merges + length (merges_of links a (set - a)) = ap length is ∙ length-append merges (merges_of links a (set - a)) in
+pub adds_cut : (task : Task) (links : List Link) (covered : List Bool) (set right : ℕ) (cuts new_cuts : List Cut) (merges new : List Merge) (from to hash merge : ℕ) → IsCut set right → new_cuts ≡ cuts ++ record { left = set - right; right = right; hash_price = hash; merge_price = merge; from = from; to = to } ∷ [] → new ≡ merges ++ merges_of links (set - right) right → from ≡ length merges → to ≡ length new → ¬ (from ≡ to) → hash ≡ hash_of task (set - right) right → merge ≡ merge_of task (set - right) right → AddsCuts task links covered set (set - right) (set - right + 1) cuts merges new_cuts new
+adds_cut task links covered set right cuts new_cuts merges new from to hash merge parts cuts_are is from_is to_is differ hash_is merge_is =
+    let cut : Cut = record { left = set - right; right = right; hash_price = hash; merge_price = merge; from = from; to = to } in
+    let crossings = merges_of links (set - right) right in
+    let sum : length new ≡ length merges + length crossings = ap length is ∙ length-append merges crossings in
+    let some = parts.some in
+    let less = parts.less in
+    let back : right ≡ set - (set - right) = omega arith in
     let here : IsCutOf task links new set cut = record {
-      parts = record { some = some; less = less; apart = apart_from_test covered set a may };
-      rest = refl;
+      parts = record { some = omega arith; less = omega arith; apart = ap (bit_and (set - right)) (sym back) ∙ and_comm (set - right) right ∙ parts.apart };
+      rest = back;
       hash = hash_is;
       merge = merge_is;
       some = omega arith;
       within = omega arith;
-      crossings = range_added merges (merges_of links a (set - a)) new from to is from_is to_is;
+      crossings = range_added merges crossings new from to is from_is to_is;
     } in
     record {
       more = cut ∷ [];
       cuts_are = cuts_are;
-      more_merges = merges_of links a (set - a);
+      more_merges = crossings;
       merges_are = is;
       each = λ k within. let first : 0 ≡ k = omega arith in subst (λ t. IsCutOf task links new set (cut_at (cut ∷ []) t)) first here;
-      all = λ j below under yes crossed.
-          let same : i ≡ j = omega arith in
-          record { number = 0; within = omega arith; is = a_is ∙ ap (slice_index sets) same };
+      all = λ a low high may crossed.
+          record { number = 0; within = omega arith; is = (let same : set - right ≡ a = omega arith in same) };
     }
 
 listed_left : (x y : List Cut) (a : ℕ) → IsListed x a → IsListed (x ++ y) a
@@ -166,9 +187,9 @@ listed_right x y a h =
       is = ap (λ (t : Cut). t.left) (get_or-append_right x y (length x) (length x + h.number) no_cut refl (omega arith) ∙ ap (cut_at y) back) ∙ h.is;
     }
 
--- cuts from place m to n, then from n to p
-pub adds_then : (task : Task) (links : List Link) (covered : List Bool) (set : ℕ) (sets : List ℕ) (m n p : ℕ) (c1 c2 c3 : List Cut) (m1 m2 m3 : List Merge) → AddsCuts task links covered set sets m n c1 m1 c2 m2 → AddsCuts task links covered set sets n p c2 m2 c3 m3 → AddsCuts task links covered set sets m p c1 m1 c3 m3
-adds_then task links covered set sets m n p c1 c2 c3 m1 m2 m3 s t =
+-- cuts from m to n, then from n to p
+pub adds_then : (task : Task) (links : List Link) (covered : List Bool) (set m n p : ℕ) (c1 c2 c3 : List Cut) (m1 m2 m3 : List Merge) → AddsCuts task links covered set m n c1 m1 c2 m2 → AddsCuts task links covered set n p c2 m2 c3 m3 → AddsCuts task links covered set m p c1 m1 c3 m3
+adds_then task links covered set m n p c1 c2 c3 m1 m2 m3 s t =
     record {
       more = s.more ++ t.more;
       cuts_are = t.cuts_are ∙ ap (λ x. x ++ t.more) s.cuts_are ∙ append_assoc c1 s.more t.more;
@@ -182,8 +203,8 @@ adds_then task links covered set sets m n p c1 c2 c3 m1 m2 m3 s t =
           ];
       all = λ i from to yes crossed.
           elim (cases_lt i n) [
-            | inl less ↦ listed_left s.more t.more (slice_index sets i) (s.all i from less yes crossed)
-            | inr past ↦ listed_right s.more t.more (slice_index sets i) (t.all i past to yes crossed)
+            | inl less ↦ listed_left s.more t.more i (s.all i from less yes crossed)
+            | inr past ↦ listed_right s.more t.more i (t.all i past to yes crossed)
           ];
     }
 
@@ -203,7 +224,7 @@ cuts_frame task links merges more new covered flag set cuts is within h =
     }
 
 -- the cuts of one more set
-module _ (task : Task) (links : List Link) (n : ℕ) (cuts new_cuts : List Cut) (merges new : List Merge) (starts : List ℕ) (covered : List Bool) (sets : List ℕ) (flag : Bool) (old : AreCuts task links cuts merges starts covered n) (listed : ListsCovered covered sets) (adds : AddsCuts task links covered n sets 0 (length sets) cuts merges new_cuts new) (slot : (s : ℕ) → s < task.slots → 2 ^ s ≡ n → flag ≡ true) (some : length cuts < length new_cuts → flag ≡ true) where
+module _ (task : Task) (links : List Link) (n : ℕ) (cuts new_cuts : List Cut) (merges new : List Merge) (starts : List ℕ) (covered : List Bool) (flag : Bool) (old : AreCuts task links cuts merges starts covered n) (adds : AddsCuts task links covered n 1 n cuts merges new_cuts new) (slot : (s : ℕ) → s < task.slots → 2 ^ s ≡ n → flag ≡ true) (some : length cuts < length new_cuts → flag ≡ true) where
   ends' : List ℕ
   ends' = starts ++ length new_cuts ∷ []
 
@@ -231,17 +252,11 @@ module _ (task : Task) (links : List Link) (n : ℕ) (cuts new_cuts : List Cut) 
   cuts_last =
       range_added cuts adds.more new_cuts (slice_index (starts ++ length new_cuts ∷ []) n) (slice_index (starts ++ length new_cuts ∷ []) (n + 1)) adds.cuts_are (start_stays n (omega arith) ∙ old.ends) start_last
 
-  covered_cut : (a : ℕ) → 0 < a → may_cut covered n a ≡ true → 0 < length (merges_of links a (n - a)) → ∥ IsListed adds.more a ∥₁
-  covered_cut a positive may crossed =
-      ∥∥₁_map (listed.all a positive (left_covered covered n a may)) (λ stands.
-      let is = stands.is in
-      subst (IsListed adds.more) is (adds.all stands.place (omega arith) stands.within (subst (λ t. may_cut covered n t ≡ true) (sym is) may) (subst (λ t. 0 < length (merges_of links t (n - t))) (sym is) crossed)))
-
   set_last : AreCutsOf task links new (covered ++ flag ∷ []) n adds.more
   set_last =
       let here : AreCutsOf task links new covered n adds.more = record {
         each = adds.each;
-        all = λ a positive less may crossed. covered_cut a positive may crossed;
+        all = λ a positive less may crossed. ∣ adds.all a positive less may crossed ∣₁;
       } in
       cuts_frame task links new [] new covered flag n adds.more (sym (append-nil new)) (omega (arith, old.covered_count)) here
 
@@ -302,33 +317,4 @@ cuts_none task links =
       sets = λ s h. absurd (omega arith);
       slots = λ s one h within is. absurd (omega arith);
       joined = λ s h off. absurd (omega arith);
-    }
-
--- it goes on with a set that is covered
-pub lists_more : (covered : List Bool) (sets more : List ℕ) (set : ℕ) (flag : Bool) → length covered ≡ set → 0 < set → more ≡ sets ++ set ∷ [] → ListsCovered covered sets → ListsCovered (covered ++ flag ∷ []) more
-lists_more covered sets more set flag count some more_is old =
-    let longer : length more ≡ length sets + 1 = ap length more_is ∙ length_push sets set in
-    let last : slice_index more (length sets) ≡ set = ap (λ t. slice_index t (length sets)) more_is ∙ get_or_push sets set 0 (length sets) refl in
-    let stays : (i : ℕ) → i < length sets → slice_index more i ≡ slice_index sets i = λ i within. ap (λ t. slice_index t i) more_is ∙ get_or_append_left sets (set ∷ []) 0 i within in
-    record {
-      each = λ i within.
-          elim (cases_lt i (length sets)) [
-            | inl less ↦ let e = old.each i less in let s = stays i less in (omega (arith, e.0, s), omega (arith, e.1, s, length_push covered flag))
-            | inr past ↦
-                let same : i ≡ length sets = omega arith in
-                let is : slice_index more i ≡ set = ap (slice_index more) same ∙ last in
-                (omega (arith, is), omega (arith, is, length_push covered flag))
-          ];
-      all = λ a positive covers.
-          elim (cases_lt a set) [
-            | inl less ↦
-                let s = old.all a positive (sym (covered_stays covered flag a (omega arith)) ∙ covers) in
-                ∥∥₁_map s (λ t. record { place = t.place; within = omega (arith, t.within, longer); is = stays t.place t.within ∙ t.is })
-            | inr past ↦ elim (cases_lt set a) [
-              | inl beyond ↦ absurd (false≢true (sym (get_or_past (covered ++ flag ∷ []) a false (omega (arith, length_push covered flag))) ∙ covers))
-              | inr not_beyond ↦
-                  let same : set ≡ a = omega arith in
-                  ∣ record { place = length sets; within = omega arith; is = last ∙ same } ∣₁
-            ]
-          ];
     }

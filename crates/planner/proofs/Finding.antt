@@ -12,6 +12,8 @@ use Rattle.adv_base.specs.OfferTables.{OfferTableLimits, HasOffers}
 use Rattle.plan_model.specs.Plans.{IsWhole, covers, delivers, body_sorts}
 use Rattle.plan_model.specs.Costs.{whole_cost, rows_in, sort_cost, group_cost, final_rows}
 use Rattle.plan_model.specs.Least.{Least}
+use Rattle.plan_model.specs.declared.plan.TheConstants.{MOST_COST}
+use Rattle.plan_model.proofs.CostBound.{whole_cost-most}
 use Rattle.planner.specs.declared.front.Front.{Front}
 use Rattle.planner.specs.declared.cell.Cell.{Cell}
 use Rattle.planner.specs.declared.cell.TheConstants.{IMPOSSIBLE}
@@ -20,8 +22,8 @@ use Rattle.planner.specs.declared.whole.Shape.{Shape}
 use Rattle.planner.specs.Fronts.{asked, listed}
 use Rattle.planner.specs.Cells.{cost_at}
 use Rattle.planner.specs.Rows.{sets_of, AreRows}
-use Rattle.planner.specs.Built.{front_cost, IsPlanFor}
-use Rattle.planner.specs.Shapes.{least_shape}
+use Rattle.planner.specs.inner.Built.{front_cost, IsPlanFor}
+use Rattle.planner.specs.inner.Shapes.{least_shape}
 use Rattle.planner.proofs.Fronting.{nothing_asked, all_asked}
 use Rattle.planner.proofs.Lower.{AreBlank, rows_low}
 use Rattle.planner.proofs.Upper.{plans}
@@ -102,3 +104,9 @@ cost_is alloc ways table rows shape limits has closed blanks is =
     let s = shape_at alloc ways table rows shape limits has closed blanks is in
     let body = plans alloc ways table rows closed blanks full within (body_sorts shape.group) shape.front (shape_front task table ways.fronts.items (rows full) shape s) (shape_possible task table ways.fronts.items (rows full) shape s) in
     whole_least task table ways.fronts.items (rows full) shape s full refl body.plan body.is
+
+-- a least plan is valid, and so costs less than 10^21
+pub least_below : (task : Task) (table : OfferTable) (cost : ℕ) → OfferTableLimits table → Least task table cost → cost < MOST_COST
+least_below task table cost limits least =
+    let plan = least.plan in
+    omega (arith, whole_cost-most task table plan.whole limits plan.valid, plan.costs)

@@ -1,19 +1,22 @@
 -- Fronts that grow.
-use Rattle.std.proofs.Common.{◌≡◌, ℕ, zero, suc, ◌+◌, ◌<◌, inl, inr, Bool, true, false, cond, List, [], ◌∷◌, ◌++◌, length, Option, Some, None, slice_get, slice_index_or, refl, sym, ap, ◌∙◌, subst, arith}
+use Rattle.std.proofs.Common.{◌≡◌, ℕ, zero, suc, ◌+◌, ◌^◌, ◌<◌, inl, inr, Bool, true, false, cond, List, [], ◌∷◌, ◌++◌, length, Option, Some, None, slice_get, slice_index_or, refl, sym, ap, ◌∙◌, subst, arith}
 use Rattle.std.proofs.Math.Logic.{∥∥₁_map}
 use Rattle.std.specs.List.{list_any}
 use Rattle.std.proofs.lemmas.Bool.{cases_lt, or_left, or_right, or_cases, and_parts, and_from, eqb-true, eq-eqb, false≢true}
 use Rattle.std.proofs.lemmas.List.{get_or_append_left, get_or_push, length_push}
+use Rattle.std.proofs.lemmas.List.Elements.{All-get_or}
 use Rattle.std.proofs.lemmas.Option.{slice_get_within, same_Some, slice_get-get_or}
 use Rattle.adv_base.specs.Items.{Order, is_same_item}
 use Rattle.adv_base.specs.declared.workload.parts.Item.{Item}
 use Rattle.plan_model.specs.declared.edge.TaskEdge.{TaskEdge}
 use Rattle.plan_model.specs.declared.task.Task.{Task}
+use Rattle.plan_model.specs.Limits.Tasks.{EdgeLimits}
 use Rattle.plan_model.specs.Orders.{need_order}
 use Rattle.planner.specs.declared.front.Front.{Front}
 use Rattle.planner.specs.declared.front.Front.TheVariants.{Any, Listed, Need}
 use Rattle.planner.specs.declared.front.Link.{Link}
-use Rattle.planner.specs.Fronts.{asked, front_order, first_item, longer_front, need_front, is_need, needs_item, no_link, link_at, is_alike, listed, Ties, IsLink, IsGrowing, AreFronts, AreHeadsApart, AreHeads, AreLinks, AreNeeded, AreNeeds, IsAdded, IsKeeping}
+use Rattle.planner.specs.Fronts.{asked, front_order, first_item, longer_front, is_need, needs_item, no_link, link_at, turned, listed, Ties, Joins, IsLink, AreHeadsApart, AreHeads, AreLinks, AreNeeded, AreNeeds}
+use Rattle.planner.specs.inner.Growing.{need_front, is_alike, is_same_link, turned_link, IsGrowing, AreFronts, IsAdded, IsKeeping}
 use Rattle.planner.proofs.Begins.{same_item, item_same}
 
 pub growing_none : (fronts : List Front) → IsGrowing fronts fronts
@@ -122,9 +125,23 @@ link_grows : (list : Order) (x y : List Front) (edges : List TaskEdge) (link : L
 link_grows list x y edges link g l =
     record { number = l.number; tied = λ edge found. ties_grow list x y edge link g (l.tied edge found) }
 
--- links alike tie the same edges
-alike_ties : (list : Order) (fronts : List Front) (edge : TaskEdge) (x y : Link) → is_alike x y ≡ true → Ties list fronts edge x → Ties list fronts edge y
-alike_ties list fronts edge x y h t =
+joins_grow : (list : Order) (x y : List Front) (edge : TaskEdge) (link : Link) → IsGrowing x y → Joins list x edge link → Joins list y edge link
+joins_grow list x y edge link g (inl t) = inl (ties_grow list x y edge link g t)
+joins_grow list x y edge link g (inr t) = inr (ties_grow list x y (turned edge) link g t)
+
+turned_ties : (list : Order) (fronts : List Front) (edge : TaskEdge) (x : Link) → Ties list fronts edge x → Ties list fronts (turned edge) (turned_link x)
+turned_ties list fronts edge x t =
+    record {
+      left_slot = t.right_slot;
+      right_slot = t.left_slot;
+      left_in = t.right_in;
+      right_in = t.left_in;
+      left_asks = t.right_asks;
+      right_asks = t.left_asks;
+    }
+
+same_ties : (list : Order) (fronts : List Front) (edge : TaskEdge) (x y : Link) → is_same_link x y ≡ true → Ties list fronts edge x → Ties list fronts edge y
+same_ties list fronts edge x y h t =
     let p = and_parts _ _ h in
     let q = and_parts _ _ p.0 in
     let r = and_parts _ _ q.0 in
@@ -141,9 +158,20 @@ alike_ties list fronts edge x y h t =
       right_asks = ap (asked list fronts) (sym right_front) ∙ t.right_asks;
     }
 
-alike_self : (x : Link) → is_alike x x ≡ true
-alike_self x =
+-- links alike tie the same edges
+alike_joins : (list : Order) (fronts : List Front) (edge : TaskEdge) (x y : Link) → is_alike x y ≡ true → Ties list fronts edge x → Joins list fronts edge y
+alike_joins list fronts edge x y h t =
+    elim (or_cases (is_same_link x y) (is_same_link (turned_link x) y) h) [
+      | inl same ↦ inl (same_ties list fronts edge x y same t)
+      | inr other ↦ inr (same_ties list fronts (turned edge) (turned_link x) y other (turned_ties list fronts edge x t))
+    ]
+
+same_self : (x : Link) → is_same_link x x ≡ true
+same_self x =
     and_from _ _ (and_from _ _ (and_from _ _ (eq-eqb x.left x.left refl) (eq-eqb x.right x.right refl)) (eq-eqb x.left_front x.left_front refl)) (eq-eqb x.right_front x.right_front refl)
+
+alike_self : (x : Link) → is_alike x x ≡ true
+alike_self x = or_left (is_same_link x x) (is_same_link (turned_link x) x) (same_self x)
 
 alike_place : (x : Link) (links : List Link) → list_any (is_alike x) links ≡ true → (i : ℕ) × (i < length links) × (is_alike x (link_at links i) ≡ true)
 alike_place x [] h = absurd (false≢true h)
@@ -179,14 +207,14 @@ keeping_push links link =
     }
 
 -- one more edge, whose link has these fronts
-pub links_more : (list : Order) (x y z : List Front) (edges : List TaskEdge) (old new : List Link) (k : ℕ) (edge : TaskEdge) (left right : ℕ) → slice_get edges k ≡ Some edge → IsGrowing x y → IsGrowing y z → left < length y → slice_index_or y left Any ≡ need_front edge.left_need → right < length z → slice_index_or z right Any ≡ need_front edge.right_need → IsKeeping old new (record { edge = k; left = edge.left; right = edge.right; left_front = left; right_front = right }) → AreLinks list x edges old k → AreLinks list z edges new (k + 1)
-links_more list x y z edges old new k edge left right found g h left_in left_is right_in right_is kept t =
-    let link : Link = record { edge = k; left = edge.left; right = edge.right; left_front = left; right_front = right } in
+pub links_more : (list : Order) (x y z : List Front) (edges : List TaskEdge) (old new : List Link) (k : ℕ) (edge : TaskEdge) (a b left right : ℕ) → slice_get edges k ≡ Some edge → a ≡ 2 ^ edge.left → b ≡ 2 ^ edge.right → IsGrowing x y → IsGrowing y z → left < length y → slice_index_or y left Any ≡ need_front edge.left_need → right < length z → slice_index_or z right Any ≡ need_front edge.right_need → IsKeeping old new (record { edge = k; left = a; right = b; left_front = left; right_front = right }) → AreLinks list x edges old k → AreLinks list z edges new (k + 1)
+links_more list x y z edges old new k edge a b left right found a_is b_is g h left_in left_is right_in right_is kept t =
+    let link : Link = record { edge = k; left = a; right = b; left_front = left; right_front = right } in
     let grown = growing_then x y z g h in
     let more = h.longer in
     let here : Ties list z edge link = record {
-      left_slot = refl;
-      right_slot = refl;
+      left_slot = sym a_is;
+      right_slot = sym b_is;
       left_in = omega arith;
       right_in = right_in;
       left_asks = ap (front_order list) (h.keeps left left_in ∙ left_is) ∙ need_asks list edge.left_need;
@@ -207,7 +235,7 @@ links_more list x y z edges old new k edge left right found g h left_in left_is 
             | inl less ↦ ∥∥₁_map (t.all j e less at) (λ w. record {
               link = w.link;
               link_in = (let inside = w.link_in in omega arith);
-              ties = subst (Ties list z e) (sym (kept.keeps w.link w.link_in)) (ties_grow list x z e (link_at old w.link) grown w.ties);
+              joins = subst (Joins list z e) (sym (kept.keeps w.link w.link_in)) (joins_grow list x z e (link_at old w.link) grown w.joins);
             })
             | inr past ↦
                 let same : k ≡ j = omega arith in
@@ -215,7 +243,7 @@ links_more list x y z edges old new k edge left right found g h left_in left_is 
                 ∣ record {
                   link = kept.place;
                   link_in = kept.place_in;
-                  ties = subst (λ d. Ties list z d (link_at new kept.place)) edges_same (alike_ties list z edge link (link_at new kept.place) kept.alike here);
+                  joins = subst (λ d. Joins list z d (link_at new kept.place)) edges_same (alike_joins list z edge link (link_at new kept.place) kept.alike here);
                 } ∣₁
           ];
     }
@@ -269,3 +297,10 @@ needs_from task fronts heads links f n h l =
 pub edge_found : (xs edges : List TaskEdge) (k : ℕ) (d : TaskEdge) → xs ≡ edges → k < length edges → slice_get edges k ≡ Some (slice_index_or xs k d)
 edge_found xs edges k d same within =
     subst (λ ys. slice_get edges k ≡ Some (slice_index_or ys k d)) (sym same) (slice_get-get_or edges k d within)
+
+-- the slots of an edge
+pub slots_few : (task : Task) (xs : List TaskEdge) (k : ℕ) (d : TaskEdge) → xs ≡ task.edges → k < length task.edges → ((slice_index_or xs k d).left < 64) × ((slice_index_or xs k d).right < 64)
+slots_few task xs k d same within =
+    let limits = All-get_or (EdgeLimits task.slots) task.edges k d within task.limits.each_edge in
+    let most = task.limits.slots_most in
+    subst (λ (ys : List TaskEdge). ((slice_index_or ys k d).left < 64) × ((slice_index_or ys k d).right < 64)) (sym same) (omega (arith, limits.left_slot, most), omega (arith, limits.right_slot, most))

@@ -2,6 +2,7 @@ pub mod Begins
 pub mod Steps
 pub mod Reading
 pub mod Growing
+pub mod Parts
 pub mod Cutting
 pub mod Merging
 pub mod Fronting

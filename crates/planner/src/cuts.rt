@@ -1,6 +1,7 @@
 //! The cuts of the sets of a task's slots, found once.
-ghost use Rattle.std.specs.Prelude.{◌≡◌, ℕ, Bool, List, [], ◌∷◌, ◌++◌, ◌+◌, ◌^◌, ◌<◌, ◌≤◌, IfOk, IsTrue, length};
-ghost use Rattle.planner.specs.Cuts.{merges_of, may_cut as may_be_cut, AddsCuts, AreCuts, ListsCovered};
+ghost use Rattle.std.specs.Prelude.{◌≡◌, ℕ, [], ◌∷◌, ◌++◌, ◌+◌, ◌-◌, ◌^◌, ◌<◌, ◌≤◌, ◌&&◌, bit_and, IfOk, IsTrue, length};
+ghost use Rattle.planner.specs.Cuts.{merges_of, is_covered, AreCuts, IsCut};
+ghost use Rattle.planner.specs.inner.Cutting.{AddsCuts};
 
 use crate::cut::{Cut, Merge};
 use crate::front::{Link, crosses, side};
@@ -14,15 +15,6 @@ pub(crate) struct Cuts {
     pub merges: Vec<Merge>,
     pub starts: Vec<usize>,
     pub covered: Vec<bool>,
-    pub sets: Vec<usize>,
-}
-
-/// The sets that plans can cover: as flags, by set, and as a list, without the empty one.
-#[derive(Drop)]
-struct Covered<'a> {
-    flags: &'a [bool],
-    sets: &'a [usize],
-    ghost listed: { ListsCovered flags.now sets.now },
 }
 
 /// Adds a merge of two sets, where the link has an end in each.
@@ -50,69 +42,80 @@ fn add_merges(merges: &mut Vec<Merge>, links: &[Link], a: usize, b: usize) -> Re
     Ok(())
 }
 
-/// Whether a set may be cut into a and the rest: these are apart, and both can be covered.
-fn may_cut(covered: &[bool], set: usize, a: usize) -> bool
-    requires done { length covered.now ≡ set }
-    requires some { 0 < a }
-    requires less { a < set }
-    ensures { result ≡ may_be_cut covered.now set a }
+/// The largest part of a set that is below another one. From the set itself down to the empty part it gives each part once.
+fn part_below(set: usize, part: usize) -> usize
+    requires within { part ≤ set }
+    requires apart { bit_and part (set - part) ≡ 0 }
+    ensures within { result ≤ set }
+    ensures apart { bit_and result (set - result) ≡ 0 }
+    ensures less { 0 < part → result < part }
+    ensures none_between { (x : ℕ) → result < x → x < part → ¬ (bit_and x (set - x) ≡ 0) }
 {
-    a & (set - a) == 0 && covered[a] && covered[set - a]
+    part.saturating_sub(1) & set
 }
 
-/// Adds the cut of a set into the covered set at a place of their list and the rest, where these are apart, the rest can be
-/// covered too, and some link crosses it.
+/// Whether plans can cover both parts of a cut.
+fn are_covered(covered: &[bool], left: usize, right: usize) -> bool
+    requires left_in { left < length covered.now }
+    requires right_in { right < length covered.now }
+    ensures { result ≡ is_covered covered.now left && is_covered covered.now right }
+{
+    covered[left] && covered[right]
+}
+
+/// Adds the cut of a set whose right part is given, where both parts can be covered and some link crosses it.
 fn add_cut(
     cuts: &mut Vec<Cut>,
     merges: &mut Vec<Merge>,
-    covered: &Covered<'_>,
+    covered: &[bool],
     task: &Task,
     links: &[Link],
     set: usize,
-    place: usize,
+    right: usize,
 ) -> Result<(), AllocError>
     requires set_in { set < length task.now.rows }
-    requires done { length covered.now.flags.now ≡ set }
-    requires listed { place < length covered.now.sets.now }
-    ensures { IfOk result (λ _. AddsCuts task.now links.now covered.now.flags.now set covered.now.sets.now place (place + 1) cuts.old.items merges.old.items cuts.new.items merges.new.items) }
+    requires done { length covered.now ≡ set }
+    requires parts { IsCut set right }
+    ensures { IfOk result (λ _. AddsCuts task.now links.now covered.now set (set - right) (set - right + 1) cuts.old.items merges.old.items cuts.new.items merges.new.items) }
 {
-    let a = covered.sets[place];
-    if !may_cut(covered.flags, set, a) {
+    let left = set - right;
+    if !are_covered(covered, left, right) {
         return Ok(());
     }
-    let b = set - a;
     let from = merges.len();
-    add_merges(merges, links, a, b)?;
+    add_merges(merges, links, left, right)?;
     let to = merges.len();
     if from == to {
         return Ok(());
     }
     cuts.push(Cut {
-        left: a,
-        right: b,
-        hash_price: hash_price(task, a, b),
-        merge_price: merge_price(task, a, b),
+        left,
+        right,
+        hash_price: hash_price(task, left, right),
+        merge_price: merge_price(task, left, right),
         from,
         to,
     })?;
     Ok(())
 }
 
-/// Adds all cuts of a set, by the covered sets below it.
+/// Adds all cuts of a set, by increasing left parts.
 fn add_cuts(
     cuts: &mut Vec<Cut>,
     merges: &mut Vec<Merge>,
-    covered: &Covered<'_>,
+    covered: &[bool],
     task: &Task,
     links: &[Link],
     set: usize,
 ) -> Result<(), AllocError>
     requires set_in { set < length task.now.rows }
-    requires done { length covered.now.flags.now ≡ set }
-    ensures { IfOk result (λ _. AddsCuts task.now links.now covered.now.flags.now set covered.now.sets.now 0 (length covered.now.sets.now) cuts.old.items merges.old.items cuts.new.items merges.new.items) }
+    requires done { length covered.now ≡ set }
+    ensures { IfOk result (λ _. AddsCuts task.now links.now covered.now set 1 set cuts.old.items merges.old.items cuts.new.items merges.new.items) }
 {
-    for place in 0..covered.sets.len() {
-        add_cut(cuts, merges, covered, task, links, set, place)?;
+    let mut right = part_below(set, set);
+    'parts: while right > 0 {
+        add_cut(cuts, merges, covered, task, links, set, right)?;
+        right = part_below(set, right);
     }
     Ok(())
 }
@@ -139,36 +142,19 @@ fn can_cover(set: usize, slots: u8, from: usize, end: usize) -> bool
     from < end || is_slot(set, slots)
 }
 
-/// Puts the next set at the end of the list, where it is covered and isn't empty.
-fn list_set(sets: &mut Vec<usize>, set: usize, covers: bool) -> Result<(), AllocError>
-    ensures { IfOk result (λ _. (covered : List Bool) → length covered ≡ set → ListsCovered covered sets.old.items → ListsCovered (covered ++ covers ∷ []) sets.new.items) }
-{
-    if !covers || set == 0 {
-        return Ok(());
-    }
-    sets.push(set)?;
-    Ok(())
-}
-
 /// Adds the next set.
 fn add_set(made: &mut Cuts, task: &Task, links: &[Link], set: usize) -> Result<(), AllocError>
     requires set_in { set < length task.now.rows }
-    requires listed { ListsCovered made.old.covered.items made.old.sets.items }
     requires done { AreCuts task.now links.now made.old.cuts.items made.old.merges.items made.old.starts.items made.old.covered.items set }
-    ensures cuts { IfOk result (λ _. AreCuts task.now links.now made.new.cuts.items made.new.merges.items made.new.starts.items made.new.covered.items (set + 1)) }
-    ensures sets { IfOk result (λ _. ListsCovered made.new.covered.items made.new.sets.items) }
+    ensures { IfOk result (λ _. AreCuts task.now links.now made.new.cuts.items made.new.merges.items made.new.starts.items made.new.covered.items (set + 1)) }
 {
     let before = made.cuts.len();
-    let covered = Covered {
-        flags: made.covered.as_slice(),
-        sets: made.sets.as_slice(),
-    };
-    add_cuts(&mut made.cuts, &mut made.merges, &covered, task, links, set)?;
+    let covered = made.covered.as_slice();
+    add_cuts(&mut made.cuts, &mut made.merges, covered, task, links, set)?;
     let end = made.cuts.len();
     let covers = can_cover(set, task.slots, before, end);
     made.starts.push(end)?;
     made.covered.push(covers)?;
-    list_set(&mut made.sets, set, covers)?;
     Ok(())
 }
 
@@ -182,7 +168,6 @@ pub(crate) fn cuts_of(alloc: Global, task: &Task, links: &[Link]) -> Result<Cuts
         merges: Vec::new(alloc),
         starts: vec![in alloc; 0]?,
         covered: Vec::new(alloc),
-        sets: Vec::new(alloc),
     };
     for set in 0..task.rows.len() {
         add_set(&mut made, task, links, set)?;

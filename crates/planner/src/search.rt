@@ -1,6 +1,7 @@
 //! The search of least plans, made once a task.
-ghost use Rattle.std.specs.Prelude.{◌≡◌, ◌≤◌, ◌^◌, IfOk, length};
+ghost use Rattle.std.specs.Prelude.{◌≡◌, ◌<◌, ◌≤◌, ◌^◌, IfOk, length};
 ghost use Rattle.adv_base.specs.OfferTables.{HasOffers};
+ghost use Rattle.plan_model.specs.declared.plan.TheConstants.{MOST_COST};
 ghost use Rattle.plan_model.specs.Least.{Least};
 ghost use Rattle.planner.specs.Rows.{IsTable, width};
 
@@ -64,12 +65,13 @@ impl<'a> Search<'a> {
         self.ways.task
     }
 
-    /// What a least plan of the task over these offers costs, in thousandths of a page read. Each slot has an offer. It
-    /// takes no memory.
+    /// What a least plan of the task over these offers costs, in thousandths of a page read: less than 10^21. Each slot has
+    /// an offer. It takes no memory.
     pub fn cost<O: Offers>(&mut self, offers: &O) -> u128
         requires { HasOffers (task_of self.old).slots (O.table offers.now) }
         ensures same { task_of self.new ≡ task_of self.old }
         ensures least { Least (task_of self.old) (O.table offers.now) result }
+        ensures most { result < MOST_COST }
         ensures holds { Holds self.new (O.table offers.now) }
     {
         offers.limits();
@@ -91,6 +93,7 @@ impl<'a> Search<'a> {
         requires held { HoldsBelow self.old (O.table offers.now) slot }
         ensures same { task_of self.new ≡ task_of self.old }
         ensures least { Least (task_of self.old) (O.table offers.now) result }
+        ensures most { result < MOST_COST }
         ensures holds { Holds self.new (O.table offers.now) }
     {
         offers.limits();

@@ -77,7 +77,8 @@ fn one_slot(rt: HostRuntime) {
 }
 
 /// Two tables of 1000 rows: joined on a column that leads an index of the first, in the index's order, which a merge keeps,
-/// or in one that the index doesn't give; and joined on the columns of two indexes.
+/// or in one that the index doesn't give; and joined on the columns of two indexes, also by edges that are written again,
+/// or the other way round.
 #[test]
 fn two_slots(rt: HostRuntime) {
     let alloc = rt.alloc();
@@ -100,12 +101,16 @@ fn two_slots(rt: HostRuntime) {
         &rt, "memory",
     );
     costs(&rt, alloc, &plain, &both, 46000);
-    let tied = [edge(0, 0, 1, 0), edge(0, 0, 1, 0), edge(0, 0, 1, 1)];
-    let twice = task(&rt, alloc, 2, &tied, &rows, None, &[]);
     let other = indexed(alloc, &[30000, 30000], &[(13000, &[0]), (13000, &[1])]).expect(
         &rt, "memory",
     );
-    costs(&rt, alloc, &twice, &other, 46000)
+    let again = [edge(0, 0, 1, 0), edge(0, 0, 1, 0), edge(0, 0, 1, 1)];
+    let turned = [edge(0, 0, 1, 0), edge(1, 0, 0, 0), edge(1, 1, 0, 0)];
+    for tied in [again, turned] {
+        let twice = task(&rt, alloc, 2, &tied, &rows, None, &[]);
+        costs(&rt, alloc, &twice, &both, 46000);
+        costs(&rt, alloc, &twice, &other, 46000)
+    }
 }
 
 /// A chain of four tables whose ends are filtered to one row each, where the best plan that isn't bushy costs 137868; and

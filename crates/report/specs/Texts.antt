@@ -14,7 +14,7 @@ use Rattle.report.specs.declared.done.Done.TheVariants.{Usage, ReadFault, Refuse
 use Rattle.report.specs.declared.done.Explained.{Explained}
 use Rattle.report.specs.declared.done.Prices.{Prices}
 use Rattle.report.specs.declared.done.Refusal.{Refusal}
-use Rattle.report.specs.declared.done.Refusal.TheVariants.{TooLong, Cat, Sql, Bind, NoStatement, BadConf, NotBuilt}
+use Rattle.report.specs.declared.done.Refusal.TheVariants.{TooLong, Cat, Sql, Bind, NoStatement, BadConf, TooManyCombinations, NotBuilt}
 use Rattle.report.specs.declared.done.Role.{Role}
 use Rattle.report.specs.declared.done.Role.TheVariants.{Catalogue, Workload, Third}
 use Rattle.report.specs.declared.done.WordFault.{WordFault}
@@ -83,6 +83,8 @@ refusal words (Sql fault) = sql_fault fault
 refusal words (Bind fault) = bind_fault fault
 refusal words (NoStatement n count) = numbered (codes "no statement ") n ++ numbered (codes " of ") count
 refusal words (BadConf line) = numbered (codes "configuration line ") line
+refusal words (TooManyCombinations n count) =
+    numbered (codes "statement ") n ++ (numbered (codes " has ") count ++ codes " combinations")
 refusal words NotBuilt = codes "not built"
 
 abbrev pub line : List ℕ → List ℕ

@@ -42,6 +42,8 @@ pub enum Refusal {
     NoStatement(u32, u32),
     /// The configuration is at fault in that line.
     BadConf(u64),
+    /// The statement of that number has this many combinations of interesting orders, too many for a cache of its plans.
+    TooManyCombinations(u32, u64),
     /// The command isn't built yet.
     NotBuilt,
 }

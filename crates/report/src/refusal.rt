@@ -126,6 +126,21 @@ fn push_no_statement(
     push_numbered(alloc, out, b" of ", count as u128)
 }
 
+/// Adds how many combinations of interesting orders a statement has.
+fn push_combinations(
+    alloc: Global,
+    out: &mut Vec<u8>,
+    number: u32,
+    count: u64,
+) -> Result<(), AllocError>
+    ensures { OnOk result (out.new.items ≡ out.old.items
+        ++ (numbered (codes "statement ") number ++ (numbered (codes " has ") count ++ codes " combinations"))) }
+{
+    push_numbered(alloc, out, b"statement ", number as u128)?;
+    push_numbered(alloc, out, b" has ", count as u128)?;
+    out.extend_from_slice(b" combinations")
+}
+
 /// Adds a refusal.
 pub(crate) fn push_refusal(
     alloc: Global,
@@ -143,6 +158,9 @@ pub(crate) fn push_refusal(
         Refusal::NoStatement(number, count) => push_no_statement(alloc, out, number, count),
         Refusal::BadConf(line) => {
             push_numbered(alloc, out, b"configuration line ", line as u128)
+        }
+        Refusal::TooManyCombinations(number, count) => {
+            push_combinations(alloc, out, number, count)
         }
         Refusal::NotBuilt => out.extend_from_slice(b"not built"),
     }

@@ -1,5 +1,5 @@
 //! `cost`: the price of a workload over the indexes that exist.
-ghost use Rattle.std.specs.Prelude.{◌≡◌, ◌+◌, ◌≤◌, ◌<◌, ◌∷◌, [], ◌++◌, IfOk, OnOk, All, length, Some, None};
+ghost use Rattle.std.specs.Prelude.{◌≡◌, ◌<◌, IfOk, All, length, Some, None};
 ghost use Rattle.adv_base.specs.Named.{NamesWork};
 ghost use Rattle.plan_model.specs.Totals as totals;
 ghost use Rattle.plan_model.specs.declared.plan.TheConstants.{MOST_COST, MOST_TOTAL};
@@ -10,7 +10,8 @@ ghost use Rattle.cophy_core.specs.commands.Cost as spec;
 
 use crate::planned::plan_block;
 use crate::statements::{block_of, upkeep_of};
-use adv_base::{Config, List, NoMemory, Setting, Statement, Work};
+use crate::tally::Tally;
+use adv_base::{Config, NoMemory, Setting, Statement, Work};
 use report::{Done, Prices};
 use std::alloc::Global;
 
@@ -49,13 +50,6 @@ fn statement_cost(
     Ok(plan + upkeep_of(setting, config, statement))
 }
 
-/// Puts the cost of the next statement at the end.
-fn put(costs: &mut Vec<u128>, cost: u128) -> Result<(), NoMemory>
-    ensures { OnOk result (costs.new.items ≡ costs.old.items ++ cost ∷ []) }
-{
-    costs.push(cost).map_err(|_| NoMemory)
-}
-
 /// The cost of each statement under a configuration, in thousandths of a sequential page read, and the sum of weight times
 /// cost.
 fn prices_of(alloc: Global, setting: &Setting<'_>, config: &Config) -> Result<Prices, NoMemory>
@@ -66,19 +60,13 @@ fn prices_of(alloc: Global, setting: &Setting<'_>, config: &Config) -> Result<Pr
     ensures bound { IfOk result (λ prices. All (λ cost. cost < most_statement_cost) prices.costs) }
     ensures total { IfOk result (λ prices. prices.total < MOST_TOTAL) }
 {
-    let mut costs = Vec::new(alloc);
-    let mut total: u128 = 0;
+    let mut tally = Tally::new(alloc);
     'statements: for at in 0..setting.statements.len() {
         let statement = &setting.statements[at];
         let cost = statement_cost(alloc, setting, config, statement)?;
-        total += statement.weight as u128 * cost;
-        put(&mut costs, cost)?;
+        tally.add(statement, cost)?;
     }
-    Ok(Prices {
-        size: None,
-        costs: List { items: costs },
-        total,
-    })
+    Ok(tally.prices(None))
 }
 
 /// The prices of all statements over the indexes that exist. Each cost is that of a least plan (System R's search, over

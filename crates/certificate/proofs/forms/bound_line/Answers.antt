@@ -1,4 +1,4 @@
-use Rattle.std.proofs.Common.{◌≡◌, ◌∙◌, pos, negsuc, refl, sym, arith, rules}
+use Rattle.std.proofs.Common.{◌∙◌, pos, negsuc, refl, arith, rules}
 use Rattle.std.proofs.lemmas.Int.{to_z_pos, to_z-of_z}
 use mir.Syntax.{w128}
 use Rattle.certificate.proofs.FormLaws.{no-bound, bound-neither, bound-is}

@@ -1,4 +1,4 @@
-use Rattle.std.proofs.Common.{◌≡◌, ℕ, [], length, ap, arith}
+use Rattle.std.proofs.Common.{◌≡◌, length, ap, arith}
 use Rattle.std.proofs.lemmas.Bool.Decides.{nat_tests}
 use Rattle.certificate.proofs.FormLaws.{HasNumbers, numbers-more, config-start, leaves-first, leaves-next, leaves-none, no-config, config-whole}
 use Rattle.certificate.proofs.forms.config_line.Goals as goal

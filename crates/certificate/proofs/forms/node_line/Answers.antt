@@ -1,4 +1,4 @@
-use Rattle.std.proofs.Common.{◌≡◌, ◌∙◌, sym}
+use Rattle.std.proofs.Common.{◌∙◌, sym}
 use Rattle.std.proofs.lemmas.Bool.{false≢true}
 use Rattle.certificate.proofs.NodeLaws.{node-none, node-branch, node-bounded, node-overfull}
 use Rattle.certificate.proofs.forms.node_line.Goals as goal

@@ -1,9 +1,9 @@
-use Rattle.std.proofs.Common.{◌≡◌, ◌∙◌, ℕ, Bool, true, false, List, [], ◌∷◌, ◌++◌, length, sym, ap, subst, refl, arith}
+use Rattle.std.proofs.Common.{◌≡◌, Bool, true, false, [], ◌∷◌, ◌++◌, length, sym, ap, subst, refl, arith}
 use Rattle.std.proofs.lemmas.Bool.Decides.{nat_tests}
 use Rattle.certificate.specs.Certificates.{IsCertificate}
 use Rattle.certificate.specs.inner.Drafts.{DraftFits}
 use Rattle.certificate.specs.inner.Steps.{StepAt, Takes}
-use Rattle.certificate.proofs.ReadLaws.{HasRead, start-fits, cert-is}
+use Rattle.certificate.proofs.ReadLaws.{start-fits, cert-is}
 use Rattle.certificate.proofs.Breaks.{breaks-at, breaks-behind, reads-on}
 use Rattle.certificate.proofs.read.read_cert.Goals as goal
 

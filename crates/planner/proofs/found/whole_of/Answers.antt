@@ -6,9 +6,9 @@ use Rattle.planner.specs.declared.cell.TheConstants.{IMPOSSIBLE}
 use Rattle.planner.specs.Fronts.{asked, listed}
 use Rattle.planner.specs.Cells.{row_of}
 use Rattle.planner.specs.Rows.{width, sets_of, AreRows, IsCapped, IsTable}
-use Rattle.planner.specs.Built.{front_cost, IsPlanFor}
-use Rattle.planner.specs.Shapes.{least_shape}
-use Rattle.planner.proofs.Finding.{full_is, full_in, shape_at, shape_front, shape_possible, whole_valid, whole_costs, whole_least}
+use Rattle.planner.specs.inner.Built.{front_cost, IsPlanFor}
+use Rattle.planner.specs.inner.Shapes.{least_shape}
+use Rattle.planner.proofs.Finding.{full_is, full_in, shape_at, shape_front, shape_possible, whole_valid, whole_costs, whole_least, least_below}
 use Rattle.planner.proofs.Tabling.{table_blanks}
 use Rattle.planner.proofs.found.whole_of.Goals as goal
 
@@ -57,9 +57,11 @@ returns g c =
     let a = subst (λ (x : List Cell). IsPlanFor c.sorts_body-sorts.result task table (asked (listed task) ways.fronts.items shape.front) (c.len-full.result - 1) (front_cost c.sorts_body-sorts.result (row_of (width ways) x (c.len-full.result - 1)) shape.front) c.in_ok-body.body) same c.in_ok-body.ensures in
     let d = subst (λ n. IsPlanFor c.sorts_body-sorts.result task table (asked (listed task) ways.fronts.items shape.front) n (front_cost c.sorts_body-sorts.result (row_of (width ways) cells n) shape.front) c.in_ok-body.body) last.0 a in
     let b = subst (λ (t : Bool). IsPlanFor t task table (asked (listed task) ways.fronts.items shape.front) full (front_cost t row shape.front) c.in_ok-body.body) c.sorts_body-sorts.ensures d in
+    let least = whole_least task table ways.fronts.items row shape s full refl c.in_ok-body.body b in
     record {
       valid = whole_valid task table ways.fronts.items row shape s full refl c.in_ok-body.body b;
       costs = whole_costs task table ways.fronts.items row shape s full refl c.in_ok-body.body b;
       sorts = b.sorts_wanted;
-      least = whole_least task table ways.fronts.items row shape s full refl c.in_ok-body.body b;
+      least = least;
+      most = least_below task table shape.cost c.limits.ensures least;
     }

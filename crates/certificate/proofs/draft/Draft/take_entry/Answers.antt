@@ -1,4 +1,4 @@
-use Rattle.std.proofs.Common.{◌∙◌, sym, refl}
+use Rattle.std.proofs.Common.{◌∙◌, sym}
 use Rattle.std.proofs.lemmas.Bool.{false≢true}
 use Rattle.certificate.proofs.Taken.{body-entry, no-entry}
 use Rattle.certificate.proofs.draft.Draft.take_entry.Goals as goal

@@ -1,4 +1,3 @@
-use Rattle.std.proofs.Common.{refl}
 use Rattle.certificate.proofs.Taken.{body-set}
 use Rattle.certificate.proofs.draft.Draft.take_set.Goals as goal
 

@@ -1,0 +1,85 @@
+-- Theorems that a search over a programme stands on.
+use Rattle.std.specs.Prelude.{◌≡◌, ◌↔◌, ℕ, ◌+◌, ◌^◌, ◌≤◌, true, List, length, Some, slice_get, ℤ, pos, ◌≤ℤ◌, ◌<ℤ◌}
+use Rattle.adv_base.specs.declared.limits.TheConstants.{MOST_CANDIDATES}
+use Rattle.adv_base.specs.declared.setting.Config.{Config}
+use Rattle.adv_base.specs.Configs.{config_pages, IsConfigOf, Fits}
+use Rattle.adv_base.specs.Nodes as nodes
+use Rattle.adv_base.specs.Settings.{TheSetting, KeepsLimits}
+use Rattle.plan_model.specs.Lagrangian.{TheMultipliers, IsLagrangian}
+use Rattle.plan_model.specs.Useful.{IsUseful, AreUseful}
+use Rattle.bip_model.specs.declared.multipliers.Multipliers.{Multipliers}
+use Rattle.bip_model.specs.declared.programme.Programme.{Programme}
+use Rattle.bip_model.specs.Best.{Subproblem, subproblems, AreWorthwhile, NoneCostsLess, IsTight}
+use Rattle.bip_model.specs.Candidates as candidates
+use Rattle.bip_model.specs.Laws.{RentsWithin}
+use Rattle.bip_model.specs.StandsFor.{StandsFor}
+use Rattle.bip_model.specs.Trees.{Tree}
+use Rattle.bip_model.specs.Uses.{multipliers_in, AreMultipliersIn}
+use Rattle.bip_model.specs.Views.{multipliers_of, AreMultipliers}
+
+-- ## What a programme decides
+
+-- the pages of a configuration
+abbrev pub PagesAreDecided : Type 0
+PagesAreDecided =
+    (setting : TheSetting) (programme : Programme) (config : Config) → StandsFor setting programme →
+    config_pages setting.cat setting.shapes config ≡ candidates.pages_of programme config
+
+-- which candidates are open at a node
+abbrev pub OpenIsDecided : Type 0
+OpenIsDecided =
+    (setting : TheSetting) (programme : Programme) (budget : ℕ) (node : nodes.Node) (a : ℕ) → StandsFor setting programme →
+    nodes.is_open setting.cat setting.shapes budget node a ≡ candidates.is_open programme budget node a
+
+-- which are useful, and how many
+abbrev pub UsefulIsDecided : Type 0
+UsefulIsDecided =
+    (setting : TheSetting) (programme : Programme) (budget a : ℕ) → StandsFor setting programme →
+    (candidates.is_useful programme budget a ≡ true) ↔ IsUseful setting budget a
+
+abbrev pub UsefulAreCounted : Type 0
+UsefulAreCounted =
+    (setting : TheSetting) (programme : Programme) (budget : ℕ) → StandsFor setting programme →
+    AreUseful setting budget (candidates.useful_below programme budget (length programme.sizes))
+
+-- multipliers of its grants are multipliers of the setting's uses
+abbrev pub GrantsAreUses : Type 0
+GrantsAreUses =
+    (setting : TheSetting) (programme : Programme) (multipliers : Multipliers) → StandsFor setting programme →
+    multipliers_of programme multipliers ≡ multipliers_in setting multipliers
+
+abbrev pub LimitsAreThose : Type 0
+LimitsAreThose =
+    (setting : TheSetting) (programme : Programme) (multipliers : Multipliers) → StandsFor setting programme →
+    AreMultipliers programme multipliers → AreMultipliersIn setting multipliers
+
+-- ## What trees keep whose branches are on open and useful candidates
+
+-- no Lagrangian value falls below that of the root
+abbrev pub ValuesNeverFall : Type 0
+ValuesNeverFall =
+    (setting : TheSetting) (budget : ℕ) (root : nodes.Node) (tree : Tree) (multipliers : TheMultipliers) (above value : ℤ) (i : ℕ) (s : Subproblem) →
+    RentsWithin multipliers → AreWorthwhile setting budget (subproblems root tree) → slice_get (subproblems root tree) i ≡ Some s →
+    IsLagrangian setting budget root multipliers above → IsLagrangian setting budget s.node multipliers value → above ≤ℤ value
+
+-- what is in fits at every node, where it does at the root
+abbrev pub NodesFit : Type 0
+NodesFit =
+    (setting : TheSetting) (budget : ℕ) (root : nodes.Node) (tree : Tree) (i : ℕ) (s : Subproblem) →
+    AreWorthwhile setting budget (subproblems root tree) → Fits setting.cat setting.shapes root.inside budget →
+    slice_get (subproblems root tree) i ≡ Some s → Fits setting.cat setting.shapes s.node.inside budget
+
+-- a node has a flag for each candidate that there may be
+pub record IsWhole (node : nodes.Node) : Type 0 where
+  pub inside : length node.inside.on ≡ MOST_CANDIDATES
+  pub outside : length node.outside.on ≡ MOST_CANDIDATES
+
+-- A tree with a tight leaf below the cost has at least two nodes fewer than a whole tree over the useful candidates, which
+-- has 2^(useful + 1) - 1.
+abbrev pub TreesStaySmall : Type 0
+TreesStaySmall =
+    (setting : TheSetting) (budget useful : ℕ) (root : nodes.Node) (tree : Tree) (sets : List TheMultipliers) (bound : ℤ) (cost : ℕ) →
+    KeepsLimits setting → AreUseful setting budget useful → IsWhole root → IsConfigOf setting.shapes root.inside →
+    Fits setting.cat setting.shapes root.inside budget → AreWorthwhile setting budget (subproblems root tree) →
+    NoneCostsLess setting budget (subproblems root tree) cost → IsTight setting budget bound sets (subproblems root tree) →
+    bound <ℤ pos cost → length (subproblems root tree) + 3 ≤ 2 ^ (useful + 1)

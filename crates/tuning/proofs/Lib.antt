@@ -1,0 +1,5 @@
+pub mod Reading
+pub mod Limits
+pub mod Parting
+pub mod SlotParts
+pub mod Statements

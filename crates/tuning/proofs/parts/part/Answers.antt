@@ -1,0 +1,83 @@
+use Rattle.std.proofs.Common.{◌≡◌, ℕ, ◌<◌, ◌≤◌, length, All, List, refl, sym, subst, arith}
+use Rattle.adv_base.specs.declared.limits.TheConstants.{MOST_SLOTS}
+use Rattle.plan_model.specs.declared.template.Template.{Template}
+use Rattle.plan_model.specs.Combinations.{Decompose, AreKept}
+use Rattle.plan_model.proofs.Listing.{kept-list-decompose}
+use Rattle.std.proofs.lemmas.Option.{slice_get_within}
+use Rattle.inum_cache.specs.Caches.{orders_of}
+use Rattle.inum_cache.specs.Templates.{AreInOrder}
+use Rattle.bip_model.specs.Limits.Parts.{TemplateLimits}
+use Rattle.bip_model.specs.StandsFor.{SomeAsksNothing}
+use Rattle.tuning.specs.Settings.{the_setting}
+use Rattle.tuning.proofs.Parting.{has-parted}
+use Rattle.tuning.proofs.SlotParts.{asks-nothing, template-limits, slot-part}
+use Rattle.tuning.proofs.parts.part.Goals as goal
+
+pub slot_parts-requires-clause-parted : goal.slot_parts-requires-clause-parted
+slot_parts-requires-clause-parted c = λ s below.
+    let setting = c.args.setting.now in
+    has-parted setting.cat.now c.args.block.now setting.shapes.now c.every_candidate-every.result c.in_ok-offers.offers.slots.items s c.requires.named setting.limits.shapes_most c.every_candidate-every.ensures
+    c.in_ok-offers.ensures.offers_are c.in_ok-offers.ensures.candidates_are (omega (arith, below, c.len.ensures))
+
+pub invariant_of-result : goal.invariant_of-result
+invariant_of-result c =
+    let setting = c.args.setting.now in
+    let block = c.args.block.now in
+    let cache = c.in_ok-cache.cache in
+    let cached = c.in_ok-cache.ensures.cache in
+    let parts = c.in_ok-slots.slots in
+    let slots = c.in_ok-offers.offers.slots.items in
+    let few : length block.slots ≤ MOST_SLOTS = block.limits.slots_most in
+    let some : 1 ≤ length block.slots = block.limits.slots_some in
+    let count : length parts ≡ c.len.result = c.in_ok-slots.ensures.count in
+    let has = λ (s : ℕ) (below : s < c.len.result).
+    has-parted setting.cat.now block setting.shapes.now c.every_candidate-every.result slots s c.requires.named setting.limits.shapes_most c.every_candidate-every.ensures
+    c.in_ok-offers.ensures.offers_are c.in_ok-offers.ensures.candidates_are (omega (arith, below, c.len.ensures)) in
+    let counted : c.len.result ≡ length cache.choices.orders = omega (arith, c.len.ensures, cached.task_is.slots_are, cached.cache_is.slots) in
+    record {
+      limits =
+          record {
+            statement_least = c.requires.number_least;
+            statement_most = c.requires.number_most;
+            weight_least = c.requires.weight_least;
+            weight_most = c.requires.weight_most;
+            slots_some = omega (arith, count, c.len.ensures, some);
+            slots_most = omega (arith, count, c.len.ensures, few);
+            templates_limits =
+                subst (λ (templates : List Template). All (TemplateLimits parts) templates) (sym c.in_ok-templates.ensures)
+                (template-limits cache slots c.len.result parts c.in_ok-slots.ensures has counted);
+          };
+    }
+
+pub returns-clause-part_is : goal.returns-clause-part_is
+returns-clause-part_is c =
+    let setting = c.args.setting.now in
+    let block = c.args.block.now in
+    let cache = c.in_ok-cache.cache in
+    let cached = c.in_ok-cache.ensures.cache in
+    let task = cached.task in
+    let slots = c.in_ok-offers.offers.slots.items in
+    record {
+      statement_is = refl;
+      weight_is = refl;
+      task = task;
+      task_is = cached.task_is;
+      decompose = subst (Decompose task) (sym c.in_ok-templates.ensures) (kept-list-decompose task cache.templates cached.cache_is.kept);
+      some_plan = subst SomeAsksNothing (sym c.in_ok-templates.ensures) (asks-nothing task cache cached.cache_is);
+      slots_count = omega (arith, c.in_ok-slots.ensures.count, c.len.ensures);
+      slots_are = λ s slot own found own_found.
+          let within = slice_get_within block.slots s slot found in
+          let below : s < task.slots = omega (arith, within, cached.task_is.slots_are) in
+          slot-part (the_setting setting) block task c.every_candidate-every.result slots (orders_of cache s) s slot own c.requires.named c.every_candidate-every.ensures
+          c.in_ok-offers.ensures.offers_are c.in_ok-offers.ensures.candidates_are found (cached.cache_is.orders s below) (c.in_ok-slots.ensures.each s own own_found);
+    }
+
+pub returns-clause-kept : goal.returns-clause-kept
+returns-clause-kept c =
+    let cached = c.in_ok-cache.ensures.cache in
+    record {
+      task = cached.task;
+      task_is = cached.task_is;
+      kept = subst (AreKept cached.task) (sym c.in_ok-templates.ensures) cached.cache_is.kept;
+      in_order = subst AreInOrder (sym c.in_ok-templates.ensures) cached.cache_is.in_order;
+    }

@@ -1,0 +1,5 @@
+use Rattle.tuning.specs.inner.Parts as inner
+use Rattle.tuning.proofs.parts.slot_parts.Given as goal
+
+abbrev pub invariant-loop-slot : goal.invariant-loop-slot
+invariant-loop-slot l = inner.ArePriced l.offers.slots.items l.cache l.slot l.parts.items

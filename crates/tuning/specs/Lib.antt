@@ -1,0 +1,4 @@
+pub mod Settings
+pub mod Refusals
+pub mod Kept
+pub mod inner
