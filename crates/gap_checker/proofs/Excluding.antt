@@ -1,0 +1,113 @@
+-- A fault and a proof exclude each other.
+use Rattle.std.proofs.Common.{◌≡◌, ◌∙◌, ℕ, zero, suc, ◌+◌, ◌-◌, ◌<◌, ◌≤◌, ℤ, Bool, true, false, List, [], ◌∷◌, ◌++◌, length, get_or, map, refl, sym, ap, subst, arith}
+use Rattle.std.specs.Prelude.{All, Some, None, slice_get, option_map, ◌≤ℤ◌, ◌<ℤ◌}
+use Rattle.std.specs.List.{AllByRecursion}
+use Rattle.std.proofs.lemmas.Option.{slice_get-map, slice_get-get_or, get_or_from_slice_get, slice_get_within}
+use Rattle.std.proofs.lemmas.Int.{ints}
+use Rattle.std.proofs.lemmas.List.Elements.{All-head}
+use Rattle.adv_base.specs.declared.setting.Config.{Config}
+use Rattle.adv_base.specs.Configs.{has_candidate}
+use Rattle.adv_base.specs.Nodes as nodes
+use Rattle.adv_base.specs.Settings.{TheSetting, KeepsLimits}
+use Rattle.plan_model.proofs.Unique.{one-total, one-lagrangian}
+use Rattle.bip_model.specs.declared.answer.Node.{Node}
+use Rattle.bip_model.specs.declared.answer.Node.TheVariants.{Branch, Bounded, Overfull}
+use Rattle.bip_model.specs.Laws.{BoundsAll}
+use Rattle.bip_model.specs.Proves.{free_node, RentsUses}
+use Rattle.bip_model.specs.Trees.{with_candidate, preorder, set_at}
+use Rattle.bip_model.proofs.Showing.{proved-bound, below-free}
+use Rattle.certificate.specs.declared.cert.Cert.{Cert}
+use Rattle.certificate.specs.declared.cert.SparseSet.{SparseSet}
+use Rattle.certificate.specs.Limits.{CertLimits, SetLimits, EntriesFrom}
+use Rattle.plan_model.specs.Lagrangian.{TheMultipliers, IsLagrangian}
+use Rattle.gap_checker.specs.declared.fault.CheckFault.{CheckFault}
+use Rattle.gap_checker.specs.declared.fault.CheckFault.TheVariants as faults
+use Rattle.gap_checker.specs.Faults.{IsFault, IsNodeAt, IsBadConfig, IsBadPair}
+use Rattle.gap_checker.specs.Views.{config_with, config_of, sets_of, multipliers_of, rent_in, IsProof}
+use Rattle.gap_checker.specs.Visits.{Visit, visits, IsRight, IsRightAt}
+use Rattle.gap_checker.proofs.Naming.{entry-rent}
+use Rattle.gap_checker.proofs.Numbers.{has-flag, number-has, config-count}
+use Rattle.gap_checker.proofs.Visiting.{shown-right}
+
+-- ## Nodes
+
+behind-nothing : (xs : List Node) → xs ≡ xs ++ []
+behind-nothing [] = refl
+behind-nothing (x ∷ xs) = ap (λ (ys : List Node). x ∷ ys) (behind-nothing xs)
+
+some-there : {X : Type 0} (P : X → Type 0) (before : List X) (x : X) (rest : List X) → All P (before ++ x ∷ rest) → P x
+some-there P [] x rest all = All-head P x rest all
+some-there P (y ∷ before) x rest all = some-there P before x rest (λ k d within. all (suc k) d (omega (arith, within)))
+
+-- each node of a proof's tree is right
+right-there : (setting : TheSetting) (cert : Cert) (number : ℕ) (at : nodes.Node) (node : Node) → IsProof setting cert → IsNodeAt setting cert number at node → IsRightAt setting cert.budget cert.bound (sets_of cert) at node
+right-there setting cert number at node proof is =
+    let P : Visit → Type 0 = IsRight setting cert.budget cert.bound (sets_of cert) in
+    let all = shown-right setting cert.budget cert.bound (sets_of cert) free_node [] proof.shown.tree [] proof.shown.shows (λ k d within. absurd (omega (arith, within))) in
+    let moved : All P (visits (free_node ∷ []) cert.tree) = subst (λ (list : List Node). All P (visits (free_node ∷ []) list)) (sym (behind-nothing (preorder proof.shown.tree)) ∙ sym proof.shown.list_is) all in
+    some-there P is.before (record { at = at; node = node }) is.rest (subst (All P) is.parts moved)
+
+some-set : (x y : TheMultipliers) → Some x ≡ Some y → x ≡ y
+some-set x y e = cc
+
+not-below : (bound value : ℤ) → bound ≤ℤ value → value <ℤ bound → ⊥
+not-below bound value least below = omega (arith, ints, least, below)
+
+-- ## Configurations and pairs
+
+bad-number : (setting : TheSetting) (cert : Cert) (number : ℕ) → CertLimits cert → IsProof setting cert → IsBadConfig setting cert number → ⊥
+bad-number setting cert number limits proof bad =
+    let has = number-has 1 cert.config bad.place number (omega arith) limits.config bad.found in
+    let place : suc (number - 1) ≡ number = omega (arith, bad.past) in
+    let on : has_candidate (config_of cert) (suc (number - 1)) ≡ true = ap (has_candidate (config_of cert)) place ∙ has.0 in
+    let flag = has-flag (config_of cert) (number - 1) on (omega (arith, config-count cert.config, has.1, bad.past)) in
+    omega (arith, proof.members (number - 1) flag, bad.past)
+
+bad-pair : (setting : TheSetting) (cert : Cert) (number place : ℕ) → ((j : ℕ) (set : SparseSet) → slice_get cert.sets j ≡ Some set → EntriesFrom 0 set.entries) → IsProof setting cert → IsBadPair setting cert number place → ⊥
+bad-pair setting cert number place rise proof bad =
+    let within = slice_get_within cert.sets (number - 1) bad.set bad.set_found in
+    let set : slice_get (sets_of cert) (number - 1) ≡ Some (multipliers_of bad.set) = slice_get-map multipliers_of cert.sets (number - 1) ∙ ap (option_map multipliers_of) bad.set_found in
+    let inside = slice_get_within (sets_of cert) (number - 1) (multipliers_of bad.set) set in
+    let uses = proof.rents (number - 1) (multipliers_of bad.set) inside in
+    let same : get_or (sets_of cert) (number - 1) (multipliers_of bad.set) ≡ multipliers_of bad.set = get_or_from_slice_get (sets_of cert) (number - 1) (multipliers_of bad.set) (multipliers_of bad.set) set in
+    let named : RentsUses setting (multipliers_of bad.set) = subst (RentsUses setting) same uses in
+    bad.none (named bad.entry.statement (bad.entry.slot - 1) bad.entry.candidate (entry-rent bad.set.entries 0 (place - 1) bad.entry (rise (number - 1) bad.set bad.set_found) bad.entry_found))
+
+-- what proves is refused only for want of memory
+pub excluded : (setting : TheSetting) (cert : Cert) (fault : CheckFault) → CertLimits cert → ((j : ℕ) (set : SparseSet) → slice_get cert.sets j ≡ Some set → EntriesFrom 0 set.entries) →
+    IsProof setting cert → IsFault setting cert fault → fault ≡ faults.Memory
+excluded setting cert faults.Memory limits rise proof is = refl
+excluded setting cert (faults.BadConfig n) limits rise proof is = absurd (bad-number setting cert n limits proof is)
+excluded setting cert (faults.OverBudget size budget) limits rise proof is = absurd (omega (arith, is.over, is.size_is, proof.fits))
+excluded setting cert (faults.CostDiffers claimed computed) limits rise proof is =
+    absurd (is.differ (is.claimed_is ∙ one-total setting.cat setting.shapes (config_of cert) setting.statements cert.cost computed proof.cost_is is.computed_is))
+excluded setting cert (faults.BadPair set entry) limits rise proof is = absurd (bad-pair setting cert set entry rise proof is)
+excluded setting cert (faults.BadBranch n) limits rise proof is = absurd (is.wrong (right-there setting cert n is.at (Branch is.candidate) proof is.node_is))
+excluded setting cert (faults.LeafBelow n computed claimed) limits rise proof is =
+    let right = right-there setting cert n is.at (Bounded is.set) proof is.node_is in
+    let same : right.multipliers ≡ is.multipliers = some-set right.multipliers is.multipliers (sym right.found ∙ is.found) in
+    let value : right.value ≡ computed = one-lagrangian setting cert.budget is.at is.multipliers right.value computed (subst (λ (m : TheMultipliers). IsLagrangian setting cert.budget is.at m right.value) same right.value_is) is.value_is in
+    absurd (not-below claimed computed (subst (λ (v : ℤ). claimed ≤ℤ v) value (subst (λ (b : ℤ). b ≤ℤ right.value) (sym is.claimed_is) right.at_least)) is.below)
+excluded setting cert (faults.NotInfeasible n size) limits rise proof is =
+    let right = right-there setting cert n is.at Overfull proof is.node_is in
+    absurd (omega (arith, right, is.size_is, is.fits))
+
+-- the entries of a certificate's sets are in order
+pub sets-rise : (sets : List SparseSet) → AllByRecursion SetLimits sets → (j : ℕ) (set : SparseSet) → slice_get sets j ≡ Some set → EntriesFrom 0 set.entries
+sets-rise [] limits j set there = absurd (none j there)
+  where
+    none : (j : ℕ) → None ≡ Some set → ⊥
+    none j e = cc
+sets-rise (first ∷ sets) limits zero set there = subst (λ (s : SparseSet). EntriesFrom 0 s.entries) (is first set there) limits.0.entries
+  where
+    is : (x y : SparseSet) → Some x ≡ Some y → x ≡ y
+    is x y e = cc
+sets-rise (first ∷ sets) limits (suc j) set there = sets-rise sets limits.1 j set there
+
+-- a proof bounds every fitting configuration
+pub bounds-all : (setting : TheSetting) (cert : Cert) → KeepsLimits setting → IsProof setting cert → BoundsAll setting cert.budget cert.cost cert.bound
+bounds-all setting cert limits proof =
+    record {
+      all = λ other sum is fits sum_is. proved-bound setting cert.budget free_node (config_of cert) cert.cost cert.bound (sets_of cert) cert.tree other sum limits proof is fits (below-free other) sum_is;
+      own = proved-bound setting cert.budget free_node (config_of cert) cert.cost cert.bound (sets_of cert) cert.tree (config_of cert) cert.cost limits proof proof.members proof.fits (below-free (config_of cert)) proof.cost_is;
+    }

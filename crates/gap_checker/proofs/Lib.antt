@@ -1,0 +1,11 @@
+pub mod Lists
+pub mod Entries
+pub mod Numbers
+pub mod Naming
+pub mod Shows
+pub mod Adding
+pub mod Valuing
+pub mod Visiting
+pub mod Walking
+pub mod Excluding
+pub mod Judging

@@ -1,0 +1,62 @@
+use Rattle.std.proofs.Common.{◌≡◌, ◌∙◌, ◌<◌, length, refl, sym, ap, subst, arith, rules}
+use Rattle.std.specs.Prelude.{Some, slice_get, ℤ, ◌≤ℤ◌, ◌<ℤ◌}
+use Rattle.std.proofs.lemmas.Int.{to_z-of_z}
+use mir.Syntax.{w128}
+use Rattle.bip_model.specs.StandsFor.{AreEach}
+use Rattle.gap_checker.specs.declared.multipliers.Multipliers.{Multipliers}
+use Rattle.gap_checker.specs.inner.Figures.{setting_of}
+use Rattle.gap_checker.specs.inner.Judges as judges
+use Rattle.gap_checker.specs.inner.Nodes.{node_of}
+use Rattle.gap_checker.specs.inner.Sums.{the_multipliers}
+use Rattle.gap_checker.proofs.Judging.{leaf-set, sets-count, below-true, below-false}
+use Rattle.gap_checker.proofs.judge.Judge.judge_leaf.Goals as goal
+
+pub kept_set_at-multipliers-requires : goal.kept_set_at-multipliers-requires
+kept_set_at-multipliers-requires c =
+    omega (arith, sets-count (setting_of c.args.self.now.figures.now) c.args.cert.now c.args.self.now.sets.items c.requires.judge.sets_are, ap length c.as_slice.ensures.value, c.requires.set_in)
+
+pub lagrangian_value-requires-clause-earned : goal.lagrangian_value-requires-clause-earned
+lagrangian_value-requires-clause-earned c =
+    (leaf-set (setting_of c.args.self.now.figures.now) c.args.cert.now c.args.self.now.sets.items c.args.set c.kept_set_at-multipliers.result.now c.requires.judge.sets_are
+    (ap (λ (sets : _). slice_get sets c.args.set) (sym c.as_slice.ensures.value) ∙ c.kept_set_at-multipliers.ensures)).earned
+
+pub lagrangian_value-requires-clause-price : goal.lagrangian_value-requires-clause-price
+lagrangian_value-requires-clause-price c =
+    (leaf-set (setting_of c.args.self.now.figures.now) c.args.cert.now c.args.self.now.sets.items c.args.set c.kept_set_at-multipliers.result.now c.requires.judge.sets_are
+    (ap (λ (sets : _). slice_get sets c.args.set) (sym c.as_slice.ensures.value) ∙ c.kept_set_at-multipliers.ensures)).mu_most
+
+pub lagrangian_value-requires-clause-rise : goal.lagrangian_value-requires-clause-rise
+lagrangian_value-requires-clause-rise c =
+    (leaf-set (setting_of c.args.self.now.figures.now) c.args.cert.now c.args.self.now.sets.items c.args.set c.kept_set_at-multipliers.result.now c.requires.judge.sets_are
+    (ap (λ (sets : _). slice_get sets c.args.set) (sym c.as_slice.ensures.value) ∙ c.kept_set_at-multipliers.ensures)).rise
+
+pub returns-then-value-self-clause-wrong : goal.returns-then-value-self-clause-wrong
+returns-then-value-self-clause-wrong c =
+    let leaf = leaf-set (setting_of c.args.self.now.figures.now) c.args.cert.now c.args.self.now.sets.items c.args.set c.kept_set_at-multipliers.result.now c.requires.judge.sets_are
+    (ap (λ (sets : _). slice_get sets c.args.set) (sym c.as_slice.ensures.value) ∙ c.kept_set_at-multipliers.ensures) in
+    let value = to_z-of_z w128 c.in_ok-value.value (search rules) in
+    let bound = to_z-of_z w128 c.args.self.now.bound (search rules) in
+    rw (value, bound, c.requires.judge.bound_is) (
+      refl,
+      record {
+        set = c.args.set;
+        node_is = refl;
+        multipliers = the_multipliers c.kept_set_at-multipliers.result.now.rents;
+        found = leaf.found;
+        value_is = rw (← c.requires.judge.budget_is) c.in_ok-value.ensures;
+        claimed_is = refl;
+        below = rw (← c.requires.judge.bound_is) (below-true c.in_ok-value.value c.args.self.now.bound (rw (value, bound) at c.if-value-self.true));
+      },
+    )
+
+pub returns-clause-right : goal.returns-clause-right
+returns-clause-right c =
+    let leaf = leaf-set (setting_of c.args.self.now.figures.now) c.args.cert.now c.args.self.now.sets.items c.args.set c.kept_set_at-multipliers.result.now c.requires.judge.sets_are
+    (ap (λ (sets : _). slice_get sets c.args.set) (sym c.as_slice.ensures.value) ∙ c.kept_set_at-multipliers.ensures) in
+    record {
+      multipliers = the_multipliers c.kept_set_at-multipliers.result.now.rents;
+      found = leaf.found;
+      value = c.in_ok-value.value;
+      value_is = rw (← c.requires.judge.budget_is) c.in_ok-value.ensures;
+      at_least = rw (← c.requires.judge.bound_is) (below-false c.in_ok-value.value c.args.self.now.bound (rw (to_z-of_z w128 c.in_ok-value.value (search rules), to_z-of_z w128 c.args.self.now.bound (search rules)) at c.if-value-self.false));
+    }

@@ -1,0 +1,5 @@
+pub mod Views
+pub mod Visits
+pub mod Faults
+pub mod Laws
+pub mod inner

@@ -1,0 +1,13 @@
+-- What retells the checker's steps.
+pub mod Parts
+pub mod Rows
+pub mod Nodes
+pub mod Sums
+pub mod Figures
+pub mod Charges
+pub mod Earnings
+pub mod Uses
+pub mod Claims
+pub mod Judges
+pub mod Walks
+pub mod Searches

@@ -1,0 +1,117 @@
+//! Sets of multipliers with what each candidate earns under them.
+ghost use Rattle.std.specs.Prelude.{◌≡◌, ◌+◌, ◌*◌, ◌<◌, ◌≤◌, ◌==◌, All, IfOk, if◌then◌else◌, length};
+ghost use Rattle.std.specs.Option.{option_map_or};
+ghost use Rattle.adv_base.specs.declared.limits.TheConstants.{MOST_RENT, MOST_SLOTS, MOST_STATEMENTS, MOST_WEIGHT};
+ghost use Rattle.certificate.specs.Limits.{EntriesFrom};
+ghost use Rattle.plan_model.specs.Lagrangian as lagrangian;
+ghost use Rattle.plan_model.specs.Totals as totals;
+ghost use Rattle.gap_checker.specs.Views as views;
+ghost use Rattle.gap_checker.specs.inner.Earnings as earning;
+
+use crate::part::block_of;
+use crate::rents::Rents;
+use adv_base::{NoMemory, Setting, Slot, Statement};
+use std::alloc::Global;
+
+/// A set of multipliers, and for each candidate the sum of weight times rent over its uses.
+#[derive(Drop)]
+pub(crate) struct Multipliers<'a> {
+    pub rents: Rents<'a>,
+    pub earned: Vec<u128>,
+}
+
+/// A rent where a slot is on the candidate's table, and else 0.
+fn slot_rent(
+    rents: &Rents<'_>,
+    statement: u16,
+    number: u8,
+    slot: &Slot,
+    table: u16,
+    candidate: u16,
+) -> u64
+    requires slot_in { number < MOST_SLOTS }
+    requires rise { EntriesFrom 0 rents.now.entries.now }
+    ensures exact { result ≡ (if slot.now.table == table then views.rent_in rents.now.entries.now statement number candidate else 0) }
+    ensures most { result ≤ MOST_RENT }
+{
+    if slot.table == table {
+        rents.rent(statement, number, candidate)
+    } else {
+        0
+    }
+}
+
+/// The rents of a candidate's uses at the slots of a block.
+fn slot_rents(rents: &Rents<'_>, statement: u16, slots: &[Slot], table: u16, candidate: u16) -> u128
+    requires few { length slots.now ≤ MOST_SLOTS }
+    requires rise { EntriesFrom 0 rents.now.entries.now }
+    ensures exact { result ≡ lagrangian.slot_rents (λ s. views.rent_in rents.now.entries.now statement s candidate) table 0 slots.now }
+    ensures most { result ≤ MOST_SLOTS * MOST_RENT }
+{
+    let mut sum: u128 = 0;
+    for s in 0..slots.len() {
+        sum += slot_rent(rents, statement, s as u8, &slots[s], table, candidate) as u128;
+    }
+    sum
+}
+
+/// Those at a statement's; an INSERT has none.
+fn statement_rents(
+    rents: &Rents<'_>,
+    number: u16,
+    statement: &Statement,
+    table: u16,
+    candidate: u16,
+) -> u128
+    requires { EntriesFrom 0 rents.now.entries.now }
+    ensures exact { result ≡ option_map_or (λ block. lagrangian.slot_rents (λ s. views.rent_in rents.now.entries.now number s candidate) table 0 block.slots) (totals.block_of statement.now.work) 0 }
+    ensures most { result ≤ MOST_SLOTS * MOST_RENT }
+{
+    match block_of(&statement.work) {
+        Some(block) => slot_rents(rents, number, block.slots.as_slice(), table, candidate),
+        None => 0,
+    }
+}
+
+/// The sum of weight times rent over the uses of a candidate on a table.
+fn weighted_rents(setting: &Setting<'_>, rents: &Rents<'_>, table: u16, candidate: u16) -> u128
+    requires { EntriesFrom 0 rents.now.entries.now }
+    ensures exact { result ≡ lagrangian.weighted_rents (λ q s. views.rent_in rents.now.entries.now q s candidate) table 1 setting.now.statements.now }
+    ensures most { result ≤ MOST_STATEMENTS * (MOST_WEIGHT * (MOST_SLOTS * MOST_RENT)) }
+{
+    let mut sum: u128 = 0;
+    for i in 0..setting.statements.len() {
+        let statement = &setting.statements[i];
+        let own = statement_rents(rents, i as u16 + 1, statement, table, candidate);
+        sum += statement.weight as u128 * own;
+    }
+    sum
+}
+
+/// The same of each candidate.
+fn earned(alloc: Global, setting: &Setting<'_>, rents: &Rents<'_>) -> Result<Vec<u128>, NoMemory>
+    requires { EntriesFrom 0 rents.now.entries.now }
+    ensures exact { IfOk result (λ list. list.items ≡ earning.earned_from (earning.rent_of rents.now) setting.now.statements.now 1 setting.now.shapes.now) }
+    ensures most { IfOk result (λ list. All (λ sum. sum ≤ MOST_STATEMENTS * (MOST_WEIGHT * (MOST_SLOTS * MOST_RENT))) list.items) }
+{
+    let mut list = Vec::new(alloc);
+    for a in 0..setting.shapes.len() {
+        let shape = &setting.shapes[a];
+        list.push(weighted_rents(setting, rents, shape.table, a as u16 + 1))?;
+    }
+    Ok(list)
+}
+
+/// A set with what each candidate earns.
+pub(crate) fn multipliers_of<'a>(
+    alloc: Global,
+    setting: &Setting<'_>,
+    rents: Rents<'a>,
+) -> Result<Multipliers<'a>, NoMemory>
+    requires { EntriesFrom 0 rents.entries.now }
+    ensures rents_are { IfOk result (λ set. (set.rents.mu ≡ rents.entry.mu) × (set.rents.entries.now ≡ rents.entry.entries.now)) }
+    ensures earned_are { IfOk result (λ set. earning.AreEarned (views.the_setting setting.now) set) }
+{
+    let earned = earned(alloc, setting, &rents)?;
+    Ok(Multipliers { rents, earned })
+}
