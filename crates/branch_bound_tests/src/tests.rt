@@ -111,7 +111,7 @@ fn judge_all(rt: &impl Abort, alloc: Global, programme: &Programme, budget: u64)
 fn as_by_trying_all(rt: HostRuntime) {
     let alloc = rt.alloc();
     let mut draws = Draws::new(2007);
-    for _ in 0..3 {
+    for _ in 0..16 {
         let programme = drawn(&rt, alloc, &mut draws);
         judge_all(&rt, alloc, &programme, 0);
         judge_all(&rt, alloc, &programme, 8);
