@@ -138,5 +138,7 @@ work_told command files words inputs setting left_over (answers.Priced prices) t
     record { inputs = inputs; setting = setting; left_over = left_over; inputs_are = are; setting_is = is; holds = e }
 work_told command files words inputs setting left_over (answers.Listed found) text are is h e =
     record { inputs = inputs; setting = setting; left_over = left_over; inputs_are = are; setting_is = is; holds = e }
+work_told command files words inputs setting left_over (answers.Advised advice) text are is h e =
+    record { inputs = inputs; setting = setting; left_over = left_over; inputs_are = are; setting_is = is; holds = e }
 work_told command files words inputs setting left_over (answers.Explained explained) text are is h e = e
 work_told command files words inputs setting left_over done text are is h e = e
