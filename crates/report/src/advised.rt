@@ -146,7 +146,13 @@ fn push_advice(
     let answer = &advice.answer;
     let left = gap_of(answer.cost, answer.bound);
     let size = config_pages(setting.cat, setting.shapes, &answer.config);
-    push_proposal(alloc, out, advice.budget, setting.shapes.len(), advice.left_over)?;
+    push_proposal(
+        alloc,
+        out,
+        advice.budget,
+        setting.shapes.len(),
+        advice.left_over,
+    )?;
     push_picks(alloc, out, setting.cat, &answer.config, setting.shapes)?;
     push_worth(alloc, out, size, answer.cost, answer.bound)?;
     push_search(alloc, out, answer.tree.len(), advice.nodes, left)
