@@ -7,8 +7,6 @@ mod mem_sink;
 mod shelf;
 mod sink;
 mod system;
-#[cfg(test)]
-mod tests;
 mod whole;
 
 pub use mem_shelf::MemShelf;

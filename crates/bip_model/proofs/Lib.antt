@@ -15,3 +15,4 @@ pub mod Descending
 pub mod Counting
 pub mod Exploring
 pub mod Sharing
+pub mod Places

@@ -1,10 +1,13 @@
 //! Certificates that are read, and texts that no certificate has, each with the line at which it breaks, counted by hand.
+mod made;
+mod written;
+
 use bip_model::Node;
 use certificate::{CertFault, read_cert};
 use std::test::Fail;
 
 /// A certificate of the knapsack of two indexes, in eleven lines.
-const CERTK: &str =
+pub const CERTK: &str =
     "cophy certificate 1\nbudget 4\nconfig 2\ncost 954000\nbound 954000\nsets 0\ntree 3\nB 1\nL 0\nL 0\nend\n";
 
 /// What comes before the lines of two sets.

@@ -9,6 +9,3 @@ mod columns;
 mod orders;
 
 pub use orders::{combinations, slot_orders};
-
-#[cfg(test)]
-mod tests;

@@ -6,20 +6,8 @@ use Rattle.std.proofs.lemmas.Bool.Decides.{nat_tests}
 use Rattle.adv_base.specs.declared.workload.parts.Item.{Item}
 use Rattle.adv_base.specs.declared.workload.parts.Item.TheVariants.{Up, Down, Made}
 use Rattle.adv_base.specs.Items.{Order, BeginsWith, is_same_item}
+use Rattle.adv_base.proofs.Begins.{begins_nil, begins_self, begins_trans}
 use Rattle.planner.specs.Fronts.{first_item, longer_front}
-
-pub begins_nil : (o : Order) → BeginsWith o []
-begins_nil o = refl
-
-pub begins_length : (o f : Order) → BeginsWith o f → length f ≤ length o
-begins_length o f h =
-    let e : length (take (length f) o) ≡ length f = ap length h in
-    omega (arith, e, length-take (length f) o)
-
-pub begins_trans : (o g f : Order) → BeginsWith o g → BeginsWith g f → BeginsWith o f
-begins_trans o g f og gf =
-    let le : length f ≤ length g = begins_length g f gf in
-    sym (take-take (length f) (length g) o le) ∙ ap (take (length f)) og ∙ gf
 
 pub same_item : (x y : Item) → is_same_item x y ≡ true → x ≡ y
 same_item (Up s c) (Up t d) h =
@@ -89,10 +77,6 @@ longer_cases order o x f (Some y) (Some z) ex ef ox of' =
 pub longer_serves : (order : ℕ → Order) (o : Order) (x f : ℕ) → BeginsWith o (order x) → BeginsWith o (order f) → (g : ℕ) × (longer_front (first_item (order x)) (first_item (order f)) x f ≡ Some g) × BeginsWith o (order g)
 longer_serves order o x f ox of' =
     longer_cases order o x f (first_item (order x)) (first_item (order f)) refl refl ox of'
-
-pub begins_self : (o : Order) → BeginsWith o o
-begins_self [] = refl
-begins_self (x ∷ xs) = ap (λ t. x ∷ t) (begins_self xs)
 
 longer_asks_both : (order : ℕ → Order) (x f g : ℕ) (y z : Item) (b : Bool) → is_same_item y z ≡ b → first_item (order x) ≡ Some y → first_item (order f) ≡ Some z → IsShort (order x) → cond b (Some f) None ≡ Some g → BeginsWith (order g) (order x) × BeginsWith (order g) (order f)
 longer_asks_both order x f g y z true same ex ef short e =

@@ -9,7 +9,7 @@ use Rattle.plan_model.specs.declared.plan.Plan.{Plan}
 use Rattle.plan_model.specs.declared.plan.Plan.TheVariants.{Leaf, Sort', Merge', Hash'}
 use Rattle.plan_model.specs.declared.task.Task.{Task}
 use Rattle.plan_model.specs.Plans.{IsValid, Merges, covers, crosses, delivers, is_column_of, side_need}
-use Rattle.plan_model.specs.Costs.{rows_in, sort_cost}
+use Rattle.plan_model.specs.Costs.{rows_in, sort_cost, merge_of, hash_of}
 use Rattle.adv_base.specs.declared.workload.parts.Item.{Item}
 use Rattle.planner.specs.declared.front.Front.{Front}
 use Rattle.planner.specs.declared.front.Front.TheVariants.{Any, Listed, Need}
@@ -18,11 +18,12 @@ use Rattle.planner.specs.declared.ways.Ways.{Ways}
 use Rattle.planner.specs.Sorts.{IsNeeded, IsWantedList}
 use Rattle.planner.specs.Fronts.{asked, first_item, front_order, is_need, listed, needs_item, AreNeeded}
 use Rattle.planner.specs.Cells.{cell_at, cost_at, any_at}
-use Rattle.planner.specs.Cuts.{IsCut, merge_price, hash_price}
+use Rattle.planner.specs.Cuts.{IsCut}
 use Rattle.planner.specs.Choices.{IsRead, IsMerge, IsHash, IsSorting}
-use Rattle.planner.specs.Built.{IsPlanFor, IsSortOf, IsMergeOf, IsHashOf, is_sorted, front_cost}
+use Rattle.planner.specs.inner.Built.{IsPlanFor, IsSortOf, IsMergeOf, IsHashOf, is_sorted, front_cost}
 use Rattle.planner.specs.Rows.{NoneLess}
-use Rattle.planner.proofs.Begins.{begins_self, begins_trans, same_item}
+use Rattle.planner.proofs.Begins.{same_item}
+use Rattle.adv_base.proofs.Begins.{begins_self, begins_trans}
 
 pub read_built : (sorts : Bool) (task : Task) (table : OfferTable) (order : Order) (set cost slot offer : ℕ) → IsRead task table order set cost slot offer → IsPlanFor sorts task table order set cost (Leaf slot offer)
 read_built sorts task table order set cost slot offer h =
@@ -62,7 +63,7 @@ merge_built sorts task table list fronts left right set a f cost edge g h l r (M
       right_begins = begins_trans (delivers table r) (asked list fronts h) (side_need m.merges.edge (set - a)) pr.begins m.merges.right_begins;
     } in
     let merges : Merges task edge (covers l) (covers r) (delivers table l) (delivers table r) = subst (λ s. Merges task edge s (covers r) (delivers table l) (delivers table r)) (sym pl.covers_set) (subst (λ s. Merges task edge a s (delivers table l) (delivers table r)) (sym pr.covers_set) at) in
-    let price : merge_price task (covers l) (covers r) ≡ merge_price task a (set - a) = ap (λ s. merge_price task s (covers r)) pl.covers_set ∙ ap (merge_price task a) pr.covers_set in
+    let price : merge_of task (covers l) (covers r) ≡ merge_of task a (set - a) = ap (λ s. merge_of task s (covers r)) pl.covers_set ∙ ap (merge_of task a) pr.covers_set in
     let whole : IsPlanFor sorts task table (asked list fronts f) set cost (Merge' edge p l q r) = record {
       valid = (pl.valid, pr.valid, apart, merges);
       covers_set = both;
@@ -82,7 +83,7 @@ hash_built sorts task table list fronts left right set a f cost l r (Hash' p x q
     let both : covers l + covers r ≡ set = omega (arith, pl.covers_set, pr.covers_set) in
     let apart : bit_and (covers l) (covers r) ≡ 0 = subst (λ s. bit_and s (covers r) ≡ 0) (sym pl.covers_set) (subst (λ s. bit_and a s ≡ 0) (sym pr.covers_set) cut.apart) in
     let crossed : list_any (crosses (covers l) (covers r)) task.edges ≡ true = subst (λ s. list_any (crosses s (covers r)) task.edges ≡ true) (sym pl.covers_set) (subst (λ s. list_any (crosses a s) task.edges ≡ true) (sym pr.covers_set) m.crossed) in
-    let price : hash_price task (covers l) (covers r) ≡ hash_price task a (set - a) = ap (λ s. hash_price task s (covers r)) pl.covers_set ∙ ap (hash_price task a) pr.covers_set in
+    let price : hash_of task (covers l) (covers r) ≡ hash_of task a (set - a) = ap (λ s. hash_of task s (covers r)) pl.covers_set ∙ ap (hash_of task a) pr.covers_set in
     let whole : IsPlanFor sorts task table (asked list fronts f) set cost (Hash' p l q r) = record {
       valid = (pl.valid, pr.valid, apart, crossed);
       covers_set = both;

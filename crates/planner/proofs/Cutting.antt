@@ -9,22 +9,24 @@ use Rattle.planner.specs.declared.front.Link.{Link}
 use Rattle.planner.specs.declared.cut.Cut.{Cut}
 use Rattle.planner.specs.declared.cut.Merge.{Merge}
 use Rattle.planner.specs.Fronts.{crosses_link}
-use Rattle.planner.specs.Cuts.{merge_of, merges_of, no_cut, cut_at, cuts_at, is_covered, may_cut, hash_price, merge_price, IsCut, IsCutOf, IsListed, AddsCuts, AreCutsOf, AreCuts}
+use Rattle.planner.specs.Cuts.{link_merge, merges_of, no_cut, cut_at, cuts_at, is_covered, may_cut, IsCut, IsCutOf, IsListed, AreCutsOf, AreCuts}
+use Rattle.plan_model.specs.Costs.{hash_of, merge_of}
+use Rattle.planner.specs.inner.Cutting.{AddsCuts}
 
 -- the merges of one link, then those of the rest
 pub merges_more : (link : Link) (links : List Link) (a b : ℕ) → merges_of (link ∷ links) a b ≡ merges_of (link ∷ []) a b ++ merges_of links a b
 merges_more link links a b =
-    elim (crosses_link a b link) as (λ t. cond t (merge_of link a b ∷ merges_of links a b) (merges_of links a b) ≡ cond t (merge_of link a b ∷ []) [] ++ merges_of links a b) [
+    elim (crosses_link a b link) as (λ t. cond t (link_merge link a b ∷ merges_of links a b) (merges_of links a b) ≡ cond t (link_merge link a b ∷ []) [] ++ merges_of links a b) [
       | true ↦ refl
       | false ↦ refl
     ]
 
 pub merges_skip : (link : Link) (a b : ℕ) (merges : List Merge) → crosses_link a b link ≡ false → merges ≡ merges ++ merges_of (link ∷ []) a b
 merges_skip link a b merges e =
-    sym (append-nil merges) ∙ ap (λ t. merges ++ cond t (merge_of link a b ∷ []) []) (sym e)
+    sym (append-nil merges) ∙ ap (λ t. merges ++ cond t (link_merge link a b ∷ []) []) (sym e)
 
-pub merges_take : (link : Link) (a b : ℕ) → crosses_link a b link ≡ true → merges_of (link ∷ []) a b ≡ merge_of link a b ∷ []
-merges_take link a b e = ap (λ t. cond t (merge_of link a b ∷ []) []) e
+pub merges_take : (link : Link) (a b : ℕ) → crosses_link a b link ≡ true → merges_of (link ∷ []) a b ≡ link_merge link a b ∷ []
+merges_take link a b e = ap (λ t. cond t (link_merge link a b ∷ []) []) e
 
 -- one link more
 pub merges_step : (links : List Link) (a b i : ℕ) (old new all : List Merge) (d : Link) → i < length links → new ≡ old ++ merges_of (slice_index_or links i d ∷ []) a b → old ++ merges_of (drop i links) a b ≡ all → new ++ merges_of (drop (i + 1) links) a b ≡ all
@@ -139,7 +141,7 @@ adds_uncrossed task links covered set right cuts merges new cut is same =
     }
 
 -- a cut that links cross
-pub adds_cut : (task : Task) (links : List Link) (covered : List Bool) (set right : ℕ) (cuts new_cuts : List Cut) (merges new : List Merge) (from to hash merge : ℕ) → IsCut set right → new_cuts ≡ cuts ++ record { left = set - right; right = right; hash_price = hash; merge_price = merge; from = from; to = to } ∷ [] → new ≡ merges ++ merges_of links (set - right) right → from ≡ length merges → to ≡ length new → ¬ (from ≡ to) → hash ≡ hash_price task (set - right) right → merge ≡ merge_price task (set - right) right → AddsCuts task links covered set (set - right) (set - right + 1) cuts merges new_cuts new
+pub adds_cut : (task : Task) (links : List Link) (covered : List Bool) (set right : ℕ) (cuts new_cuts : List Cut) (merges new : List Merge) (from to hash merge : ℕ) → IsCut set right → new_cuts ≡ cuts ++ record { left = set - right; right = right; hash_price = hash; merge_price = merge; from = from; to = to } ∷ [] → new ≡ merges ++ merges_of links (set - right) right → from ≡ length merges → to ≡ length new → ¬ (from ≡ to) → hash ≡ hash_of task (set - right) right → merge ≡ merge_of task (set - right) right → AddsCuts task links covered set (set - right) (set - right + 1) cuts merges new_cuts new
 adds_cut task links covered set right cuts new_cuts merges new from to hash merge parts cuts_are is from_is to_is differ hash_is merge_is =
     let cut : Cut = record { left = set - right; right = right; hash_price = hash; merge_price = merge; from = from; to = to } in
     let crossings = merges_of links (set - right) right in

@@ -22,8 +22,8 @@ use Rattle.planner.specs.declared.whole.Shape.{Shape}
 use Rattle.planner.specs.Fronts.{asked, listed}
 use Rattle.planner.specs.Cells.{cost_at}
 use Rattle.planner.specs.Rows.{sets_of, AreRows}
-use Rattle.planner.specs.Built.{front_cost, IsPlanFor}
-use Rattle.planner.specs.Shapes.{least_shape}
+use Rattle.planner.specs.inner.Built.{front_cost, IsPlanFor}
+use Rattle.planner.specs.inner.Shapes.{least_shape}
 use Rattle.planner.proofs.Fronting.{nothing_asked, all_asked}
 use Rattle.planner.proofs.Lower.{AreBlank, rows_low}
 use Rattle.planner.proofs.Upper.{plans}

@@ -1,19 +1,22 @@
 -- Fronts that grow.
-use Rattle.std.proofs.Common.{◌≡◌, ℕ, zero, suc, ◌+◌, ◌<◌, inl, inr, Bool, true, false, cond, List, [], ◌∷◌, ◌++◌, length, Option, Some, None, slice_get, slice_index_or, refl, sym, ap, ◌∙◌, subst, arith}
+use Rattle.std.proofs.Common.{◌≡◌, ℕ, zero, suc, ◌+◌, ◌^◌, ◌<◌, inl, inr, Bool, true, false, cond, List, [], ◌∷◌, ◌++◌, length, Option, Some, None, slice_get, slice_index_or, refl, sym, ap, ◌∙◌, subst, arith}
 use Rattle.std.proofs.Math.Logic.{∥∥₁_map}
 use Rattle.std.specs.List.{list_any}
 use Rattle.std.proofs.lemmas.Bool.{cases_lt, or_left, or_right, or_cases, and_parts, and_from, eqb-true, eq-eqb, false≢true}
 use Rattle.std.proofs.lemmas.List.{get_or_append_left, get_or_push, length_push}
+use Rattle.std.proofs.lemmas.List.Elements.{All-get_or}
 use Rattle.std.proofs.lemmas.Option.{slice_get_within, same_Some, slice_get-get_or}
 use Rattle.adv_base.specs.Items.{Order, is_same_item}
 use Rattle.adv_base.specs.declared.workload.parts.Item.{Item}
 use Rattle.plan_model.specs.declared.edge.TaskEdge.{TaskEdge}
 use Rattle.plan_model.specs.declared.task.Task.{Task}
+use Rattle.plan_model.specs.Limits.Tasks.{EdgeLimits}
 use Rattle.plan_model.specs.Orders.{need_order}
 use Rattle.planner.specs.declared.front.Front.{Front}
 use Rattle.planner.specs.declared.front.Front.TheVariants.{Any, Listed, Need}
 use Rattle.planner.specs.declared.front.Link.{Link}
-use Rattle.planner.specs.Fronts.{asked, front_order, first_item, longer_front, need_front, is_need, needs_item, no_link, link_at, is_alike, is_same_link, turned, turned_link, listed, Ties, Joins, IsLink, IsGrowing, AreFronts, AreHeadsApart, AreHeads, AreLinks, AreNeeded, AreNeeds, IsAdded, IsKeeping}
+use Rattle.planner.specs.Fronts.{asked, front_order, first_item, longer_front, is_need, needs_item, no_link, link_at, turned, listed, Ties, Joins, IsLink, AreHeadsApart, AreHeads, AreLinks, AreNeeded, AreNeeds}
+use Rattle.planner.specs.inner.Growing.{need_front, is_alike, is_same_link, turned_link, IsGrowing, AreFronts, IsAdded, IsKeeping}
 use Rattle.planner.proofs.Begins.{same_item, item_same}
 
 pub growing_none : (fronts : List Front) → IsGrowing fronts fronts
@@ -204,14 +207,14 @@ keeping_push links link =
     }
 
 -- one more edge, whose link has these fronts
-pub links_more : (list : Order) (x y z : List Front) (edges : List TaskEdge) (old new : List Link) (k : ℕ) (edge : TaskEdge) (left right : ℕ) → slice_get edges k ≡ Some edge → IsGrowing x y → IsGrowing y z → left < length y → slice_index_or y left Any ≡ need_front edge.left_need → right < length z → slice_index_or z right Any ≡ need_front edge.right_need → IsKeeping old new (record { edge = k; left = edge.left; right = edge.right; left_front = left; right_front = right }) → AreLinks list x edges old k → AreLinks list z edges new (k + 1)
-links_more list x y z edges old new k edge left right found g h left_in left_is right_in right_is kept t =
-    let link : Link = record { edge = k; left = edge.left; right = edge.right; left_front = left; right_front = right } in
+pub links_more : (list : Order) (x y z : List Front) (edges : List TaskEdge) (old new : List Link) (k : ℕ) (edge : TaskEdge) (a b left right : ℕ) → slice_get edges k ≡ Some edge → a ≡ 2 ^ edge.left → b ≡ 2 ^ edge.right → IsGrowing x y → IsGrowing y z → left < length y → slice_index_or y left Any ≡ need_front edge.left_need → right < length z → slice_index_or z right Any ≡ need_front edge.right_need → IsKeeping old new (record { edge = k; left = a; right = b; left_front = left; right_front = right }) → AreLinks list x edges old k → AreLinks list z edges new (k + 1)
+links_more list x y z edges old new k edge a b left right found a_is b_is g h left_in left_is right_in right_is kept t =
+    let link : Link = record { edge = k; left = a; right = b; left_front = left; right_front = right } in
     let grown = growing_then x y z g h in
     let more = h.longer in
     let here : Ties list z edge link = record {
-      left_slot = refl;
-      right_slot = refl;
+      left_slot = sym a_is;
+      right_slot = sym b_is;
       left_in = omega arith;
       right_in = right_in;
       left_asks = ap (front_order list) (h.keeps left left_in ∙ left_is) ∙ need_asks list edge.left_need;
@@ -294,3 +297,10 @@ needs_from task fronts heads links f n h l =
 pub edge_found : (xs edges : List TaskEdge) (k : ℕ) (d : TaskEdge) → xs ≡ edges → k < length edges → slice_get edges k ≡ Some (slice_index_or xs k d)
 edge_found xs edges k d same within =
     subst (λ ys. slice_get edges k ≡ Some (slice_index_or ys k d)) (sym same) (slice_get-get_or edges k d within)
+
+-- the slots of an edge
+pub slots_few : (task : Task) (xs : List TaskEdge) (k : ℕ) (d : TaskEdge) → xs ≡ task.edges → k < length task.edges → ((slice_index_or xs k d).left < 64) × ((slice_index_or xs k d).right < 64)
+slots_few task xs k d same within =
+    let limits = All-get_or (EdgeLimits task.slots) task.edges k d within task.limits.each_edge in
+    let most = task.limits.slots_most in
+    subst (λ (ys : List TaskEdge). ((slice_index_or ys k d).left < 64) × ((slice_index_or ys k d).right < 64)) (sym same) (omega (arith, limits.left_slot, most), omega (arith, limits.right_slot, most))

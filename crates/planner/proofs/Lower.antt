@@ -12,14 +12,14 @@ use Rattle.plan_model.specs.declared.plan.Plan.{Plan}
 use Rattle.plan_model.specs.declared.plan.Plan.TheVariants.{Leaf, Sort', Merge', Hash'}
 use Rattle.plan_model.specs.declared.task.Task.{Task}
 use Rattle.plan_model.specs.Plans.{IsValid, Merges, covers, crosses, delivers, is_column_of}
-use Rattle.plan_model.specs.Costs.{plan_cost, rows_in, sort_cost}
+use Rattle.plan_model.specs.Costs.{plan_cost, rows_in, sort_cost, merge_of, hash_of}
 use Rattle.planner.specs.declared.front.Front.{Front}
 use Rattle.planner.specs.declared.cell.Cell.{Cell}
 use Rattle.planner.specs.declared.cell.TheConstants.{IMPOSSIBLE}
 use Rattle.planner.specs.declared.ways.Ways.{Ways}
 use Rattle.planner.specs.Fronts.{asked, listed, first_item}
 use Rattle.planner.specs.Cells.{blank, cell_at, cost_at, any_at}
-use Rattle.planner.specs.Cuts.{cut_at, is_covered, may_cut, merges_of, IsCutOf, merge_price, hash_price}
+use Rattle.planner.specs.Cuts.{cut_at, is_covered, may_cut, merges_of, IsCutOf}
 use Rattle.planner.specs.Rows.{width, cuts_of, merges_in, sets_of, NoneLess, AreRows}
 use Rattle.planner.proofs.Merging.{merge_low, some_merge, crossing_of}
 use Rattle.planner.proofs.Fronting.{nothing_asked}
@@ -77,7 +77,7 @@ module _ (ways : Ways) (table : OfferTable) (rows : ℕ → List Cell) (closed :
     capped : cost_at (rows set) f ≤ IMPOSSIBLE
     capped = (closed.each set within).capped.cost f
 
-    merge_bound : (edge : ℕ) (left right : Plan) → IsValid true ways.task.now table left → IsValid true ways.task.now table right → covers left + covers right ≡ set → bit_and (covers left) (covers right) ≡ 0 → Merges ways.task.now edge (covers left) (covers right) (delivers table left) (delivers table right) → BeginsWith (delivers table left) (asked (listed ways.task.now) ways.fronts.items f) → cost_at (rows set) f ≤ plan_cost ways.task.now table left + plan_cost ways.task.now table right + merge_price ways.task.now (covers left) (covers right)
+    merge_bound : (edge : ℕ) (left right : Plan) → IsValid true ways.task.now table left → IsValid true ways.task.now table right → covers left + covers right ≡ set → bit_and (covers left) (covers right) ≡ 0 → Merges ways.task.now edge (covers left) (covers right) (delivers table left) (delivers table right) → BeginsWith (delivers table left) (asked (listed ways.task.now) ways.fronts.items f) → cost_at (rows set) f ≤ plan_cost ways.task.now table left + plan_cost ways.task.now table right + merge_of ways.task.now (covers left) (covers right)
     merge_bound edge left right left_valid right_valid sum apart m begins =
         let a : ℕ = covers left in
         let b : ℕ = covers right in
@@ -95,12 +95,12 @@ module _ (ways : Ways) (table : OfferTable) (rows : ℕ → List Cell) (closed :
               elim (cases_Bool (is_covered ways.covered.items b)) [
                 | inr off ↦ omega (arith, uncovered b right (omega arith) off right_low right_valid refl, capped)
                 | inl on_right ↦
-                    at_cut set a f within front_in some_left (omega arith) (subst (λ t. bit_and a t ≡ 0) (sym rest) apart) on_left (ap (is_covered ways.covered.items) rest ∙ on_right) (subst (λ t. 0 < length (merges_of ways.links.items a t)) (sym rest) crossed) (x + y + merge_price ways.task.now a b) (λ k inside is.
+                    at_cut set a f within front_in some_left (omega arith) (subst (λ t. bit_and a t ≡ 0) (sym rest) apart) on_left (ap (is_covered ways.covered.items) rest ∙ on_right) (subst (λ t. 0 < length (merges_of ways.links.items a t)) (sym rest) crossed) (x + y + merge_of ways.task.now a b) (λ k inside is.
                     let facts = cut_facts set k within inside in
                     let cut = cut_at (cuts_of ways set) k in
                     let other : cut.right ≡ b = facts.rest ∙ ap (λ t. set - t) is ∙ rest in
                     let bound = (((closed.each set within).joins k inside f front_in).merges) in
-                    let price : cut.merge_price ≡ merge_price ways.task.now a b = facts.merge ∙ ap (λ t. merge_price ways.task.now t cut.right) is ∙ ap (merge_price ways.task.now a) other in
+                    let price : cut.merge_price ≡ merge_of ways.task.now a b = facts.merge ∙ ap (λ t. merge_of ways.task.now t cut.right) is ∙ ap (merge_of ways.task.now a) other in
                     let crossings : merges_in ways cut ≡ merges_of ways.links.items a b = facts.crossings ∙ ap (λ t. merges_of ways.links.items t cut.right) is ∙ ap (merges_of ways.links.items a) other in
                     merge_low ways.task.now (listed ways.task.now) ways.fronts.items ways.heads.items ways.links.items (rows cut.left) (rows cut.right) a b f (cost_at (rows set) f) cut.merge_price edge (merges_in ways cut) (delivers table left) (delivers table right) x y ways.known.needs.first ways.known.needs.linked apart front_in price crossings bound m begins (λ g g_in starts. subst (λ t. any_at (rows t) g ≤ x) (sym is) ((left_low.least_any g g_in).each left left_valid refl starts)) (λ h h_in starts. subst (λ t. any_at (rows t) h ≤ y) (sym other) ((right_low.least_any h h_in).each right right_valid refl starts)))
               ]
@@ -112,7 +112,7 @@ module _ (ways : Ways) (table : OfferTable) (rows : ℕ → List Cell) (closed :
     unsorted (Merge' e p l q r) h = h
     unsorted (Hash' p l q r) h = h
 
-    hash_bound : (left right : Plan) → IsValid false ways.task.now table left → IsValid false ways.task.now table right → covers left + covers right ≡ set → bit_and (covers left) (covers right) ≡ 0 → list_any (crosses (covers left) (covers right)) ways.task.now.edges ≡ true → asked (listed ways.task.now) ways.fronts.items f ≡ [] → cost_at (rows set) f ≤ plan_cost ways.task.now table left + plan_cost ways.task.now table right + hash_price ways.task.now (covers left) (covers right)
+    hash_bound : (left right : Plan) → IsValid false ways.task.now table left → IsValid false ways.task.now table right → covers left + covers right ≡ set → bit_and (covers left) (covers right) ≡ 0 → list_any (crosses (covers left) (covers right)) ways.task.now.edges ≡ true → asked (listed ways.task.now) ways.fronts.items f ≡ [] → cost_at (rows set) f ≤ plan_cost ways.task.now table left + plan_cost ways.task.now table right + hash_of ways.task.now (covers left) (covers right)
     hash_bound left right left_valid right_valid sum apart any asks =
         let a : ℕ = covers left in
         let b : ℕ = covers right in
@@ -131,13 +131,13 @@ module _ (ways : Ways) (table : OfferTable) (rows : ℕ → List Cell) (closed :
               elim (cases_Bool (is_covered ways.covered.items b)) [
                 | inr off ↦ omega (arith, uncovered b right (omega arith) off right_low (unsorted right right_valid) refl, capped)
                 | inl on_right ↦
-                    at_cut set a f within front_in some_left (omega arith) (subst (λ t. bit_and a t ≡ 0) (sym rest) apart) on_left (ap (is_covered ways.covered.items) rest ∙ on_right) (subst (λ t. 0 < length (merges_of ways.links.items a t)) (sym rest) crossed) (x + y + hash_price ways.task.now a b) (λ k inside is.
+                    at_cut set a f within front_in some_left (omega arith) (subst (λ t. bit_and a t ≡ 0) (sym rest) apart) on_left (ap (is_covered ways.covered.items) rest ∙ on_right) (subst (λ t. 0 < length (merges_of ways.links.items a t)) (sym rest) crossed) (x + y + hash_of ways.task.now a b) (λ k inside is.
                     let facts = cut_facts set k within inside in
                     let cut = cut_at (cuts_of ways set) k in
                     let other : cut.right ≡ b = facts.rest ∙ ap (λ t. set - t) is ∙ rest in
                     let head = ways.known.needs.first.each f front_in ∙ ap first_item asks in
                     let bound = (((closed.each set within).joins k inside f front_in).hash).bound head in
-                    let price : cut.hash_price ≡ hash_price ways.task.now a b = facts.hash ∙ ap (λ t. hash_price ways.task.now t cut.right) is ∙ ap (hash_price ways.task.now a) other in
+                    let price : cut.hash_price ≡ hash_of ways.task.now a b = facts.hash ∙ ap (λ t. hash_of ways.task.now t cut.right) is ∙ ap (hash_of ways.task.now a) other in
                     let of_left : cost_at (rows cut.left) 0 ≤ x = subst (λ t. cost_at (rows t) 0 ≤ x) (sym is) ((left_low.least 0 zero_in).each left left_valid refl (subst (BeginsWith (delivers table left)) (sym nothing) refl)) in
                     let of_right : cost_at (rows cut.right) 0 ≤ y = subst (λ t. cost_at (rows t) 0 ≤ y) (sym other) ((right_low.least 0 zero_in).each right right_valid refl (subst (BeginsWith (delivers table right)) (sym nothing) refl)) in
                     omega (arith, bound, of_left, of_right, price))

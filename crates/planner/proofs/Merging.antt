@@ -1,5 +1,5 @@
 -- What the listed merges mean.
-use Rattle.std.proofs.Common.{◌≡◌, ℕ, zero, suc, ◌+◌, ◌<◌, ◌≤◌, inl, inr, Bool, true, false, ◌&&◌, cond, List, [], ◌∷◌, length, Option, Some, None, bit_and, slice_get, slice_index_or, refl, sym, ap, ◌∙◌, subst, arith}
+use Rattle.std.proofs.Common.{◌≡◌, ℕ, zero, suc, ◌+◌, ◌<◌, ◌≤◌, inl, inr, Bool, true, false, ◌&&◌, ◌||◌, cond, List, [], ◌∷◌, length, Option, Some, None, bit_and, slice_get, slice_index_or, refl, sym, ap, ◌∙◌, subst, arith}
 use Rattle.std.specs.List.{list_any}
 use Rattle.std.specs.Coded.{le_prop}
 use Rattle.std.proofs.Math.Logic.{∥∥₁_elim}
@@ -7,7 +7,7 @@ use Rattle.std.proofs.lemmas.Bool.{false≢true, both_ways, or_cases, or_left, o
 use Rattle.std.proofs.lemmas.Nat.{and_comm}
 use Rattle.std.proofs.lemmas.Option.{slice_get-get_or, slice_get_within}
 use Rattle.adv_base.specs.Items.{Order, BeginsWith}
-use Rattle.adv_base.specs.Sets.{has_slot, is_crossing}
+use Rattle.adv_base.specs.Sets.{has_slot}
 use Rattle.adv_base.specs.declared.workload.parts.Item.{Item}
 use Rattle.plan_model.specs.declared.edge.TaskEdge.{TaskEdge}
 use Rattle.plan_model.specs.declared.task.Task.{Task}
@@ -18,24 +18,26 @@ use Rattle.planner.specs.declared.front.Front.{Front}
 use Rattle.planner.specs.declared.front.Link.{Link}
 use Rattle.planner.specs.declared.cell.Cell.{Cell}
 use Rattle.planner.specs.declared.cut.Merge.{Merge}
-use Rattle.planner.specs.Fronts.{asked, first_item, longer_front, side_front, crosses_link, link_at, head_at, turned, Ties, Joins, AreHeads, AreLinks}
+use Rattle.planner.specs.Fronts.{asked, first_item, longer_front, side_front, meet, crosses_link, link_at, head_at, turned, Ties, Joins, AreHeads, AreLinks}
 use Rattle.planner.specs.Cells.{any_at}
-use Rattle.planner.specs.Cuts.{merge_of, merges_of, merge_at, merge_price}
+use Rattle.planner.specs.Cuts.{link_merge, merges_of, merge_at}
+use Rattle.plan_model.specs.Costs.{merge_of}
 use Rattle.planner.specs.Choices.{IsMerge, IsMergedBy, MergesBound}
-use Rattle.planner.proofs.Begins.{IsShort, begins_self, longer_serves, longer_asks, longer_in}
+use Rattle.planner.proofs.Begins.{IsShort, longer_serves, longer_asks, longer_in}
+use Rattle.adv_base.proofs.Begins.{begins_self}
 
 -- a merge of a link of the list that has an end in each of two sets
 record ComesFrom (links : List Link) (a b : ℕ) (merge : Merge) : Type 0 where
   link : ℕ
   link_in : link < length links
   crossing : crosses_link a b (link_at links link) ≡ true
-  is : merge ≡ merge_of (link_at links link) a b
+  is : merge ≡ link_merge (link_at links link) a b
 
 comes_later : (x : Link) (xs : List Link) (a b : ℕ) (merge : Merge) → ComesFrom xs a b merge → ComesFrom (x ∷ xs) a b merge
 comes_later x xs a b merge w =
     record { link = suc w.link; link_in = omega (arith, w.link_in); crossing = w.crossing; is = w.is }
 
-comes_split : (x : Link) (xs : List Link) (a b j : ℕ) (t : Bool) → crosses_link a b x ≡ t → j < length (cond t (merge_of x a b ∷ merges_of xs a b) (merges_of xs a b)) → ((i : ℕ) → i < length (merges_of xs a b) → ComesFrom xs a b (merge_at (merges_of xs a b) i)) → ComesFrom (x ∷ xs) a b (merge_at (cond t (merge_of x a b ∷ merges_of xs a b) (merges_of xs a b)) j)
+comes_split : (x : Link) (xs : List Link) (a b j : ℕ) (t : Bool) → crosses_link a b x ≡ t → j < length (cond t (link_merge x a b ∷ merges_of xs a b) (merges_of xs a b)) → ((i : ℕ) → i < length (merges_of xs a b) → ComesFrom xs a b (merge_at (merges_of xs a b) i)) → ComesFrom (x ∷ xs) a b (merge_at (cond t (link_merge x a b ∷ merges_of xs a b) (merges_of xs a b)) j)
 comes_split x xs a b zero true e within later =
     record { link = 0; link_in = omega arith; crossing = e; is = refl }
 comes_split x xs a b (suc j) true e within later =
@@ -49,13 +51,13 @@ comes_from (x ∷ xs) a b j within =
     comes_split x xs a b j (crosses_link a b x) refl within (comes_from xs a b)
 
 -- each link that has an end in each has a merge
-goes_to : (links : List Link) (a b i : ℕ) → i < length links → crosses_link a b (link_at links i) ≡ true → (j : ℕ) × (j < length (merges_of links a b)) × (merge_at (merges_of links a b) j ≡ merge_of (link_at links i) a b)
+goes_to : (links : List Link) (a b i : ℕ) → i < length links → crosses_link a b (link_at links i) ≡ true → (j : ℕ) × (j < length (merges_of links a b)) × (merge_at (merges_of links a b) j ≡ link_merge (link_at links i) a b)
 goes_to [] a b i within crossing = absurd (omega arith)
 goes_to (x ∷ xs) a b zero within crossing =
-    subst (λ t. (j : ℕ) × (j < length (cond t (merge_of x a b ∷ merges_of xs a b) (merges_of xs a b))) × (merge_at (cond t (merge_of x a b ∷ merges_of xs a b) (merges_of xs a b)) j ≡ merge_of x a b)) (sym crossing) (0, omega arith, refl)
+    subst (λ t. (j : ℕ) × (j < length (cond t (link_merge x a b ∷ merges_of xs a b) (merges_of xs a b))) × (merge_at (cond t (link_merge x a b ∷ merges_of xs a b) (merges_of xs a b)) j ≡ link_merge x a b)) (sym crossing) (0, omega arith, refl)
 goes_to (x ∷ xs) a b (suc i) within crossing =
     let later = goes_to xs a b i (omega (arith, within)) crossing in
-    elim (crosses_link a b x) as (λ t. (j : ℕ) × (j < length (cond t (merge_of x a b ∷ merges_of xs a b) (merges_of xs a b))) × (merge_at (cond t (merge_of x a b ∷ merges_of xs a b) (merges_of xs a b)) j ≡ merge_of (link_at xs i) a b)) [
+    elim (crosses_link a b x) as (λ t. (j : ℕ) × (j < length (cond t (link_merge x a b ∷ merges_of xs a b) (merges_of xs a b))) × (merge_at (cond t (link_merge x a b ∷ merges_of xs a b) (merges_of xs a b)) j ≡ link_merge (link_at xs i) a b)) [
       | true ↦ (suc later.0, omega (arith, later.1), later.2)
       | false ↦ later
     ]
@@ -74,7 +76,7 @@ short_side edge set =
 -- the front of a side asks for the edge's need
 side_asks : (list : Order) (fronts : List Front) (edge : TaskEdge) (link : Link) (set : ℕ) → Ties list fronts edge link → (side_front link set < length fronts) × (asked list fronts (side_front link set) ≡ side_need edge set)
 side_asks list fronts edge link set h =
-    let same : has_slot set link.left ≡ has_slot set edge.left = ap (has_slot set) (sym h.left_slot) in
+    let same : meet set link.left ≡ has_slot set edge.left = ap (meet set) (sym h.left_slot) in
     subst (λ t. (cond t link.left_front link.right_front < length fronts) × (asked list fronts (cond t link.left_front link.right_front) ≡ side_need edge set)) (sym same) (elim (has_slot set edge.left) as (λ b. (cond b link.left_front link.right_front < length fronts) × (asked list fronts (cond b link.left_front link.right_front) ≡ need_order (cond b edge.left_need edge.right_need))) [
       | true ↦ (h.left_in, h.left_asks)
       | false ↦ (h.right_in, h.right_asks)
@@ -82,7 +84,8 @@ side_asks list fronts edge link set h =
 
 crosses_same : (list : Order) (fronts : List Front) (edge : TaskEdge) (link : Link) (a b : ℕ) → Ties list fronts edge link → crosses_link a b link ≡ crosses a b edge
 crosses_same list fronts edge link a b h =
-    ap (λ x. is_crossing a b (x, link.right)) (sym h.left_slot) ∙ ap (λ x. is_crossing a b (edge.left, x)) (sym h.right_slot)
+    ap (λ x. (meet a x && meet b link.right) || (meet a link.right && meet b x)) (sym h.left_slot)
+    ∙ ap (λ x. (has_slot a edge.left && meet b x) || (meet a x && has_slot b edge.left)) (sym h.right_slot)
 
 -- what a listed merge says of its edge
 pub record MergeMeans (task : Task) (list : Order) (fronts : List Front) (a b : ℕ) (merge : Merge) : Type 0 where
@@ -121,7 +124,7 @@ merge_means task list fronts links n a b merges linked is j within =
     subst (λ ms. MergeMeans task list fronts a b (merge_at ms j)) (sym is) (means task list fronts links n a b linked (merge_at (merges_of links a b) j) (comes_from links a b j (subst (λ ms. j < length ms) is within)))
 
 -- a merge of the list that gives a cost is one of its edge
-pub merge_gives : (task : Task) (list : Order) (fronts : List Front) (heads : List (Option Item)) (left right : List Cell) (a b f cost price : ℕ) (merges : List Merge) (j g : ℕ) → AreHeads list fronts heads → f < length fronts → price ≡ merge_price task a b → MergeMeans task list fronts a b (merge_at merges j) → IsMergedBy heads left right price merges f cost j g → IsMerge task list fronts left right a b f cost (merge_at merges j).edge g (merge_at merges j).right_front
+pub merge_gives : (task : Task) (list : Order) (fronts : List Front) (heads : List (Option Item)) (left right : List Cell) (a b f cost price : ℕ) (merges : List Merge) (j g : ℕ) → AreHeads list fronts heads → f < length fronts → price ≡ merge_of task a b → MergeMeans task list fronts a b (merge_at merges j) → IsMergedBy heads left right price merges f cost j g → IsMerge task list fronts left right a b f cost (merge_at merges j).edge g (merge_at merges j).right_front
 merge_gives task list fronts heads left right a b f cost price merges j g first within price_is m by_merge =
     let merge : Merge = merge_at merges j in
     let serves : longer_front (first_item (asked list fronts merge.left_need)) (first_item (asked list fronts f)) merge.left_need f ≡ Some g = ap (λ t. longer_front t (first_item (asked list fronts f)) merge.left_need f) (sym (first.each merge.left_need m.left_in)) ∙ ap (λ t. longer_front (head_at heads merge.left_need) t merge.left_need f) (sym (first.each f within)) ∙ by_merge.serves in
@@ -224,14 +227,14 @@ some_merge task list fronts links a b number edge linked apart found crossing =
     omega (arith, j.1))
 
 -- what bounds the cells that serve a merge bounds its cost
-pub merge_low : (task : Task) (list : Order) (fronts : List Front) (heads : List (Option Item)) (links : List Link) (left right : List Cell) (a b f cost price number : ℕ) (merges : List Merge) (o r : Order) (x y : ℕ) → AreHeads list fronts heads → AreLinks list fronts task.edges links (length task.edges) → bit_and a b ≡ 0 → f < length fronts → price ≡ merge_price task a b → merges ≡ merges_of links a b → MergesBound heads left right price merges f cost → Merges task number a b o r → BeginsWith o (asked list fronts f) → ((g : ℕ) → g < length fronts → BeginsWith o (asked list fronts g) → any_at left g ≤ x) → ((h : ℕ) → h < length fronts → BeginsWith r (asked list fronts h) → any_at right h ≤ y) → cost ≤ x + y + merge_price task a b
+pub merge_low : (task : Task) (list : Order) (fronts : List Front) (heads : List (Option Item)) (links : List Link) (left right : List Cell) (a b f cost price number : ℕ) (merges : List Merge) (o r : Order) (x y : ℕ) → AreHeads list fronts heads → AreLinks list fronts task.edges links (length task.edges) → bit_and a b ≡ 0 → f < length fronts → price ≡ merge_of task a b → merges ≡ merges_of links a b → MergesBound heads left right price merges f cost → Merges task number a b o r → BeginsWith o (asked list fronts f) → ((g : ℕ) → g < length fronts → BeginsWith o (asked list fronts g) → any_at left g ≤ x) → ((h : ℕ) → h < length fronts → BeginsWith r (asked list fronts h) → any_at right h ≤ y) → cost ≤ x + y + merge_of task a b
 merge_low task list fronts heads links left right a b f cost price number merges o r x y first linked apart within price_is is bound m begins left_low right_low =
     ∥∥₁_elim (linked.all number m.edge (slice_get_within task.edges number m.edge m.found) m.found) le_prop (λ w.
     let link : Link = link_at links w.link in
     let s = serves_joined list fronts m.edge link a b apart w.joins m.crossing in
     let j = goes_to links a b w.link w.link_in s.crossing in
     let merge : Merge = merge_at merges j.0 in
-    let here : merge ≡ merge_of link a b = ap (λ ms. merge_at ms j.0) is ∙ j.2 in
+    let here : merge ≡ link_merge link a b = ap (λ ms. merge_at ms j.0) is ∙ j.2 in
     let need : merge.left_need ≡ side_front link a = ap (λ (t : Merge). t.left_need) here in
     let other : merge.right_front ≡ side_front link b = ap (λ (t : Merge). t.right_front) here in
     let need_in : merge.left_need < length fronts = subst (λ t. t < length fronts) (sym need) s.left_in in

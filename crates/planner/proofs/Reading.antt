@@ -1,9 +1,6 @@
 -- What offering the offers of a slot to the cells of a row gives.
-use Rattle.std.proofs.Common.{◌≡◌, ℕ, ◌+◌, ◌^◌, ◌<◌, ◌≤◌, inl, inr, Bool, true, false, ◌&&◌, List, [], ◌∷◌, length, take, drop, get_or, refl, sym, ap, ◌∙◌, subst, arith}
-use Rattle.std.proofs.lemmas.Bool.{false≢true, and_parts, and_from}
-use Rattle.std.proofs.lemmas.List.{drop_all, drop_more}
-use Rattle.adv_base.specs.declared.workload.parts.Item.{Item}
-use Rattle.adv_base.specs.declared.workload.parts.Item.TheVariants.{Made}
+use Rattle.std.proofs.Common.{◌≡◌, ℕ, ◌+◌, ◌^◌, ◌<◌, ◌≤◌, inl, inr, Bool, true, false, ◌&&◌, List, [], ◌∷◌, length, take, IsTrue, ◌↔◌, refl, sym, ap, ◌∙◌, subst, arith}
+use Rattle.std.proofs.lemmas.Bool.{false≢true, and_parts, and_from, cases_Bool}
 use Rattle.adv_base.specs.Items.{Order, BeginsWith, is_same_item}
 use Rattle.adv_base.specs.Offers.{OfferTable}
 use Rattle.plan_model.specs.declared.task.Task.{Task}
@@ -11,8 +8,8 @@ use Rattle.adv_base.specs.OfferTables.{price_at, order_at}
 use Rattle.planner.specs.declared.front.Front.{Front}
 use Rattle.planner.specs.declared.cell.Cell.{Cell}
 use Rattle.planner.specs.Fronts.{asked, begins_test}
-use Rattle.planner.specs.Cells.{cell_at, cost_at, offered, better}
-use Rattle.planner.specs.Rows.{AreOffers, OfferMade, SlotBound}
+use Rattle.planner.specs.Cells.{cell_at, cost_at}
+use Rattle.planner.specs.inner.Steps.{offered, better, AreOffers, OfferMade, SlotBound}
 use Rattle.planner.proofs.Begins.{same_item, same_from}
 use Rattle.planner.proofs.Steps.{better_cases, better_lower}
 
@@ -33,6 +30,15 @@ test_from_begins (x ∷ xs) (y ∷ ys) h =
     let here : x ≡ y = cc in
     let rest : take (length ys) xs ≡ ys = cc in
     and_from (is_same_item x y) (begins_test xs ys) (same_from x y here) (test_from_begins xs ys rest)
+
+-- any test of what an order begins with is this one
+pub test_is : (o f : Order) (t : Bool) → (IsTrue t ↔ BeginsWith o f) → t ≡ begins_test o f
+test_is o f true is = sym (test_from_begins o f (is.0 refl))
+test_is o f false is =
+    elim (cases_Bool (begins_test o f)) [
+      | inl passes ↦ absurd (false≢true (is.1 (begins_from_test o f passes)))
+      | inr fails ↦ sym fails
+    ]
 
 offered_lower_at : (cell : Cell) (b : Bool) (price : ℕ) → (offered cell b price).cost ≤ cell.cost
 offered_lower_at cell true price = (better_lower cell price).0
@@ -78,12 +84,3 @@ module _ (task : Task) (table : OfferTable) (list : Order) (fronts : List Front)
 pub slot_lower : (table : OfferTable) (order : Order) (slot cost less : ℕ) → less ≤ cost → SlotBound table order slot cost → SlotBound table order slot less
 slot_lower table order slot cost less low h =
     record { each = λ offer within begins. let w = h.each offer within begins in omega arith }
-
--- the test at a place
-pub test_short : (o l : Order) (i : ℕ) → i < length l → length o ≤ i → begins_test (drop i o) (drop i l) ≡ false
-test_short o l i within past =
-    ap (λ t. begins_test t (drop i l)) (drop_all i o past) ∙ ap (begins_test []) (drop_more l i (Made 0) within)
-
-pub test_step : (o l : Order) (i : ℕ) (d e : Item) → i < length o → i < length l → begins_test (drop i o) (drop i l) ≡ (is_same_item (get_or o i d) (get_or l i e) && begins_test (drop (i + 1) o) (drop (i + 1) l))
-test_step o l i d e ho hl =
-    ap (λ t. begins_test t (drop i l)) (drop_more o i d ho) ∙ ap (begins_test (get_or o i d ∷ drop (i + 1) o)) (drop_more l i e hl)

@@ -7,9 +7,10 @@ use Rattle.adv_base.specs.declared.workload.parts.Item.{Item}
 use Rattle.planner.specs.declared.cell.Cell.{Cell}
 use Rattle.planner.specs.declared.cut.Merge.{Merge}
 use Rattle.planner.specs.Fronts.{head_at, longer_front}
-use Rattle.planner.specs.Cells.{blank, cell_at, cost_at, any_at, better, merged, hashed}
+use Rattle.planner.specs.Cells.{blank, cell_at, cost_at, any_at}
+use Rattle.planner.specs.inner.Steps.{better, merged, hashed, IsStep}
 use Rattle.planner.specs.Cuts.{merge_at}
-use Rattle.planner.specs.Choices.{IsMerged, IsHashed, MergeBound, MergesBound, HashBound, IsStep}
+use Rattle.planner.specs.Choices.{IsMerged, IsHashed, MergeBound, MergesBound, HashBound}
 
 better_split : (cell : Cell) (cost : ℕ) (b : Bool) → nat_lt cost cell.cost ≡ b → ((better cell cost ≡ cell) × (cell.cost ≤ cost)) ⊎ (((better cell cost).cost ≡ cost) × (cost < cell.cost))
 better_split cell cost true e =

@@ -23,11 +23,12 @@ use Rattle.planner.specs.declared.cell.TheConstants.{IMPOSSIBLE}
 use Rattle.planner.specs.declared.cut.Cut.{Cut}
 use Rattle.planner.specs.declared.ways.Ways.{Ways}
 use Rattle.planner.specs.Fronts.{listed}
-use Rattle.planner.specs.Cells.{blank, cell_at, cost_at, any_at, row_of, finished}
+use Rattle.planner.specs.Cells.{blank, cell_at, cost_at, any_at, row_of}
+use Rattle.planner.specs.inner.Steps.{finished, IsStep, AreOffers}
 use Rattle.planner.specs.declared.cut.Merge.{Merge}
 use Rattle.planner.specs.Cuts.{cut_at, merge_at, is_covered, IsCutOf}
-use Rattle.planner.specs.Choices.{IsSorting, IsStep, IsOffered, IsHashed, IsMerged, HashBound, MergesBound}
-use Rattle.planner.specs.Rows.{width, order_of, cuts_of, merges_in, sets_of, OffersBound, AreOffers, CutBound, IsCapped, IsCutBy, IsJoined, IsMade, IsRow, IsTable, AreRows}
+use Rattle.planner.specs.Choices.{IsSorting, IsOffered, IsHashed, IsMerged, HashBound, MergesBound}
+use Rattle.planner.specs.Rows.{width, order_of, cuts_of, merges_in, sets_of, OffersBound, CutBound, IsCapped, IsCutBy, IsJoined, IsMade, IsRow, IsTable, AreRows}
 use Rattle.planner.proofs.Lower.{AreBlank}
 use Rattle.planner.proofs.Steps.{hash_falls, merges_fall, step_then, step_wider}
 use Rattle.planner.proofs.Exists.{rows_most, hash_most, merge_most}

@@ -19,7 +19,7 @@ use Rattle.planner.specs.Cells.{cost_at, any_at}
 use Rattle.planner.specs.Cuts.{cut_at, merge_at, IsCut, IsCutOf}
 use Rattle.planner.specs.Choices.{IsMerge, IsHash, IsHashed, IsMergedBy}
 use Rattle.planner.specs.Rows.{width, order_of, cuts_of, merges_in, sets_of, AreRows, IsCutBy}
-use Rattle.planner.specs.Built.{front_cost, IsPlanFor}
+use Rattle.planner.specs.inner.Built.{front_cost, IsPlanFor}
 use Rattle.planner.proofs.Begins.{nil_from_first}
 use Rattle.planner.proofs.Merging.{MergeMeans, merge_means, merge_gives, any_crossing}
 use Rattle.planner.proofs.Lower.{AreBlank, IsLow, rows_low}

@@ -1,5 +1,5 @@
 -- The shape of a least whole plan.
-use Rattle.std.proofs.Common.{◌≡◌, ◌≢◌, ℕ, zero, suc, ◌+◌, ◌*◌, ◌^◌, ◌<◌, ◌≤◌, ◌⊎◌, inl, inr, Bool, true, false, cond, not, IsTrue, nat_lt, List, [], ◌∷◌, length, Option, Some, None, unwrap_or, refl, sym, ap, ◌∙◌, subst, arith}
+use Rattle.std.proofs.Common.{◌≡◌, ◌≢◌, ℕ, zero, suc, ◌+◌, ◌*◌, ◌^◌, ◌<◌, ◌≤◌, ◌⊎◌, inl, inr, Bool, true, false, cond, not, IsTrue, nat_lt, List, [], ◌∷◌, length, Option, Some, None, refl, sym, ap, ◌∙◌, subst, arith}
 use Rattle.std.proofs.Math.Nat.{mul-le-mul}
 use Rattle.std.proofs.lemmas.Bool.{false≢true, cases_Bool}
 use Rattle.std.proofs.lemmas.Bool.Decides.{nat_tests}
@@ -13,6 +13,7 @@ use Rattle.plan_model.specs.declared.plan.Plan.{Plan}
 use Rattle.plan_model.specs.declared.plan.Whole.{Whole}
 use Rattle.plan_model.specs.declared.task.Task.{Task}
 use Rattle.plan_model.specs.Plans.{IsValid, IsWhole, FitsGroup, covers, delivers, body_sorts, group_order}
+use Rattle.plan_model.specs.Orders.{wanted_list}
 use Rattle.plan_model.specs.Costs.{plan_cost, whole_cost, rows_in, sort_cost, group_cost, final_rows}
 use Rattle.planner.specs.declared.front.Front.{Front}
 use Rattle.planner.specs.declared.cell.Cell.{Cell}
@@ -20,9 +21,9 @@ use Rattle.planner.specs.declared.cell.TheConstants.{IMPOSSIBLE}
 use Rattle.planner.specs.declared.whole.Shape.{Shape}
 use Rattle.planner.specs.Fronts.{asked, begins_test, listed}
 use Rattle.planner.specs.Cells.{cost_at}
-use Rattle.planner.specs.Built.{front_cost}
-use Rattle.planner.specs.Shapes.{is_nil, cheaper, final_cost, ungrouped_shape, sorted_shape, hashed_shape, least_shape}
-use Rattle.planner.proofs.Begins.{begins_nil, begins_self}
+use Rattle.planner.specs.inner.Built.{front_cost}
+use Rattle.planner.specs.inner.Shapes.{is_nil, cheaper, final_cost, ungrouped_shape, sorted_shape, hashed_shape, least_shape}
+use Rattle.adv_base.proofs.Begins.{begins_nil, begins_self}
 use Rattle.planner.proofs.Reading.{begins_from_test, test_from_begins}
 use Rattle.planner.proofs.Lower.{IsLow, begun_nil}
 
@@ -239,7 +240,7 @@ module _ (task : Task) (table : OfferTable) (fronts : List Front) (row : List Ce
   pub none_shape : task.group ≡ None → IsLeastShape task table (listed task) fronts row (ungrouped_shape task row (rows_in task (all_slots task.slots)))
   none_shape e =
       let list : Order = listed task in
-      let list_is : list ≡ task.order = ap (λ (g : Option Order). unwrap_or g task.order) e in
+      let list_is : list ≡ task.order = ap (λ (g : Option Order). wanted_list g task.order) e in
       let sort = sort_most task (rows_in task (all_slots task.slots)) few in
       none_split e list_is sort (is_nil task.order) refl
 
@@ -250,7 +251,7 @@ module _ (task : Task) (table : OfferTable) (fronts : List Front) (row : List Ce
 
   pub some_shape : (group : Order) → task.group ≡ Some group → IsLeastShape task table (listed task) fronts row (cheaper (sorted_shape task group row (rows_in task (all_slots task.slots))) (hashed_shape task row (rows_in task (all_slots task.slots))))
   some_shape group e =
-      let list_is : listed task ≡ group = ap (λ (g : Option Order). unwrap_or g task.order) e in
+      let list_is : listed task ≡ group = ap (λ (g : Option Order). wanted_list g task.order) e in
       let a = sorted_shape task group row (rows_in task (all_slots task.slots)) in
       let b = hashed_shape task row (rows_in task (all_slots task.slots)) in
       let rate : task.rates.hash_cpu ≤ 1000000 = task.rates.limits.hash_cpu_most in

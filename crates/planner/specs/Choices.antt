@@ -7,12 +7,12 @@ use Rattle.adv_base.specs.declared.workload.parts.Item.{Item}
 use Rattle.plan_model.specs.declared.task.Task.{Task}
 use Rattle.adv_base.specs.OfferTables.{price_at, order_at}
 use Rattle.plan_model.specs.Plans.{Merges, crosses, is_column_of}
-use Rattle.plan_model.specs.Costs.{rows_in, sort_cost}
+use Rattle.plan_model.specs.Costs.{rows_in, sort_cost, merge_of, hash_of}
 use Rattle.planner.specs.declared.front.Front.{Front}
 use Rattle.planner.specs.declared.cell.Cell.{Cell}
 use Rattle.planner.specs.declared.cut.Merge.{Merge}
 use Rattle.planner.specs.Fronts.{asked, head_at, longer_front}
-use Rattle.planner.specs.Cuts.{merge_at, merge_price, hash_price}
+use Rattle.planner.specs.Cuts.{merge_at}
 use Rattle.planner.specs.Cells.{cost_at, any_at}
 
 -- the offer is of the set's one slot, delivers what the front asks, and has that price
@@ -29,13 +29,13 @@ pub record IsMerge (task : Task) (list : Order) (fronts : List Front) (left righ
   pub right_in : h < length fronts
   pub merges : Merges task number a b (asked list fronts g) (asked list fronts h)
   pub keeps : BeginsWith (asked list fronts g) (asked list fronts f)
-  pub costs : cost ≡ any_at left g + any_at right h + merge_price task a b
+  pub costs : cost ≡ any_at left g + any_at right h + merge_of task a b
 
 -- a hash join of a and b, for a front that asks nothing
 pub record IsHash (task : Task) (list : Order) (fronts : List Front) (left right : List Cell) (a b f cost : ℕ) : Type 0 where
   pub crossed : list_any (crosses a b) task.edges ≡ true
   pub asks_nothing : asked list fronts f ≡ []
-  pub costs : cost ≡ cost_at left 0 + cost_at right 0 + hash_price task a b
+  pub costs : cost ≡ cost_at left 0 + cost_at right 0 + hash_of task a b
 
 -- some offer gives the cost
 pub record IsOffered (task : Task) (table : OfferTable) (order : Order) (set cost : ℕ) : Type 0 where
@@ -76,9 +76,3 @@ pub record HashBound (heads : List (Option Item)) (left right : List Cell) (pric
 pub record IsSorting (task : Task) (list : Order) (fronts : List Front) (row : List Cell) (set f any : ℕ) : Type 0 where
   pub columns : All (λ item. is_column_of set item ≡ true) (asked list fronts f)
   pub costs : any ≡ cost_at row 0 + sort_cost task.rates (rows_in task set)
-
--- a row after costs were offered to its cells: none costs more, and what changed was made so
-pub record IsStep (width : ℕ) (Makes : ℕ → ℕ → Type 0) (old new : List Cell) : Type 0 where
-  pub count : length new ≡ length old
-  pub lower : (f : ℕ) → cost_at new f ≤ cost_at old f
-  pub made : (f : ℕ) → f < width → (cost_at new f ≡ cost_at old f) ⊎ Makes f (cost_at new f)

@@ -3,19 +3,12 @@ use Rattle.std.specs.Prelude.{◌≡◌, ℕ, ◌+◌, ◌-◌, ◌^◌, ◌<◌
 use Rattle.std.specs.List.{slice_range}
 use Rattle.adv_base.specs.declared.workload.parts.Item.{Item}
 use Rattle.plan_model.specs.declared.task.Task.{Task}
-use Rattle.plan_model.specs.Costs.{rows_in, merge_cost, hash_cost}
+use Rattle.plan_model.specs.Costs.{merge_of, hash_of}
 use Rattle.planner.specs.declared.front.Front.{Front}
 use Rattle.planner.specs.declared.front.Link.{Link}
 use Rattle.planner.specs.declared.cut.Cut.{Cut}
 use Rattle.planner.specs.declared.cut.Merge.{Merge}
 use Rattle.planner.specs.Fronts.{crosses_link, side_front, AreNeeds}
-
--- what merging two sets costs, without the sides
-abbrev pub merge_price : Task → ℕ → ℕ → ℕ
-merge_price task a b = merge_cost task.rates (rows_in task a) (rows_in task b) (rows_in task (a + b))
-
-abbrev pub hash_price : Task → ℕ → ℕ → ℕ
-hash_price task a b = hash_cost task.rates (rows_in task a) (rows_in task b) (rows_in task (a + b))
 
 -- a cut of a set in two parts
 pub record IsCut (set a : ℕ) : Type 0 where
@@ -23,14 +16,14 @@ pub record IsCut (set a : ℕ) : Type 0 where
   pub less : a < set
   pub apart : bit_and a (set - a) ≡ 0
 
-abbrev pub merge_of : Link → ℕ → ℕ → Merge
-merge_of link a b = record { edge = link.edge; left_need = side_front link a; right_front = side_front link b }
+abbrev pub link_merge : Link → ℕ → ℕ → Merge
+link_merge link a b = record { edge = link.edge; left_need = side_front link a; right_front = side_front link b }
 
 -- a merge of a and b for each link between them
 abbrev pub merges_of : List Link → ℕ → ℕ → List Merge
 merges_of [] a b = []
 merges_of (link ∷ links) a b =
-    if crosses_link a b link then merge_of link a b ∷ merges_of links a b else merges_of links a b
+    if crosses_link a b link then link_merge link a b ∷ merges_of links a b else merges_of links a b
 
 abbrev pub no_merge : Merge
 no_merge = record { edge = 0; left_need = 0; right_front = 0 }
@@ -63,8 +56,8 @@ may_cut covered set a = (bit_and a (set - a) == 0) && is_covered covered a && is
 pub record IsCutOf (task : Task) (links : List Link) (merges : List Merge) (set : ℕ) (cut : Cut) : Type 0 where
   pub parts : IsCut set cut.left
   pub rest : cut.right ≡ set - cut.left
-  pub hash : cut.hash_price ≡ hash_price task cut.left cut.right
-  pub merge : cut.merge_price ≡ merge_price task cut.left cut.right
+  pub hash : cut.hash_price ≡ hash_of task cut.left cut.right
+  pub merge : cut.merge_price ≡ merge_of task cut.left cut.right
   pub some : cut.from < cut.to
   pub within : cut.to ≤ length merges
   pub crossings : merges_at merges cut ≡ merges_of links cut.left cut.right
@@ -89,16 +82,6 @@ pub record AreCuts (task : Task) (links : List Link) (cuts : List Cut) (merges :
   pub sets : (s : ℕ) → s < n → AreCutsOf task links merges covered s (cuts_at cuts starts s)
   pub slots : (s slot : ℕ) → s < n → slot < task.slots → 2 ^ slot ≡ s → is_covered covered s ≡ true
   pub joined : (s : ℕ) → s < n → is_covered covered s ≡ false → slice_index starts s ≡ slice_index starts (s + 1)
-
--- The list of cuts goes on with cuts of the set, and that of merges with their merges: each cut with a left part from m to
--- before n, whose parts are covered and that links cross, is there.
-pub record AddsCuts (task : Task) (links : List Link) (covered : List Bool) (set m n : ℕ) (cuts : List Cut) (merges : List Merge) (new_cuts : List Cut) (new_merges : List Merge) : Type 0 where
-  pub more : List Cut
-  pub cuts_are : new_cuts ≡ cuts ++ more
-  pub more_merges : List Merge
-  pub merges_are : new_merges ≡ merges ++ more_merges
-  pub each : (k : ℕ) → k < length more → IsCutOf task links new_merges set (cut_at more k)
-  pub all : (a : ℕ) → m ≤ a → a < n → may_cut covered set a ≡ true → 0 < length (merges_of links a (set - a)) → IsListed more a
 
 -- the fronts and links of the task, and the cuts of all its sets
 pub record AreWays (task : Task) (fronts : List Front) (heads : List (Option Item)) (links : List Link) (cuts : List Cut) (merges : List Merge) (starts : List ℕ) (covered : List Bool) : Type 0 where

@@ -1,11 +1,10 @@
 -- The orders that fronts ask for, and the links between slots.
-use Rattle.std.specs.Prelude.{ℕ, ◌≡◌, ◌<◌, ◌≤◌, ◌⊎◌, ◌==◌, Bool, true, false, ◌&&◌, ◌||◌, if◌then◌else◌, List, [], ◌∷◌, length, Option, Some, None, unwrap_or, slice_get, slice_index_or}
+use Rattle.std.specs.Prelude.{ℕ, ◌≡◌, ◌^◌, bit_and, not, ◌<◌, ◌≤◌, ◌⊎◌, ◌==◌, Bool, true, false, ◌&&◌, ◌||◌, if◌then◌else◌, List, [], ◌∷◌, length, Option, Some, None, slice_get, slice_index_or}
 use Rattle.std.specs.List.{list_any}
 use Rattle.adv_base.specs.Items.{Order, is_same_item}
-use Rattle.adv_base.specs.Sets.{has_slot, is_crossing}
 use Rattle.plan_model.specs.declared.edge.TaskEdge.{TaskEdge}
 use Rattle.plan_model.specs.declared.task.Task.{Task}
-use Rattle.plan_model.specs.Orders.{need_order}
+use Rattle.plan_model.specs.Orders.{need_order, wanted_list}
 use Rattle.adv_base.specs.declared.workload.parts.Item.{Item}
 use Rattle.planner.specs.declared.front.Front.{Front}
 use Rattle.planner.specs.declared.front.Link.{Link}
@@ -22,7 +21,7 @@ asked list fronts f = front_order list (slice_index_or fronts f Any)
 
 -- the list that the task groups by; where it doesn't group, the list that it orders by
 abbrev pub listed : Task → Order
-listed task = unwrap_or task.group task.order
+listed task = wanted_list task.group task.order
 
 -- the first item of an order
 abbrev pub first_item : Order → Option Item
@@ -64,8 +63,8 @@ pub record AreNeeded (edges : List TaskEdge) (fronts : List Front) : Type 0 wher
 
 -- a link has the slots of an edge, and its fronts ask for the edge's needs
 pub record Ties (list : Order) (fronts : List Front) (edge : TaskEdge) (link : Link) : Type 0 where
-  pub left_slot : edge.left ≡ link.left
-  pub right_slot : edge.right ≡ link.right
+  pub left_slot : 2 ^ edge.left ≡ link.left
+  pub right_slot : 2 ^ edge.right ≡ link.right
   pub left_in : link.left_front < length fronts
   pub right_in : link.right_front < length fronts
   pub left_asks : asked list fronts link.left_front ≡ need_order edge.left_need
@@ -109,64 +108,23 @@ pub record AreLinks (list : Order) (fronts : List Front) (edges : List TaskEdge)
   pub each : (i : ℕ) → i < length links → IsLink list fronts edges (link_at links i)
   pub all : (k : ℕ) (edge : TaskEdge) → k < n → slice_get edges k ≡ Some edge → ∥ IsTied list fronts edge links ∥₁
 
+-- whether two sets have a slot in common
+abbrev pub meet : ℕ → ℕ → Bool
+meet one other = not (bit_and one other == 0)
+
 -- whether a link has one end in each of two sets
 abbrev pub crosses_link : ℕ → ℕ → Link → Bool
-crosses_link a b link = is_crossing a b (link.left, link.right)
+crosses_link a b link = (meet a link.left && meet b link.right) || (meet a link.right && meet b link.left)
 
 -- the front that a set's side of a merge on a link has to serve
 abbrev pub side_front : Link → ℕ → ℕ
-side_front link set = if has_slot set link.left then link.left_front else link.right_front
+side_front link set = if meet set link.left then link.left_front else link.right_front
 
 -- whether the order o begins with another
 abbrev pub begins_test : Order → Order → Bool
 begins_test o [] = true
 begins_test [] (y ∷ ys) = false
 begins_test (x ∷ xs) (y ∷ ys) = is_same_item x y && begins_test xs ys
-
--- the front that asks for a need
-abbrev pub need_front : Option Item → Front
-need_front None = Any
-need_front (Some item) = Need item
-
--- fronts that begin with others
-pub record IsGrowing (old new : List Front) : Type 0 where
-  pub longer : length old ≤ length new
-  pub keeps : (k : ℕ) → k < length old → slice_index_or new k Any ≡ slice_index_or old k Any
-
--- the fronts past those of the old list are all this one
-pub record IsAdded (old new : List Front) (front : Front) : Type 0 where
-  pub each : (f : ℕ) → length old ≤ f → f < length new → slice_index_or new f Any ≡ front
-
--- fronts that begin with those that ask nothing and for the list, and go on with needs, each once
-pub record AreFronts (fronts : List Front) : Type 0 where
-  pub some : 2 ≤ length fronts
-  pub nothing : slice_index_or fronts 0 Listed ≡ Any
-  pub all : slice_index_or fronts 1 Any ≡ Listed
-  pub needs : (f : ℕ) → 2 ≤ f → f < length fronts → (item : Item) × (slice_index_or fronts f Any ≡ Need item)
-  pub once : (x f : ℕ) → 2 ≤ x → x < f → f < length fronts → ¬ (slice_index_or fronts x Any ≡ slice_index_or fronts f Any)
-
--- whether two links have the same slots and fronts
-abbrev pub is_same_link : Link → Link → Bool
-is_same_link x y =
-    (x.left == y.left) && (x.right == y.right) && (x.left_front == y.left_front) && (x.right_front == y.right_front)
-
--- the link with its sides exchanged
-abbrev pub turned_link : Link → Link
-turned_link x =
-    record { edge = x.edge; left = x.right; right = x.left; left_front = x.right_front; right_front = x.left_front }
-
--- or the same either way round
-abbrev pub is_alike : Link → Link → Bool
-is_alike x y = is_same_link x y || is_same_link (turned_link x) y
-
--- links that begin with others and have one alike; what was added is the link
-pub record IsKeeping (old new : List Link) (link : Link) : Type 0 where
-  pub longer : length old ≤ length new
-  pub keeps : (i : ℕ) → i < length old → link_at new i ≡ link_at old i
-  pub added : (i : ℕ) → length old ≤ i → i < length new → link_at new i ≡ link
-  pub place : ℕ
-  pub place_in : place < length new
-  pub alike : is_alike link (link_at new place) ≡ true
 
 -- The first front asks nothing and the second asks for the list; the others are needs of edges, each once. The edges'
 -- needs have links, and the first items are at hand.

@@ -5,5 +5,4 @@ pub mod Cuts
 pub mod Choices
 pub mod Rows
 pub mod Tables
-pub mod Built
-pub mod Shapes
+pub mod inner

@@ -44,18 +44,6 @@ pub record NoneLess (sorts : Bool) (task : Task) (table : OfferTable) (order : O
 pub record OffersBound (task : Task) (table : OfferTable) (order : Order) (set cost : ℕ) : Type 0 where
   pub each : (slot offer : ℕ) → slot < task.slots → offer < length (table slot) → 2 ^ slot ≡ set → BeginsWith (order_at table slot offer) order → cost ≤ price_at table slot offer
 
--- the offers of one slot bound the cost
-pub record SlotBound (table : OfferTable) (order : Order) (slot cost : ℕ) : Type 0 where
-  pub each : (offer : ℕ) → offer < length (table slot) → BeginsWith (order_at table slot offer) order → cost ≤ price_at table slot offer
-
--- an offer made the cost, or nothing did
-abbrev pub OfferMade : Task → OfferTable → Order → ℕ → ℕ → Type 0
-OfferMade task table order set cost = (cost ≡ IMPOSSIBLE) ⊎ IsOffered task table order set cost
-
--- offers made all costs of a row, or nothing did
-pub record AreOffers (task : Task) (table : OfferTable) (list : Order) (fronts : List Front) (set : ℕ) (row : List Cell) : Type 0 where
-  pub each : (f : ℕ) → f < length fronts → OfferMade task table (asked list fronts f) set (cost_at row f)
-
 -- a join of a cut's parts gives the cost
 abbrev pub IsCutBy : Ways → (ℕ → List Cell) → Cut → ℕ → ℕ → Type 0
 IsCutBy ways rows cut f cost =

@@ -1,7 +1,8 @@
 -- The lists that a plan's sorts may be by.
-use Rattle.std.specs.Prelude.{◌≡◌, ℕ, ◌⊎◌, List, [], ◌∷◌, Some, unwrap_or, slice_get}
+use Rattle.std.specs.Prelude.{◌≡◌, ℕ, ◌⊎◌, List, [], ◌∷◌, Some, slice_get}
 use Rattle.adv_base.specs.declared.workload.parts.Item.{Item}
 use Rattle.adv_base.specs.Items.{Order}
+use Rattle.plan_model.specs.Orders.{wanted_list}
 use Rattle.plan_model.specs.declared.edge.TaskEdge.{TaskEdge}
 use Rattle.plan_model.specs.declared.plan.Plan.{Plan}
 use Rattle.plan_model.specs.declared.plan.Plan.TheVariants.{Leaf, Sort', Merge', Hash'}
@@ -17,7 +18,7 @@ pub record IsNeeded (edges : List TaskEdge) (item : Item) : Type 0 where
 -- the list that the task groups by, or else orders by; or one item that an edge needs
 abbrev pub IsWantedList : Task → Order → Type 0
 IsWantedList task order =
-    (order ≡ unwrap_or task.group task.order) ⊎ ((item : Item) × (order ≡ item ∷ []) × IsNeeded task.edges item)
+    (order ≡ wanted_list task.group task.order) ⊎ ((item : Item) × (order ≡ item ∷ []) × IsNeeded task.edges item)
 
 -- each sort in the plan is by such a list
 abbrev pub SortsWanted : Task → Plan → Type 0

@@ -2,17 +2,17 @@
 ghost use Rattle.std.specs.Prelude.{◌≡◌, ℕ, ◌+◌, ◌*◌, ◌<◌, ◌≤◌, ◌^◌, ◌==◌, ◌&&◌, IsTrue, length, None, Some};
 ghost use Rattle.std.specs.Option.{ForSome};
 ghost use Rattle.adv_base.specs.OfferTables.{price_at, order_at};
-ghost use Rattle.planner.specs.declared.cell.TheConstants.{IMPOSSIBLE as NO_COST};
-ghost use Rattle.planner.specs.Fronts.{begins_test, front_order, head_at, listed as list_of, longer_front};
+ghost use Rattle.planner.specs.declared.cell.TheConstants as constant;
+ghost use Rattle.planner.specs.Fronts as order_fronts;
 ghost use Rattle.planner.specs.Cells.{cost_at, any_at, row_of};
 ghost use Rattle.planner.specs.Cuts.{cut_at, merge_at};
 ghost use Rattle.planner.specs.Choices.{IsMerged, IsMergedBy, IsOffered, IsRead};
-ghost use Rattle.planner.specs.Rows.{width, sets_of, order_of, cuts_of as set_cuts, merges_in, AreRows, IsCapped, IsCutBy, IsJoined};
-ghost use Rattle.planner.specs.Built.{GivesOffer, IsChosen, IsCutChoice, IsJoinChoice};
+ghost use Rattle.planner.specs.Rows as set_rows;
+ghost use Rattle.planner.specs.inner.Built.{GivesOffer, IsChosen, IsCutChoice, IsJoinChoice};
 
 use crate::cell::{Cell, Choice, any_of, cost_of};
 use crate::cut::{Cut, Merge};
-use crate::front::{Front, listed, longer, serves};
+use crate::front::{Front, longer, serves};
 use crate::row::{cuts_at, merges_at, row_in};
 use crate::ways::Ways;
 use adv_base::Item;
@@ -28,7 +28,7 @@ fn offer_gives<O: Offers>(
     cost: u128,
 ) -> bool
     requires { offer < length (O.table offers.now slot) }
-    ensures { result ≡ (price_at (O.table offers.now) slot offer == cost) && begins_test (order_at (O.table offers.now) slot offer) (front_order list.now front) }
+    ensures { result ≡ (price_at (O.table offers.now) slot offer == cost) && order_fronts.begins_test (order_at (O.table offers.now) slot offer) (order_fronts.front_order list.now front) }
 {
     offers.price(slot, offer) as u128 == cost && serves(offers.order(slot, offer), front, list)
 }
@@ -41,8 +41,8 @@ fn find_offer<O: Offers>(
     list: &[Item],
     cost: u128,
 ) -> Option<u32>
-    ensures found { ForSome result (λ k. GivesOffer (O.table offers.now) slot (front_order list.now front) cost k) }
-    ensures none { result ≡ None → (k : ℕ) → ¬ (GivesOffer (O.table offers.now) slot (front_order list.now front) cost k) }
+    ensures found { ForSome result (λ k. GivesOffer (O.table offers.now) slot (order_fronts.front_order list.now front) cost k) }
+    ensures none { result ≡ None → (k : ℕ) → ¬ (GivesOffer (O.table offers.now) slot (order_fronts.front_order list.now front) cost k) }
 {
     for offer in 0..offers.count(slot) {
         if offer_gives(offers, slot, offer, front, list, cost) {
@@ -70,16 +70,16 @@ fn find_in_slot<O: Offers>(
     f: usize,
     cost: u128,
 ) -> Option<u32>
-    requires front_in { f < width ways.now }
+    requires front_in { f < set_rows.width ways.now }
     requires slot_in { slot < ways.now.task.now.slots }
-    ensures found { ForSome result (λ k. IsRead ways.now.task.now (O.table offers.now) (order_of ways.now f) set cost slot k) }
-    ensures none { result ≡ None → (k : ℕ) → ¬ (IsRead ways.now.task.now (O.table offers.now) (order_of ways.now f) set cost slot k) }
+    ensures found { ForSome result (λ k. IsRead ways.now.task.now (O.table offers.now) (set_rows.order_of ways.now f) set cost slot k) }
+    ensures none { result ≡ None → (k : ℕ) → ¬ (IsRead ways.now.task.now (O.table offers.now) (set_rows.order_of ways.now f) set cost slot k) }
 {
     if !is_slot_set(set, slot) {
         return None;
     }
     let fronts = ways.fronts.as_slice();
-    find_offer(offers, slot, fronts[f], listed(ways.task), cost)
+    find_offer(offers, slot, fronts[f], ways.task.wanted_list(), cost)
 }
 
 /// An offer of the set's one slot that serves a front at that cost.
@@ -90,9 +90,9 @@ fn find_read<O: Offers>(
     f: usize,
     cost: u128,
 ) -> Option<(u8, u32)>
-    requires { f < width ways.now }
-    ensures found { ForSome result (λ r. IsRead ways.now.task.now (O.table offers.now) (order_of ways.now f) set cost r.0 r.1) }
-    ensures none { result ≡ None → ¬ (IsOffered ways.now.task.now (O.table offers.now) (order_of ways.now f) set cost) }
+    requires { f < set_rows.width ways.now }
+    ensures found { ForSome result (λ r. IsRead ways.now.task.now (O.table offers.now) (set_rows.order_of ways.now f) set cost r.0 r.1) }
+    ensures none { result ≡ None → ¬ (IsOffered ways.now.task.now (O.table offers.now) (set_rows.order_of ways.now f) set cost) }
 {
     for slot in 0..ways.task.slots {
         if let Some(offer) = find_in_slot(ways, offers, set, slot, f, cost) {
@@ -115,14 +115,14 @@ fn left_front(
     requires front_in { f < length heads.now }
     requires left_each { length left.now ≡ length heads.now }
     requires right_each { length right.now ≡ length heads.now }
-    requires left_capped { IsCapped left.now }
-    requires right_capped { IsCapped right.now }
+    requires left_capped { set_rows.IsCapped left.now }
+    requires right_capped { set_rows.IsCapped right.now }
     requires price_most { price ≤ 4000000000000000000 }
     requires need_in { merge.left_need < length heads.now }
     requires right_in { merge.right_front < length heads.now }
-    ensures serves { ForSome result (λ g. longer_front (head_at heads.now merge.left_need) (head_at heads.now f) merge.left_need f ≡ Some g) }
+    ensures serves { ForSome result (λ g. order_fronts.longer_front (order_fronts.head_at heads.now merge.left_need) (order_fronts.head_at heads.now f) merge.left_need f ≡ Some g) }
     ensures costs { ForSome result (λ g. cost ≡ any_at left.now g + (any_at right.now merge.right_front + price)) }
-    ensures none { result ≡ None → (g : ℕ) → longer_front (head_at heads.now merge.left_need) (head_at heads.now f) merge.left_need f ≡ Some g → ¬ (cost ≡ any_at left.now g + (any_at right.now merge.right_front + price)) }
+    ensures none { result ≡ None → (g : ℕ) → order_fronts.longer_front (order_fronts.head_at heads.now merge.left_need) (order_fronts.head_at heads.now f) merge.left_need f ≡ Some g → ¬ (cost ≡ any_at left.now g + (any_at right.now merge.right_front + price)) }
 {
     let base = any_of(right, merge.right_front) + price;
     let front = longer(heads[merge.left_need], heads[f], merge.left_need, f)?;
@@ -146,8 +146,8 @@ fn find_merge(
     requires front_in { f < length heads.now }
     requires left_each { length left.now ≡ length heads.now }
     requires right_each { length right.now ≡ length heads.now }
-    requires left_capped { IsCapped left.now }
-    requires right_capped { IsCapped right.now }
+    requires left_capped { set_rows.IsCapped left.now }
+    requires right_capped { set_rows.IsCapped right.now }
     requires price_most { price ≤ 4000000000000000000 }
     requires needs_in { (j : ℕ) → j < length merges.now → (merge_at merges.now j).left_need < length heads.now }
     requires fronts_in { (j : ℕ) → j < length merges.now → (merge_at merges.now j).right_front < length heads.now }
@@ -165,8 +165,8 @@ fn find_merge(
 /// Whether a hash join of that cost gives the cost to a front.
 fn hash_gives(heads: &[Option<Item>], f: usize, hash: u128, cost: u128) -> bool
     requires { f < length heads.now }
-    ensures yes { IsTrue result → (head_at heads.now f ≡ None) × (cost ≡ hash) }
-    ensures no { head_at heads.now f ≡ None → cost ≡ hash → IsTrue result }
+    ensures yes { IsTrue result → (order_fronts.head_at heads.now f ≡ None) × (cost ≡ hash) }
+    ensures no { order_fronts.head_at heads.now f ≡ None → cost ≡ hash → IsTrue result }
 {
     match heads[f] {
         None => cost == hash,
@@ -197,14 +197,14 @@ fn find_in_cut(
     f: usize,
     cost: u128,
 ) -> Option<Choice>
-    requires front_in { f < width ways.now }
-    requires whole { length cells.now ≡ sets_of ways.now * width ways.now }
-    requires done { (s : ℕ) → s < set → IsCapped (row_of (width ways.now) cells.now s) }
-    requires set_in { set < sets_of ways.now }
-    requires number { k < length (set_cuts ways.now set) }
-    requires cut_is { cut.now ≡ cut_at (set_cuts ways.now set) k }
-    ensures found { ForSome result (λ choice. IsCutChoice ways.now (row_of (width ways.now) cells.now) cut.now f cost choice) }
-    ensures none { result ≡ None → ¬ (IsCutBy ways.now (row_of (width ways.now) cells.now) cut.now f cost) }
+    requires front_in { f < set_rows.width ways.now }
+    requires whole { length cells.now ≡ set_rows.sets_of ways.now * set_rows.width ways.now }
+    requires done { (s : ℕ) → s < set → set_rows.IsCapped (row_of (set_rows.width ways.now) cells.now s) }
+    requires set_in { set < set_rows.sets_of ways.now }
+    requires number { k < length (set_rows.cuts_of ways.now set) }
+    requires cut_is { cut.now ≡ cut_at (set_rows.cuts_of ways.now set) k }
+    ensures found { ForSome result (λ choice. IsCutChoice ways.now (row_of (set_rows.width ways.now) cells.now) cut.now f cost choice) }
+    ensures none { result ≡ None → ¬ (set_rows.IsCutBy ways.now (row_of (set_rows.width ways.now) cells.now) cut.now f cost) }
 {
     let left = row_in(ways, cells, cut.left);
     let right = row_in(ways, cells, cut.right);
@@ -222,12 +222,12 @@ fn find_in_cut(
 
 /// A join of parts of a set that gives that cost.
 fn find_join(ways: &Ways, cells: &[Cell], set: usize, f: usize, cost: u128) -> Option<Choice>
-    requires front_in { f < width ways.now }
-    requires whole { length cells.now ≡ sets_of ways.now * width ways.now }
-    requires done { (s : ℕ) → s < set → IsCapped (row_of (width ways.now) cells.now s) }
-    requires set_in { set < sets_of ways.now }
-    ensures found { ForSome result (λ choice. IsJoinChoice ways.now (row_of (width ways.now) cells.now) (set_cuts ways.now set) f cost choice) }
-    ensures none { result ≡ None → ¬ (IsJoined ways.now (row_of (width ways.now) cells.now) (set_cuts ways.now set) f cost) }
+    requires front_in { f < set_rows.width ways.now }
+    requires whole { length cells.now ≡ set_rows.sets_of ways.now * set_rows.width ways.now }
+    requires done { (s : ℕ) → s < set → set_rows.IsCapped (row_of (set_rows.width ways.now) cells.now s) }
+    requires set_in { set < set_rows.sets_of ways.now }
+    ensures found { ForSome result (λ choice. IsJoinChoice ways.now (row_of (set_rows.width ways.now) cells.now) (set_rows.cuts_of ways.now set) f cost choice) }
+    ensures none { result ≡ None → ¬ (set_rows.IsJoined ways.now (row_of (set_rows.width ways.now) cells.now) (set_rows.cuts_of ways.now set) f cost) }
 {
     let cuts = cuts_at(ways, set);
     for k in 0..cuts.len() {
@@ -246,12 +246,12 @@ pub(crate) fn choice_of<O: Offers>(
     set: usize,
     front: usize,
 ) -> Choice
-    requires whole { length cells.now ≡ sets_of ways.now * width ways.now }
-    requires done { AreRows ways.now (O.table offers.now) (row_of (width ways.now) cells.now) (sets_of ways.now) }
-    requires set_in { set < sets_of ways.now }
-    requires front_in { front < width ways.now }
-    requires possible { cost_at (row_of (width ways.now) cells.now set) front < NO_COST }
-    ensures { IsChosen ways.now.task.now (O.table offers.now) (list_of ways.now.task.now) ways.now.fronts.items (row_of (width ways.now) cells.now) set front (cost_at (row_of (width ways.now) cells.now set) front) result }
+    requires whole { length cells.now ≡ set_rows.sets_of ways.now * set_rows.width ways.now }
+    requires done { set_rows.AreRows ways.now (O.table offers.now) (row_of (set_rows.width ways.now) cells.now) (set_rows.sets_of ways.now) }
+    requires set_in { set < set_rows.sets_of ways.now }
+    requires front_in { front < set_rows.width ways.now }
+    requires possible { cost_at (row_of (set_rows.width ways.now) cells.now set) front < constant.IMPOSSIBLE }
+    ensures { IsChosen ways.now.task.now (O.table offers.now) (order_fronts.listed ways.now.task.now) ways.now.fronts.items (row_of (set_rows.width ways.now) cells.now) set front (cost_at (row_of (set_rows.width ways.now) cells.now set) front) result }
 {
     let cost = cost_of(row_in(ways, cells, set), front);
     if let Some((slot, offer)) = find_read(ways, offers, set, front, cost) {

@@ -1,15 +1,15 @@
 //! Plans of what made the costs of the table.
 ghost use Rattle.std.specs.Prelude.{◌≡◌, ℕ, ◌+◌, ◌*◌, ◌<◌, ◌≤◌, Bool, IfOk, length, slice_index_or};
-ghost use Rattle.planner.specs.declared.cell.TheConstants.{IMPOSSIBLE as NO_COST};
-ghost use Rattle.planner.specs.declared.front.Front.TheVariants.{Any as ANY};
+ghost use Rattle.planner.specs.declared.cell.TheConstants as constant;
+ghost use Rattle.planner.specs.declared.front.Front.TheVariants as variant;
 ghost use Rattle.planner.specs.Fronts.{front_order};
 ghost use Rattle.planner.specs.Cells.{cell_at, row_of};
 ghost use Rattle.planner.specs.Rows.{width, sets_of, order_of, AreRows, IsTable};
-ghost use Rattle.planner.specs.Built.{front_cost, is_sorted as sorted_top, IsPlanFor, IsSortOf, IsMergeOf, IsHashOf};
+ghost use Rattle.planner.specs.inner.Built as built;
 
 use crate::again::choice_of;
 use crate::cell::{Cell, Choice};
-use crate::front::{Front, listed};
+use crate::front::Front;
 use crate::row::row_in;
 use crate::ways::Ways;
 use adv_base::{Item, List};
@@ -31,7 +31,7 @@ fn order_of(alloc: Global, front: Front, list: &[Item]) -> Result<List<Item>, Al
 
 /// A plan sorted by what a front asks for.
 fn sort_plan(alloc: Global, front: Front, list: &[Item], input: Plan) -> Result<Plan, AllocError>
-    ensures { IfOk result (λ plan. IsSortOf (front_order list.now front) input plan) }
+    ensures { IfOk result (λ plan. built.IsSortOf (front_order list.now front) input plan) }
 {
     let order = order_of(alloc, front, list)?;
     let input = Box::new(alloc, input)?;
@@ -40,7 +40,7 @@ fn sort_plan(alloc: Global, front: Front, list: &[Item], input: Plan) -> Result<
 
 /// A merge of two plans.
 fn merge_plan(alloc: Global, edge: u32, left: Plan, right: Plan) -> Result<Plan, AllocError>
-    ensures { IfOk result (λ plan. IsMergeOf edge left right plan) }
+    ensures { IfOk result (λ plan. built.IsMergeOf edge left right plan) }
 {
     let left = Box::new(alloc, left)?;
     let right = Box::new(alloc, right)?;
@@ -49,7 +49,7 @@ fn merge_plan(alloc: Global, edge: u32, left: Plan, right: Plan) -> Result<Plan,
 
 /// A hash join of two plans.
 fn hash_plan(alloc: Global, left: Plan, right: Plan) -> Result<Plan, AllocError>
-    ensures { IfOk result (λ plan. IsHashOf left right plan) }
+    ensures { IfOk result (λ plan. built.IsHashOf left right plan) }
 {
     let left = Box::new(alloc, left)?;
     let right = Box::new(alloc, right)?;
@@ -69,14 +69,14 @@ fn cell_of(ways: &Ways, cells: &[Cell], set: usize, front: usize) -> Cell
 /// A front by its number.
 fn front_at(ways: &Ways, front: usize) -> Front
     requires { front < width ways.now }
-    ensures { result ≡ slice_index_or ways.now.fronts.items front ANY }
+    ensures { result ≡ slice_index_or ways.now.fronts.items front variant.Any }
 {
     ways.fronts.as_slice()[front]
 }
 
 /// Whether a sort is the cheapest top of a cell's plan.
 fn is_sorted(cell: Cell, sorts: bool) -> bool
-    ensures { result ≡ sorted_top cell sorts }
+    ensures { result ≡ built.is_sorted cell sorts }
 {
     sorts && cell.any != cell.cost
 }
@@ -96,13 +96,13 @@ pub(crate) fn build<O: Offers>(
     requires done { AreRows ways.now (O.table offers.now) (row_of (width ways.now) cells.now) (sets_of ways.now) }
     requires set_in { set < sets_of ways.now }
     requires front_in { front < width ways.now }
-    requires possible { front_cost sorts (row_of (width ways.now) cells.now set) front < NO_COST }
-    ensures { IfOk result (λ plan. IsPlanFor sorts ways.now.task.now (O.table offers.now) (order_of ways.now front) set (front_cost sorts (row_of (width ways.now) cells.now set) front) plan) }
+    requires possible { built.front_cost sorts (row_of (width ways.now) cells.now set) front < constant.IMPOSSIBLE }
+    ensures { IfOk result (λ plan. built.IsPlanFor sorts ways.now.task.now (O.table offers.now) (order_of ways.now front) set (built.front_cost sorts (row_of (width ways.now) cells.now set) front) plan) }
 {
     let cell = cell_of(ways, cells, set, front);
     if is_sorted(cell, sorts) {
         let input = build(alloc, ways, cells, offers, set, 0, false)?;
-        let plan = sort_plan(alloc, front_at(ways, front), listed(ways.task), input)?;
+        let plan = sort_plan(alloc, front_at(ways, front), ways.task.wanted_list(), input)?;
         return Ok(plan);
     }
     match choice_of(ways, cells, offers, set, front) {

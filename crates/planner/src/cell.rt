@@ -1,7 +1,8 @@
 //! What the search keeps for a set of slots and a front.
 ghost use Rattle.std.specs.Prelude.{◌≡◌, ◌+◌, ◌<◌, ◌≤◌, ◌^◌, length};
 ghost use Rattle.std.specs.Option.{ForSome};
-ghost use Rattle.planner.specs.Cells.{better as better_of, merged as merged_of, hashed as hashed_of, finished as finished_of, blank as blank_cell, cost_at, any_at};
+ghost use Rattle.planner.specs.Cells as row_cells;
+ghost use Rattle.planner.specs.inner.Steps as steps;
 
 use adv_base::Item;
 
@@ -41,7 +42,7 @@ pub(crate) struct Cell {
 /// The cell, or what is cheaper.
 #[inline]
 pub(crate) fn better(cell: Cell, cost: u128) -> Cell
-    ensures { result ≡ better_of cell cost }
+    ensures { result ≡ steps.better cell cost }
 {
     if cost < cell.cost {
         Cell {
@@ -57,8 +58,8 @@ pub(crate) fn better(cell: Cell, cost: u128) -> Cell
 #[inline]
 pub(crate) fn merged(cell: Cell, front: Option<usize>, left: &[Cell], base: u128) -> Cell
     requires within { ForSome front (λ g. g < length left.now) }
-    requires fits { ForSome front (λ g. any_at left.now g + base < 2 ^ 128) }
-    ensures { result ≡ merged_of cell front left.now base }
+    requires fits { ForSome front (λ g. row_cells.any_at left.now g + base < 2 ^ 128) }
+    ensures { result ≡ steps.merged cell front left.now base }
 {
     match front {
         None => cell,
@@ -68,7 +69,7 @@ pub(crate) fn merged(cell: Cell, front: Option<usize>, left: &[Cell], base: u128
 
 /// The cell after a hash join of that cost, which serves only a front that asks nothing.
 pub(crate) fn hashed(cell: Cell, head: Option<Item>, cost: u128) -> Cell
-    ensures { result ≡ hashed_of cell head cost }
+    ensures { result ≡ steps.hashed cell head cost }
 {
     match head {
         None => better(cell, cost),
@@ -79,7 +80,7 @@ pub(crate) fn hashed(cell: Cell, head: Option<Item>, cost: u128) -> Cell
 /// What a front's cell costs without a sort at the top.
 pub(crate) fn cost_of(row: &[Cell], front: usize) -> u128
     requires { front < length row.now }
-    ensures { result ≡ cost_at row.now front }
+    ensures { result ≡ row_cells.cost_at row.now front }
 {
     row[front].cost
 }
@@ -87,14 +88,14 @@ pub(crate) fn cost_of(row: &[Cell], front: usize) -> u128
 /// What a front's cell costs with or without one.
 pub(crate) fn any_of(row: &[Cell], front: usize) -> u128
     requires { front < length row.now }
-    ensures { result ≡ any_at row.now front }
+    ensures { result ≡ row_cells.any_at row.now front }
 {
     row[front].any
 }
 
 /// No plan.
 pub(crate) fn blank() -> Cell
-    ensures { result ≡ blank_cell }
+    ensures { result ≡ row_cells.blank }
 {
     Cell {
         cost: IMPOSSIBLE,
@@ -104,7 +105,7 @@ pub(crate) fn blank() -> Cell
 
 /// The cell once it is known what a sort of the set costs, and whether the front's columns can be sorted by.
 pub(crate) fn finished(cell: Cell, can_sort: bool, sorted: u128) -> Cell
-    ensures { result ≡ finished_of cell can_sort sorted }
+    ensures { result ≡ steps.finished cell can_sort sorted }
 {
     let any = if can_sort && sorted < cell.cost {
         sorted

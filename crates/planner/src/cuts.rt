@@ -1,6 +1,7 @@
 //! The cuts of the sets of a task's slots, found once.
 ghost use Rattle.std.specs.Prelude.{◌≡◌, ℕ, [], ◌∷◌, ◌++◌, ◌+◌, ◌-◌, ◌^◌, ◌<◌, ◌≤◌, ◌&&◌, bit_and, IfOk, IsTrue, length};
-ghost use Rattle.planner.specs.Cuts.{merges_of, is_covered, AddsCuts, AreCuts, IsCut};
+ghost use Rattle.planner.specs.Cuts.{merges_of, is_covered, AreCuts, IsCut};
+ghost use Rattle.planner.specs.inner.Cutting.{AddsCuts};
 
 use crate::cut::{Cut, Merge};
 use crate::front::{Link, crosses, side};

@@ -1,7 +1,7 @@
 //! The rows of all sets, filled in place.
 ghost use Rattle.std.specs.Prelude.{◌≡◌, ℕ, ◌+◌, ◌*◌, ◌<◌, ◌≤◌, All, IfOk, length};
-ghost use Rattle.planner.specs.Cells.{row_of, blank as blank_cell};
-ghost use Rattle.planner.specs.Cuts.{is_covered as set_is_covered};
+ghost use Rattle.planner.specs.Cells as row_cells;
+ghost use Rattle.planner.specs.Cuts as set_cuts;
 ghost use Rattle.planner.specs.Rows.{width, sets_of, AreRows, IsTable};
 
 use crate::cell::{Cell, blank};
@@ -13,18 +13,18 @@ use std::alloc::{AllocError, Global};
 /// A row of no plans.
 pub(crate) fn blank_row(alloc: Global, width: usize) -> Result<Vec<Cell>, AllocError>
     ensures count { IfOk result (λ row. length row.items ≡ width) }
-    ensures blank { IfOk result (λ row. All (λ cell. cell ≡ blank_cell) row.items) }
+    ensures blank { IfOk result (λ row. All (λ cell. cell ≡ row_cells.blank) row.items) }
 {
     Ok(vec![in alloc; blank(); width]?)
 }
 
 /// So many such rows.
 pub(crate) fn blank_rows(alloc: Global, row: &[Cell], sets: usize) -> Result<Vec<Cell>, AllocError>
-    requires { All (λ cell. cell ≡ blank_cell) row.now }
+    requires { All (λ cell. cell ≡ row_cells.blank) row.now }
     ensures count { IfOk result (λ cells. length cells.items ≡ sets * length row.now) }
-    ensures blank { IfOk result (λ cells. All (λ cell. cell ≡ blank_cell) cells.items) }
+    ensures blank { IfOk result (λ cells. All (λ cell. cell ≡ row_cells.blank) cells.items) }
 {
-    let mut cells = Vec::new(alloc);
+    let mut cells = Vec::with_capacity(alloc, sets.saturating_mul(row.len()))?;
     for _set in 0..sets {
         cells.extend_from_slice(row)?;
     }
@@ -35,8 +35,8 @@ pub(crate) fn blank_rows(alloc: Global, row: &[Cell], sets: usize) -> Result<Vec
 fn put_row(cells: &mut [Cell], row: &[Cell], width: usize, set: usize)
     requires fits { set * width + width ≤ length cells.old }
     requires row_each { length row.now ≡ width }
-    ensures here { row_of width cells.new set ≡ row.now }
-    ensures others { (s : ℕ) → ¬ (s ≡ set) → row_of width cells.new s ≡ row_of width cells.old s }
+    ensures here { row_cells.row_of width cells.new set ≡ row.now }
+    ensures others { (s : ℕ) → ¬ (s ≡ set) → row_cells.row_of width cells.new s ≡ row_cells.row_of width cells.old s }
 {
     let from = set * width;
     cells[from..from + width].copy_from_slice(row);
@@ -45,7 +45,7 @@ fn put_row(cells: &mut [Cell], row: &[Cell], width: usize, set: usize)
 /// Whether plans can cover a set.
 fn is_covered(ways: &Ways, set: usize) -> bool
     requires { set < sets_of ways.now }
-    ensures { result ≡ set_is_covered ways.now.covered.items set }
+    ensures { result ≡ set_cuts.is_covered ways.now.covered.items set }
 {
     ways.covered.as_slice()[set]
 }
@@ -55,9 +55,9 @@ fn fill_set<O: Offers>(cells: &mut [Cell], row: &mut [Cell], ways: &Ways, offers
     requires row_each { length row.old ≡ width ways.now }
     requires table { IsTable ways.now cells.old }
     requires set_in { set < sets_of ways.now }
-    requires done { AreRows ways.now (O.table offers.now) (row_of (width ways.now) cells.old) set }
+    requires done { AreRows ways.now (O.table offers.now) (row_cells.row_of (width ways.now) cells.old) set }
     ensures table { IsTable ways.now cells.new }
-    ensures done { AreRows ways.now (O.table offers.now) (row_of (width ways.now) cells.new) (set + 1) }
+    ensures done { AreRows ways.now (O.table offers.now) (row_cells.row_of (width ways.now) cells.new) (set + 1) }
 {
     if !is_covered(ways, set) {
         return;
@@ -77,9 +77,9 @@ pub(crate) fn fill<O: Offers>(
     requires row_each { length row.old ≡ width ways.now }
     requires table { IsTable ways.now cells.old }
     requires from_in { from ≤ sets_of ways.now }
-    requires done { AreRows ways.now (O.table offers.now) (row_of (width ways.now) cells.old) from }
+    requires done { AreRows ways.now (O.table offers.now) (row_cells.row_of (width ways.now) cells.old) from }
     ensures table { IsTable ways.now cells.new }
-    ensures done { AreRows ways.now (O.table offers.now) (row_of (width ways.now) cells.new) (sets_of ways.now) }
+    ensures done { AreRows ways.now (O.table offers.now) (row_cells.row_of (width ways.now) cells.new) (sets_of ways.now) }
 {
     for set in from..ways.task.rows.len() {
         fill_set(cells, row, ways, offers, set);

@@ -1,9 +1,10 @@
 //! Joins that are offered to the cells of one row.
 ghost use Rattle.std.specs.Prelude.{◌≡◌, ℕ, ◌+◌, ◌<◌, ◌≤◌, length, None, slice_index_or};
 ghost use Rattle.planner.specs.Fronts.{longer_front, AreHeadsApart};
-ghost use Rattle.planner.specs.Cells.{cell_at, cost_at, merged as merged_of, hashed as hashed_of};
+ghost use Rattle.planner.specs.Cells.{cell_at, cost_at};
+ghost use Rattle.planner.specs.inner.Steps as steps;
 ghost use Rattle.planner.specs.Cuts.{merge_at};
-ghost use Rattle.planner.specs.Choices.{IsMerged, IsStep, MergesBound};
+ghost use Rattle.planner.specs.Choices.{IsMerged, MergesBound};
 ghost use Rattle.planner.specs.Rows.{IsCapped};
 
 use crate::cell::{Cell, any_of, hashed, merged};
@@ -27,7 +28,7 @@ fn merge_cell(
     requires need_in { need < length row.old }
     requires capped { IsCapped left.now }
     requires base_most { base ≤ 2000000000000000000000000000000 }
-    ensures here { cell_at row.new f ≡ merged_of (cell_at row.old f) (longer_front (slice_index_or heads.now need None) (slice_index_or heads.now f None) need f) left.now base }
+    ensures here { cell_at row.new f ≡ steps.merged (cell_at row.old f) (longer_front (slice_index_or heads.now need None) (slice_index_or heads.now f None) need f) left.now base }
     ensures others { (k : ℕ) → ¬ (k ≡ f) → cell_at row.new k ≡ cell_at row.old k }
 {
     let front = longer(heads[need], heads[f], need, f);
@@ -41,7 +42,7 @@ fn merge_each(row: &mut [Cell], heads: &[Option<Item>], left: &[Cell], need: usi
     requires need_in { need < length row.old }
     requires capped { IsCapped left.now }
     requires base_most { base ≤ 2000000000000000000000000000000 }
-    ensures { (f : ℕ) → f < length row.old → cell_at row.new f ≡ merged_of (cell_at row.old f) (longer_front (slice_index_or heads.now need None) (slice_index_or heads.now f None) need f) left.now base }
+    ensures { (f : ℕ) → f < length row.old → cell_at row.new f ≡ steps.merged (cell_at row.old f) (longer_front (slice_index_or heads.now need None) (slice_index_or heads.now f None) need f) left.now base }
 {
     for f in 0..row.len() {
         merge_cell(row, heads, left, need, base, f);
@@ -63,7 +64,7 @@ pub(crate) fn merge_row(
     requires need_in { need < length row.old }
     requires capped { IsCapped left.now }
     requires base_most { base ≤ 2000000000000000000000000000000 }
-    ensures { (f : ℕ) → f < length row.old → cell_at row.new f ≡ merged_of (cell_at row.old f) (longer_front (slice_index_or heads.now need None) (slice_index_or heads.now f None) need f) left.now base }
+    ensures { (f : ℕ) → f < length row.old → cell_at row.new f ≡ steps.merged (cell_at row.old f) (longer_front (slice_index_or heads.now need None) (slice_index_or heads.now f None) need f) left.now base }
 {
     if need < 2 {
         merge_each(row, heads, left, need, base);
@@ -79,7 +80,7 @@ pub(crate) fn hash_row(row: &mut [Cell], heads: &[Option<Item>], cost: u128)
     requires some { 2 ≤ length row.old }
     requires heads_each { length heads.now ≡ length row.old }
     requires apart { AreHeadsApart heads.now }
-    ensures { (f : ℕ) → f < length row.old → cell_at row.new f ≡ hashed_of (cell_at row.old f) (slice_index_or heads.now f None) cost }
+    ensures { (f : ℕ) → f < length row.old → cell_at row.new f ≡ steps.hashed (cell_at row.old f) (slice_index_or heads.now f None) cost }
 {
     row[0] = hashed(row[0], heads[0], cost);
     row[1] = hashed(row[1], heads[1], cost);
@@ -103,7 +104,7 @@ pub(crate) fn merge_rows(
     requires price_most { price ≤ 4000000000000000000 }
     requires needs_in { (j : ℕ) → j < length merges.now → (merge_at merges.now j).left_need < length row.old }
     requires fronts_in { (j : ℕ) → j < length merges.now → (merge_at merges.now j).right_front < length row.old }
-    ensures step { IsStep (length row.old) (IsMerged heads.now left.now right.now price merges.now) row.old row.new }
+    ensures step { steps.IsStep (length row.old) (IsMerged heads.now left.now right.now price merges.now) row.old row.new }
     ensures bounds { (f : ℕ) → f < length row.old → MergesBound heads.now left.now right.now price merges.now f (cost_at row.new f) }
 {
     for merge in merges {

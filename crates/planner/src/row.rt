@@ -3,16 +3,16 @@ ghost use Rattle.std.specs.Prelude.{◌≡◌, ℕ, ◌+◌, ◌*◌, ◌<◌, �
 ghost use Rattle.std.specs.List.{list_all};
 ghost use Rattle.plan_model.specs.Plans.{is_column_of};
 ghost use Rattle.plan_model.specs.Costs.{rows_in, sort_cost};
-ghost use Rattle.planner.specs.declared.cell.TheConstants.{IMPOSSIBLE as NO_COST};
-ghost use Rattle.planner.specs.Fronts.{asked, listed as list_of};
-ghost use Rattle.planner.specs.Cells.{cell_at, cost_at, row_of, blank as blank_cell, finished as finished_of};
+ghost use Rattle.planner.specs.declared.cell.TheConstants as constant;
+ghost use Rattle.planner.specs.Fronts as order_fronts;
+ghost use Rattle.planner.specs.Cells as row_cells;
+ghost use Rattle.planner.specs.inner.Steps as steps;
 ghost use Rattle.planner.specs.Cuts.{cut_at};
-ghost use Rattle.planner.specs.Choices.{IsStep};
-ghost use Rattle.planner.specs.Rows.{width, sets_of, cuts_of as set_cuts, merges_in, AreRows, CutBound, IsCapped, IsCutBy, IsJoined, IsRow};
+ghost use Rattle.planner.specs.Rows as set_rows;
 
 use crate::cell::{Cell, blank, cost_of, finished};
 use crate::cut::{Cut, Merge};
-use crate::front::{Front, can_sort, listed};
+use crate::front::{Front, can_sort};
 use crate::join::{hash_row, merge_rows};
 use crate::read::read_row;
 use crate::ways::Ways;
@@ -22,7 +22,7 @@ use plan_model::{Offers, Task, rows_of, sort_price};
 pub(crate) fn row_at(cells: &[Cell], width: usize, sets: usize, set: usize) -> &[Cell]
     requires whole { length cells.now ≡ sets * width }
     requires set_in { set < sets }
-    ensures row { result.now ≡ row_of width cells.now set }
+    ensures row { result.now ≡ row_cells.row_of width cells.now set }
     ensures width { length result.now ≡ width }
 {
     let from = set * width;
@@ -31,25 +31,25 @@ pub(crate) fn row_at(cells: &[Cell], width: usize, sets: usize, set: usize) -> &
 
 /// How many cells a row has.
 pub(crate) fn width_of(ways: &Ways) -> usize
-    ensures { result ≡ width ways.now }
+    ensures { result ≡ set_rows.width ways.now }
 {
     ways.fronts.len()
 }
 
 /// The row of a set in the table of all sets.
 pub(crate) fn row_in<'a>(ways: &Ways, cells: &'a [Cell], set: usize) -> &'a [Cell]
-    requires whole { length cells.now ≡ sets_of ways.now * width ways.now }
-    requires set_in { set < sets_of ways.now }
-    ensures row { result.now ≡ row_of (width ways.now) cells.now set }
-    ensures width { length result.now ≡ width ways.now }
+    requires whole { length cells.now ≡ set_rows.sets_of ways.now * set_rows.width ways.now }
+    requires set_in { set < set_rows.sets_of ways.now }
+    ensures row { result.now ≡ row_cells.row_of (set_rows.width ways.now) cells.now set }
+    ensures width { length result.now ≡ set_rows.width ways.now }
 {
     row_at(cells, width_of(ways), ways.task.rows.len(), set)
 }
 
 /// The cuts of a set.
 pub(crate) fn cuts_at<'a>(ways: &'a Ways, set: usize) -> &'a [Cut]
-    requires { set < sets_of ways.now }
-    ensures { result.now ≡ set_cuts ways.now set }
+    requires { set < set_rows.sets_of ways.now }
+    ensures { result.now ≡ set_rows.cuts_of ways.now set }
 {
     &ways.cuts.as_slice()[ways.starts[set]..ways.starts[set + 1]]
 }
@@ -58,21 +58,21 @@ pub(crate) fn cuts_at<'a>(ways: &'a Ways, set: usize) -> &'a [Cut]
 pub(crate) fn merges_at<'a>(ways: &'a Ways, cut: &Cut) -> &'a [Merge]
     requires from { cut.now.from ≤ cut.now.to }
     requires to { cut.now.to ≤ length ways.now.merges.items }
-    ensures { result.now ≡ merges_in ways.now cut.now }
+    ensures { result.now ≡ set_rows.merges_in ways.now cut.now }
 {
     &ways.merges.as_slice()[cut.from..cut.to]
 }
 
 /// Offers each cell of a set's row the joins of a cut's parts.
 fn join_cut(row: &mut [Cell], cells: &[Cell], ways: &Ways, set: usize, k: usize, cut: &Cut)
-    requires row_each { length row.old ≡ width ways.now }
-    requires whole { length cells.now ≡ sets_of ways.now * width ways.now }
-    requires done { (s : ℕ) → s < set → IsCapped (row_of (width ways.now) cells.now s) }
-    requires set_in { set < sets_of ways.now }
-    requires number { k < length (set_cuts ways.now set) }
-    requires cut_is { cut.now ≡ cut_at (set_cuts ways.now set) k }
-    ensures step { IsStep (width ways.now) (IsCutBy ways.now (row_of (width ways.now) cells.now) cut.now) row.old row.new }
-    ensures bounds { (f : ℕ) → f < width ways.now → CutBound ways.now (row_of (width ways.now) cells.now) cut.now f (cost_at row.new f) }
+    requires row_each { length row.old ≡ set_rows.width ways.now }
+    requires whole { length cells.now ≡ set_rows.sets_of ways.now * set_rows.width ways.now }
+    requires done { (s : ℕ) → s < set → set_rows.IsCapped (row_cells.row_of (set_rows.width ways.now) cells.now s) }
+    requires set_in { set < set_rows.sets_of ways.now }
+    requires number { k < length (set_rows.cuts_of ways.now set) }
+    requires cut_is { cut.now ≡ cut_at (set_rows.cuts_of ways.now set) k }
+    ensures step { steps.IsStep (set_rows.width ways.now) (set_rows.IsCutBy ways.now (row_cells.row_of (set_rows.width ways.now) cells.now) cut.now) row.old row.new }
+    ensures bounds { (f : ℕ) → f < set_rows.width ways.now → set_rows.CutBound ways.now (row_cells.row_of (set_rows.width ways.now) cells.now) cut.now f (row_cells.cost_at row.new f) }
 {
     let left = row_in(ways, cells, cut.left);
     let right = row_in(ways, cells, cut.right);
@@ -91,12 +91,12 @@ fn join_cut(row: &mut [Cell], cells: &[Cell], ways: &Ways, set: usize, k: usize,
 
 /// Offers each cell of a set's row all joins of its parts.
 fn join_row(row: &mut [Cell], cells: &[Cell], ways: &Ways, set: usize)
-    requires row_each { length row.old ≡ width ways.now }
-    requires whole { length cells.now ≡ sets_of ways.now * width ways.now }
-    requires done { (s : ℕ) → s < set → IsCapped (row_of (width ways.now) cells.now s) }
-    requires set_in { set < sets_of ways.now }
-    ensures step { IsStep (width ways.now) (IsJoined ways.now (row_of (width ways.now) cells.now) (set_cuts ways.now set)) row.old row.new }
-    ensures bounds { (k : ℕ) → k < length (set_cuts ways.now set) → (f : ℕ) → f < width ways.now → CutBound ways.now (row_of (width ways.now) cells.now) (cut_at (set_cuts ways.now set) k) f (cost_at row.new f) }
+    requires row_each { length row.old ≡ set_rows.width ways.now }
+    requires whole { length cells.now ≡ set_rows.sets_of ways.now * set_rows.width ways.now }
+    requires done { (s : ℕ) → s < set → set_rows.IsCapped (row_cells.row_of (set_rows.width ways.now) cells.now s) }
+    requires set_in { set < set_rows.sets_of ways.now }
+    ensures step { steps.IsStep (set_rows.width ways.now) (set_rows.IsJoined ways.now (row_cells.row_of (set_rows.width ways.now) cells.now) (set_rows.cuts_of ways.now set)) row.old row.new }
+    ensures bounds { (k : ℕ) → k < length (set_rows.cuts_of ways.now set) → (f : ℕ) → f < set_rows.width ways.now → set_rows.CutBound ways.now (row_cells.row_of (set_rows.width ways.now) cells.now) (cut_at (set_rows.cuts_of ways.now set) k) f (row_cells.cost_at row.new f) }
 {
     let cuts = cuts_at(ways, set);
     for k in 0..cuts.len() {
@@ -106,7 +106,7 @@ fn join_row(row: &mut [Cell], cells: &[Cell], ways: &Ways, set: usize)
 
 /// Makes all cells of a row blank.
 fn clear_row(row: &mut [Cell])
-    ensures { (f : ℕ) → cell_at row.new f ≡ blank_cell }
+    ensures { (f : ℕ) → row_cells.cell_at row.new f ≡ row_cells.blank }
 {
     for cell in row.iter_mut() {
         *cell = blank();
@@ -118,10 +118,10 @@ fn finish_row(row: &mut [Cell], task: &Task, fronts: &[Front], set: usize)
     requires row_each { length row.old ≡ length fronts.now }
     requires some { 0 < length fronts.now }
     requires set_in { set < length task.now.rows }
-    requires capped { cost_at row.old 0 ≤ NO_COST }
-    ensures { (f : ℕ) → f < length fronts.now → cell_at row.new f ≡ finished_of (cell_at row.old f) (list_all (is_column_of set) (asked (list_of task.now) fronts.now f)) (cost_at row.old 0 + sort_cost task.now.rates (rows_in task.now set)) }
+    requires capped { row_cells.cost_at row.old 0 ≤ constant.IMPOSSIBLE }
+    ensures { (f : ℕ) → f < length fronts.now → row_cells.cell_at row.new f ≡ steps.finished (row_cells.cell_at row.old f) (list_all (is_column_of set) (order_fronts.asked (order_fronts.listed task.now) fronts.now f)) (row_cells.cost_at row.old 0 + sort_cost task.now.rates (rows_in task.now set)) }
 {
-    let list = listed(task);
+    let list = task.wanted_list();
     let sorted = cost_of(row, 0) + sort_price(task, rows_of(task, set));
     for f in 0..fronts.len() {
         let sorts = can_sort(set, fronts[f], list);
@@ -137,11 +137,11 @@ pub(crate) fn plan_row<O: Offers>(
     offers: &O,
     set: usize,
 )
-    requires row_each { length row.old ≡ width ways.now }
-    requires whole { length cells.now ≡ sets_of ways.now * width ways.now }
-    requires set_in { set < sets_of ways.now }
-    requires done { AreRows ways.now (O.table offers.now) (row_of (width ways.now) cells.now) set }
-    ensures { IsRow ways.now (O.table offers.now) (row_of (width ways.now) cells.now) set row.new }
+    requires row_each { length row.old ≡ set_rows.width ways.now }
+    requires whole { length cells.now ≡ set_rows.sets_of ways.now * set_rows.width ways.now }
+    requires set_in { set < set_rows.sets_of ways.now }
+    requires done { set_rows.AreRows ways.now (O.table offers.now) (row_cells.row_of (set_rows.width ways.now) cells.now) set }
+    ensures { set_rows.IsRow ways.now (O.table offers.now) (row_cells.row_of (set_rows.width ways.now) cells.now) set row.new }
 {
     let fronts = ways.fronts.as_slice();
     clear_row(row);

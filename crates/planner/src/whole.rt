@@ -5,10 +5,10 @@ ghost use Rattle.adv_base.specs.Sets.{all_slots};
 ghost use Rattle.plan_model.specs.Costs.{rows_in};
 ghost use Rattle.planner.specs.Cells.{cost_at, any_at, row_of};
 ghost use Rattle.planner.specs.Rows.{IsCapped, width, sets_of};
-ghost use Rattle.planner.specs.Shapes.{is_nil as has_none, cheaper as cheaper_of, final_cost as final_price, ungrouped_shape, sorted_shape, hashed_shape, least_shape as shape_over};
+ghost use Rattle.planner.specs.inner.Shapes as shapes;
 
 use crate::cell::{Cell, any_of, cost_of};
-use crate::front::begins_with;
+use crate::front::begins;
 use crate::row::row_in;
 use crate::ways::Ways;
 use adv_base::Item;
@@ -25,14 +25,14 @@ pub(crate) struct Shape {
 
 /// The cheaper of two.
 fn cheaper(a: Shape, b: Shape) -> Shape
-    ensures { result ≡ cheaper_of a b }
+    ensures { result ≡ shapes.cheaper a b }
 {
     if b.cost < a.cost { b } else { a }
 }
 
 /// Whether a list is empty.
 fn is_nil(order: &[Item]) -> bool
-    ensures { result ≡ has_none order.now }
+    ensures { result ≡ shapes.is_nil order.now }
 {
     order.is_empty()
 }
@@ -41,7 +41,7 @@ fn is_nil(order: &[Item]) -> bool
 fn final_cost(task: &Task, rows: u64, sorts: bool) -> u128
     requires some { 1 ≤ rows }
     requires most { rows ≤ 1000000000000 }
-    ensures exact { result ≡ final_price task.now rows sorts }
+    ensures exact { result ≡ shapes.final_cost task.now rows sorts }
     ensures few { result ≤ 64000000000000000000 }
 {
     if sorts { sort_price(task, rows) } else { 0 }
@@ -53,7 +53,7 @@ fn ungrouped(task: &Task, row: &[Cell], rows: u64) -> Shape
     requires capped { IsCapped row.now }
     requires some { 1 ≤ rows }
     requires most { rows ≤ 1000000000000 }
-    ensures { result ≡ ungrouped_shape task.now row.now rows }
+    ensures { result ≡ shapes.ungrouped_shape task.now row.now rows }
 {
     if is_nil(task.order.as_slice()) {
         return Shape {
@@ -83,9 +83,9 @@ fn sorted_group(task: &Task, group: &[Item], row: &[Cell], rows: u64) -> Shape
     requires wide { 2 ≤ length row.now }
     requires capped { IsCapped row.now }
     requires most { rows ≤ 1000000000000 }
-    ensures { result ≡ sorted_shape task.now group.now row.now rows }
+    ensures { result ≡ shapes.sorted_shape task.now group.now row.now rows }
 {
-    let final_sort = !begins_with(group, task.order.as_slice());
+    let final_sort = !begins(group, task.order.as_slice());
     let grouping = task.rates.group_cpu as u128 * rows as u128;
     let cost = any_of(row, 1) + grouping + final_cost(task, task.group_rows, final_sort);
     Shape {
@@ -101,7 +101,7 @@ fn hashed_group(task: &Task, row: &[Cell], rows: u64) -> Shape
     requires wide { 2 ≤ length row.now }
     requires capped { IsCapped row.now }
     requires most { rows ≤ 1000000000000 }
-    ensures { result ≡ hashed_shape task.now row.now rows }
+    ensures { result ≡ shapes.hashed_shape task.now row.now rows }
 {
     let final_sort = !is_nil(task.order.as_slice());
     let grouping = 2 * (task.rates.hash_cpu as u128 * rows as u128);
@@ -120,7 +120,7 @@ pub(crate) fn shape_of(task: &Task, row: &[Cell], rows: u64) -> Shape
     requires capped { IsCapped row.now }
     requires some { 1 ≤ rows }
     requires most { rows ≤ 1000000000000 }
-    ensures { result ≡ shape_over task.now.group task.now row.now rows }
+    ensures { result ≡ shapes.least_shape task.now.group task.now row.now rows }
 {
     match &task.group {
         None => ungrouped(task, row, rows),
@@ -136,7 +136,7 @@ pub(crate) fn shape_of(task: &Task, row: &[Cell], rows: u64) -> Shape
 pub(crate) fn least_shape(ways: &Ways, cells: &[Cell]) -> Shape
     requires whole { length cells.now ≡ sets_of ways.now * width ways.now }
     requires capped { IsCapped (row_of (width ways.now) cells.now (all_slots ways.now.task.now.slots)) }
-    ensures { result ≡ shape_over ways.now.task.now.group ways.now.task.now (row_of (width ways.now) cells.now (all_slots ways.now.task.now.slots)) (rows_in ways.now.task.now (all_slots ways.now.task.now.slots)) }
+    ensures { result ≡ shapes.least_shape ways.now.task.now.group ways.now.task.now (row_of (width ways.now) cells.now (all_slots ways.now.task.now.slots)) (rows_in ways.now.task.now (all_slots ways.now.task.now.slots)) }
 {
     let full = ways.task.rows.len() - 1;
     shape_of(

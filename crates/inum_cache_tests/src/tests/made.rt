@@ -7,7 +7,7 @@ use crate::tests::tasks::{list, up};
 use adv_base::{Item, List, Rates};
 use plan_model::{Task, TaskEdge, checked_task};
 use std::alloc::{AllocError, Global};
-use std::test::Fail;
+use std::process::Abort;
 
 /// A linear congruential generator.
 #[derive(Drop)]
@@ -178,17 +178,17 @@ fn rates(draws: &mut Draws) -> Rates {
 }
 
 /// A task of one to three slots.
-pub fn made_task(alloc: Global, draws: &mut Draws) -> Result<Task, Fail> {
+pub fn made_task(rt: &impl Abort, alloc: Global, draws: &mut Draws) -> Task {
     let slots = draws.below(3) + 1;
-    let edges = edges(alloc, draws, slots)?;
-    let rows = row_counts(alloc, draws, slots)?;
+    let edges = edges(alloc, draws, slots).expect(rt, "memory");
+    let rows = row_counts(alloc, draws, slots).expect(rt, "memory");
     let rates = rates(draws);
     let group_rows = row_count(draws);
-    let group = columns(alloc, draws, slots)?;
+    let group = columns(alloc, draws, slots).expect(rt, "memory");
     let order = if draws.comes(4) {
-        Vec::from_slice(alloc, group.as_slice())?
+        Vec::from_slice(alloc, group.as_slice()).expect(rt, "memory")
     } else {
-        items(alloc, draws, slots, edges.as_slice())?
+        items(alloc, draws, slots, edges.as_slice()).expect(rt, "memory")
     };
     let group = if draws.comes(3) {
         Some(List { items: group })
@@ -196,7 +196,7 @@ pub fn made_task(alloc: Global, draws: &mut Draws) -> Result<Task, Fail> {
         None
     };
     let order = List { items: order };
-    Ok(checked_task(slots, edges, rows, group, group_rows, order, rates).ok_or("no task")?)
+    checked_task(slots, edges, rows, group, group_rows, order, rates).expect(rt, "a task")
 }
 
 fn price(draws: &mut Draws) -> u32 {

@@ -2,7 +2,7 @@
 use adv_base::{Item, List, Rates};
 use plan_model::{Task, TaskEdge, checked_task};
 use std::alloc::{AllocError, Global};
-use std::test::Fail;
+use std::process::Abort;
 
 pub fn up(slot: u8, column: u16) -> Item {
     Item::Up { slot, column }
@@ -26,30 +26,42 @@ pub fn list<T: Copy>(alloc: Global, items: &[T]) -> Result<List<T>, AllocError> 
     })
 }
 
+/// The edges of a star of five slots: its hub is tied to three others by three columns each and to the fourth by four.
+pub fn star_edges() -> [TaskEdge; 13] {
+    [
+        edge(0, 0, 1, 0),
+        edge(0, 1, 1, 1),
+        edge(0, 2, 1, 2),
+        edge(0, 3, 2, 3),
+        edge(0, 4, 2, 4),
+        edge(0, 5, 2, 5),
+        edge(0, 6, 3, 6),
+        edge(0, 7, 3, 7),
+        edge(0, 8, 3, 8),
+        edge(0, 9, 4, 9),
+        edge(0, 10, 4, 10),
+        edge(0, 11, 4, 11),
+        edge(0, 12, 4, 12),
+    ]
+}
+
 /// A task at the default rates; what it groups by has the number of the groups beside it.
 pub fn task(
+    rt: &impl Abort,
     alloc: Global,
     slots: u8,
     edges: &[TaskEdge],
     rows: &[u64],
     group: Option<(&[Item], u64)>,
     order: &[Item],
-) -> Result<Task, Fail> {
-    let rates = Rates {
-        seq_page: 1000,
-        rand_page: 4000,
-        row_cpu: 10,
-        sort_cpu: 5,
-        merge_cpu: 5,
-        hash_cpu: 8,
-        group_cpu: 5,
-    };
-    let edges = list(alloc, edges)?;
-    let rows = list(alloc, rows)?;
-    let order = list(alloc, order)?;
+) -> Task {
+    let rates = Rates::default();
+    let edges = list(alloc, edges).expect(rt, "memory");
+    let rows = list(alloc, rows).expect(rt, "memory");
+    let order = list(alloc, order).expect(rt, "memory");
     let (group, group_rows) = match group {
         None => (None, 1),
-        Some((items, rows)) => (Some(list(alloc, items)?), rows),
+        Some((items, rows)) => (Some(list(alloc, items).expect(rt, "memory")), rows),
     };
-    Ok(checked_task(slots, edges, rows, group, group_rows, order, rates).ok_or("no task")?)
+    checked_task(slots, edges, rows, group, group_rows, order, rates).expect(rt, "a task")
 }

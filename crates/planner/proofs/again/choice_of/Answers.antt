@@ -2,7 +2,7 @@ use Rattle.std.proofs.Common.{inl, inr, refl, ap, subst, ◌∙◌, arith}
 use Rattle.planner.specs.Cells.{cost_at, row_of}
 use Rattle.planner.specs.Choices.{IsOffered, IsRead}
 use Rattle.planner.specs.Rows.{width, cuts_of, order_of, IsJoined}
-use Rattle.planner.specs.Built.{IsJoinChoice}
+use Rattle.planner.specs.inner.Built.{IsJoinChoice}
 use Rattle.planner.proofs.Choosing.{join_chosen}
 use Rattle.planner.proofs.again.choice_of.Goals as goal
 

@@ -3,7 +3,7 @@ use Rattle.std.proofs.lemmas.Option.{same_Some}
 use Rattle.planner.specs.Cells.{row_of}
 use Rattle.planner.specs.Cuts.{merge_at}
 use Rattle.planner.specs.Rows.{IsCapped, width}
-use Rattle.planner.specs.Built.{IsCutChoice}
+use Rattle.planner.specs.inner.Built.{IsCutChoice}
 use Rattle.planner.proofs.Choosing.{merged_at}
 use Rattle.planner.proofs.Tabling.{left_less, right_less, hash_small, merge_small, merges_mean}
 use Rattle.planner.proofs.again.find_in_cut.Goals as goal

@@ -2,7 +2,7 @@ use Rattle.std.proofs.Common.{ℕ, below_more, sym, subst, ◌∙◌, arith}
 use Rattle.std.proofs.lemmas.Bool.{false≢true}
 use Rattle.std.proofs.lemmas.Option.{same_Some}
 use Rattle.planner.specs.Fronts.{front_order}
-use Rattle.planner.specs.Built.{GivesOffer}
+use Rattle.planner.specs.inner.Built.{GivesOffer}
 use Rattle.planner.proofs.Choosing.{offer_from_test, test_from_offer}
 use Rattle.planner.proofs.again.find_offer.Goals as goal
 

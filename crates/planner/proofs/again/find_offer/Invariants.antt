@@ -1,6 +1,6 @@
 use Rattle.std.proofs.Common.{ℕ, ◌<◌}
 use Rattle.planner.specs.Fronts.{front_order}
-use Rattle.planner.specs.Built.{GivesOffer}
+use Rattle.planner.specs.inner.Built.{GivesOffer}
 use Rattle.planner.proofs.again.find_offer.Given as goal
 
 abbrev pub invariant-loop-offer : goal.invariant-loop-offer

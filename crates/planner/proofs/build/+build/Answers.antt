@@ -1,7 +1,7 @@
 use Rattle.std.proofs.Common.{◌-◌, Bool, length, sym, subst, ◌∙◌, arith}
 use Rattle.planner.specs.Fronts.{asked, listed}
 use Rattle.planner.specs.Cells.{cost_at, any_at, row_of}
-use Rattle.planner.specs.Built.{IsPlanFor, front_cost}
+use Rattle.planner.specs.inner.Built.{IsPlanFor, front_cost}
 use Rattle.planner.proofs.Building.{asked_sort, sort_built, merge_built, hash_built, plain_cost, sorted_top, top_differs, sort_wanted}
 use Rattle.planner.proofs.Lower.{AreBlank, rows_low}
 use Rattle.planner.proofs.build.+build.Goals as goal
@@ -33,7 +33,7 @@ returns-then-is_sorted g t c =
     let differs = top_differs (rows set) f c.args.sorts c.cell_of-cell.result c.cell_of-cell.ensures (sym c.is_sorted.ensures ∙ c.if-is_sorted.true) in
     let blanks : AreBlank ways rows = record { each = c.requires.table.blanks } in
     let low = rows_low ways table rows c.requires.done blanks set c.requires.set_in in
-    let is = asked_sort c.listed.result.now list c.front_at.result fronts f c.in_ok-input.input c.in_ok-plan.plan c.listed.ensures c.front_at.ensures c.in_ok-plan.ensures in
+    let is = asked_sort c.wanted_list.result.now list c.front_at.result fronts f c.in_ok-input.input c.in_ok-plan.plan c.wanted_list.ensures.exact c.front_at.ensures c.in_ok-plan.ensures in
     let wanted = sort_wanted ways table set f (rows set) c.in_ok-input.input c.requires.front_in differs (low.least_any f c.requires.front_in) top.1 c.in_ok-input.ensures in
     let built = sort_built task table list fronts (rows set) set f (any_at (rows set) f) c.in_ok-input.input c.in_ok-plan.plan is c.in_ok-input.ensures top.1 wanted in
     subst (λ (b : Bool). IsPlanFor b task table (asked list fronts f) set (front_cost b (rows set) f) c.in_ok-plan.plan) (sym top.0) built

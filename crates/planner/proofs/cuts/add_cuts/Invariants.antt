@@ -1,5 +1,5 @@
 use Rattle.std.proofs.Common.{◌≡◌, ◌-◌, ◌<◌, ◌≤◌, bit_and}
-use Rattle.planner.specs.Cuts.{AddsCuts}
+use Rattle.planner.specs.inner.Cutting.{AddsCuts}
 use Rattle.planner.proofs.cuts.add_cuts.Given as goal
 
 abbrev pub invariant-parts : goal.invariant-parts

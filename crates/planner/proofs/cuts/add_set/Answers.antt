@@ -1,5 +1,6 @@
 use Rattle.std.proofs.Common.{◌≡◌, ℕ, ◌+◌, [], ◌∷◌, ◌++◌, Bool, List, length, sym, ap, subst, ◌∙◌, arith}
-use Rattle.planner.specs.Cuts.{AddsCuts, AreCuts}
+use Rattle.planner.specs.Cuts.{AreCuts}
+use Rattle.planner.specs.inner.Cutting.{AddsCuts}
 use Rattle.planner.proofs.Cutting.{cuts_add}
 use Rattle.planner.proofs.cuts.add_set.Goals as goal
 

@@ -6,8 +6,8 @@ use Rattle.planner.specs.declared.cell.TheConstants.{IMPOSSIBLE}
 use Rattle.planner.specs.Fronts.{asked, listed}
 use Rattle.planner.specs.Cells.{row_of}
 use Rattle.planner.specs.Rows.{width, sets_of, AreRows, IsCapped, IsTable}
-use Rattle.planner.specs.Built.{front_cost, IsPlanFor}
-use Rattle.planner.specs.Shapes.{least_shape}
+use Rattle.planner.specs.inner.Built.{front_cost, IsPlanFor}
+use Rattle.planner.specs.inner.Shapes.{least_shape}
 use Rattle.planner.proofs.Finding.{full_is, full_in, shape_at, shape_front, shape_possible, whole_valid, whole_costs, whole_least, least_below}
 use Rattle.planner.proofs.Tabling.{table_blanks}
 use Rattle.planner.proofs.found.whole_of.Goals as goal

@@ -1,6 +1,7 @@
 use Rattle.std.proofs.Common.{◌≡◌, ℕ, ◌<◌, ◌≤◌, None, slice_index_or}
 use Rattle.planner.specs.Fronts.{longer_front}
-use Rattle.planner.specs.Cells.{cell_at, merged}
+use Rattle.planner.specs.Cells.{cell_at}
+use Rattle.planner.specs.inner.Steps.{merged}
 use Rattle.planner.proofs.join.merge_each.Given as goal
 
 abbrev pub invariant-loop-f : goal.invariant-loop-f

@@ -2,7 +2,8 @@ use Rattle.std.proofs.Common.{◌≡◌, ℕ, ◌+◌, ◌<◌, length, None, sl
 use Rattle.std.proofs.lemmas.List.{get_or_default}
 use Rattle.planner.specs.declared.cut.Merge.{Merge}
 use Rattle.planner.specs.Fronts.{longer_front}
-use Rattle.planner.specs.Cells.{any_at, cell_at, cost_at, merged}
+use Rattle.planner.specs.Cells.{any_at, cell_at, cost_at}
+use Rattle.planner.specs.inner.Steps.{merged}
 use Rattle.planner.specs.Cuts.{merge_at, no_merge}
 use Rattle.planner.specs.Choices.{IsMerged, MergeBound}
 use Rattle.planner.proofs.Steps.{merge_step, merge_bound, merge_falls, step_then}
@@ -29,6 +30,6 @@ loop-merge-preserved c =
     let P : ℕ → Type 0 = λ i. (f : ℕ) → f < length c.args.row.now → MergeBound heads left right price (merge_at merges i) f (cost_at new f) in
     let step = merge_step heads left right old new price merges j within base base_is same each in
     record {
-      step = step_then (length c.args.row.now) (IsMerged heads left right price merges) c.args.row.now old new c.loop-merge.invariant.step (subst (λ n. Rattle.planner.specs.Choices.IsStep n (IsMerged heads left right price merges) old new) count step);
+      step = step_then (length c.args.row.now) (IsMerged heads left right price merges) c.args.row.now old new c.loop-merge.invariant.step (subst (λ n. Rattle.planner.specs.inner.Steps.IsStep n (IsMerged heads left right price merges) old new) count step);
       bounds = below_more P j (λ i h f inside. merge_falls heads left right price (merge_at merges i) f (cost_at old f) (cost_at new f) (step.lower f) (c.loop-merge.invariant.bounds i h f inside)) (λ f inside. merge_bound heads left right old new price merges j within base base_is same each f (omega arith));
     }

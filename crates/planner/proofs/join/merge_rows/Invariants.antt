@@ -1,7 +1,8 @@
 use Rattle.std.proofs.Common.{ℕ, ◌<◌, length}
 use Rattle.planner.specs.Cells.{cost_at}
 use Rattle.planner.specs.Cuts.{merge_at}
-use Rattle.planner.specs.Choices.{IsStep, IsMerged, MergeBound}
+use Rattle.planner.specs.Choices.{IsMerged, MergeBound}
+use Rattle.planner.specs.inner.Steps.{IsStep}
 use Rattle.planner.proofs.join.merge_rows.Given as goal
 
 abbrev pub invariant-loop-merge : goal.invariant-loop-merge

@@ -1,7 +1,7 @@
 use Rattle.std.proofs.Common.{◌≡◌, ℕ, ◌<◌, List, length, slice_index_or, sym, subst}
 use Rattle.planner.specs.declared.front.Front.{Front}
 use Rattle.planner.specs.declared.front.Front.TheVariants.{Any, Need}
-use Rattle.planner.specs.Fronts.{AreFronts, IsAdded}
+use Rattle.planner.specs.inner.Growing.{AreFronts, IsAdded}
 use Rattle.planner.proofs.Growing.{fronts_push, added_push}
 use Rattle.planner.proofs.needs.add_need.Goals as goal
 

@@ -1,7 +1,7 @@
 use Rattle.std.proofs.Common.{List, ◌∙◌, sym, subst, ap}
 use Rattle.std.specs.List.{list_any}
 use Rattle.planner.specs.declared.front.Link.{Link}
-use Rattle.planner.specs.Fronts.{is_alike, IsKeeping}
+use Rattle.planner.specs.inner.Growing.{is_alike, IsKeeping}
 use Rattle.planner.proofs.Growing.{keeping_none, keeping_push}
 use Rattle.planner.proofs.needs.keep_link.Goals as goal
 

@@ -1,4 +1,5 @@
-use Rattle.planner.specs.Fronts.{listed, AreFronts, AreNeeded, AreLinks}
+use Rattle.planner.specs.Fronts.{listed, AreNeeded, AreLinks}
+use Rattle.planner.specs.inner.Growing.{AreFronts}
 use Rattle.planner.proofs.needs.needs_of.Given as goal
 
 abbrev pub invariant-loop-k : goal.invariant-loop-k

@@ -1,7 +1,8 @@
 use Rattle.std.proofs.Common.{◌≡◌, ℕ, ◌<◌, ◌≤◌}
 use Rattle.adv_base.specs.OfferTables.{price_at, order_at}
 use Rattle.planner.specs.Fronts.{asked, begins_test}
-use Rattle.planner.specs.Cells.{cell_at, offered}
+use Rattle.planner.specs.Cells.{cell_at}
+use Rattle.planner.specs.inner.Steps.{offered}
 use Rattle.planner.proofs.read.read_offer.Given as goal
 
 abbrev pub invariant-loop-f : goal.invariant-loop-f

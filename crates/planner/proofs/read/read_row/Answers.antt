@@ -1,7 +1,7 @@
 use Rattle.std.proofs.Common.{◌≡◌, ℕ, ◌^◌, ◌<◌, length, below_more, arith}
 use Rattle.planner.specs.Fronts.{asked, listed}
 use Rattle.planner.specs.Cells.{cost_at}
-use Rattle.planner.specs.Rows.{SlotBound}
+use Rattle.planner.specs.inner.Steps.{SlotBound}
 use Rattle.planner.proofs.Reading.{slot_lower}
 use Rattle.planner.proofs.read.read_row.Goals as goal
 

@@ -1,7 +1,7 @@
 use Rattle.std.proofs.Common.{◌≡◌, ℕ, ◌^◌, ◌<◌, ◌≤◌, length}
 use Rattle.planner.specs.Fronts.{asked, listed}
 use Rattle.planner.specs.Cells.{cost_at}
-use Rattle.planner.specs.Rows.{AreOffers, SlotBound}
+use Rattle.planner.specs.inner.Steps.{AreOffers, SlotBound}
 use Rattle.planner.proofs.read.read_row.Given as goal
 
 abbrev pub invariant-loop-slot : goal.invariant-loop-slot

@@ -2,7 +2,8 @@ use Rattle.std.proofs.Common.{◌≡◌, ℕ, ◌<◌, ◌≤◌, length, below_
 use Rattle.adv_base.specs.Items.{Order, BeginsWith}
 use Rattle.adv_base.specs.OfferTables.{price_at, order_at}
 use Rattle.planner.specs.Fronts.{asked, begins_test, listed}
-use Rattle.planner.specs.Cells.{cell_at, cost_at, offered}
+use Rattle.planner.specs.Cells.{cell_at, cost_at}
+use Rattle.planner.specs.inner.Steps.{offered}
 use Rattle.planner.proofs.Reading.{offered_lower, offered_bound, offered_made}
 use Rattle.planner.proofs.read.read_slot.Goals as goal
 
@@ -15,7 +16,7 @@ loop-offer-preserved g c =
     let offer = c.loop-offer.offer in
     let old = c.loop-offer.row in
     let new = c.read_offer.new.row in
-    let each = subst (λ (l : Order). (f : ℕ) → f < length fronts → cell_at new f ≡ offered (cell_at old f) (begins_test (order_at table c.args.slot offer) (asked l fronts f)) (price_at table c.args.slot offer)) c.listed-list.ensures c.read_offer.ensures in
+    let each = subst (λ (l : Order). (f : ℕ) → f < length fronts → cell_at new f ≡ offered (cell_at old f) (begins_test (order_at table c.args.slot offer) (asked l fronts f)) (price_at table c.args.slot offer)) c.wanted_list-list.ensures.exact c.read_offer.ensures in
     let lower = offered_lower task table list fronts c.args.set c.args.slot offer old new each in
     let P : ℕ → Type 0 = λ k. (f : ℕ) → f < length fronts → BeginsWith (order_at table c.args.slot k) (asked list fronts f) → cost_at new f ≤ price_at table c.args.slot k in
     record {

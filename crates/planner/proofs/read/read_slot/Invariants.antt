@@ -3,7 +3,7 @@ use Rattle.adv_base.specs.Items.{BeginsWith}
 use Rattle.adv_base.specs.OfferTables.{price_at, order_at}
 use Rattle.planner.specs.Fronts.{asked, listed}
 use Rattle.planner.specs.Cells.{cost_at}
-use Rattle.planner.specs.Rows.{AreOffers}
+use Rattle.planner.specs.inner.Steps.{AreOffers}
 use Rattle.planner.proofs.read.read_slot.Given as goal
 
 abbrev pub invariant-loop-offer : goal.invariant-loop-offer

@@ -2,7 +2,8 @@ use Rattle.std.proofs.Common.{◌≡◌, ℕ, ◌<◌, ◌≤◌}
 use Rattle.std.specs.List.{list_all}
 use Rattle.plan_model.specs.Plans.{is_column_of}
 use Rattle.planner.specs.Fronts.{asked}
-use Rattle.planner.specs.Cells.{cell_at, finished}
+use Rattle.planner.specs.Cells.{cell_at}
+use Rattle.planner.specs.inner.Steps.{finished}
 use Rattle.planner.proofs.row.finish_row.Given as goal
 
 abbrev pub invariant-loop-f : goal.invariant-loop-f

@@ -1,6 +1,7 @@
 use Rattle.std.proofs.Common.{◌≡◌, ℕ, ◌+◌, length, sym, subst, ◌∙◌, arith}
 use Rattle.planner.specs.Cells.{cost_at, row_of}
-use Rattle.planner.specs.Choices.{IsHashed, IsMerged, IsStep}
+use Rattle.planner.specs.Choices.{IsHashed, IsMerged}
+use Rattle.planner.specs.inner.Steps.{IsStep}
 use Rattle.planner.specs.Rows.{width, IsCapped}
 use Rattle.planner.proofs.Steps.{hash_step, hash_bound}
 use Rattle.planner.proofs.Tabling.{left_less, right_less, hash_small, merge_small, merges_mean, cut_step, cut_bound}

@@ -3,7 +3,7 @@ use Rattle.std.proofs.lemmas.List.{get_or_default}
 use Rattle.planner.specs.declared.cut.Cut.{Cut}
 use Rattle.planner.specs.Cells.{cost_at, row_of}
 use Rattle.planner.specs.Cuts.{cut_at, no_cut}
-use Rattle.planner.specs.Choices.{IsStep}
+use Rattle.planner.specs.inner.Steps.{IsStep}
 use Rattle.planner.specs.Rows.{width, cuts_of, CutBound, IsCutBy, IsJoined}
 use Rattle.planner.proofs.Steps.{step_then, step_wider}
 use Rattle.planner.proofs.Tabling.{cut_falls}

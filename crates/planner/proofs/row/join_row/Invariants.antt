@@ -1,7 +1,7 @@
 use Rattle.std.proofs.Common.{ℕ, ◌<◌}
 use Rattle.planner.specs.Cells.{cost_at, row_of}
 use Rattle.planner.specs.Cuts.{cut_at}
-use Rattle.planner.specs.Choices.{IsStep}
+use Rattle.planner.specs.inner.Steps.{IsStep}
 use Rattle.planner.specs.Rows.{width, cuts_of, CutBound, IsJoined}
 use Rattle.planner.proofs.row.join_row.Given as goal
 

@@ -6,8 +6,9 @@ use Rattle.planner.specs.declared.front.Front.{Front}
 use Rattle.planner.specs.declared.cell.Cell.{Cell}
 use Rattle.planner.specs.declared.cell.TheConstants.{IMPOSSIBLE}
 use Rattle.planner.specs.Fronts.{asked, listed}
-use Rattle.planner.specs.Cells.{cell_at, cost_at, row_of, finished}
-use Rattle.planner.specs.Rows.{AreOffers, OffersBound}
+use Rattle.planner.specs.Cells.{cell_at, cost_at, row_of}
+use Rattle.planner.specs.inner.Steps.{finished, AreOffers}
+use Rattle.planner.specs.Rows.{OffersBound}
 use Rattle.planner.proofs.Tabling.{blank_offers, is_row}
 use Rattle.planner.proofs.row.plan_row.Goals as goal
 

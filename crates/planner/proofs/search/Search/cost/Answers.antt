@@ -5,7 +5,7 @@ use Rattle.plan_model.specs.Costs.{rows_in}
 use Rattle.planner.specs.declared.cell.Cell.{Cell}
 use Rattle.planner.specs.Cells.{row_of}
 use Rattle.planner.specs.Rows.{width, IsCapped}
-use Rattle.planner.specs.Shapes.{least_shape}
+use Rattle.planner.specs.inner.Shapes.{least_shape}
 use Rattle.planner.proofs.Finding.{cost_is, full_in, least_below}
 use Rattle.planner.proofs.Tabling.{table_blanks}
 use Rattle.planner.proofs.search.Search.cost.Goals as goal

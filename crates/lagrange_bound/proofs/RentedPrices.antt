@@ -1,0 +1,221 @@
+-- Laws of the least prices of orders where candidates pay rents, and of what templates cost.
+use Rattle.std.proofs.Common.{◌≡◌, ◌∙◌, inl, inr, ℕ, zero, suc, ◌+◌, ◌<◌, ◌≤◌, ◌==◌, Bool, true, false, List, [], ◌∷◌, length, fold, take, drop, get_or, min, All, refl, sym, ap, subst, arith}
+use Rattle.std.specs.Prelude.{Option, Some, None, if◌then◌else◌, slice_get, slice_index_or, slice_set, option_and_then, sum_by}
+use Rattle.std.specs.Option.{ForSome, option_map}
+use Rattle.std.proofs.lemmas.Bool.{cases_lt, ne_eqb}
+use Rattle.std.proofs.lemmas.Grind.{common_steps}
+use Rattle.std.proofs.lemmas.List.{get_or-drop, drop-drop}
+use Rattle.std.proofs.lemmas.List.Elements.{All-head, All-tail}
+use Rattle.std.proofs.lemmas.List.Sums.{fold_more}
+use Rattle.std.proofs.lemmas.Option.{slice_get_cases}
+use Rattle.adv_base.specs.declared.limits.TheConstants.{MOST_PRICE, MOST_RENT}
+use Rattle.adv_base.specs.declared.setting.Config.{Config}
+use Rattle.plan_model.specs.declared.template.Template.{Template}
+use Rattle.bip_model.specs.declared.grant.Grant.{Grant}
+use Rattle.bip_model.specs.declared.part.Part.{Part}
+use Rattle.bip_model.specs.declared.slot_part.SlotPart.{SlotPart}
+use Rattle.bip_model.specs.Limits.Parts.{TemplateLimits}
+use Rattle.bip_model.specs.Values.{lesser, plus, price_of, granted, need}
+use Rattle.bip_model.proofs.Pricing.{price_of-price, granted-price}
+use Rattle.lagrange_bound.specs.declared.pricing.TheConstants.{NO_PRICE}
+use Rattle.lagrange_bound.specs.Rented.{asked, least_asked, rented_price, grants_before, needed_price, cost_below, template_cost}
+use Rattle.lagrange_bound.specs.inner.Words.{word, told, IsRow, AreRows, row_cost}
+
+-- a price with a rent, if any, within both limits
+abbrev pub IsPrice : Option ℕ → Type 0
+IsPrice price = ForSome price (λ p. p ≤ MOST_PRICE + MOST_RENT)
+
+-- a rent within its limit
+abbrev pub AreRents : List ℕ → Type 0
+AreRents rents = All (λ rent. rent ≤ MOST_RENT) rents
+
+-- ## Prices are within their limit
+
+none-price : IsPrice None
+none-price = λ x is. cc
+
+lesser-price : (a b : Option ℕ) → IsPrice a → IsPrice b → IsPrice (lesser a b)
+lesser-price None b a_is b_is = b_is
+lesser-price (Some a) None a_is b_is = a_is
+lesser-price (Some a) (Some b) a_is b_is = λ x is.
+    let same : min a b ≡ x = cc in
+    let first : a ≤ MOST_PRICE + MOST_RENT = a_is a refl in
+    omega (arith, same, first)
+
+plain-price : (a : Option ℕ) → ForSome a (λ p. p ≤ MOST_PRICE) → IsPrice a
+plain-price a is = λ x e. let most : x ≤ MOST_PRICE = is x e in omega (arith, most)
+
+raised-price : (a : Option ℕ) (rent : ℕ) → ForSome a (λ p. p ≤ MOST_PRICE) → rent ≤ MOST_RENT → IsPrice (option_map (λ p. p + rent) a)
+raised-price None rent is most = none-price
+raised-price (Some a) rent is most = λ x e.
+    let same : a + rent ≡ x = cc in
+    let first : a ≤ MOST_PRICE = is a refl in
+    omega (arith, same, first, most)
+
+asked-price : (config : Config) (o : ℕ) (grant : Grant) (rent : ℕ) → rent ≤ MOST_RENT → IsPrice (asked config o grant rent)
+asked-price config o grant rent most = raised-price (granted config o grant) rent (granted-price config o grant) most
+
+least_asked-price : (config : Config) (o : ℕ) (best : Option ℕ) (grants : List Grant) (rents : List ℕ) → IsPrice best → AreRents rents → IsPrice (least_asked config o best grants rents)
+least_asked-price config o best [] rents is are = is
+least_asked-price config o best (grant ∷ grants) [] is are = is
+least_asked-price config o best (grant ∷ grants) (rent ∷ rents) is are =
+    least_asked-price config o (lesser best (asked config o grant rent)) grants rents
+    (lesser-price best (asked config o grant rent) is (asked-price config o grant rent (All-head (λ (r : ℕ). r ≤ MOST_RENT) rent rents are)))
+    (All-tail (λ (r : ℕ). r ≤ MOST_RENT) rent rents are)
+
+base-price : (slot : SlotPart) (o : ℕ) → IsPrice (price_of slot.base o)
+base-price slot o = plain-price (price_of slot.base o) (price_of-price slot.base slot.limits.base_limits o)
+
+pub rented_price-price : (config : Config) (slot : SlotPart) (rents : List ℕ) (o : ℕ) → AreRents rents → IsPrice (rented_price config slot rents o)
+rented_price-price config slot rents o are = least_asked-price config o (price_of slot.base o) slot.grants rents (base-price slot o) are
+
+pub drop-rents : (n : ℕ) (rents : List ℕ) → AreRents rents → AreRents (drop n rents)
+drop-rents zero rents are = are
+drop-rents (suc n) [] are = are
+drop-rents (suc n) (rent ∷ rents) are = drop-rents n rents (All-tail (λ (r : ℕ). r ≤ MOST_RENT) rent rents are)
+
+-- ## Words
+
+pub word-lesser : (a b : Option ℕ) → IsPrice a → IsPrice b → word (lesser a b) ≡ min (word a) (word b)
+word-lesser None None a_is b_is = refl
+word-lesser None (Some b) a_is b_is = let most : b ≤ MOST_PRICE + MOST_RENT = b_is b refl in omega (arith, most)
+word-lesser (Some a) None a_is b_is = let most : a ≤ MOST_PRICE + MOST_RENT = a_is a refl in omega (arith, most)
+word-lesser (Some a) (Some b) a_is b_is = refl
+
+pub told-word : (a : Option ℕ) → IsPrice a → told (word a) ≡ a
+told-word None is = refl
+told-word (Some a) is =
+    let most : a ≤ MOST_PRICE + MOST_RENT = is a refl in
+    let other : (a == NO_PRICE) ≡ false = ne_eqb a NO_PRICE (omega (arith, most)) in
+    rw other refl
+
+-- ## Rows
+
+-- one grant more
+least_asked-suc : (config : Config) (o : ℕ) (best : Option ℕ) (grants : List Grant) (rents : List ℕ) (i : ℕ) (grant : Grant) (rent : ℕ) → i < length grants → i < length rents →
+    grant ≡ get_or grants i grant → rent ≡ get_or rents i 0 →
+    least_asked config o best (take (suc i) grants) rents ≡ lesser (least_asked config o best (take i grants) rents) (asked config o grant rent)
+least_asked-suc config o best [] rents i grant rent within inside is there = absurd (omega (arith, within))
+least_asked-suc config o best (g ∷ grants) [] i grant rent within inside is there = absurd (omega (arith, inside))
+least_asked-suc config o best (g ∷ grants) (r ∷ rents) zero grant rent within inside is there =
+    ap (λ (x : Grant). lesser best (asked config o x r)) (sym is) ∙ ap (λ (x : ℕ). lesser best (asked config o grant x)) (sym there)
+least_asked-suc config o best (g ∷ grants) (r ∷ rents) (suc i) grant rent within inside is there =
+    least_asked-suc config o (lesser best (asked config o g r)) grants rents i grant rent (omega (arith, within)) (omega (arith, inside)) is there
+
+least_asked-more : (config : Config) (o : ℕ) (best : Option ℕ) (grants : List Grant) (rents : List ℕ) (i : ℕ) (grant : Grant) (rent : ℕ) → i < length grants → i < length rents →
+    grant ≡ get_or grants i grant → rent ≡ get_or rents i 0 →
+    least_asked config o best (take (i + 1) grants) rents ≡ lesser (least_asked config o best (take i grants) rents) (asked config o grant rent)
+least_asked-more config o best grants rents i grant rent within inside is there =
+    let next : i + 1 ≡ suc i = omega arith in
+    ap (λ (n : ℕ). least_asked config o best (take n grants) rents) next ∙ least_asked-suc config o best grants rents i grant rent within inside is there
+
+pub asked-step : (config : Config) (slot : SlotPart) (grants : List Grant) (rents : List ℕ) (at i o : ℕ) (grant : Grant) (rent old new : ℕ) → AreRents rents →
+    i < length grants → at + i < length rents → grant ≡ get_or grants i grant → rent ≡ get_or rents (at + i) 0 →
+    old ≡ word (least_asked config o (price_of slot.base o) (take i grants) (drop at rents)) →
+    new ≡ min old (word (asked config o grant rent)) →
+    new ≡ word (least_asked config o (price_of slot.base o) (take (i + 1) grants) (drop at rents))
+asked-step config slot grants rents at i o grant rent old new are within inside is there before after =
+    let start : Option ℕ = price_of slot.base o in
+    let so_far : Option ℕ = least_asked config o start (take i grants) (drop at rents) in
+    let own : rent ≡ get_or (drop at rents) i 0 = there ∙ sym (get_or-drop at rents i 0) in
+    let few : i < length (drop at rents) = grind (arith, common_steps) in
+    let most : rent ≤ MOST_RENT = subst (λ (r : ℕ). r ≤ MOST_RENT) (sym there) (are (at + i) 0 inside) in
+    let more = least_asked-more config o start grants (drop at rents) i grant rent within few is own in
+    let joined : word (lesser so_far (asked config o grant rent)) ≡ min (word so_far) (word (asked config o grant rent)) =
+    word-lesser so_far (asked config o grant rent)
+    (least_asked-price config o start (take i grants) (drop at rents) (base-price slot o) (drop-rents at rents are)) (asked-price config o grant rent most) in
+    after ∙ ap (λ (n : ℕ). min n (word (asked config o grant rent))) before ∙ sym joined ∙ ap word (sym more)
+
+-- a grant of a slot has a price for each order
+pub one-each : (slot : SlotPart) (grants : List Grant) (i : ℕ) (grant : Grant) → grants ≡ slot.grants → i < length grants → grant ≡ get_or grants i grant → length grant.prices ≡ length slot.base
+one-each slot grants i grant same within is =
+    let inside : i < length slot.grants = subst (λ (gs : List Grant). i < length gs) same within in
+    let own : grant ≡ get_or slot.grants i grant = is ∙ ap (λ (gs : List Grant). get_or gs i grant) same in
+    ap (λ (g : Grant). length g.prices) own ∙ slot.limits.one_each i grant inside
+
+-- the price that a template needs of a slot, told by its row
+told-needed : (config : Config) (slots : List SlotPart) (rents : List ℕ) (rows : List (List ℕ)) (template : Template) (n s : ℕ) → AreRents rents → AreRows config slots rents n rows → TemplateLimits slots template → s < n → s < length slots →
+    told (slice_index_or (slice_index_or rows s []) (need template s) 0) ≡ needed_price config slots rents template s
+told-needed config slots rents rows template n s few are limits below within =
+    elim (slice_get_cases slots s).1 [
+      | inl there ↦
+          let slot : SlotPart = there.0 in
+          let found : slice_get slots s ≡ Some slot = there.2 in
+          let own : List ℕ = drop (grants_before slots s) rents in
+          let row : slice_index_or (slice_index_or rows s []) (need template s) 0 ≡ word (rented_price config slot own (need template s)) =
+          are s slot below found (need template s) (limits.needs_within s slot found) in
+          ap told row ∙ told-word (rented_price config slot own (need template s)) (rented_price-price config slot own (need template s) (drop-rents (grants_before slots s) rents few))
+          ∙ sym (ap (option_and_then (λ (slot : SlotPart). rented_price config slot own (need template s))) found)
+      | inr past ↦ absurd (omega (arith, within, past.0))
+    ]
+
+-- the rows tell what a template costs
+pub row_cost-template : (config : Config) (slots : List SlotPart) (rents : List ℕ) (rows : List (List ℕ)) (template : Template) (n : ℕ) → AreRents rents → AreRows config slots rents (length slots) rows → TemplateLimits slots template → n ≤ length slots →
+    row_cost rows template n ≡ cost_below config slots rents template n
+unfolding row_cost cost_below
+row_cost-template config slots rents rows template zero few are limits within = refl
+row_cost-template config slots rents rows template (suc n) few are limits within =
+    let before : row_cost rows template n ≡ cost_below config slots rents template n = row_cost-template config slots rents rows template n few are limits (omega (arith, within)) in
+    let here = told-needed config slots rents rows template (length slots) n few are limits (omega (arith, within)) (omega (arith, within)) in
+    ap (λ (a : Option ℕ). plus a (told (slice_index_or (slice_index_or rows n []) (need template n) 0))) before
+    ∙ ap (plus (cost_below config slots rents template n)) here
+
+-- what misses a slot's price stays missing
+pub row_cost-none : (rows : List (List ℕ)) (template : Template) (m n : ℕ) → m ≤ n → row_cost rows template m ≡ None → row_cost rows template n ≡ None
+unfolding row_cost
+row_cost-none rows template m zero less none = let same : m ≡ 0 = omega (arith, less) in subst (λ k. row_cost rows template k ≡ None) same none
+row_cost-none rows template m (suc n) less none =
+    elim (cases_lt n m) [
+      | inl past ↦ let same : m ≡ suc n = omega (arith, less, past) in subst (λ k. row_cost rows template k ≡ None) same none
+      | inr below ↦
+          let rest : row_cost rows template n ≡ None = row_cost-none rows template m n below none in
+          ap (λ (a : Option ℕ). plus a (told (slice_index_or (slice_index_or rows n []) (need template n) 0))) rest
+    ]
+
+-- ## Steps of the loops
+
+-- one row more
+pub rows-step : (config : Config) (slots : List SlotPart) (rents : List ℕ) (rows : List (List ℕ)) (at next s : ℕ) (slot : SlotPart) (row : List ℕ) →
+    s < length rows → slice_get slots s ≡ Some slot → next ≡ at + grants_before slots s → AreRows config slots (drop at rents) s rows → IsRow config slot (drop next rents) row →
+    AreRows config slots (drop at rents) (s + 1) (slice_set rows s row)
+rows-step config slots rents rows at next s slot row within found place are is = λ k other below there.
+    elim (cases_lt k s) [
+      | inl before ↦
+          let kept : slice_index_or (slice_set rows s row) k [] ≡ slice_index_or rows k [] = grind (arith, common_steps) in
+          subst (IsRow config other (drop (grants_before slots k) (drop at rents))) (sym kept) (are k other before there)
+      | inr past ↦
+          let here : k ≡ s = omega (arith, below, past) in
+          let same : other ≡ slot = cc in
+          let put : slice_index_or (slice_set rows s row) k [] ≡ row = grind (arith, common_steps) in
+          let own : drop next rents ≡ drop (grants_before slots k) (drop at rents) =
+          ap (λ (n : ℕ). drop n rents) (place ∙ ap (λ (j : ℕ). at + grants_before slots j) (sym here)) ∙ sym (drop-drop (grants_before slots k) at rents) in
+          subst (IsRow config other (drop (grants_before slots k) (drop at rents))) (sym put)
+          (subst (λ (rs : List ℕ). IsRow config other rs row) own (subst (λ (o : SlotPart). IsRow config o (drop next rents) row) (sym same) is))
+    ]
+
+-- one template more
+template-step : (config : Config) (slots : List SlotPart) (rents : List ℕ) (templates : List Template) (i : ℕ) (template : Template) (old new : Option ℕ) →
+    i < length templates →
+    old ≡ fold (λ best template. lesser best (template_cost config slots rents template)) None (take i templates) →
+    new ≡ lesser old (template_cost config slots rents (get_or templates i template)) →
+    new ≡ fold (λ best template. lesser best (template_cost config slots rents template)) None (take (i + 1) templates)
+template-step config slots rents templates i template old new within before after =
+    let step : Option ℕ → Template → Option ℕ = λ best template. lesser best (template_cost config slots rents template) in
+    let more : fold step None (take (i + 1) templates) ≡ step (fold step None (take i templates)) (get_or templates i template) = fold_more step None templates i template within in
+    after ∙ ap (λ (o : Option ℕ). lesser o (template_cost config slots rents (get_or templates i template))) before ∙ sym more
+
+-- the same, where rows tell the cost of the template
+pub part-step : (part : Part) (config : Config) (rents : List ℕ) (slots : List SlotPart) (rows : List (List ℕ)) (templates : List Template) (i n : ℕ) (template : Template) (old cost new : Option ℕ) → AreRents rents →
+    slots ≡ part.slots → templates ≡ part.templates → n ≡ length part.slots → AreRows config slots rents (length slots) rows → i < length templates →
+    old ≡ fold (λ best template. lesser best (template_cost config part.slots rents template)) None (take i part.templates) →
+    cost ≡ row_cost rows (get_or templates i template) n → new ≡ lesser old cost →
+    new ≡ fold (λ best template. lesser best (template_cost config part.slots rents template)) None (take (i + 1) part.templates)
+part-step part config rents slots rows templates i n template old cost new few slots_are templates_are n_is are within before costs after =
+    let own : AreRows config part.slots rents (length part.slots) rows = subst (λ (ss : List SlotPart). AreRows config ss rents (length ss) rows) slots_are are in
+    let inside : i < length part.templates = subst (λ (ts : List Template). i < length ts) templates_are within in
+    let limits : TemplateLimits part.slots (get_or part.templates i template) = part.limits.templates_limits i template inside in
+    let told' : row_cost rows (get_or part.templates i template) (length part.slots) ≡ template_cost config part.slots rents (get_or part.templates i template) =
+    row_cost-template config part.slots rents rows (get_or part.templates i template) (length part.slots) few own limits (omega arith) in
+    let same : cost ≡ row_cost rows (get_or part.templates i template) (length part.slots) =
+    costs ∙ ap (λ (ts : List Template). row_cost rows (get_or ts i template) n) templates_are ∙ ap (row_cost rows (get_or part.templates i template)) n_is in
+    template-step config part.slots rents part.templates i template old new inside before (after ∙ ap (lesser old) (same ∙ told'))

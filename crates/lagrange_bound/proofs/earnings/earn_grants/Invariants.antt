@@ -1,0 +1,13 @@
+use Rattle.std.proofs.Common.{◌≡◌, ℕ, suc, ◌+◌, ◌*◌, ◌<◌, drop, length, slice_index_or}
+use Rattle.adv_base.specs.declared.limits.TheConstants.{MOST_CANDIDATES}
+use Rattle.lagrange_bound.specs.Bounds as bounds
+use Rattle.lagrange_bound.proofs.earnings.earn_grants.Given as goal
+
+abbrev pub invariant-loop-i : goal.invariant-loop-i
+invariant-loop-i l =
+    record {
+      count : length l.earned ≡ 256;
+      rest : (a : ℕ) → a < MOST_CANDIDATES →
+          slice_index_or l.earned a 0 + l.weight * bounds.grant_rents (suc a) (drop l.i l.grants) (drop (l.at + l.i) l.rents)
+          ≡ slice_index_or l.initial.earned a 0 + l.weight * bounds.grant_rents (suc a) l.grants (drop l.at l.rents);
+    }

@@ -1,0 +1,12 @@
+use Rattle.std.proofs.Common.{◌≡◌, ◌+◌, ◌*◌, ◌^◌, ◌≤◌}
+use Rattle.std.specs.Prelude.{Some}
+use Rattle.plan_model.specs.declared.plan.TheConstants.{MOST_COST}
+use Rattle.lagrange_bound.specs.inner.Words as words
+use Rattle.lagrange_bound.proofs.pricing.template_cost.Given as goal
+
+abbrev pub invariant-loop-s : goal.invariant-loop-s
+invariant-loop-s l =
+    record {
+      sum : words.row_cost l.rows l.template l.s ≡ Some l.cost;
+      most : l.cost ≤ MOST_COST + l.s * 2 ^ 64;
+    }

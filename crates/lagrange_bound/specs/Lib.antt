@@ -1,0 +1,5 @@
+pub mod Rented
+pub mod Bounds
+pub mod Rents
+pub mod Laws
+pub mod inner

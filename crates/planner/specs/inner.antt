@@ -1,0 +1,5 @@
+pub mod Growing
+pub mod Cutting
+pub mod Steps
+pub mod Built
+pub mod Shapes
