@@ -1,0 +1,95 @@
+-- What the search's code shows, as the best answer of each setting.
+use Rattle.std.proofs.Common.{◌≡◌, ◌∙◌, ℕ, zero, suc, ◌+◌, ◌*◌, ◌^◌, ◌<◌, ◌≤◌, Bool, true, cond, false, List, [], ◌∷◌, ◌++◌, length, map, min, replicate, ℤ, refl, sym, ap, subst, arith}
+use Rattle.std.specs.Prelude.{slice_index_or, ◌≤ℤ◌}
+use Rattle.std.proofs.Math.Path.{fun_ext}
+use Rattle.std.proofs.Math.Pow.{pow_mono}
+use Rattle.adv_base.specs.declared.limits.TheConstants.{MOST_CANDIDATES, MOST_PAGE_PRICE}
+use Rattle.adv_base.specs.declared.setting.Config.{Config}
+use Rattle.adv_base.specs.Settings.{TheSetting, KeepsLimits}
+use Rattle.plan_model.specs.Lagrangian.{TheMultipliers, IsLagrangian}
+use Rattle.bip_model.specs.declared.answer.Node.{Node}
+use Rattle.bip_model.specs.declared.fix.Fix.{Fix}
+use Rattle.bip_model.specs.declared.multipliers.Multipliers.{Multipliers}
+use Rattle.bip_model.specs.declared.programme.Programme.{Programme}
+use Rattle.bip_model.specs.Candidates.{is_useful, useful_below}
+use Rattle.bip_model.specs.StandsFor.{StandsFor}
+use Rattle.bip_model.specs.Trees.{preorder, zeros}
+use Rattle.bip_model.specs.Uses as of_uses
+use Rattle.bip_model.specs.Values.{grant_count}
+use Rattle.bip_model.specs.Views.{Place, is_place, rent_at, places, node_of, multipliers_of, AreMultipliers}
+use Rattle.bip_model.proofs.Sharing.{rents-same}
+use Rattle.lagrange_bound.specs.Bounds.{candidate_cost, lagrangian}
+use Rattle.lagrange_bound.specs.Rents.{uses, rent_multipliers, tried_price}
+use Rattle.lagrange_bound.proofs.StandingValue.{lagrangian-is}
+use Rattle.lagrange_bound.proofs.WrittenRents.{rents-within}
+use Rattle.branch_bound.specs.declared.found.Found.{Found}
+use Rattle.branch_bound.specs.Answers.{IsBestForEach}
+use Rattle.branch_bound.specs.Sides.{IsRoot}
+use Rattle.branch_bound.specs.inner.Climbs.{IsSound, IsTop}
+use Rattle.branch_bound.specs.inner.Runs.{Rules, lag, start, Runs, IsExplored, least_bound}
+use Rattle.branch_bound.proofs.Running.{AreRulesFor, runs-count}
+use Rattle.branch_bound.proofs.Final.{AtMostRents, at-most-rents, best-answer}
+
+-- ## Rents
+
+tried-most : (i : ℕ) → i < 41 → tried_price i ≤ MOST_PAGE_PRICE
+tried-most zero few = omega arith
+tried-most (suc j) few = let less : j ≤ 39 = omega (arith, few) in let up : 2 ^ j ≤ 2 ^ 39 = pow_mono less in omega (arith, up)
+
+tried-within : (programme : Programme) (i : ℕ) → i < 41 → AreMultipliers programme (rent_multipliers programme (tried_price i))
+tried-within programme i few = rents-within programme (rent_multipliers programme (tried_price i)) (tried_price i) (tried-most i few) refl refl
+
+rents-linked : (setting : TheSetting) (programme : Programme) (page : ℕ) → StandsFor setting programme → multipliers_of programme (rent_multipliers programme page) ≡ of_uses.rent_multipliers setting page
+unfolding candidate_cost uses
+rents-linked setting programme page stands = rents-same setting programme (rent_multipliers programme page) page stands refl refl
+
+-- ## Zeros
+
+pick-zero : (b : Bool) (n : ℕ) → n ≡ 0 → cond b 0 n ≡ 0
+pick-zero true n is = refl
+pick-zero false n is = is
+
+zero-rent : (list : List Place) (n q s a : ℕ) → rent_at list (replicate n 0) q s a ≡ 0
+zero-rent [] n q s a = refl
+zero-rent (place ∷ list) zero q s a = refl
+zero-rent (place ∷ list) (suc n) q s a = pick-zero (is_place place q s a) (rent_at list (replicate n 0) q s a) (zero-rent list n q s a)
+
+zeros-are : (programme : Programme) (multipliers : Multipliers) → multipliers.mu ≡ 0 → multipliers.lambda ≡ replicate (grant_count programme) 0 → multipliers_of programme multipliers ≡ zeros
+zeros-are programme multipliers page rents =
+    let each : (q s a : ℕ) → rent_at (places programme) multipliers.lambda q s a ≡ 0 = λ q s a. ap (λ (l : List ℕ). rent_at (places programme) l q s a) rents ∙ zero-rent (places programme) (grant_count programme) q s a in
+    let own : ℕ → ℕ → ℕ → ℕ = λ q s a. rent_at (places programme) multipliers.lambda q s a in
+    let none : ℕ → ℕ → ℕ → ℕ = λ q s a. 0 in
+    let all : own ≡ none = fun_ext (λ q. fun_ext (λ s. fun_ext (λ a. each q s a))) in
+    ap (λ (r : ℕ → ℕ → ℕ → ℕ). told r multipliers.mu) all ∙ ap (told none) page
+  where
+    told : (ℕ → ℕ → ℕ → ℕ) → ℕ → TheMultipliers
+    told r n = record { rent = r; page = n }
+
+-- ## The answer
+
+pub search-best : (rules : Rules) (root : Fix) (before after : Found) (old tree_list : List Node) (config : Config) (cost : ℕ) (sets : List Multipliers) (useful : ℕ) →
+    AreMultipliers rules.programme rules.zeros → AreMultipliers rules.programme rules.rents → rules.zeros.mu ≡ 0 → rules.zeros.lambda ≡ replicate (grant_count rules.programme) 0 →
+    ((i : ℕ) → i < length rules.programme.sizes → slice_index_or rules.useful i false ≡ is_useful rules.programme rules.budget (i + 1)) →
+    IsRoot rules.programme rules.budget root → length root.state ≡ MOST_CANDIDATES → before ≡ start rules.programme root → old ≡ [] → IsExplored rules root before old after tree_list →
+    after.made ≤ rules.nodes → sets ≡ rules.rents ∷ [] → useful ≡ useful_below rules.programme rules.budget (length rules.programme.sizes) →
+    IsSound rules.programme rules.budget root config cost → cost ≤ after.cost → IsTop rules.programme rules.budget root config cost →
+    ((i : ℕ) → i < min 41 41 → lagrangian rules.programme rules.budget root (rent_multipliers rules.programme (tried_price i)) ≤ℤ lagrangian rules.programme rules.budget root rules.rents) →
+    IsBestForEach rules.programme rules.budget rules.nodes root (record { config = config; cost = cost; bound = least_bound cost after.low; sets = sets; tree = tree_list; useful = useful })
+search-best rules root before after old tree_list config cost sets useful zeros_fit rents_fit page lambda useful_are is_root long at_start empty explored most sets_are useful_is sound cheaper top tried setting limits stands =
+    let are : AreRulesFor setting rules =
+    record {
+      limits = limits;
+      stands = stands;
+      zeros_fit = zeros_fit;
+      rents_fit = rents_fit;
+      zeros_are = zeros-are rules.programme rules.zeros page lambda;
+      useful_are = useful_are;
+      values = λ fix multipliers fit. lagrangian-is setting rules.programme rules.budget fix multipliers limits stands fit;
+    } in
+    let at-most : (i : ℕ) → i < 41 → AtMostRents setting rules root (tried_price i) = λ i few.
+    at-most-rents setting rules root (tried_price i) (rent_multipliers rules.programme (tried_price i)) are (tried-within rules.programme i few) (rents-linked setting rules.programme (tried_price i) stands) (tried i (omega (arith, few))) in
+    let run : Runs rules root (start rules.programme root) explored.tree after = subst (λ (f : Found). Runs rules root f explored.tree after) at_start explored.run in
+    let list_is : tree_list ≡ preorder explored.tree = explored.list_is ∙ ap (λ (front : List Node). front ++ preorder explored.tree) empty in
+    let made = runs-count rules root (start rules.programme root) explored.tree after run in
+    best-answer setting rules root explored.tree after config cost sets tree_list useful are is_root long run list_is (omega (arith, made, ap length list_is)) most sets_are useful_is sound cheaper top
+    (at-most 0 (omega arith)) (λ j few. at-most (suc j) (omega (arith, few)))

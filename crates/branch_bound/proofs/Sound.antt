@@ -1,0 +1,107 @@
+-- The configuration that a search finds fits, obeys the root and has its cost.
+use Rattle.std.proofs.Common.{◌≡◌, ◌∙◌, ◌≢◌, inl, inr, ℕ, ◌+◌, ◌<◌, ◌≤◌, Bool, true, false, cond, ◌&&◌, List, length, map, get_or, sum, refl, sym, ap, subst, arith, get_or-set_other}
+use Rattle.std.specs.Prelude.{slice_index_or, slice_set, nat_lt, nat_le}
+use Rattle.std.proofs.Math.ListN.{set, get_or-map}
+use Rattle.std.proofs.lemmas.Bool.{false≢true}
+use Rattle.adv_base.specs.declared.setting.Config.{Config}
+use Rattle.adv_base.specs.Configs.{chosen}
+use Rattle.bip_model.specs.declared.answer.Node.{Node}
+use Rattle.bip_model.specs.declared.fix.Fix.{Fix}
+use Rattle.bip_model.specs.declared.fix.State.{State}
+use Rattle.bip_model.specs.declared.fix.State.TheVariants.{Free, In, Out}
+use Rattle.bip_model.specs.declared.programme.Programme.{Programme}
+use Rattle.bip_model.specs.Trees.{Tree, Branches, Leaf, Full}
+use Rattle.bip_model.specs.Views.{is_in}
+use Rattle.bip_model.proofs.Lists.{map-set}
+use Rattle.bip_model.proofs.Sides.{both-of}
+use Rattle.lagrange_bound.specs.Bounds.{state_at, fits_beside}
+use Rattle.branch_bound.specs.declared.found.Found.{Found}
+use Rattle.branch_bound.specs.Sides.{is_free_state, fixed, inside, pages, total, IsRoot}
+use Rattle.branch_bound.specs.inner.Climbs.{flag_at, IsSound}
+use Rattle.branch_bound.specs.inner.Runs.{Rules, lag, visited, start, IsChoice, IsExplored, branched, lowered, Runs}
+use Rattle.branch_bound.proofs.Climbing.{free-is, pages-off, pages-on}
+use Rattle.branch_bound.proofs.Running.{at-most-of}
+
+-- what a node fixes beyond its root; what is in fits
+pub record IsUnder (programme : Programme) (budget : ℕ) (root fix : Fix) : Type 0 where
+  pub fits : pages programme (inside fix) ≤ budget
+  pub holds : (i : ℕ) → state_at root i ≡ In → state_at fix i ≡ In
+  pub lacks : (i : ℕ) → state_at root i ≡ Out → state_at fix i ≡ Out
+  pub past : (i : ℕ) → length programme.sizes ≤ i → state_at fix i ≡ Free
+
+pub under-root : (programme : Programme) (budget : ℕ) (root : Fix) → IsRoot programme budget root → IsUnder programme budget root root
+under-root programme budget root is = record { fits = is.fits; holds = λ i at. at; lacks = λ i at. at; past = is.past }
+
+other-than : (fix : Fix) (i j : ℕ) (state : State) → state_at fix i ≡ Free → state_at fix j ≡ state → (Free ≡ state → ⊥) → j ≢ i
+other-than fix i j state free is apart same = apart (sym free ∙ ap (state_at fix) (sym same) ∙ is)
+
+-- a side of a branch
+under-side : (programme : Programme) (budget : ℕ) (root fix : Fix) (i : ℕ) (new : State) → IsUnder programme budget root fix → state_at fix i ≡ Free → i < length programme.sizes →
+    pages programme (inside (fixed fix i new)) ≤ budget → IsUnder programme budget root (fixed fix i new)
+under-side programme budget root fix i new under free within room =
+    record {
+      fits = room;
+      holds = λ j at. get_or-set_other fix.state i j new Free (other-than fix i j In free (under.holds j at) (λ wrong. cc)) ∙ under.holds j at;
+      lacks = λ j at. get_or-set_other fix.state i j new Free (other-than fix i j Out free (under.lacks j at) (λ wrong. cc)) ∙ under.lacks j at;
+      past = λ j beyond. let other : j ≢ i = (λ same. omega (arith, same, beyond, within)) in get_or-set_other fix.state i j new Free other ∙ under.past j beyond;
+    }
+
+under-in : (rules : Rules) (root fix : Fix) (i : ℕ) → IsUnder rules.programme rules.budget root fix → IsChoice rules fix i → IsUnder rules.programme rules.budget root (fixed fix i In)
+under-in rules root fix i under choice =
+    let first = both-of (is_free_state (state_at fix i)) (fits_beside rules.programme rules.budget fix i && slice_index_or rules.useful i false) choice.chosen in
+    let second = both-of (fits_beside rules.programme rules.budget fix i) (slice_index_or rules.useful i false) first.1 in
+    let room : pages rules.programme (inside fix) + slice_index_or rules.programme.sizes i 0 ≤ rules.budget = at-most-of (pages rules.programme (inside fix) + slice_index_or rules.programme.sizes i 0) rules.budget second.0 in
+    let is = ap (λ (flags : List Bool). sum (chosen flags rules.programme.sizes)) (map-set is_in fix.state i In) in
+    let more = pages-on (map is_in fix.state) rules.programme.sizes i in
+    under-side rules.programme rules.budget root fix i In under (free-is (state_at fix i) first.0) choice.within (omega (arith, is, more, room))
+
+under-out : (rules : Rules) (root fix : Fix) (i : ℕ) → IsUnder rules.programme rules.budget root fix → IsChoice rules fix i → IsUnder rules.programme rules.budget root (fixed fix i Out)
+under-out rules root fix i under choice =
+    let first = both-of (is_free_state (state_at fix i)) (fits_beside rules.programme rules.budget fix i && slice_index_or rules.useful i false) choice.chosen in
+    let is = ap (λ (flags : List Bool). sum (chosen flags rules.programme.sizes)) (map-set is_in fix.state i Out) in
+    let fewer = pages-off (map is_in fix.state) rules.programme.sizes i in
+    under-side rules.programme rules.budget root fix i Out under (free-is (state_at fix i) first.0) choice.within (omega (arith, is, fewer, under.fits))
+
+-- ## What was found
+
+pub sound-inside : (programme : Programme) (budget : ℕ) (root fix : Fix) → IsUnder programme budget root fix → IsSound programme budget root (inside fix) (total programme fix)
+sound-inside programme budget root fix under =
+    record {
+      cost_is = refl;
+      fits = under.fits;
+      holds = λ i at. get_or-map is_in fix.state i Free ∙ ap is_in (under.holds i at);
+      lacks = λ i at. get_or-map is_in fix.state i Free ∙ ap is_in (under.lacks i at);
+      past = λ i beyond. get_or-map is_in fix.state i Free ∙ ap is_in (under.past i beyond);
+    }
+
+abbrev pub IsSoundFound : Rules → Fix → Found → Type 0
+IsSoundFound rules root found = IsSound rules.programme rules.budget root found.config found.cost
+
+sound-visited : (rules : Rules) (root fix : Fix) (before : Found) → IsUnder rules.programme rules.budget root fix → IsSoundFound rules root before → IsSoundFound rules root (visited rules fix before)
+sound-visited rules root fix before under sound = to (nat_lt (total rules.programme fix) before.cost)
+  where
+    to : (b : Bool) → IsSoundFound rules root (cond b (record { config = inside fix; cost = total rules.programme fix; low = before.low; made = before.made }) before)
+    to true = sound-inside rules.programme rules.budget root fix under
+    to false = sound
+
+pub runs-sound : (rules : Rules) (root fix : Fix) (before : Found) (tree : Tree) (after : Found) → IsUnder rules.programme rules.budget root fix → IsSoundFound rules root before →
+    Runs rules fix before tree after → IsSoundFound rules root after
+runs-sound rules root fix before (Leaf k) after under sound run =
+    let here = sound-visited rules root fix before under sound in
+    elim run [
+      | inl closed ↦ subst (λ (f : Found). IsSoundFound rules root f) (sym closed.after_is) here
+      | inr forced ↦ subst (λ (f : Found). IsSoundFound rules root f) (sym forced.after_is) here
+    ]
+runs-sound rules root fix before (Branches a inside_tree outside_tree) after under sound run =
+    let i = run.index in
+    let here = sound-visited rules root fix before under sound in
+    let first = runs-sound rules root (fixed fix i In) (branched (visited rules fix before)) inside_tree run.middle (under-in rules root fix i under run.branch.choice) here run.inside_run in
+    runs-sound rules root (fixed fix i Out) run.middle outside_tree after (under-out rules root fix i under run.branch.choice) first run.outside_run
+runs-sound rules root fix before Full after under sound run = absurd run
+
+-- what is found below the root is sound
+pub explored-sound : (rules : Rules) (root : Fix) (before after : Found) (old new : List Node) → IsRoot rules.programme rules.budget root → before ≡ start rules.programme root →
+    IsExplored rules root before old after new → IsSoundFound rules root after
+explored-sound rules root before after old new is at_start explored =
+    let under = under-root rules.programme rules.budget root is in
+    runs-sound rules root root before explored.tree after under (subst (λ (f : Found). IsSoundFound rules root f) (sym at_start) (sound-inside rules.programme rules.budget root root under)) explored.run

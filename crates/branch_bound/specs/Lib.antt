@@ -1,0 +1,4 @@
+pub mod Sides
+pub mod Rooms
+pub mod Answers
+pub mod inner

@@ -1,0 +1,150 @@
+-- A run of the search below a node: what it had found before and what after, and the tree that it wrote.
+use Rattle.std.specs.Prelude.{◌≡◌, ℕ, ◌+◌, ◌-◌, ◌^◌, ◌<◌, ◌≤◌, ◌==◌, nat_lt, nat_le, Bool, true, false, ◌&&◌, if◌then◌else◌, ◌⊎◌, List, ◌++◌, length, Option, Some, None, slice_index_or, ℤ, pos, negsuc, ◌≤ℤ◌}
+use Rattle.std.specs.Int.{int_min}
+use Rattle.bip_model.specs.declared.answer.Node.{Node}
+use Rattle.bip_model.specs.declared.fix.Fix.{Fix}
+use Rattle.bip_model.specs.declared.fix.State.TheVariants.{Free, In, Out}
+use Rattle.bip_model.specs.declared.multipliers.Multipliers.{Multipliers}
+use Rattle.bip_model.specs.declared.programme.Programme.{Programme}
+use Rattle.bip_model.specs.Trees.{Tree, Branches, Leaf, Full, preorder}
+use Rattle.lagrange_bound.specs.Bounds.{state_at, fits_beside, lagrangian}
+use Rattle.branch_bound.specs.declared.found.Found.{Found}
+use Rattle.branch_bound.specs.declared.frame.Frame.{Frame}
+use Rattle.branch_bound.specs.declared.node.Fate.{Fate}
+use Rattle.branch_bound.specs.declared.node.Fate.TheVariants.{Closed, Forced, Branch}
+use Rattle.branch_bound.specs.Sides.{is_free_state, fixed, inside, total}
+
+-- what stays the same in a search
+pub record Rules : Type 0 where
+  pub programme : Programme
+  pub budget : ℕ
+  pub nodes : ℕ
+  pub zeros : Multipliers
+  pub rents : Multipliers
+  pub useful : List Bool
+
+abbrev pub rules_of : Frame → Rules
+rules_of frame =
+    record {
+      programme = frame.programme.now;
+      budget = frame.budget;
+      nodes = frame.nodes;
+      zeros = frame.zeros.now;
+      rents = frame.rents.now;
+      useful = frame.useful.now;
+    }
+
+-- the set of a number
+abbrev pub set_of : Rules → ℕ → Multipliers
+set_of rules k = if k == 0 then rules.zeros else rules.rents
+
+-- the Lagrangian value of a node under it
+abbrev pub lag : Rules → Fix → ℕ → ℤ
+lag rules fix k = lagrangian rules.programme rules.budget fix (set_of rules k)
+
+-- a value is at least a cost
+abbrev pub reaches : ℤ → ℕ → Bool
+reaches (pos n) cost = nat_le cost n
+reaches (negsuc n) cost = false
+
+-- what was found, with a node whose in-candidates may cost less
+abbrev pub visited : Rules → Fix → Found → Found
+visited rules fix found =
+    if nat_lt (total rules.programme fix) found.cost
+    then record { config = inside fix; cost = total rules.programme fix; low = found.low; made = found.made } else found
+
+-- a candidate is open and useful, by its index
+abbrev pub is_choice : Rules → Fix → ℕ → Bool
+is_choice rules fix i =
+    is_free_state (state_at fix i) && (fits_beside rules.programme rules.budget fix i && slice_index_or rules.useful i false)
+
+abbrev pub NoChoiceBelow : Rules → Fix → ℕ → Type 0
+NoChoiceBelow rules fix n = (i : ℕ) → i < n → is_choice rules fix i ≡ false
+
+abbrev pub NoChoice : Rules → Fix → Type 0
+NoChoice rules fix = NoChoiceBelow rules fix (length rules.programme.sizes)
+
+pub record IsChoice (rules : Rules) (fix : Fix) (i : ℕ) : Type 0 where
+  pub within : i < length rules.programme.sizes
+  pub chosen : is_choice rules fix i ≡ true
+
+-- a choice among the candidates below an index, where there is one
+abbrev pub IsChoiceBelow : Rules → Fix → ℕ → Option ℕ → Type 0
+IsChoiceBelow rules fix n None = NoChoiceBelow rules fix n
+IsChoiceBelow rules fix n (Some i) = IsChoice rules fix i
+
+-- a leaf below which nothing is cheaper than what was found
+pub record IsClosed (rules : Rules) (fix : Fix) (found : Found) (k : ℕ) : Type 0 where
+  pub set : k ≤ 1
+  pub reached : reaches (lag rules fix k) found.cost ≡ true
+
+-- a leaf where nodes have run out, or no candidate is left, under the set that gives the higher value
+pub record IsForced (rules : Rules) (fix : Fix) (found : Found) (k : ℕ) : Type 0 where
+  pub set : k ≤ 1
+  pub over_zeros : lag rules fix 0 ≤ℤ lag rules fix k
+  pub over_rents : lag rules fix 1 ≤ℤ lag rules fix k
+  pub promising : reaches (lag rules fix 0) found.cost ≡ false
+  pub why : (rules.nodes < found.made + 2) ⊎ NoChoice rules fix
+
+-- a branch, for which two more nodes are left
+pub record IsBranch (rules : Rules) (fix : Fix) (found : Found) (i : ℕ) : Type 0 where
+  pub choice : IsChoice rules fix i
+  pub promising : reaches (lag rules fix 0) found.cost ≡ false
+  pub spare : found.made + 2 ≤ rules.nodes
+
+-- what becomes of a node
+abbrev pub IsFate : Rules → Fix → Found → Fate → Type 0
+IsFate rules fix found (Closed k) = IsClosed rules fix found k
+IsFate rules fix found (Forced k) = IsForced rules fix found k
+IsFate rules fix found (Branch i) = IsBranch rules fix found i
+
+abbrev pub lowered : Found → ℤ → Found
+lowered found value = record { config = found.config; cost = found.cost; low = int_min found.low value; made = found.made }
+
+abbrev pub branched : Found → Found
+branched found = record { config = found.config; cost = found.cost; low = found.low; made = found.made + 2 }
+
+pub record IsForcedLeaf (rules : Rules) (fix : Fix) (found : Found) (k : ℕ) (after : Found) : Type 0 where
+  pub forced : IsForced rules fix found k
+  pub after_is : after ≡ lowered found (lag rules fix k)
+
+pub record IsClosedLeaf (rules : Rules) (fix : Fix) (found : Found) (k : ℕ) (after : Found) : Type 0 where
+  pub closed : IsClosed rules fix found k
+  pub after_is : after ≡ found
+
+-- a branch, what was found on its first side, and what on both
+pub record IsBranching (number : ℕ) (here : ℕ → Type 0) (first second : ℕ → Found → Type 0) : Type 0 where
+  pub index : ℕ
+  pub numbered : number ≡ index + 1
+  pub branch : here index
+  pub middle : Found
+  pub inside_run : first index middle
+  pub outside_run : second index middle
+
+-- a run below a node, which is visited first
+abbrev pub Runs : Rules → Fix → Found → Tree → Found → Type 0
+Runs rules fix before (Leaf k) after =
+    IsClosedLeaf rules fix (visited rules fix before) k after ⊎ IsForcedLeaf rules fix (visited rules fix before) k after
+Runs rules fix before (Branches a inside_tree outside_tree) after =
+    IsBranching a (IsBranch rules fix (visited rules fix before))
+    (λ i middle. Runs rules (fixed fix i In) (branched (visited rules fix before)) inside_tree middle)
+    (λ i middle. Runs rules (fixed fix i Out) middle outside_tree after)
+Runs rules fix before Full after = ⊥
+
+-- what a search knows at its root
+abbrev pub MOST_LOW : ℕ
+MOST_LOW = 2 ^ 127 - 1
+
+abbrev pub start : Programme → Fix → Found
+start programme root = record { config = inside root; cost = total programme root; low = pos MOST_LOW; made = 1 }
+
+-- a run, whose tree was appended to a list
+pub record IsExplored (rules : Rules) (fix : Fix) (before : Found) (old : List Node) (after : Found) (new : List Node) : Type 0 where
+  pub tree : Tree
+  pub list_is : new ≡ old ++ preorder tree
+  pub run : Runs rules fix before tree after
+
+-- what nothing that fits costs less than: the cost found, or the least value of the leaves where the search gave up
+abbrev pub least_bound : ℕ → ℤ → ℤ
+least_bound cost (pos n) = if nat_lt n cost then pos n else pos cost
+least_bound cost (negsuc n) = negsuc n

@@ -1,0 +1,79 @@
+//! The tree of a search, explored depth first.
+ghost use Rattle.std.specs.Prelude.{◌≡◌, ◌+◌, ◌<◌, ◌≤◌, [], ◌∷◌, ◌++◌, vec_len};
+ghost use Rattle.std.specs.Vec.{vec_capacity};
+ghost use Rattle.bip_model.specs.declared.answer.Node.{Node};
+ghost use Rattle.branch_bound.specs.inner.Runs as runs;
+
+use crate::fixing::fixed;
+use crate::found::Found;
+use crate::frame::Frame;
+use crate::node::{Fate, fate_of, lag, visited};
+use bip_model::{Fix, Node, State};
+
+/// Appends a node, for which there is room.
+fn append(tree: &mut Vec<Node>, node: Node)
+    requires { vec_len tree.old < vec_capacity tree.old }
+    ensures items { tree.new.items ≡ tree.old.items ++ node ∷ [] }
+    ensures len { vec_len tree.new ≡ vec_len tree.old + 1 }
+    ensures room { vec_capacity tree.old ≤ vec_capacity tree.new }
+{
+    match tree.push(node) {
+        Ok(()) => {}
+        Err(_) => unreachable!(),
+    }
+}
+
+/// What was found, with a leaf at which the search gives up, under the set of this number.
+fn given_up(frame: &Frame<'_>, fix: &Fix, found: Found, set: u8) -> Found
+    ensures { result ≡ runs.lowered found (runs.lag (runs.rules_of frame.now) fix.now set) }
+{
+    Found {
+        config: found.config,
+        cost: found.cost,
+        low: found.low.min(lag(frame, fix, set)),
+        made: found.made,
+    }
+}
+
+/// What was found, with the two nodes of a branch made.
+fn branched(found: Found, nodes: u32) -> Found
+    requires { found.made + 2 ≤ nodes }
+    ensures { result ≡ runs.branched found }
+{
+    Found {
+        config: found.config,
+        cost: found.cost,
+        low: found.low,
+        made: found.made + 2,
+    }
+}
+
+/// Explores what is below a node that was made, and appends its tree in preorder.
+pub(crate) fn explore(frame: &Frame<'_>, fix: &Fix, before: Found, tree: &mut Vec<Node>) -> Found
+    requires pending { vec_len tree.old < before.made }
+    requires made { before.made ≤ frame.now.nodes }
+    requires room { frame.now.nodes ≤ vec_capacity tree.old }
+    ensures explored { runs.IsExplored (runs.rules_of frame.now) fix.now before tree.old.items result tree.new.items }
+    ensures count { vec_len tree.new + before.made ≡ vec_len tree.old + 1 + result.made }
+    ensures more { before.made ≤ result.made }
+    ensures most { result.made ≤ frame.now.nodes }
+    ensures room { vec_capacity tree.old ≤ vec_capacity tree.new }
+{
+    let found = visited(frame, fix, before);
+    match fate_of(frame, fix, &found) {
+        Fate::Closed(set) => {
+            append(tree, Node::Bounded(set));
+            found
+        }
+        Fate::Forced(set) => {
+            append(tree, Node::Bounded(set));
+            given_up(frame, fix, found, set)
+        }
+        Fate::Branch(index) => {
+            append(tree, Node::Branch(index as u16 + 1));
+            let below = branched(found, frame.nodes);
+            let middle = explore(frame, &fixed(fix, index, State::In), below, tree);
+            explore(frame, &fixed(fix, index, State::Out), middle, tree)
+        }
+    }
+}

@@ -1,0 +1,21 @@
+//! Branch and bound over CoPhy's programme: which candidate indexes to choose within a budget of pages.
+//!
+//! In goes a programme, a root that fixes some candidates, a budget of pages and one of nodes; out comes a configuration
+//! that fits, what it costs, and a tree of Lagrangian bounds below which no configuration that fits goes. The tree is
+//! explored depth first, the side that takes a candidate in before the side that leaves it out, under two sets of
+//! multipliers: zeros, and the rent multipliers that bound the root best. All memory is taken before the search, in its
+//! room.
+#![tactic(auto)]
+
+mod best;
+mod climb;
+mod explore;
+mod fixing;
+mod found;
+mod frame;
+mod node;
+mod room;
+mod useful;
+
+pub use best::search;
+pub use room::Room;

@@ -1,0 +1,165 @@
+//! One node of a search: the total of what is in there, its bounds, and what becomes of it.
+ghost use Rattle.std.specs.Prelude.{◌≡◌, ℕ, ◌+◌, ◌*◌, ◌<◌, ◌≤◌, ◌⊎◌, false, true, length, IfNone, IfSome, slice_index_or, pos, ◌≤ℤ◌};
+ghost use Rattle.adv_base.specs.declared.limits.TheConstants.{MOST_CANDIDATES, MOST_INDEX_PAGES};
+ghost use Rattle.lagrange_bound.specs.Bounds as bounds;
+ghost use Rattle.branch_bound.specs.inner.Runs as runs;
+
+use crate::fixing::{config_pages, inside, is_free};
+use crate::found::Found;
+use crate::frame::Frame;
+use bip_model::{Fix, Programme, value};
+use lagrange_bound::bound;
+
+/// What becomes of a node.
+#[derive(Clone, Copy)]
+pub(crate) enum Fate {
+    /// A leaf below which nothing is cheaper than what was found, by the set of this number.
+    Closed(u8),
+    /// A leaf where nodes have run out, under the set of this number, which gives the higher value of both.
+    Forced(u8),
+    /// A branch on the candidate of this index.
+    Branch(usize),
+}
+
+/// Whether a Lagrangian value is at least a cost.
+fn reaches(value: i128, cost: u128) -> bool
+    ensures { result ≡ runs.reaches value cost }
+{
+    value >= 0 && value as u128 >= cost
+}
+
+/// What was found, with a node whose in-candidates may cost less.
+pub(crate) fn visited(frame: &Frame<'_>, fix: &Fix, before: Found) -> Found
+    ensures made { result.made ≡ before.made }
+    ensures exact { result ≡ runs.visited (runs.rules_of frame.now) fix.now before }
+{
+    let config = inside(fix);
+    let cost = value(frame.programme, &config);
+    if cost < before.cost {
+        Found {
+            config,
+            cost,
+            low: before.low,
+            made: before.made,
+        }
+    } else {
+        before
+    }
+}
+
+/// The pages of a candidate.
+fn size(programme: &Programme, index: usize) -> u64
+    requires { index < length programme.now.sizes }
+    ensures exact { result ≡ slice_index_or programme.now.sizes index 0 }
+    ensures most { result ≤ MOST_INDEX_PAGES }
+{
+    programme.sizes.as_slice()[index]
+}
+
+/// Whether a candidate is open and useful at a node whose in-candidates have so many pages.
+fn is_choice(frame: &Frame<'_>, fix: &Fix, used: u64, index: usize) -> bool
+    requires within { index < length frame.now.programme.now.sizes }
+    requires used { used ≡ bounds.pages_inside frame.now.programme.now fix.now }
+    requires most { used ≤ MOST_CANDIDATES * MOST_INDEX_PAGES }
+    ensures { result ≡ runs.is_choice (runs.rules_of frame.now) fix.now index }
+{
+    is_free(fix.state[index])
+        && used + size(frame.programme, index) <= frame.budget
+        && frame.useful[index]
+}
+
+/// The one of two candidates that gains more alone.
+fn better(frame: &Frame<'_>, best: usize, index: usize) -> usize
+    requires best { best < MOST_CANDIDATES }
+    requires index { index < MOST_CANDIDATES }
+    ensures { (result ≡ best) ⊎ (result ≡ index) }
+{
+    if frame.gains[index] > frame.gains[best] {
+        index
+    } else {
+        best
+    }
+}
+
+/// The best choice of the candidates up to this one, of which the best before it is known.
+fn next_choice(
+    frame: &Frame<'_>,
+    fix: &Fix,
+    used: u64,
+    best: Option<usize>,
+    index: usize,
+) -> Option<usize>
+    requires within { index < length frame.now.programme.now.sizes }
+    requires used { used ≡ bounds.pages_inside frame.now.programme.now fix.now }
+    requires most { used ≤ MOST_CANDIDATES * MOST_INDEX_PAGES }
+    requires best { runs.IsChoiceBelow (runs.rules_of frame.now) fix.now index best }
+    ensures { runs.IsChoiceBelow (runs.rules_of frame.now) fix.now (index + 1) result }
+{
+    if !is_choice(frame, fix, used, index) {
+        return best;
+    }
+    match best {
+        None => Some(index),
+        Some(other) => Some(better(frame, other, index)),
+    }
+}
+
+/// The open useful candidate that gains most alone.
+fn choice(frame: &Frame<'_>, fix: &Fix) -> Option<usize>
+    ensures { runs.IsChoiceBelow (runs.rules_of frame.now) fix.now (length frame.now.programme.now.sizes) result }
+{
+    let used = config_pages(frame.programme.sizes.as_slice(), &inside(fix));
+    let mut best = None;
+    for index in 0..frame.programme.sizes.len() {
+        best = next_choice(frame, fix, used, best, index);
+    }
+    best
+}
+
+/// A candidate to branch on, where two more nodes are left.
+fn branch(frame: &Frame<'_>, fix: &Fix, found: &Found) -> Option<usize>
+    requires { found.now.made ≤ frame.now.nodes }
+    ensures none { IfNone result ((frame.now.nodes < found.now.made + 2) ⊎ runs.NoChoice (runs.rules_of frame.now) fix.now) }
+    ensures some { IfSome result (λ i. (found.now.made + 2 ≤ frame.now.nodes) × runs.IsChoice (runs.rules_of frame.now) fix.now i) }
+{
+    if found.made + 2 > frame.nodes {
+        return None;
+    }
+    choice(frame, fix)
+}
+
+/// The Lagrangian value of a node under the set of a number: zeros, or the rents.
+pub(crate) fn lag(frame: &Frame<'_>, fix: &Fix, set: u8) -> i128
+    ensures { result ≡ runs.lag (runs.rules_of frame.now) fix.now set }
+{
+    if set == 0 {
+        bound(frame.programme, frame.budget, fix, frame.zeros)
+    } else {
+        bound(frame.programme, frame.budget, fix, frame.rents)
+    }
+}
+
+/// What becomes of a node, after it is visited.
+pub(crate) fn fate_of(frame: &Frame<'_>, fix: &Fix, found: &Found) -> Fate
+    requires { found.now.made ≤ frame.now.nodes }
+    ensures { runs.IsFate (runs.rules_of frame.now) fix.now found.now result }
+{
+    let zero = lag(frame, fix, 0);
+    if reaches(zero, found.cost) {
+        return Fate::Closed(0);
+    }
+    let rent = lag(frame, fix, 1);
+    if reaches(rent, found.cost) {
+        return Fate::Closed(1);
+    }
+    match branch(frame, fix, found) {
+        Some(index) => Fate::Branch(index),
+        None => {
+            if zero >= rent {
+                Fate::Forced(0)
+            } else {
+                Fate::Forced(1)
+            }
+        }
+    }
+}
