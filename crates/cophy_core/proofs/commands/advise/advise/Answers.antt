@@ -6,8 +6,8 @@ use Rattle.report.specs.Settings.{the_setting}
 use Rattle.cophy_core.proofs.Advising.{root_is, root_starts, is_bounded}
 use Rattle.cophy_core.proofs.commands.advise.advise.Goals as goal
 
-pub search-requires-clause-root : goal.search-requires-clause-root
-search-requires-clause-root c = root_starts c.in_ok-programme.programme c.args.budget c.free_root-root.result c.free_root-root.ensures
+pub search-answer-requires-clause-root : goal.search-answer-requires-clause-root
+search-answer-requires-clause-root c = root_starts c.in_ok-programme.programme c.args.budget c.free_root-root.result c.free_root-root.ensures
 
 pub returns-clause-gives : goal.returns-clause-gives
 returns-clause-gives c =
