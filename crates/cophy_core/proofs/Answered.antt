@@ -1,5 +1,5 @@
 -- What is answered over a command's files is an answer to the command.
-use Rattle.std.proofs.Common.{◌≡◌, ℕ, ◌≤◌, List, [], ◌∷◌, length, Option, Some}
+use Rattle.std.proofs.Common.{◌≡◌, ℕ, ◌≤◌, List, [], ◌∷◌, length, Option, Some, None}
 use Rattle.adv_base.specs.declared.limits.TheConstants.{MOST_FILE_BYTES}
 use Rattle.adv_shelf.specs.Shelf.{Files}
 use Rattle.adv_base.specs.Settings.{TheSetting}
@@ -11,7 +11,7 @@ use Rattle.report.specs.declared.done.Refusal.TheVariants.{TooLong, Cat, Sql, Bi
 use Rattle.cophy_core.specs.declared.stop.Stop.{Stop}
 use Rattle.cophy_core.specs.declared.stop.Stop.TheVariants.{Memory, Failed, Refused}
 use Rattle.cophy_core.specs.Answers.{RefusesOver, GivesOver, OfSetting, AnswersOver, Answers, IsBuilt}
-use Rattle.cophy_core.specs.ReadWords.{PlainCommand, Candidates, Cost, WhatIf, Explain}
+use Rattle.cophy_core.specs.ReadWords.{PlainCommand, Candidates, Cost, WhatIf, Explain, Advise}
 use Rattle.cophy_core.specs.Files.{files_of, AreInputs, input, ReadCounts}
 use Rattle.cophy_core.specs.Reading.{StopsReading, StopsAtFiles}
 use Rattle.cophy_core.specs.Settings.{IsSetting, IsSettingRefusal}
@@ -31,6 +31,7 @@ abbrev IsGiven : Done → Type 0
 IsGiven (answers.Priced prices) = Unit {0}
 IsGiven (answers.Listed found) = Unit {0}
 IsGiven (answers.Explained explained) = Unit {0}
+IsGiven (answers.Advised advice) = Unit {0}
 IsGiven done = ⊥
 
 -- a built command answers so
@@ -39,6 +40,7 @@ over (Candidates cat load) files done built h = h
 over (Cost cat load) files done built h = h
 over (WhatIf cat load conf) files done built h = h
 over (Explain cat load conf number) files done built h = h
+over (Advise cat load budget nodes None) files done built h = h
 over command files done built h = absurd built
 
 -- the second file of a built command is within the limit of a workload
@@ -55,6 +57,9 @@ second_short (WhatIf cat load conf) files (a ∷ b ∷ more) built are = are.1.0
 second_short (Explain cat load conf number) files [] built are = absurd are
 second_short (Explain cat load conf number) files (a ∷ []) built are = absurd are.1
 second_short (Explain cat load conf number) files (a ∷ b ∷ more) built are = are.1.0.short
+second_short (Advise cat load budget nodes None) files [] built are = absurd are
+second_short (Advise cat load budget nodes None) files (a ∷ []) built are = absurd are.1
+second_short (Advise cat load budget nodes None) files (a ∷ b ∷ more) built are = are.1.0.short
 second_short command files inputs built are = absurd built
 
 -- the files of a built command could not be read
@@ -88,6 +93,11 @@ own (Explain cat load conf number) inputs setting (Cat fault) h = h
 own (Explain cat load conf number) inputs setting (Sql fault) h = h
 own (Explain cat load conf number) inputs setting (Bind fault) h = h
 own (Explain cat load conf number) inputs setting why h = tt
+own (Advise cat load budget nodes None) inputs setting (TooLong role) h = h
+own (Advise cat load budget nodes None) inputs setting (Cat fault) h = h
+own (Advise cat load budget nodes None) inputs setting (Sql fault) h = h
+own (Advise cat load budget nodes None) inputs setting (Bind fault) h = h
+own (Advise cat load budget nodes None) inputs setting why h = tt
 own command inputs setting why h = absurd h
 
 -- such a refusal is the first of the files
@@ -117,12 +127,15 @@ given (WhatIf cat load conf) inputs setting (answers.Priced prices) h = tt
 given (WhatIf cat load conf) inputs setting done h = absurd h
 given (Explain cat load conf number) inputs setting (answers.Explained explained) h = tt
 given (Explain cat load conf number) inputs setting done h = absurd h
+given (Advise cat load budget nodes None) inputs setting (answers.Advised advice) h = tt
+given (Advise cat load budget nodes None) inputs setting done h = absurd h
 given command inputs setting done h = absurd h
 
 given_over : (command : PlainCommand) (files : Option Files) (done : Done) → IsGiven done → OfSetting files command (λ inputs setting. GivesOver command inputs setting done) → AnswersOver command files done
 given_over command files (answers.Priced prices) is_given h = h
 given_over command files (answers.Listed found) is_given h = h
 given_over command files (answers.Explained explained) is_given h = h
+given_over command files (answers.Advised advice) is_given h = h
 given_over command files done is_given h = absurd is_given
 
 -- a command gave its answer over its setting
@@ -137,6 +150,8 @@ pub work_told : (command : PlainCommand) (files : Option Files) (words : List (L
 work_told command files words inputs setting left_over (answers.Priced prices) text are is h e =
     record { inputs = inputs; setting = setting; left_over = left_over; inputs_are = are; setting_is = is; holds = e }
 work_told command files words inputs setting left_over (answers.Listed found) text are is h e =
+    record { inputs = inputs; setting = setting; left_over = left_over; inputs_are = are; setting_is = is; holds = e }
+work_told command files words inputs setting left_over (answers.Advised advice) text are is h e =
     record { inputs = inputs; setting = setting; left_over = left_over; inputs_are = are; setting_is = is; holds = e }
 work_told command files words inputs setting left_over (answers.Explained explained) text are is h e = e
 work_told command files words inputs setting left_over done text are is h e = e

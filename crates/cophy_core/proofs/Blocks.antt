@@ -1,5 +1,5 @@
 -- Statements with a block, and without one.
-use Rattle.std.proofs.Common.{◌≡◌, ℕ, Bool, false, List, replicate, Option, Some, None, refl, ap, subst}
+use Rattle.std.proofs.Common.{◌≡◌, ℕ, Bool, false, List, replicate, Some, None, refl, ap, subst}
 use Rattle.adv_base.specs.declared.catalogue.Catalogue.{Catalogue}
 use Rattle.adv_base.specs.declared.catalogue.index.IndexShape.{IndexShape}
 use Rattle.adv_base.specs.declared.limits.TheConstants.{MOST_CANDIDATES}

@@ -4,14 +4,14 @@ use Rattle.std.proofs.Math.Path.{fun_ext}
 use Rattle.std.proofs.lemmas.List.{append-nil}
 use Rattle.adv_shelf.specs.Faults.{Rose}
 use Rattle.adv_shelf.specs.Shelf.{Files}
-use Rattle.adv_shelf.specs.Sink.{append_to, AppendsPrefix}
+use Rattle.adv_shelf.specs.Sink.{append_to}
 use Rattle.report.specs.Texts.{done_text}
 use Rattle.report.specs.declared.done.Done.{Done}
-use Rattle.report.specs.declared.done.Done.TheVariants.{Usage, ReadFault, WriteFault, Refused, Memory, Priced, Listed, Explained as ExplainedDone}
+use Rattle.report.specs.declared.done.Done.TheVariants.{Usage, ReadFault, WriteFault, Refused, Memory, Priced, Listed, Explained as ExplainedDone, Advised}
 use Rattle.report.specs.declared.done.WordFault.{WordFault}
 use Rattle.cophy_core.specs.Answers.{Answers}
 use Rattle.cophy_core.specs.Causes.{IsOrMemory, IsSteady, UsageIsTrue, ReadFaultIsTrue, WriteFaultIsTrue, RefusalIsTrue, MemoryWritesNothing, IsSound, IsWritten, IsBounded}
-use Rattle.cophy_core.specs.ReadWords.{PlainCommand, Candidates, Cost, WhatIf, Explain, command_of}
+use Rattle.cophy_core.specs.ReadWords.{PlainCommand, Candidates, Cost, WhatIf, Explain, Advise, command_of}
 use Rattle.cophy_core.specs.Endings.{Put, Outside, EndsWhole, EndsUnwritten, Ends}
 use Rattle.cophy_core.specs.Files.{ReadCounts, counts}
 use Rattle.cophy_core.specs.Reading.{StopsAtFiles}
@@ -25,6 +25,7 @@ abbrev IsAnswer : Done → Type 0
 IsAnswer (Priced prices) = Unit {0}
 IsAnswer (Listed found) = Unit {0}
 IsAnswer (ExplainedDone explained) = Unit {0}
+IsAnswer (Advised advice) = Unit {0}
 IsAnswer (Refused why) = Unit {0}
 IsAnswer done = ⊥
 
@@ -32,11 +33,13 @@ is_answer : (command : PlainCommand) (files : Option Files) (done : Done) → An
 is_answer command files (Priced prices) h = tt
 is_answer command files (Listed found) h = tt
 is_answer command files (ExplainedDone explained) h = tt
+is_answer command files (Advised advice) h = tt
 is_answer command files (Refused why) h = tt
 is_answer (Candidates cat load) files done h = absurd h.holds
 is_answer (Cost cat load) files done h = absurd h.holds
 is_answer (WhatIf cat load conf) files done h = absurd h.holds
 is_answer (Explain cat load conf number) files done h = absurd h.holds
+is_answer (Advise cat load budget nodes None) files done h = absurd h.holds
 is_answer command files done h = absurd (let e = h in cc)
 
 -- ## Replies

@@ -1,11 +1,11 @@
 -- Files read in a row.
-use Rattle.std.proofs.Common.{◌≡◌, ◌⊎◌, inl, inr, ℕ, ◌+◌, ◌<◌, ◌≤◌, List, [], ◌∷◌, ◌++◌, take, drop, length, get_or, map, slice_index_or, Option, sym, ap, ◌∙◌, arith}
+use Rattle.std.proofs.Common.{◌≡◌, inl, inr, ℕ, ◌≤◌, List, [], ◌∷◌, ◌++◌, Option, arith}
 use Rattle.adv_shelf.specs.Faults.{Rose}
 use Rattle.adv_shelf.specs.Shelf.{Files}
 use Rattle.report.specs.declared.done.Refusal.TheVariants.{TooLong}
 use Rattle.cophy_core.specs.declared.stop.Stop.{Stop}
 use Rattle.cophy_core.specs.declared.stop.Stop.TheVariants.{Memory, Failed, Refused}
-use Rattle.cophy_core.specs.Files.{InputFile, IsInput, AreInputs, ReadCounts, RoseAt, IsUnread, IsFirstBad, input}
+use Rattle.cophy_core.specs.Files.{InputFile, IsInput, AreInputs, ReadCounts}
 use Rattle.cophy_core.specs.Reading.{IsUnreadFile, StopsReading}
 
 -- one file more

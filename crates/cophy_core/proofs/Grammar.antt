@@ -1,16 +1,15 @@
 -- What is read as a command is in the grammar as that command, and the other way round.
-use Rattle.std.proofs.Common.{◌≡◌, ◌∙◌, ◌⊎◌, inl, inr, ℕ, suc, ◌+◌, ◌-◌, ◌<◌, ◌≤◌, ◌^◌, Bool, true, false, cond, List, [], ◌∷◌, ◌++◌, length, slice_get, codes, nat_eq, Option, Some, None, Result, Ok, Err, nat_lt, refl, sym, ap, subst, arith}
-use Rattle.std.specs.Prelude.{decimal, option_to_list, unwrap_or, IfSome, is_some}
+use Rattle.std.proofs.Common.{◌≡◌, ◌∙◌, ◌⊎◌, inl, inr, ℕ, suc, ◌+◌, ◌-◌, ◌<◌, ◌≤◌, ◌^◌, Bool, true, false, cond, List, [], ◌∷◌, ◌++◌, length, slice_get, codes, nat_eq, Option, Some, None, Result, Ok, Err, refl, sym, ap, subst, arith}
+use Rattle.std.specs.Prelude.{decimal, option_to_list, unwrap_or, is_some}
 use Rattle.std.specs.List.{starts_with}
 use Rattle.std.specs.Str.{bytes_eq}
 use Rattle.std.proofs.lemmas.Slice.Eq.{bytes_eq-Decides}
 use Rattle.report.specs.declared.done.WordFault.{WordFault}
 use Rattle.report.specs.declared.done.WordFault.TheVariants.{BadNumber, Extra, Missing, Twice, UnknownOption, UnknownCommand}
 use Rattle.std.proofs.lemmas.Bool.Decides.{nat_tests}
-use Rattle.adv_base.specs.Numbers.{IsNumber}
 use Rattle.cophy_core.specs.Numbers.{number_within}
 use Rattle.cophy_core.specs.ReadWords.{PlainCommand, Cost, WhatIf, Explain, Candidates, Advise, Check, Bench, PlainOptions, no_options, ◌>>=◌, word_or_missing, number_or_bad, word_at, number_at, end_at, nodes_option, cert_option, option_of, cost_of, what_if_of, explain_of, candidates_of, advise_of, check_of, bench_of, named_command, command_of, options_from, option_at}
-use Rattle.cophy_core.specs.CommandLines.{IsWithin, Choice, Nodes, Cert, words_of, Choose, IsSearch, IsCommandLine}
+use Rattle.cophy_core.specs.CommandLines.{IsWithin, Choice, Nodes, Cert, words_of, Choose, IsCommandLine}
 use Rattle.cophy_core.proofs.NumberLaws.{number_is, number_found}
 use Rattle.cophy_core.proofs.Options.{options_from-end, options_from-next}
 

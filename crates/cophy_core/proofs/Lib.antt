@@ -5,6 +5,8 @@ pub mod Blocks
 pub mod Offered
 pub mod PriceLists
 pub mod Cached
+pub mod Advising
+pub mod Ranges
 pub mod Stopped
 pub mod Mapped
 pub mod FilesRead

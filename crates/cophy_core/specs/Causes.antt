@@ -1,17 +1,26 @@
 -- When each answer comes, and what it says.
-use Rattle.std.specs.Prelude.{◌≡◌, ℕ, ◌+◌, ◌*◌, ◌<◌, ◌⊎◌, List, All, Option, Result, Ok, Err}
+use Rattle.std.specs.Prelude.{◌≡◌, ℕ, ◌+◌, ◌*◌, ◌<◌, ◌==◌, if◌then◌else◌, ℤ, pos, negsuc, ◌⊎◌, List, All, Option, Result, Ok, Err}
 use Rattle.adv_base.specs.declared.limits.TheConstants.{MOST_CANDIDATES, MOST_INDEXES, MOST_UPKEEP}
 use Rattle.adv_shelf.specs.Faults.{Rose}
 use Rattle.adv_shelf.specs.Shelf.{Files}
 use Rattle.adv_shelf.specs.Sink.{append_to, AppendsPrefix}
 use Rattle.plan_model.specs.declared.plan.TheConstants.{MOST_COST, MOST_TOTAL}
+use Rattle.report.specs.declared.done.Advice.{Advice}
 use Rattle.report.specs.declared.done.Done.{Done}
-use Rattle.report.specs.declared.done.Done.TheVariants.{Usage, ReadFault, WriteFault, Refused, Memory, Priced, Explained as ExplainedDone}
+use Rattle.report.specs.declared.done.Done.TheVariants.{Usage, ReadFault, WriteFault, Refused, Memory, Priced, Explained as ExplainedDone, Advised}
 use Rattle.report.specs.declared.done.WordFault.{WordFault}
 use Rattle.cophy_core.specs.Answers.{Answers}
 use Rattle.cophy_core.specs.ReadWords.{PlainCommand, command_of}
 use Rattle.cophy_core.specs.Files.{files_of, ReadCounts, IsReadFault}
 use Rattle.cophy_core.specs.Replies.{MayAnswerWords, IsTextTo}
+
+-- the exit status of advice: 1 where its bound isn't its cost
+abbrev pub advice_status_of : Advice → ℕ
+advice_status_of advice = by_bound advice.answer.cost advice.answer.bound
+  where
+    by_bound : ℕ → ℤ → ℕ
+    by_bound cost (pos bound) = if bound == cost then 0 else 1
+    by_bound cost (negsuc below) = 1
 
 -- the exit status of an answer
 abbrev pub status_of : Done → ℕ
@@ -19,6 +28,7 @@ status_of (Usage fault) = 2
 status_of (ReadFault role) = 3
 status_of WriteFault = 4
 status_of (Refused why) = 5
+status_of (Advised advice) = advice_status_of advice
 status_of Memory = 7
 status_of done = 0
 

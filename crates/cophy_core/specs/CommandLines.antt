@@ -55,3 +55,14 @@ IsCommandLine words (Check cat load cert) = words ≡ codes "check" ∷ cat ∷ 
 IsCommandLine words (Bench seed tables statements budget) =
     (words ≡ codes "bench" ∷ decimal seed ∷ decimal tables ∷ decimal statements ∷ decimal budget ∷ [])
     × (IsWithin 0 18446744073709551615 seed × (IsWithin 2 20 tables × (IsWithin 1 500 statements × IsWithin 0 1000000000000 budget)))
+
+-- the budgets of a search are in their ranges
+pub record AreBudgets (budget nodes : ℕ) : Type 0 where
+  pub budget_most : budget ≤ 1000000000000
+  pub some_node : 1 ≤ nodes
+  pub nodes_most : nodes ≤ 1000000
+
+-- so it is with those of a command that searches
+abbrev pub IsInRange : PlainCommand → Type 0
+IsInRange (Advise cat load budget nodes cert) = AreBudgets budget nodes
+IsInRange command = Unit {0}

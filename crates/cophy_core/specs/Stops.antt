@@ -1,6 +1,5 @@
 -- Why the work for an answer stops, and what is answered then.
-use Rattle.std.specs.Prelude.{◌≡◌, ◌≢◌, ℕ, Option}
-use Rattle.adv_shelf.specs.Shelf.{Files}
+use Rattle.std.specs.Prelude.{◌≡◌, ◌≢◌}
 use Rattle.report.specs.declared.done.Done.{Done}
 use Rattle.report.specs.declared.done.Done.TheVariants as answers
 use Rattle.report.specs.declared.done.Refusal.{Refusal}

@@ -1,3 +1,4 @@
+pub mod Advise
 pub mod Candidates
 pub mod Cost
 pub mod Explain

@@ -4,6 +4,7 @@ ghost use Rattle.report.specs.Settings.{the_setting};
 ghost use Rattle.report.specs.Texts.{FitsSetting};
 ghost use Rattle.cophy_core.specs.Answers.{IsBuilt, RefusesOver, GivesOver};
 ghost use Rattle.cophy_core.specs.Causes.{IsBounded};
+ghost use Rattle.cophy_core.specs.CommandLines.{IsInRange};
 ghost use Rattle.cophy_core.specs.ReadWords.{texts, plain_command, command_of};
 ghost use Rattle.cophy_core.specs.Endings.{plain_puts};
 ghost use Rattle.cophy_core.specs.Files.{counts};
@@ -11,6 +12,7 @@ ghost use Rattle.cophy_core.specs.Reading.{StopsAtFiles};
 ghost use Rattle.cophy_core.specs.Replies.{IsReply, Replies};
 ghost use Rattle.cophy_core.specs.Stops.{StopsAt};
 
+use crate::commands::advise::advise;
 use crate::commands::cost::cost;
 use crate::commands::explain::explain;
 use crate::commands::list_candidates::list_candidates;
@@ -32,7 +34,8 @@ fn work(
     inputs: &List<Bytes>,
     setting: &Setting<'_>,
 ) -> Result<Done, Stop>
-    requires { IsBuilt (plain_command command.now) }
+    requires built { IsBuilt (plain_command command.now) }
+    requires range { IsInRange (plain_command command.now) }
     ensures gives { IfOk result (GivesOver (plain_command command.now) inputs.now (the_setting setting.now)) }
     ensures fits { IfOk result (FitsSetting (Some (the_setting setting.now))) }
     ensures bound { IfOk result IsBounded }
@@ -43,7 +46,15 @@ fn work(
         Command::WhatIf { .. } => what_if(alloc, setting, bytes_at(inputs, 2)),
         Command::Explain { number, .. } => explain(alloc, setting, bytes_at(inputs, 2), number),
         Command::Candidates { .. } => Ok(list_candidates(alloc, setting)?),
-        Command::Advise { .. } | Command::Check { .. } | Command::Bench { .. } => unreachable!(),
+        Command::Advise {
+            budget,
+            nodes,
+            cert: None,
+            ..
+        } => advise(alloc, setting, budget, nodes),
+        Command::Advise { cert: Some(_), .. } | Command::Check { .. } | Command::Bench { .. } => {
+            unreachable!()
+        }
     }
 }
 
@@ -54,6 +65,7 @@ fn answer<'a, S: Shelf>(
     shelf: &mut S,
     command: &Command<'a>,
 ) -> Result<Reply<'a>, Stop>
+    requires { IsInRange (plain_command command.now) }
     ensures reply { IfOk result (λ reply. Replies (plain_command command.now) (S.files shelf.old) (texts words.now) reply.done (plain_puts reply.puts) reply.text) }
     ensures bound { IfOk result (λ reply. IsBounded reply.done) }
     ensures stop { IfErr result (StopsAtFiles (plain_command command.now) (S.files shelf.old)

@@ -109,7 +109,14 @@ pub(crate) fn read_files<S: Shelf>(
     ensures puts { S.put_faults shelf.new ≡ S.put_faults shelf.old }
 {
     match *command {
-        Command::Candidates { cat, load } | Command::Cost { cat, load } => {
+        Command::Candidates { cat, load }
+        | Command::Cost { cat, load }
+        | Command::Advise {
+            cat,
+            load,
+            cert: None,
+            ..
+        } => {
             let files = [
                 plain_file(Role::Catalogue, cat),
                 plain_file(Role::Workload, load),
@@ -130,9 +137,9 @@ pub(crate) fn read_files<S: Shelf>(
             ];
             read_each(alloc, shelf, &files)
         }
-        Command::Advise { .. } | Command::Check { .. } | Command::Bench { .. } => Err(Stop::Refused(
-            Refusal::NotBuilt,
-        )),
+        Command::Advise { cert: Some(_), .. } | Command::Check { .. } | Command::Bench { .. } => {
+            Err(Stop::Refused(Refusal::NotBuilt))
+        }
     }
 }
 

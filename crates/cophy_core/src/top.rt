@@ -1,7 +1,7 @@
 //! The call that the program makes.
 ghost use Rattle.std.specs.Prelude.{◌≡◌, ◌≤◌, ◌⊎◌, ℕ, List, Ok, Err};
 ghost use Rattle.report.specs.declared.done.WordFault.{WordFault};
-ghost use Rattle.cophy_core.specs.Causes.{status_of, IsOrMemory, IsSteady, UsageIsTrue, ReadFaultIsTrue, WriteFaultIsTrue, RefusalIsTrue, MemoryWritesNothing, IsSound, IsWritten, IsBounded};
+ghost use Rattle.cophy_core.specs.Causes.{advice_status_of, status_of, IsOrMemory, IsSteady, UsageIsTrue, ReadFaultIsTrue, WriteFaultIsTrue, RefusalIsTrue, MemoryWritesNothing, IsSound, IsWritten, IsBounded};
 ghost use Rattle.cophy_core.specs.Answers.{Answers};
 ghost use Rattle.cophy_core.specs.ReadWords.{texts, PlainCommand, command_of};
 ghost use Rattle.cophy_core.specs.Files.{counts};
@@ -9,7 +9,7 @@ ghost use Rattle.cophy_core.specs.Files.{counts};
 use crate::answer::reply;
 use crate::reply::give;
 use adv_shelf::{Shelf, Sink};
-use report::Done;
+use report::{Advice, Done};
 use std::alloc::Global;
 
 /// The answer to the words of a command line, and the exit status that goes with it.
@@ -17,6 +17,18 @@ use std::alloc::Global;
 pub struct Outcome {
     pub status: u8,
     pub done: Done,
+}
+
+/// The exit status of advice: 1 where a gap is left between bound and cost.
+fn advice_status(advice: &Advice) -> u8
+    ensures { result ≡ advice_status_of advice.now }
+{
+    let answer = &advice.answer;
+    if answer.bound >= 0 && answer.bound as u128 == answer.cost {
+        0
+    } else {
+        1
+    }
 }
 
 /// The exit status of an answer.
@@ -32,6 +44,7 @@ fn status(done: &Done) -> u8
         Done::Priced(_) => 0,
         Done::Listed(_) => 0,
         Done::Explained(_) => 0,
+        Done::Advised(advice) => advice_status(advice),
     }
 }
 

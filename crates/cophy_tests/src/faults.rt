@@ -18,7 +18,7 @@ const LINES: &str = r#"4|cost CAT LOAD|statement 1 weight 1 cost 30000~total 300
 5|explain CAT LOAD CONF 2|refused: no statement 2 of 1~
 5|whatif CAT LOAD CONF|size 0~statement 1 weight 1 cost 30000~total 30000~
 0|cost CAT|usage: missing word 3~
-0|advise CAT LOAD 10|refused: not built~"#;
+0|bench 1 2 5 0|refused: not built~"#;
 
 /// The parts of a line: the calls, the words and the output.
 fn parts<'a>(rt: &impl Abort, case: &'a str) -> (u64, &'a str, &'a str) {

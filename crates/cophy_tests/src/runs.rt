@@ -103,6 +103,16 @@ const CONFIGURED: &str =
 5|whatif CAT LOAD CONF|T|SELECT c FROM|2~|refused: syntax at 14~
 3|whatif CAT LOAD none|T|SELECT c FROM||read fault: none~"#;
 
+/// Advice. How many nodes a search makes is its own affair: `#` stands for an odd number of at most the first part.
+const ADVICE: &str =
+    r#"3|0|advise CAT LOAD 3|T|SELECT p.c FROM t p, t q WHERE p.c = q.c -- 94000 without||budget 3~candidates 1 left over 0~pick 1 t(c) 3 pages~size 3~cost 46000~bound 46000~gap 0~nodes # of 20000~finished~
+127|0|advise CAT LOAD 3000|ORDERS|-- weight 50~SELECT o.o_id, o.o_date, sum(l.l_price) AS revenue~FROM customer c JOIN orders o ON c.c_id = o.o_cust JOIN lineitem l ON l.l_order = o.o_id~WHERE c.c_segment = 'BUILDING' AND o.o_date BETWEEN DATE '1995-01-01' AND DATE '1995-03-31'~GROUP BY o.o_id, o.o_date ORDER BY revenue DESC, o.o_date LIMIT 10;~||budget 3000~candidates 8 left over 0~pick 2 customer(c_segment, c_id) 56 pages~pick 6 orders(o_date, o_id, o_cust) 589 pages~pick 8 lineitem(l_order, l_price) 2063 pages~size 2708~cost 583783100~bound 583783100~gap 0~nodes # of 20000~finished~
+5|0|advise CAT LOAD 4|KNAP|-- weight 10~SELECT c FROM t ORDER BY c;~-- weight 11~SELECT d, e FROM v ORDER BY d, e;~||budget 4~candidates 2 left over 0~pick 2 v(d, e) 4 pages~size 4~cost 954000~bound 954000~gap 0~nodes # of 20000~finished~
+5|0|advise CAT LOAD 4 --nodes 7|KNAP|-- weight 10~SELECT c FROM t ORDER BY c;~-- weight 11~SELECT d, e FROM v ORDER BY d, e;~||budget 4~candidates 2 left over 0~pick 2 v(d, e) 4 pages~size 4~cost 954000~bound 954000~gap 0~nodes # of 7~finished~
+1|0|advise CAT LOAD 0|KNAP|-- weight 10~SELECT c FROM t ORDER BY c;~-- weight 11~SELECT d, e FROM v ORDER BY d, e;~||budget 0~candidates 2 left over 0~size 0~cost 1680000~bound 1680000~gap 0~nodes # of 20000~finished~
+3|0|advise CAT LOAD 10|T|SELECT c FROM t ORDER BY c; UPDATE t SET c = 1 -- its upkeep is 16020000||budget 10~candidates 1 left over 0~size 0~cost 110000~bound 110000~gap 0~nodes # of 20000~finished~
+1|0|advise CAT LOAD 10|EMPTY|||budget 10~candidates 0 left over 0~size 0~cost 0~bound 0~gap 0~nodes # of 20000~finished~"#;
+
 /// Lists of candidates.
 const CANDIDATES: &str =
     r#"0|candidates CAT LOAD|ORDERS|-- weight 50~SELECT o.o_id, o.o_date, sum(l.l_price) AS revenue~FROM customer c JOIN orders o ON c.c_id = o.o_cust JOIN lineitem l ON l.l_order = o.o_id~WHERE c.c_segment = 'BUILDING' AND o.o_date BETWEEN DATE '1995-01-01' AND DATE '1995-03-31'~GROUP BY o.o_id, o.o_date ORDER BY revenue DESC, o.o_date LIMIT 10;~||1 customer(c_segment) 42 pages~2 customer(c_segment, c_id) 56 pages~3 orders(o_date) 294 pages~4 orders(o_cust) 368 pages~5 orders(o_id, o_date) 442 pages~6 orders(o_date, o_id, o_cust) 589 pages~7 lineitem(l_order) 1471 pages~8 lineitem(l_order, l_price) 2063 pages~left over 0~
@@ -123,7 +133,9 @@ const WORDS: &str = r#"2||TI|||usage: no command~
 2|advise c l 10 --nodes 5 --nodes 6|TI|||usage: option twice at word 7~
 2|advise c l 10 --node|TI|||usage: unknown option at word 5~
 2|bench 1 1 5 0|TI|||usage: bad number at word 3~
-5|advise none none 10|TI|||refused: not built~
+3|advise none none 10|TI|||read fault: none~
+5|advise none none 10 --cert none|TI|||refused: not built~
+5|advise CAT LOAD 10|STAR|SELECT count(*) FROM hub, p, q, r, s WHERE k1 = p.x AND k2 = p.y AND k3 = p.z AND k4 = q.x AND k5 = q.y AND k6 = q.z AND k7 = r.x AND k8 = r.y AND k9 = r.z AND k10 = s.w AND k11 = s.x AND k12 = s.y AND k13 = s.z||refused: statement 1 has 4480 combinations~
 3|whatif none none none|TI|||read fault: none~
 2|whatif CAT LOAD|TI|||usage: missing word 4~
 5|check none none none|TI|||refused: not built~
@@ -190,6 +202,34 @@ fn compare_unconfigured(rt: &impl Abort, alloc: Global, line: &str) {
     compare_case(rt, alloc, &unconfigured);
 }
 
+/// Whether an output is the wanted one with an odd number of at most `most` in the place of `#`.
+fn has_nodes(rt: &impl Abort, alloc: Global, out: &[u8], want: &str, most: u64) -> bool {
+    let (front, back) = want.split_once('#').expect(rt, "a number of nodes");
+    for half in 0..most {
+        let nodes = half.saturating_mul(2).saturating_add(1);
+        let text = format!(in alloc; "{front}{nodes}{back}").expect(rt, "memory");
+        let text = spread(rt, alloc, text.as_str());
+        if nodes <= most && text.as_slice() == out {
+            return true;
+        }
+    }
+    false
+}
+
+/// Advises on a line.
+fn compare_advice(rt: &impl Abort, alloc: Global, line: &str) {
+    let (most, rest) = line.split_once('|').expect(rt, "a number");
+    let most = most.parse::<u64>().expect(rt, "a number");
+    let case = case_of(rt, rest);
+    let cat = catalogue(rt, alloc, case.cat);
+    let load = spread(rt, alloc, case.load);
+    let mut shelf = shelf(rt, alloc, cat.as_slice(), load.as_slice(), b"");
+    let (status, out) = answer(rt, alloc, case.words, &mut shelf, 1000);
+    assert_eq!(rt; case.status.parse::<u8>(), Ok(status), "{line}");
+    let found = has_nodes(rt, alloc, out.bytes(), case.output, most);
+    assert!(rt; found, "{line}");
+}
+
 /// Walks a table.
 fn compare_all(rt: &impl Abort, alloc: Global, table: &str) {
     for line in table.lines() {
@@ -222,6 +262,31 @@ fn no_candidate_changes_no_price(rt: HostRuntime) {
     for line in PRICES.lines() {
         compare_unconfigured(&rt, rt.alloc(), line);
     }
+}
+
+#[test]
+fn advice_is_best(rt: HostRuntime) {
+    for line in ADVICE.lines() {
+        compare_advice(&rt, rt.alloc(), line);
+    }
+}
+
+/// Two candidates of which one fits, and no node to tell which: either may be picked.
+#[test]
+fn one_node_is_not_enough(rt: HostRuntime) {
+    let alloc = rt.alloc();
+    let cat = catalogue(&rt, alloc, "KNAP");
+    let load = spread(
+        &rt,
+        alloc,
+        "-- weight 10~SELECT c FROM t ORDER BY c;~-- weight 11~SELECT d, e FROM v ORDER BY d, e;~",
+    );
+    let mut shelf = shelf(&rt, alloc, cat.as_slice(), load.as_slice(), b"");
+    let words = "advise CAT LOAD 4 --nodes 1";
+    let (status, out) = answer(&rt, alloc, words, &mut shelf, 1000);
+    let end = spread(&rt, alloc, "nodes 1 of 1~stopped~");
+    assert_eq!(rt; status, 1);
+    assert!(rt; out.bytes().ends_with(end.as_slice()));
 }
 
 #[test]

@@ -1,13 +1,14 @@
 //! The texts of refusals and faults, written out byte for byte.
 ghost use Rattle.std.specs.Prelude.{option_map};
 ghost use Rattle.report.specs.Settings.{the_setting};
-ghost use Rattle.report.specs.Texts.{FitsSetting};
+ghost use Rattle.report.specs.Texts.{FitsSetting, IsBoundedBy};
 
 use crate::scene::split;
-use adv_base::{List, Setting};
+use adv_base::{Catalogue, Config, List, Rates, Setting};
 use binder::BindFault;
+use bip_model::Answer;
 use catalogue::{CatFault, KeyField, KeyPart, KeyPath};
-use report::{Done, Prices, Refusal, Role, WordFault, text};
+use report::{Advice, Done, Prices, Refusal, Role, WordFault, text};
 use sql_reader::SqlFault;
 use std::alloc::Global;
 use std::process::Abort;
@@ -287,4 +288,58 @@ fn a_size_stands_before_the_prices(rt: HostRuntime) {
         total: 0,
     });
     assert_text(&rt, rt.alloc(), &done, None, "size 4\ntotal 0\n");
+}
+
+/// The text of advice of so much, with such a bound, over no candidates.
+fn assert_advice(rt: &impl Abort, alloc: Global, cost: u128, bound: i128, want: &str)
+    requires { IsBoundedBy cost bound }
+{
+    let cat = Catalogue {
+        rates: Rates::default(),
+        tables: List::new(alloc),
+    };
+    let setting = Setting {
+        cat: &cat,
+        statements: &[],
+        shapes: &[],
+    };
+    let done = Done::Advised(Advice {
+        budget: 10,
+        nodes: 20000,
+        left_over: 7,
+        answer: Answer {
+            config: Config::none(),
+            cost,
+            bound,
+            sets: List::new(alloc),
+            tree: List::new(alloc),
+            useful: 0,
+        },
+    });
+    assert_text(rt, alloc, &done, Some(&setting), want);
+}
+
+#[test]
+fn advice_is_told_with_its_gap(rt: HostRuntime) {
+    assert_advice(
+        &rt,
+        rt.alloc(),
+        5,
+        5,
+        "budget 10\ncandidates 0 left over 7\nsize 0\ncost 5\nbound 5\ngap 0\nnodes 0 of 20000\nfinished\n",
+    );
+    assert_advice(
+        &rt,
+        rt.alloc(),
+        5,
+        4,
+        "budget 10\ncandidates 0 left over 7\nsize 0\ncost 5\nbound 4\ngap 1\nnodes 0 of 20000\nstopped\n",
+    );
+    assert_advice(
+        &rt,
+        rt.alloc(),
+        5,
+        -3,
+        "budget 10\ncandidates 0 left over 7\nsize 0\ncost 5\nbound -3\ngap 8\nnodes 0 of 20000\nstopped\n",
+    );
 }

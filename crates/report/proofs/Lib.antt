@@ -1,2 +1,3 @@
 pub mod CostLines
 pub mod CandidateLines
+pub mod PickLines

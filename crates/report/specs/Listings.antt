@@ -1,10 +1,12 @@
 -- Candidate indexes as they are printed: `2 t(a, b) 5 pages`.
-use Rattle.std.specs.Prelude.{ℕ, ◌+◌, List, [], ◌∷◌, ◌++◌, codes, decimal, slice_get}
+use Rattle.std.specs.Prelude.{ℕ, ◌+◌, if◌then◌else◌, List, [], ◌∷◌, ◌++◌, codes, decimal, slice_get}
 use Rattle.std.specs.List.{join_by}
 use Rattle.std.specs.Option.{option_map_or}
 use Rattle.adv_base.specs.declared.catalogue.Catalogue.{Catalogue}
 use Rattle.adv_base.specs.declared.catalogue.index.IndexShape.{IndexShape}
 use Rattle.adv_base.specs.declared.catalogue.table.Table.{Table}
+use Rattle.adv_base.specs.declared.setting.Config.{Config}
+use Rattle.adv_base.specs.Configs.{has_candidate}
 use Rattle.adv_base.specs.Lookups as lookups
 use Rattle.adv_base.specs.Sizes as sizes
 
@@ -34,3 +36,13 @@ unfoldable pub candidate_lines : Catalogue → ℕ → List IndexShape → List 
 candidate_lines cat number [] = []
 candidate_lines cat number (shape ∷ shapes) =
     candidate_words cat number shape ++ 10 ∷ [] ++ candidate_lines cat (number + 1) shapes
+
+-- the line of a candidate that is picked; nothing for one that isn't
+abbrev pub pick_line : Catalogue → Config → ℕ → IndexShape → List ℕ
+pick_line cat config number shape =
+    if has_candidate config number then codes "pick " ++ (candidate_words cat number shape ++ 10 ∷ []) else []
+
+-- the lines of those of the candidates, numbered from there on, that are picked
+unfoldable pub pick_lines : Catalogue → Config → ℕ → List IndexShape → List ℕ
+pick_lines cat config number [] = []
+pick_lines cat config number (shape ∷ shapes) = pick_line cat config number shape ++ pick_lines cat config (number + 1) shapes

@@ -1,16 +1,20 @@
 -- The texts that stand for answers. Each line ends with a line feed.
-use Rattle.std.specs.Prelude.{◌≡◌, ℕ, ◌+◌, All, List, [], ◌∷◌, ◌++◌, length, codes, decimal, Option, Some, None, slice_get, unwrap_or}
+use Rattle.std.specs.Fmt.{signed_decimal}
+use Rattle.std.specs.Prelude.{◌≡◌, ℕ, suc, ◌+◌, ◌-◌, ◌<◌, ◌==◌, if◌then◌else◌, ℤ, pos, negsuc, ◌≤ℤ◌, All, List, [], ◌∷◌, ◌++◌, length, codes, decimal, Option, Some, None, slice_get, unwrap_or}
 use Rattle.adv_base.specs.declared.workload.Statement.{Statement}
+use Rattle.adv_base.specs.Configs.{config_pages}
 use Rattle.adv_base.specs.Named.{NamesShape}
 use Rattle.binder.specs.declared.fault.BindFault.{BindFault}
 use Rattle.binder.specs.declared.fault.BindFault.TheVariants as bind
 use Rattle.candidates.specs.declared.answer.Candidates.{Candidates}
 use Rattle.catalogue.specs.declared.fault.CatFault.{CatFault}
 use Rattle.catalogue.specs.declared.fault.CatFault.TheVariants as cat
+use Rattle.plan_model.specs.declared.plan.TheConstants.{MOST_TOTAL}
 use Rattle.sql_reader.specs.declared.parsed.SqlFault.{SqlFault}
 use Rattle.sql_reader.specs.declared.parsed.SqlFault.TheVariants as sql
+use Rattle.report.specs.declared.done.Advice.{Advice}
 use Rattle.report.specs.declared.done.Done.{Done}
-use Rattle.report.specs.declared.done.Done.TheVariants.{Usage, ReadFault, Refused, Priced, Listed, Explained as ExplainedDone}
+use Rattle.report.specs.declared.done.Done.TheVariants.{Usage, ReadFault, Refused, Priced, Listed, Explained as ExplainedDone, Advised}
 use Rattle.report.specs.declared.done.Explained.{Explained}
 use Rattle.report.specs.declared.done.Prices.{Prices}
 use Rattle.report.specs.declared.done.Refusal.{Refusal}
@@ -19,13 +23,17 @@ use Rattle.report.specs.declared.done.Role.{Role}
 use Rattle.report.specs.declared.done.Role.TheVariants.{Catalogue, Workload, Third}
 use Rattle.report.specs.declared.done.WordFault.{WordFault}
 use Rattle.report.specs.declared.done.WordFault.TheVariants.{NoCommand, UnknownCommand, Missing, Extra, UnknownOption, Twice, BadNumber}
-use Rattle.report.specs.Listings.{candidate_lines}
+use Rattle.report.specs.Listings.{candidate_lines, pick_lines}
 use Rattle.report.specs.Paths.{path_text}
 use Rattle.adv_base.specs.Settings.{TheSetting}
 
 -- what stands before a number, and the number
 abbrev pub numbered : List ℕ → ℕ → List ℕ
 numbered words n = words ++ decimal n
+
+-- what stands before a number that may be negative, and the number
+abbrev pub signed : List ℕ → ℤ → List ℕ
+signed words z = words ++ signed_decimal z
 
 -- a fault of the words, behind `usage: `
 abbrev pub word_fault : WordFault → List ℕ
@@ -135,6 +143,42 @@ listed_text None found = []
 listed_text (Some setting) found =
     candidate_lines setting.cat 1 found.list ++ line (numbered (codes "left over ") found.left_over)
 
+-- the cost less the bound, which is at most the cost
+abbrev pub gap : ℕ → ℤ → ℕ
+gap cost (pos bound) = cost - bound
+gap cost (negsuc below) = cost + suc below
+
+-- the budget, and how many candidates there are, with those left over
+abbrev pub proposal_text : ℕ → ℕ → ℕ → List ℕ
+proposal_text budget count left_over =
+    line (numbered (codes "budget ") budget) ++ line (numbered (codes "candidates ") count ++ numbered (codes " left over ") left_over)
+
+-- the pages of what is picked, what the workload costs then, and what no choice undercuts
+abbrev pub worth_text : ℕ → ℕ → ℤ → List ℕ
+worth_text size cost bound =
+    line (numbered (codes "size ") size)
+    ++ (line (numbered (codes "cost ") cost) ++ (line (signed (codes "bound ") bound) ++ line (numbered (codes "gap ") (gap cost bound))))
+
+-- the search ended by itself where no gap is left
+abbrev pub end_word : ℕ → List ℕ
+end_word left = if left == 0 then codes "finished" else codes "stopped"
+
+-- how many nodes the search made, of how many that it might, and how it ended
+abbrev pub search_text : ℕ → ℕ → ℕ → List ℕ
+search_text made nodes left = line (numbered (codes "nodes ") made ++ numbered (codes " of ") nodes) ++ line (end_word left)
+
+-- advice over the setting whose candidates it picks
+abbrev pub advice_text : TheSetting → Advice → List ℕ
+advice_text setting advice =
+    proposal_text advice.budget (length setting.shapes) advice.left_over
+    ++ (pick_lines setting.cat advice.answer.config 1 setting.shapes
+    ++ (worth_text (config_pages setting.cat setting.shapes advice.answer.config) advice.answer.cost advice.answer.bound
+    ++ search_text (length advice.answer.tree) advice.nodes (gap advice.answer.cost advice.answer.bound)))
+
+abbrev pub advised_text : Option TheSetting → Advice → List ℕ
+advised_text None advice = []
+advised_text (Some setting) advice = advice_text setting advice
+
 -- the text of an answer to these words, over the setting of which it speaks
 abbrev pub done_text : List (List ℕ) → Option TheSetting → Done → List ℕ
 done_text words setting (Usage fault) = line (codes "usage: " ++ word_fault fault)
@@ -143,6 +187,7 @@ done_text words setting (Refused why) = line (codes "refused: " ++ refusal words
 done_text words setting (Priced prices) = prices_text (statements_in setting) prices
 done_text words setting (Listed found) = listed_text setting found
 done_text words setting (ExplainedDone explained) = explained_text explained
+done_text words setting (Advised advice) = advised_text setting advice
 done_text words setting done = []
 
 -- candidates name what the catalogue of their setting has
@@ -150,8 +195,20 @@ abbrev pub AreNamedIn : Option TheSetting → Candidates → Type 0
 AreNamedIn None found = ⊥
 AreNamedIn (Some setting) found = All (NamesShape setting.cat) found.list
 
--- prices have a cost for each statement of their setting, and candidates are of its catalogue
+-- a total that is within its limit, and a bound of at most that
+pub record IsBoundedBy (cost : ℕ) (bound : ℤ) : Type 0 where
+  pub small : cost < MOST_TOTAL
+  pub most : bound ≤ℤ pos cost
+
+-- there is a setting that the advice is of
+abbrev pub IsAdvice : Option TheSetting → Advice → Type 0
+IsAdvice None advice = ⊥
+IsAdvice (Some setting) advice = IsBoundedBy advice.answer.cost advice.answer.bound
+
+-- Prices have a cost for each statement of their setting, candidates are of its catalogue, and advice has a bound of at
+-- most its cost.
 abbrev pub FitsSetting : Option TheSetting → Done → Type 0
 FitsSetting setting (Priced prices) = length prices.costs ≡ length (statements_in setting)
 FitsSetting setting (Listed found) = AreNamedIn setting found
+FitsSetting setting (Advised advice) = IsAdvice setting advice
 FitsSetting setting done = Unit {0}

@@ -1,6 +1,7 @@
 //! Answers.
 use adv_base::{Bytes, List};
 use binder::BindFault;
+use bip_model::Answer;
 use candidates::Candidates;
 use catalogue::CatFault;
 use plan_model::Whole;
@@ -68,6 +69,16 @@ pub struct Explained {
     pub text: Bytes,
 }
 
+/// Which candidates to make under a budget of pages: what a search of at most so many nodes found, and how many proposed
+/// indexes were left over.
+#[derive(Drop)]
+pub struct Advice {
+    pub budget: u64,
+    pub nodes: u32,
+    pub left_over: u64,
+    pub answer: Answer,
+}
+
 /// The answer to the words of a command line.
 #[derive(Drop)]
 pub enum Done {
@@ -79,4 +90,5 @@ pub enum Done {
     Priced(Prices),
     Listed(Candidates),
     Explained(Explained),
+    Advised(Advice),
 }

@@ -1,10 +1,11 @@
 //! What the program answers, and the texts that it prints.
 //!
-//! `Done` is an answer: a list of prices or of candidates, an explained plan, a refusal, a fault. `text` gives the bytes that stand for it
+//! `Done` is an answer: a list of prices or of candidates, an explained plan, advice, a refusal, a fault. `text` gives the bytes that stand for it
 //! on the output: one line a fact, each ended by a line feed. Costs are in thousandths of a page read, places are byte
 //! offsets from 1, and numbers of statements, words and lines count from 1. Finding an answer is left to others.
 #![tactic(auto)]
 
+mod advised;
 mod done;
 mod listed;
 mod path;
@@ -12,5 +13,5 @@ mod printed;
 mod refusal;
 mod usage;
 
-pub use done::{Done, Explained, Prices, Refusal, Role, WordFault};
+pub use done::{Advice, Done, Explained, Prices, Refusal, Role, WordFault};
 pub use printed::text;

@@ -73,7 +73,7 @@ fn push_candidate(
 }
 
 /// Adds the line of a candidate.
-fn push_line(
+pub(crate) fn push_line(
     alloc: Global,
     out: &mut Vec<u8>,
     cat: &Catalogue,

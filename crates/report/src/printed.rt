@@ -4,6 +4,7 @@ ghost use Rattle.adv_base.specs.Named.{NamesShape};
 ghost use Rattle.report.specs.Settings.{the_setting};
 ghost use Rattle.report.specs.Texts.{size_line, cost_line, cost_lines, prices_text, plan_part, explained_text, done_text, line, word_fault, file_name, refusal, statements_in, listed_text, AreNamedIn, FitsSetting};
 
+use crate::advised::push_advised;
 use crate::listed::push_candidates;
 use crate::refusal::{push_about_file, push_refusal};
 use crate::usage::{push_numbered, push_word_fault};
@@ -189,13 +190,14 @@ fn push_done(
         Done::Priced(prices) => push_prices(alloc, out, statements_of(setting), prices),
         Done::Listed(found) => push_listed(alloc, out, setting, found),
         Done::Explained(explained) => push_explained(alloc, out, explained),
+        Done::Advised(advice) => push_advised(alloc, out, setting, advice),
         Done::WriteFault => Ok(()),
         Done::Memory => Ok(()),
     }
 }
 
-/// The text of an answer to the words. Prices want the setting whose statements they price, one price each, and
-/// candidates that whose catalogue has their tables and columns. `NoMemory` is want of memory.
+/// The text of an answer to the words. Prices want the setting whose statements they price, one price each, candidates
+/// that whose catalogue has their tables and columns, and advice that whose candidates it picks. `NoMemory` is want of memory.
 pub fn text(
     alloc: Global,
     done: &Done,

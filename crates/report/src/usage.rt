@@ -1,6 +1,6 @@
 //! The texts of faulty command lines.
 ghost use Rattle.std.specs.Prelude.{◌≡◌, ◌++◌, OnOk};
-ghost use Rattle.report.specs.Texts.{word_fault, numbered};
+ghost use Rattle.report.specs.Texts.{word_fault, numbered, signed};
 
 use crate::WordFault;
 use adv_base::push_decimal;
@@ -17,6 +17,21 @@ pub(crate) fn push_numbered(
 {
     out.extend_from_slice(words)?;
     push_decimal(alloc, out, number)?;
+    Ok(())
+}
+
+/// Adds words and a number that may be negative.
+pub(crate) fn push_signed(
+    alloc: Global,
+    out: &mut Vec<u8>,
+    words: &[u8],
+    number: i128,
+) -> Result<(), AllocError>
+    ensures { OnOk result (out.new.items ≡ out.old.items ++ signed words.now number) }
+{
+    let digits = format!(in alloc; "{number}")?;
+    out.extend_from_slice(words)?;
+    out.extend_from_slice(digits.as_bytes())?;
     Ok(())
 }
 

@@ -1,7 +1,11 @@
 use Rattle.cophy_core.specs.Endings.{plain_puts}
 use Rattle.cophy_core.specs.ReadWords.{plain_command, texts}
 use Rattle.cophy_core.proofs.CauseLemmas.{told_reply, told_stop}
+use Rattle.cophy_core.proofs.Ranges.{in_range}
 use Rattle.cophy_core.proofs.answer.reply_to.Goals as goal
+
+pub answer-requires : goal.answer-requires
+answer-requires g c = in_range (texts c.args.words.now) (plain_command c.args.command.now) c.requires
 
 pub returns-in-Ok-clause-reply : goal.returns-in-Ok-clause-reply
 returns-in-Ok-clause-reply g c =

@@ -1,4 +1,4 @@
-use Rattle.std.proofs.Common.{◌≡◌, ◌+◌, ◌<◌, ◌^◌, None, Some, decimal, rules, arith}
+use Rattle.std.proofs.Common.{◌≡◌, ◌+◌, None, Some, decimal, rules, arith}
 use Rattle.adv_base.specs.Numbers.{IsNumber}
 use Rattle.adv_base.proofs.LineLaws.{one_line}
 use Rattle.cophy_core.specs.Confs.{NoLine}

@@ -1,4 +1,4 @@
-use Rattle.std.proofs.Common.{◌≡◌, ℕ, ◌+◌, ◌<◌, ◌≤◌, Bool, true, false, List, ◌++◌, Some, length, replicate, slice_get}
+use Rattle.std.proofs.Common.{◌≡◌, ℕ, ◌+◌, ◌<◌, ◌≤◌, true, false, List, ◌++◌, Some, length, replicate, slice_get}
 use Rattle.cophy_core.specs.Confs.{lines_of, Rise, last_of, flags_with}
 use Rattle.cophy_core.proofs.conf.read_conf.Given as goal
 

@@ -1,7 +1,7 @@
-use Rattle.std.proofs.Common.{◌≡◌, ◌+◌, ◌≤◌, ◌∷◌, [], ◌++◌, List, take, drop, rules, sym, ◌∙◌, arith}
+use Rattle.std.proofs.Common.{◌+◌, take, drop, rules, sym, ◌∙◌, arith}
 use Rattle.std.proofs.lemmas.Option.{get_or_from_slice_get}
 use Rattle.cophy_core.specs.declared.files.FileUse.{FileUse}
-use Rattle.cophy_core.specs.Files.{InputFile, counts, input_file, plain_uses, IsInput, AreInputs}
+use Rattle.cophy_core.specs.Files.{InputFile, counts, input_file, plain_uses, IsInput}
 use Rattle.cophy_core.specs.Reading.{IsUnreadFile, StopsReading}
 use Rattle.cophy_core.proofs.FilesRead.{AreInputs-more, first_stops}
 use Rattle.cophy_core.proofs.Mapped.{map_more, map_parted}

@@ -1,4 +1,4 @@
-use Rattle.std.proofs.Common.{◌≡◌, ◌+◌, ◌≤◌, ◌∷◌, [], ◌++◌, List, Option, take, drop, rules, sym, ap, subst, ◌∙◌, arith}
+use Rattle.std.proofs.Common.{◌+◌, Option, take, drop, rules, sym, ap, subst, ◌∙◌, arith}
 use Rattle.adv_shelf.specs.Shelf.{Files, IsPutInPart, put_file}
 use Rattle.cophy_core.specs.declared.reply.FilePut.{FilePut}
 use Rattle.cophy_core.specs.Endings.{Put, plain_puts, put_all, IsUnput}

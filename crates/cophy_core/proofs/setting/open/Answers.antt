@@ -1,4 +1,4 @@
-use Rattle.std.proofs.Common.{◌≡◌, inl, inr, refl, rules}
+use Rattle.std.proofs.Common.{inl, inr}
 use Rattle.std.proofs.lemmas.Result.{err_from_is_err_and}
 use Rattle.binder.specs.declared.fault.BindFault.TheVariants as bind
 use Rattle.catalogue.specs.declared.fault.CatFault.TheVariants as cat

@@ -1,5 +1,5 @@
 use Rattle.std.proofs.Common.{sym}
-use Rattle.cophy_core.proofs.Blocks.{block_named, planned_cost, unplanned_cost}
+use Rattle.cophy_core.proofs.Blocks.{block_named}
 use Rattle.cophy_core.proofs.commands.what_if.plan_cost.Goals as goal
 
 pub block_cost-requires : goal.block_cost-requires

@@ -1,0 +1,80 @@
+-- A root that leaves each candidate free, and what a best answer from it bounds.
+use Rattle.std.proofs.Common.{◌≡◌, ℕ, zero, suc, ◌<◌, ◌≤◌, Bool, false, List, [], ◌∷◌, length, map, replicate, slice_index_or, refl, sym, ap, ◌∙◌, subst, arith}
+use Rattle.std.specs.Prelude.{sum}
+use Rattle.adv_base.specs.declared.limits.TheConstants.{MOST_CANDIDATES}
+use Rattle.adv_base.specs.declared.setting.Config.{Config}
+use Rattle.adv_base.specs.Configs.{chosen}
+use Rattle.adv_base.specs.Nodes as nodes
+use Rattle.adv_base.specs.Settings.{TheSetting, KeepsLimits}
+use Rattle.adv_base.proofs.OfferBounds.{offers-limits}
+use Rattle.bip_model.specs.declared.fix.Fix.{Fix}
+use Rattle.bip_model.specs.declared.fix.State.{State}
+use Rattle.bip_model.specs.declared.fix.State.TheVariants.{Free}
+use Rattle.bip_model.specs.declared.programme.Programme.{Programme}
+use Rattle.bip_model.specs.declared.answer.Answer.{Answer}
+use Rattle.bip_model.specs.Best.{IsBest}
+use Rattle.bip_model.specs.Proves.{free_node}
+use Rattle.bip_model.specs.Views.{is_in, is_out, node_of}
+use Rattle.branch_bound.specs.Sides.{IsRoot}
+use Rattle.plan_model.proofs.TotalBound.{total-below}
+use Rattle.report.specs.Texts.{IsBoundedBy}
+use Rattle.tuning.specs.declared.fault.TuneFault.{TuneFault}
+use Rattle.tuning.specs.declared.fault.TuneFault.TheVariants as tune
+use Rattle.tuning.specs.Refusals.{IsCause}
+use Rattle.cophy_core.specs.declared.stop.Stop.{Stop}
+use Rattle.cophy_core.specs.Stops.{StopsAt}
+use Rattle.cophy_core.specs.commands.Advise.{Refuses, IsTuneStop}
+
+-- ## The root
+
+mapped : {A B : Type 0} (f : A → B) (x : A) (n : ℕ) → map f (replicate n x) ≡ replicate n (f x)
+mapped f x zero = refl
+mapped f x (suc n) = ap (λ xs. f x ∷ xs) (mapped f x n)
+
+config_on : (flags other : List Bool) → flags ≡ other → (let a : Config = record { on = flags } in a) ≡ record { on = other }
+config_on flags other e = ap (λ (on : List Bool). let made : Config = record { on = on } in made) e
+
+none_chosen : (n : ℕ) (xs : List ℕ) → chosen (replicate n false) xs ≡ []
+none_chosen zero xs = refl
+none_chosen (suc n) [] = refl
+none_chosen (suc n) (x ∷ xs) = none_chosen n xs
+
+free_at : (n i : ℕ) → slice_index_or (replicate n Free) i Free ≡ Free
+free_at zero i = refl
+free_at (suc n) zero = refl
+free_at (suc n) (suc i) = free_at n i
+
+-- it is the node at which each candidate is free
+pub root_is : (root : Fix) → root.state ≡ replicate MOST_CANDIDATES Free → node_of root ≡ free_node
+root_is root free =
+    let inside : map is_in root.state ≡ replicate MOST_CANDIDATES false = ap (map is_in) free ∙ mapped is_in Free MOST_CANDIDATES in
+    let outside : map is_out root.state ≡ replicate MOST_CANDIDATES false = ap (map is_out) free ∙ mapped is_out Free MOST_CANDIDATES in
+    let Made : List Bool → List Bool → nodes.Node = λ i o. record { inside = record { on = i }; outside = record { on = o } } in
+    ap (λ (i : List Bool). Made i (map is_out root.state)) inside ∙ ap (λ (o : List Bool). Made (replicate MOST_CANDIDATES false) o) outside
+
+-- a search can start from it
+pub root_starts : (programme : Programme) (budget : ℕ) (root : Fix) → root.state ≡ replicate MOST_CANDIDATES Free → IsRoot programme budget root
+root_starts programme budget root free =
+    let inside : map is_in root.state ≡ replicate MOST_CANDIDATES false = ap (map is_in) free ∙ mapped is_in Free MOST_CANDIDATES in
+    let none : chosen (map is_in root.state) programme.sizes ≡ [] = ap (λ (flags : List Bool). chosen flags programme.sizes) inside ∙ none_chosen MOST_CANDIDATES programme.sizes in
+    let pages : sum (chosen (map is_in root.state) programme.sizes) ≡ 0 = ap sum none in
+    record {
+      fits = omega (arith, pages);
+      past = λ i h. ap (λ (states : List State). slice_index_or states i Free) free ∙ free_at MOST_CANDIDATES i;
+    }
+
+-- ## The answer
+
+-- its cost is a total, and its bound is at most that
+pub is_bounded : (setting : TheSetting) (budget count : ℕ) (root : nodes.Node) (answer : Answer) → KeepsLimits setting → IsBest setting budget count root answer → IsBoundedBy answer.cost answer.bound
+is_bounded setting budget count root answer limits best = record {
+  small = total-below setting.cat setting.shapes answer.config setting.statements answer.cost limits.shapes_most limits.statements_most
+      (λ k d h block is. offers-limits setting.cat block setting.shapes answer.config) best.proves.cost_is;
+  most = best.bound_most;
+}
+
+-- ## No programme
+
+pub tune_stops : (setting : TheSetting) (fault : TuneFault) (stop : Stop) → IsCause setting fault → IsTuneStop fault stop → StopsAt (Refuses setting) stop
+tune_stops setting tune.Memory stop cause is = subst (StopsAt (Refuses setting)) (sym is) tt
+tune_stops setting (tune.TooManyCombinations number count) stop cause is = subst (StopsAt (Refuses setting)) (sym is) cause

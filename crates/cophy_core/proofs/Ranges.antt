@@ -1,0 +1,21 @@
+-- The numbers of commands are in their ranges.
+use Rattle.std.proofs.Common.{◌≡◌, ℕ, ◌≤◌, List, Option, Some, None, Result, Ok, sym, subst, arith}
+use Rattle.std.specs.Prelude.{unwrap_or, IfSome}
+use Rattle.report.specs.declared.done.WordFault.{WordFault}
+use Rattle.cophy_core.specs.CommandLines.{IsWithin, IsCommandLine, IsInRange}
+use Rattle.cophy_core.specs.ReadWords.{PlainCommand, Advise, command_of}
+use Rattle.cophy_core.proofs.Grammar.{in_grammar}
+
+nodes_within : (given : Option ℕ) (nodes : ℕ) → nodes ≡ unwrap_or given 20000 → IfSome given (IsWithin 1 1000000) → IsWithin 1 1000000 nodes
+nodes_within None nodes is range = subst (IsWithin 1 1000000) (sym is) (record { low = omega arith; high = omega arith })
+nodes_within (Some n) nodes is range = subst (IsWithin 1 1000000) (sym is) range
+
+of_line : (words : List (List ℕ)) (command : PlainCommand) → IsCommandLine words command → IsInRange command
+of_line words (Advise cat load budget nodes cert) line =
+    let within = nodes_within line.given nodes line.nodes_are line.chosen.range in
+    record { budget_most = line.budget_within.high; some_node = within.low; nodes_most = within.high }
+of_line words command line = tt
+
+-- a command that was read is in range
+pub in_range : (words : List (List ℕ)) (command : PlainCommand) → command_of words ≡ Ok command → IsInRange command
+in_range words command is = of_line words command (in_grammar words command is)

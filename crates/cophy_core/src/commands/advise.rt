@@ -1,0 +1,85 @@
+//! `advise`: which candidates to make within a budget of pages.
+ghost use Rattle.std.specs.Prelude.{◌≡◌, ◌≤◌, replicate, IfOk, IfErr, Some};
+ghost use Rattle.adv_base.specs.declared.limits.TheConstants.{MOST_CANDIDATES, MOST_NODES, MOST_ROWS};
+ghost use Rattle.bip_model.specs.StandsFor.{StandsFor};
+ghost use Rattle.report.specs.Settings.{the_setting};
+ghost use Rattle.report.specs.Texts.{FitsSetting};
+ghost use Rattle.tuning.specs.Refusals.{AreFew};
+ghost use Rattle.cophy_core.specs.Causes.{IsBounded};
+ghost use Rattle.cophy_core.specs.Stops.{StopsAt};
+ghost use Rattle.cophy_core.specs.commands.Advise as spec;
+
+use crate::stop::Stop;
+use adv_base::Setting;
+use adv_base::limits::MOST_CANDIDATES;
+use bip_model::{Fix, Programme, State, shown_bounds};
+use branch_bound::{Room, search};
+use candidates::candidates;
+use report::{Advice, Done, Refusal};
+use std::alloc::Global;
+use tuning::{TuneFault, programme};
+
+/// The root of a search that leaves each candidate free.
+fn free_root() -> Fix
+    ensures { result.state ≡ replicate MOST_CANDIDATES State.Free }
+{
+    Fix {
+        state: [State::Free; MOST_CANDIDATES],
+    }
+}
+
+/// The stop where a setting has no programme.
+fn tune_stop(fault: TuneFault) -> Stop
+    ensures { spec.IsTuneStop fault result }
+{
+    match fault {
+        TuneFault::Memory => Stop::Memory,
+        TuneFault::TooManyCombinations(number, count) => {
+            Stop::Refused(Refusal::TooManyCombinations(number, count))
+        }
+    }
+}
+
+/// CoPhy's programme of a setting.
+fn programme_of(alloc: Global, setting: &Setting<'_>) -> Result<Programme, Stop>
+    ensures stands { IfOk result (StandsFor (the_setting setting.now)) }
+    ensures few { IfOk result (λ _. AreFew setting.now.cat.now setting.now.statements.now) }
+    ensures stop { IfErr result (StopsAt (spec.Refuses (the_setting setting.now))) }
+{
+    match programme(alloc, setting) {
+        Ok(programme) => Ok(programme),
+        Err(fault) => Err(tune_stop(fault)),
+    }
+}
+
+/// A best set of candidates that together take at most `budget` pages, found by a search of at most so many nodes (branch
+/// and bound over CoPhy's programme), with what the workload costs under it and a bound that no set within the budget
+/// undercuts; both are the same unless the nodes were spent. Or the first refusal: a statement with too many combinations
+/// of interesting orders.
+pub(crate) fn advise(
+    alloc: Global,
+    setting: &Setting<'_>,
+    budget: u64,
+    nodes: u32,
+) -> Result<Done, Stop>
+    requires budget { budget ≤ MOST_ROWS }
+    requires some { 1 ≤ nodes }
+    requires nodes { nodes ≤ MOST_NODES }
+    ensures gives { IfOk result (spec.Gives budget nodes (the_setting setting.now)) }
+    ensures fits { IfOk result (FitsSetting (Some (the_setting setting.now))) }
+    ensures bound { IfOk result IsBounded }
+    ensures stop { IfErr result (StopsAt (spec.Refuses (the_setting setting.now))) }
+{
+    let programme = programme_of(alloc, setting)?;
+    let found = candidates(alloc, setting.cat, setting.statements)?;
+    let root = free_root();
+    let room = Room::new(alloc, &programme, nodes)?;
+    let answer = search(&programme, &root, budget, nodes, room);
+    shown_bounds();
+    Ok(Done::Advised(Advice {
+        budget,
+        nodes,
+        left_over: found.left_over,
+        answer,
+    }))
+}

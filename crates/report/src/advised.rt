@@ -1,0 +1,175 @@
+//! The text of advice.
+ghost use Rattle.std.specs.Prelude.{◌≡◌, ◌++◌, ◌≤◌, ◌==◌, OnOk, codes, length, if◌then◌else◌, All, option_map};
+ghost use Rattle.adv_base.specs.declared.limits.TheConstants.{MOST_CANDIDATES};
+ghost use Rattle.adv_base.specs.Named.{NamesShape};
+ghost use Rattle.report.specs.Listings as lists;
+ghost use Rattle.report.specs.Settings.{the_setting};
+ghost use Rattle.report.specs.Texts.{gap, line, numbered, proposal_text, worth_text, end_word, search_text, advice_text, advised_text, IsBoundedBy, IsAdvice};
+
+use crate::Advice;
+use crate::listed::push_line;
+use crate::usage::{push_numbered, push_signed};
+use adv_base::{Catalogue, Config, IndexShape, Setting};
+use hypo_indexes::config_pages;
+use std::alloc::{AllocError, Global};
+
+/// The cost less the bound, which is at most the cost.
+fn gap_of(cost: u128, bound: i128) -> u128
+    requires { IsBoundedBy cost bound }
+    ensures { result ≡ gap cost bound }
+{
+    if bound < 0 {
+        cost + bound.unsigned_abs()
+    } else {
+        cost - bound as u128
+    }
+}
+
+/// Adds the line of words and a number.
+fn push_line_of(
+    alloc: Global,
+    out: &mut Vec<u8>,
+    words: &[u8],
+    number: u128,
+) -> Result<(), AllocError>
+    ensures { OnOk result (out.new.items ≡ out.old.items ++ line (numbered words.now number)) }
+{
+    push_numbered(alloc, out, words, number)?;
+    out.extend_from_slice(b"\n")
+}
+
+/// Adds the budget and the number of candidates.
+fn push_proposal(
+    alloc: Global,
+    out: &mut Vec<u8>,
+    budget: u64,
+    count: usize,
+    left_over: u64,
+) -> Result<(), AllocError>
+    ensures { OnOk result (out.new.items ≡ out.old.items ++ proposal_text budget count left_over) }
+{
+    push_line_of(alloc, out, b"budget ", budget as u128)?;
+    push_numbered(alloc, out, b"candidates ", count as u128)?;
+    push_numbered(alloc, out, b" left over ", left_over as u128)?;
+    out.extend_from_slice(b"\n")
+}
+
+/// Adds the line of a candidate, where it is picked.
+fn push_pick(
+    alloc: Global,
+    out: &mut Vec<u8>,
+    cat: &Catalogue,
+    config: &Config,
+    number: u16,
+    shape: &IndexShape,
+) -> Result<(), AllocError>
+    requires { NamesShape cat.now shape.now }
+    ensures { OnOk result (out.new.items ≡ out.old.items ++ lists.pick_line cat.now config.now number shape.now) }
+{
+    if !config.has(number) {
+        return Ok(());
+    }
+    out.extend_from_slice(b"pick ")?;
+    push_line(alloc, out, cat, number as u128, shape)
+}
+
+/// Adds a line for each candidate that is picked.
+fn push_picks(
+    alloc: Global,
+    out: &mut Vec<u8>,
+    cat: &Catalogue,
+    config: &Config,
+    shapes: &[IndexShape],
+) -> Result<(), AllocError>
+    requires few { length shapes.now ≤ MOST_CANDIDATES }
+    requires named { All (NamesShape cat.now) shapes.now }
+    ensures { OnOk result (out.new.items ≡ out.old.items ++ lists.pick_lines cat.now config.now 1 shapes.now) }
+{
+    'shapes: for at in 0..shapes.len() {
+        push_pick(alloc, out, cat, config, at as u16 + 1, &shapes[at])?;
+    }
+    Ok(())
+}
+
+/// Adds the size of what is picked, the cost and the bound.
+fn push_worth(
+    alloc: Global,
+    out: &mut Vec<u8>,
+    size: u64,
+    cost: u128,
+    bound: i128,
+) -> Result<(), AllocError>
+    requires { IsBoundedBy cost bound }
+    ensures { OnOk result (out.new.items ≡ out.old.items ++ worth_text size cost bound) }
+{
+    push_line_of(alloc, out, b"size ", size as u128)?;
+    push_line_of(alloc, out, b"cost ", cost)?;
+    push_signed(alloc, out, b"bound ", bound)?;
+    out.extend_from_slice(b"\n")?;
+    push_line_of(alloc, out, b"gap ", gap_of(cost, bound))
+}
+
+/// How a search ended that left this gap.
+fn ending(left: u128) -> &'static [u8]
+    ensures { result.now ≡ end_word left }
+{
+    if left == 0 { b"finished" } else { b"stopped" }
+}
+
+/// Adds the nodes of the search and how it ended.
+fn push_search(
+    alloc: Global,
+    out: &mut Vec<u8>,
+    made: usize,
+    nodes: u32,
+    left: u128,
+) -> Result<(), AllocError>
+    ensures { OnOk result (out.new.items ≡ out.old.items ++ search_text made nodes left) }
+{
+    push_numbered(alloc, out, b"nodes ", made as u128)?;
+    push_numbered(alloc, out, b" of ", nodes as u128)?;
+    out.extend_from_slice(b"\n")?;
+    out.extend_from_slice(ending(left))?;
+    out.extend_from_slice(b"\n")
+}
+
+/// Adds the text of advice over its setting.
+fn push_advice(
+    alloc: Global,
+    out: &mut Vec<u8>,
+    setting: &Setting<'_>,
+    advice: &Advice,
+) -> Result<(), AllocError>
+    requires { IsBoundedBy advice.now.answer.cost advice.now.answer.bound }
+    ensures { OnOk result (out.new.items ≡ out.old.items ++ advice_text (the_setting setting.now) advice.now) }
+{
+    let answer = &advice.answer;
+    let left = gap_of(answer.cost, answer.bound);
+    let size = config_pages(setting.cat, setting.shapes, &answer.config);
+    push_proposal(
+        alloc,
+        out,
+        advice.budget,
+        setting.shapes.len(),
+        advice.left_over,
+    )?;
+    push_picks(alloc, out, setting.cat, &answer.config, setting.shapes)?;
+    push_worth(alloc, out, size, answer.cost, answer.bound)?;
+    push_search(alloc, out, answer.tree.len(), advice.nodes, left)
+}
+
+/// Adds the text of advice over the setting that is there.
+pub(crate) fn push_advised(
+    alloc: Global,
+    out: &mut Vec<u8>,
+    setting: Option<&Setting<'_>>,
+    advice: &Advice,
+) -> Result<(), AllocError>
+    requires { IsAdvice (option_map (λ s. the_setting s.now) setting) advice.now }
+    ensures { OnOk result (out.new.items ≡ out.old.items ++ advised_text (option_map (λ s. the_setting s.now) setting.entry) advice.now) }
+{
+    match setting {
+        None => Ok(()),
+        Some(setting) => push_advice(alloc, out, setting, advice),
+    }
+}
