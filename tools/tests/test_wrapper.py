@@ -389,7 +389,7 @@ class Completion(unittest.TestCase):
         return sorted(ran.stdout.split())
 
     def test_each_place_is_completed_by_what_may_stand_there(self) -> None:
-        files = ["examples/shop.sql", "examples/shop.toml"]
+        files = ["examples/shop.conf", "examples/shop.sql", "examples/shop.toml"]
         table = [
             ("_cophy", ("cophy", "c"), ["candidates", "check", "cost"]),
             ("_cophy", ("cophy", "--u"), ["--unproved"]),
