@@ -2,6 +2,7 @@
 use Rattle.std.specs.Prelude.{List}
 use Rattle.adv_base.specs.declared.catalogue.Catalogue.{Catalogue}
 use Rattle.adv_base.specs.declared.catalogue.index.IndexShape.{IndexShape}
+use Rattle.adv_base.specs.declared.setting.Setting.{Setting}
 use Rattle.adv_base.specs.declared.workload.Statement.{Statement}
 use Rattle.adv_base.specs.Limits.Settings.{SettingLimits}
 
@@ -13,3 +14,7 @@ pub record TheSetting : Type 0 where
 
 abbrev pub KeepsLimits : TheSetting → Type 0
 KeepsLimits setting = SettingLimits setting.cat setting.statements setting.shapes
+
+-- a setting that a function has, as definitions see it
+abbrev pub the_setting : Setting → TheSetting
+the_setting setting = record { cat = setting.cat.now; statements = setting.statements.now; shapes = setting.shapes.now }

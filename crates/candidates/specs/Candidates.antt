@@ -4,7 +4,7 @@ use Rattle.std.specs.List.{list_any, flat_map}
 use Rattle.std.specs.Cmp.Lexicographic.{pointwise}
 use Rattle.adv_base.specs.declared.catalogue.Catalogue.{Catalogue}
 use Rattle.adv_base.specs.declared.catalogue.index.IndexShape.{IndexShape}
-use Rattle.adv_base.specs.declared.limits.TheConstants.{MOST_KEYS}
+use Rattle.adv_base.specs.declared.limits.TheConstants.{MOST_CANDIDATES, MOST_KEYS}
 use Rattle.adv_base.specs.declared.workload.Statement.{Statement}
 use Rattle.candidates.specs.Proposals.{KeyList, proposals}
 
@@ -37,3 +37,10 @@ fresh_lists cat statements = fold (with_proposal (existing_lists cat)) [] (propo
 pub record IsPlain (shape : IndexShape) : Type 0 where
   pub unique : shape.unique ≡ false
   pub clustered : shape.clustered ≡ false
+
+-- The candidates of a workload are the first 256 of the key lists that it proposes, less those that are left out, as plain
+-- indexes; and how many more there were.
+pub record AreCandidates (catalogue : Catalogue) (statements : List Statement) (shapes : List IndexShape) (left_over : ℕ) : Type 0 where
+  pub lists : map key_list shapes ≡ take MOST_CANDIDATES (fresh_lists catalogue statements)
+  pub plain : All IsPlain shapes
+  pub rest : left_over ≡ length (fresh_lists catalogue statements) - MOST_CANDIDATES

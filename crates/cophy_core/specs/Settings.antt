@@ -1,14 +1,12 @@
 -- The setting that two files describe, or the first refusal of them.
-use Rattle.std.specs.Prelude.{◌≡◌, ◌≢◌, ℕ, ◌-◌, List, length, map, take, All, Ok, Err}
+use Rattle.std.specs.Prelude.{◌≡◌, ◌≢◌, ℕ, List, Ok, Err}
 use Rattle.adv_base.specs.declared.catalogue.Catalogue.{Catalogue}
-use Rattle.adv_base.specs.declared.catalogue.index.IndexShape.{IndexShape}
-use Rattle.adv_base.specs.declared.limits.TheConstants.{MOST_CANDIDATES}
 use Rattle.adv_base.specs.declared.workload.Statement.{Statement}
 use Rattle.binder.specs.Plain.{plain_statements}
 use Rattle.binder.specs.Statements.{statements_of}
 use Rattle.binder.specs.declared.fault.BindFault.{BindFault}
 use Rattle.binder.specs.declared.fault.BindFault.TheVariants as bind
-use Rattle.candidates.specs.Candidates as candidates
+use Rattle.candidates.specs.Candidates.{AreCandidates}
 use Rattle.catalogue.specs.Catalogue.{catalogue_in}
 use Rattle.catalogue.specs.Content.{plain_catalogue}
 use Rattle.catalogue.specs.declared.fault.CatFault.{CatFault}
@@ -29,13 +27,6 @@ pub record AreStatementsOf (catalogue : Catalogue) (text : List ℕ) (statements
   pub parsed : List ParsedStatement
   pub is_workload : IsWorkload text parsed
   pub bound : statements_of catalogue text parsed ≡ Ok (plain_statements statements)
-
--- The candidates of a workload are the first 256 of the key lists that it proposes, less those that are left out, as plain
--- indexes; and how many more there were.
-pub record AreCandidates (catalogue : Catalogue) (statements : List Statement) (shapes : List IndexShape) (left_over : ℕ) : Type 0 where
-  pub lists : map candidates.key_list shapes ≡ take MOST_CANDIDATES (candidates.fresh_lists catalogue statements)
-  pub plain : All candidates.IsPlain shapes
-  pub rest : left_over ≡ length (candidates.fresh_lists catalogue statements) - MOST_CANDIDATES
 
 -- the setting of a catalogue's and a workload's bytes, and how many candidates were left over
 pub record IsSetting (cat_bytes load_bytes : List ℕ) (setting : TheSetting) (left_over : ℕ) : Type 0 where

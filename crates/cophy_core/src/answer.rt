@@ -1,6 +1,6 @@
 //! From words to an answer with its text.
 ghost use Rattle.std.specs.Prelude.{◌≡◌, ◌≤◌, ℕ, List, Some, Ok, IfOk, IfErr};
-ghost use Rattle.report.specs.Settings.{the_setting};
+ghost use Rattle.adv_base.specs.Settings.{the_setting};
 ghost use Rattle.report.specs.Texts.{FitsSetting};
 ghost use Rattle.cophy_core.specs.Answers.{IsBuilt, RefusesOver, GivesOver};
 ghost use Rattle.cophy_core.specs.Causes.{IsBounded};

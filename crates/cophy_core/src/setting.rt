@@ -1,6 +1,6 @@
 //! From the bytes of two files to a setting.
 ghost use Rattle.std.specs.Prelude.{◌≡◌, ◌≤◌, IfOk, IfErr, length};
-ghost use Rattle.report.specs.Settings.{the_setting};
+ghost use Rattle.adv_base.specs.Settings.{the_setting};
 ghost use Rattle.adv_base.specs.declared.limits.TheConstants.{MOST_FILE_BYTES};
 ghost use Rattle.cophy_core.specs.Opened.{setting_in};
 ghost use Rattle.cophy_core.specs.Settings.{IsSetting, IsSettingRefusal};

@@ -1,6 +1,6 @@
 //! The texts of refusals and faults, written out byte for byte.
 ghost use Rattle.std.specs.Prelude.{option_map};
-ghost use Rattle.report.specs.Settings.{the_setting};
+ghost use Rattle.adv_base.specs.Settings.{the_setting};
 ghost use Rattle.report.specs.Texts.{FitsSetting, IsBoundedBy};
 
 use crate::scene::split;

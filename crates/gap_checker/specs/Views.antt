@@ -1,7 +1,6 @@
 -- A setting and a certificate, as the definitions of plan_model and bip_model see them.
 use Rattle.std.specs.Prelude.{ℕ, suc, ◌==◌, Bool, ◌&&◌, if◌then◌else◌, List, [], ◌∷◌, map, fold}
 use Rattle.adv_base.specs.declared.setting.Config.{Config}
-use Rattle.adv_base.specs.declared.setting.Setting.{Setting}
 use Rattle.adv_base.specs.Settings.{TheSetting}
 use Rattle.plan_model.specs.Lagrangian.{TheMultipliers}
 use Rattle.plan_model.specs.Totals.{no_candidates}
@@ -10,9 +9,6 @@ use Rattle.bip_model.specs.Proves.{free_node, Proves}
 use Rattle.certificate.specs.declared.cert.Cert.{Cert}
 use Rattle.certificate.specs.declared.cert.Entry.{Entry}
 use Rattle.certificate.specs.declared.cert.SparseSet.{SparseSet}
-
-abbrev pub the_setting : Setting → TheSetting
-the_setting setting = record { cat = setting.cat.now; statements = setting.statements.now; shapes = setting.shapes.now }
 
 -- the configuration of the candidates with these numbers
 abbrev pub config_with : List ℕ → Config

@@ -3,6 +3,7 @@ ghost use Rattle.std.specs.Prelude.{◌≡◌, IfOk, IfErr};
 ghost use Rattle.bip_model.specs.Laws.{BoundsAll};
 ghost use Rattle.certificate.specs.Limits.{CertLimits};
 ghost use Rattle.gap_checker.specs.Faults as faults;
+ghost use Rattle.adv_base.specs.Settings.{the_setting};
 ghost use Rattle.gap_checker.specs.Views as views;
 
 use crate::fault::{CheckFault, Checked};
@@ -20,10 +21,10 @@ use std::alloc::Global;
 /// node by node. `Memory` is want of memory.
 pub fn check(alloc: Global, setting: &Setting<'_>, cert: &Cert) -> Result<Checked, CheckFault>
     requires { CertLimits cert.now }
-    ensures checked { IfOk result (faults.IsChecked (views.the_setting setting.now) cert.now) }
-    ensures bounds { IfOk result (λ checked. BoundsAll (views.the_setting setting.now) checked.budget checked.cost checked.bound) }
-    ensures fault { IfErr result (faults.IsFault (views.the_setting setting.now) cert.now) }
-    ensures proved { views.IsProof (views.the_setting setting.now) cert.now → IfErr result (λ fault. fault ≡ CheckFault.Memory) }
+    ensures checked { IfOk result (faults.IsChecked (the_setting setting.now) cert.now) }
+    ensures bounds { IfOk result (λ checked. BoundsAll (the_setting setting.now) checked.budget checked.cost checked.bound) }
+    ensures fault { IfErr result (faults.IsFault (the_setting setting.now) cert.now) }
+    ensures proved { views.IsProof (the_setting setting.now) cert.now → IfErr result (λ fault. fault ≡ CheckFault.Memory) }
 {
     let figures = Figures::new(alloc, setting)?;
     judge_claims(alloc, &figures, cert)?;

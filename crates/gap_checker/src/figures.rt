@@ -4,7 +4,7 @@ ghost use Rattle.adv_base.specs.Named.{NamesShape};
 ghost use Rattle.adv_base.specs.Sizes.{shape_pages};
 ghost use Rattle.adv_base.specs.declared.limits.TheConstants.{MOST_INDEXES, MOST_INDEX_PAGES, MOST_STATEMENTS, MOST_UPKEEP, MOST_WEIGHT};
 ghost use Rattle.plan_model.specs.Lagrangian as lagrangian;
-ghost use Rattle.gap_checker.specs.Views.{the_setting};
+ghost use Rattle.adv_base.specs.Settings.{the_setting};
 
 use crate::part::{Part, parts_of};
 use adv_base::{IndexShape, NoMemory, Setting, Statement};

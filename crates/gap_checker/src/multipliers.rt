@@ -5,6 +5,7 @@ ghost use Rattle.adv_base.specs.declared.limits.TheConstants.{MOST_RENT, MOST_SL
 ghost use Rattle.certificate.specs.Limits.{EntriesFrom};
 ghost use Rattle.plan_model.specs.Lagrangian as lagrangian;
 ghost use Rattle.plan_model.specs.Totals as totals;
+ghost use Rattle.adv_base.specs.Settings.{the_setting};
 ghost use Rattle.gap_checker.specs.Views as views;
 ghost use Rattle.gap_checker.specs.inner.Earnings as earning;
 
@@ -110,7 +111,7 @@ pub(crate) fn multipliers_of<'a>(
 ) -> Result<Multipliers<'a>, NoMemory>
     requires { EntriesFrom 0 rents.entries.now }
     ensures rents_are { IfOk result (λ set. (set.rents.mu ≡ rents.entry.mu) × (set.rents.entries.now ≡ rents.entry.entries.now)) }
-    ensures earned_are { IfOk result (λ set. earning.AreEarned (views.the_setting setting.now) set) }
+    ensures earned_are { IfOk result (λ set. earning.AreEarned (the_setting setting.now) set) }
 {
     let earned = earned(alloc, setting, &rents)?;
     Ok(Multipliers { rents, earned })

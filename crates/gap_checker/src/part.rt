@@ -3,7 +3,7 @@ ghost use Rattle.std.specs.Prelude.{◌≡◌, option_map, IfOk, replicate, true
 ghost use Rattle.adv_base.specs.Named.{NamesBlock, NamesWork};
 ghost use Rattle.bip_model.specs.StandsFor.{AreEach};
 ghost use Rattle.plan_model.specs.Totals as totals;
-ghost use Rattle.gap_checker.specs.Views.{the_setting};
+ghost use Rattle.adv_base.specs.Settings.{the_setting};
 ghost use Rattle.gap_checker.specs.inner.Parts as kept;
 
 use access_paths::{ConfigOffers, task};

@@ -8,7 +8,7 @@ ghost use Rattle.adv_base.specs.declared.limits.TheConstants.{MOST_INDEX_PRICE, 
 ghost use Rattle.certificate.specs.Limits.{EntriesFrom};
 ghost use Rattle.plan_model.specs.Lagrangian as lagrangian;
 ghost use Rattle.plan_model.specs.declared.plan.TheConstants.{MOST_COST};
-ghost use Rattle.gap_checker.specs.Views.{the_setting};
+ghost use Rattle.adv_base.specs.Settings.{the_setting};
 ghost use Rattle.gap_checker.specs.inner.Charges.{charge_of};
 ghost use Rattle.gap_checker.specs.inner.Parts as kept;
 ghost use Rattle.gap_checker.specs.inner.Rows as rows;

@@ -8,6 +8,7 @@ ghost use Rattle.certificate.specs.Limits as limits;
 ghost use Rattle.plan_model.specs.Totals as totals;
 ghost use Rattle.plan_model.specs.declared.plan.TheConstants.{MOST_COST};
 ghost use Rattle.gap_checker.specs.Faults as faults;
+ghost use Rattle.adv_base.specs.Settings.{the_setting};
 ghost use Rattle.gap_checker.specs.Views as views;
 ghost use Rattle.gap_checker.specs.inner.Claims as claims;
 ghost use Rattle.gap_checker.specs.inner.Figures.{AreFigures, setting_of};
@@ -82,7 +83,7 @@ fn statement_cost(
     number: u16,
 ) -> Result<u128, NoMemory>
     requires named { NamesWork setting.now.cat.now statement.now.work }
-    requires part_is { HasPart (views.the_setting setting.now) statement.now part.now }
+    requires part_is { HasPart (the_setting setting.now) statement.now part.now }
     ensures cost { IfOk result (totals.IsCost setting.now.cat.now setting.now.shapes.now config.now statement.now.work) }
     ensures most { IfOk result (λ cost. cost ≤ MOST_COST + (MOST_INDEXES + MOST_CANDIDATES) * MOST_UPKEEP) }
 {

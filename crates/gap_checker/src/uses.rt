@@ -5,7 +5,7 @@ ghost use Rattle.adv_base.specs.declared.limits.TheConstants.{MOST_ENTRIES};
 ghost use Rattle.certificate.specs.Limits as limits;
 ghost use Rattle.certificate.specs.declared.cert.SparseSet.{SparseSet};
 ghost use Rattle.gap_checker.specs.Faults as faults;
-ghost use Rattle.gap_checker.specs.Views.{the_setting};
+ghost use Rattle.adv_base.specs.Settings.{the_setting};
 ghost use Rattle.gap_checker.specs.inner.Uses as uses;
 
 use crate::fault::CheckFault;

@@ -1,4 +1,3 @@
-pub mod Settings
 pub mod Paths
 pub mod Listings
 pub mod Texts

@@ -3,7 +3,7 @@ ghost use Rattle.std.specs.Prelude.{◌≡◌, ◌++◌, ◌≤◌, ◌==◌, On
 ghost use Rattle.adv_base.specs.declared.limits.TheConstants.{MOST_CANDIDATES};
 ghost use Rattle.adv_base.specs.Named.{NamesShape};
 ghost use Rattle.report.specs.Listings as lists;
-ghost use Rattle.report.specs.Settings.{the_setting};
+ghost use Rattle.adv_base.specs.Settings.{the_setting};
 ghost use Rattle.report.specs.Texts.{gap, line, numbered, proposal_text, worth_text, end_word, search_text, advice_text, advised_text, IsBoundedBy, IsAdvice};
 
 use crate::Advice;

@@ -1,7 +1,7 @@
 //! The text of an answer.
 ghost use Rattle.std.specs.Prelude.{◌≡◌, ◌++◌, OnOk, IfOk, All, length, map, codes, string_bytes, option_map, Some};
 ghost use Rattle.adv_base.specs.Named.{NamesShape};
-ghost use Rattle.report.specs.Settings.{the_setting};
+ghost use Rattle.adv_base.specs.Settings.{the_setting};
 ghost use Rattle.report.specs.Texts.{size_line, cost_line, cost_lines, prices_text, plan_part, explained_text, done_text, line, word_fault, file_name, refusal, statements_in, listed_text, AreNamedIn, FitsSetting};
 
 use crate::advised::push_advised;

@@ -1,4 +1,3 @@
-pub mod Settings
 pub mod Refusals
 pub mod Kept
 pub mod inner

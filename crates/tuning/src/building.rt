@@ -6,7 +6,7 @@ ghost use Rattle.bip_model.specs.Values as values;
 ghost use Rattle.plan_model.specs.Totals as totals;
 ghost use Rattle.tuning.specs.Kept.{HasKept};
 ghost use Rattle.tuning.specs.Refusals as refusals;
-ghost use Rattle.tuning.specs.Settings.{the_setting};
+ghost use Rattle.adv_base.specs.Settings.{the_setting};
 ghost use Rattle.tuning.specs.inner.Parts as inner;
 
 use crate::fault::TuneFault;

@@ -7,7 +7,7 @@ ghost use Rattle.bip_model.specs.StandsFor.{IsPart};
 ghost use Rattle.inum_cache.specs.Caches.{orders_of};
 ghost use Rattle.tuning.specs.Kept.{HasKept};
 ghost use Rattle.tuning.specs.Refusals.{IsFew};
-ghost use Rattle.tuning.specs.Settings.{the_setting};
+ghost use Rattle.adv_base.specs.Settings.{the_setting};
 ghost use Rattle.tuning.specs.inner.Offered as offered;
 ghost use Rattle.tuning.specs.inner.Parts as inner;
 

@@ -4,7 +4,7 @@ ghost use Rattle.adv_base.specs.Named.{NamesShape};
 ghost use Rattle.adv_base.specs.Sizes as size;
 ghost use Rattle.adv_base.specs.declared.limits.TheConstants.{MOST_INDEXES, MOST_INDEX_PAGES, MOST_STATEMENTS, MOST_UPKEEP, MOST_WEIGHT};
 ghost use Rattle.plan_model.specs.Lagrangian as lagrangian;
-ghost use Rattle.tuning.specs.Settings.{the_setting};
+ghost use Rattle.adv_base.specs.Settings.{the_setting};
 
 use adv_base::{IndexShape, List, NoMemory, Setting};
 use hypo_indexes::{kept_upkeep, pages, upkeep};

@@ -2,7 +2,7 @@
 use Rattle.adv_base.specs.Settings.{TheSetting}
 use Rattle.report.specs.declared.done.Done.{Done}
 use Rattle.report.specs.declared.done.Done.TheVariants.{Listed}
-use Rattle.cophy_core.specs.Settings.{AreCandidates}
+use Rattle.candidates.specs.Candidates.{AreCandidates}
 
 -- a list of candidates
 abbrev pub Gives : TheSetting → Done → Type 0

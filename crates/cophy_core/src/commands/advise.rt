@@ -2,7 +2,7 @@
 ghost use Rattle.std.specs.Prelude.{◌≡◌, ◌≤◌, replicate, IfOk, IfErr, Some};
 ghost use Rattle.adv_base.specs.declared.limits.TheConstants.{MOST_CANDIDATES, MOST_NODES, MOST_ROWS};
 ghost use Rattle.bip_model.specs.StandsFor.{StandsFor};
-ghost use Rattle.report.specs.Settings.{the_setting};
+ghost use Rattle.adv_base.specs.Settings.{the_setting};
 ghost use Rattle.report.specs.Texts.{FitsSetting};
 ghost use Rattle.tuning.specs.Refusals.{AreFew};
 ghost use Rattle.cophy_core.specs.Causes.{IsBounded};

@@ -3,7 +3,7 @@ ghost use Rattle.std.specs.Prelude.{◌≡◌, ◌<◌, IfOk, All, length, Some,
 ghost use Rattle.adv_base.specs.Named.{NamesWork};
 ghost use Rattle.plan_model.specs.Totals as totals;
 ghost use Rattle.plan_model.specs.declared.plan.TheConstants.{MOST_COST, MOST_TOTAL};
-ghost use Rattle.report.specs.Settings.{the_setting};
+ghost use Rattle.adv_base.specs.Settings.{the_setting};
 ghost use Rattle.report.specs.Texts.{FitsSetting};
 ghost use Rattle.cophy_core.specs.Causes.{most_statement_cost, IsBounded};
 ghost use Rattle.cophy_core.specs.commands.Cost as spec;

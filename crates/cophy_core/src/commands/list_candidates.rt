@@ -1,6 +1,6 @@
 //! `candidates`: the indexes that a workload proposes.
 ghost use Rattle.std.specs.Prelude.{IfOk, Some};
-ghost use Rattle.report.specs.Settings.{the_setting};
+ghost use Rattle.adv_base.specs.Settings.{the_setting};
 ghost use Rattle.report.specs.Texts.{FitsSetting};
 ghost use Rattle.cophy_core.specs.Causes.{IsBounded};
 ghost use Rattle.cophy_core.specs.commands.Candidates as spec;

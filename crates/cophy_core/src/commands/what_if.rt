@@ -4,7 +4,7 @@ ghost use Rattle.adv_base.specs.Configs as configs;
 ghost use Rattle.adv_base.specs.Named.{NamesBlock, NamesWork};
 ghost use Rattle.plan_model.specs.Totals as totals;
 ghost use Rattle.plan_model.specs.declared.plan.TheConstants.{MOST_COST, MOST_TOTAL};
-ghost use Rattle.report.specs.Settings.{the_setting};
+ghost use Rattle.adv_base.specs.Settings.{the_setting};
 ghost use Rattle.report.specs.Texts.{FitsSetting};
 ghost use Rattle.cophy_core.specs.Causes.{most_statement_cost, IsBounded};
 ghost use Rattle.cophy_core.specs.Stops.{StopsAt};

@@ -6,7 +6,7 @@ use Rattle.adv_base.specs.Sizes.{shape_pages}
 use Rattle.bip_model.specs.StandsFor.{AreEach}
 use Rattle.plan_model.specs.Lagrangian.{weighted_upkeep, weighted_kept}
 use Rattle.gap_checker.specs.declared.figures.Figures.{Figures}
-use Rattle.gap_checker.specs.Views.{the_setting}
+use Rattle.adv_base.specs.Settings.{the_setting}
 use Rattle.gap_checker.specs.inner.Parts.{HasPart}
 
 -- the setting that they are of

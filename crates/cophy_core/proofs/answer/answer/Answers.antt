@@ -1,6 +1,6 @@
 use Rattle.std.proofs.Common.{sym, ap, subst, rules}
 use Rattle.adv_base.specs.Settings.{TheSetting}
-use Rattle.report.specs.Settings.{the_setting}
+use Rattle.adv_base.specs.Settings.{the_setting}
 use Rattle.cophy_core.specs.ReadWords.{plain_command, texts}
 use Rattle.cophy_core.specs.Files.{input, counts}
 use Rattle.cophy_core.specs.Endings.{plain_puts}

@@ -2,7 +2,7 @@ use Rattle.std.proofs.Common.{◌≡◌, ◌*◌, ◌≤◌, map, take}
 use Rattle.std.specs.Prelude.{All}
 use Rattle.adv_base.specs.declared.limits.TheConstants.{MOST_STATEMENTS, MOST_UPKEEP, MOST_WEIGHT}
 use Rattle.plan_model.specs.Lagrangian as lagrangian
-use Rattle.gap_checker.specs.Views.{the_setting}
+use Rattle.adv_base.specs.Settings.{the_setting}
 use Rattle.gap_checker.proofs.figures.upkeep_of.Given as goal
 
 abbrev pub invariant-loop-shape : goal.invariant-loop-shape

@@ -1,7 +1,7 @@
 use Rattle.std.proofs.Common.{take}
 use Rattle.adv_base.specs.declared.workload.Statement.{Statement}
 use Rattle.bip_model.specs.StandsFor.{AreEach}
-use Rattle.gap_checker.specs.Views.{the_setting}
+use Rattle.adv_base.specs.Settings.{the_setting}
 use Rattle.gap_checker.specs.inner.Parts as kept
 use Rattle.gap_checker.proofs.Lists.{each-more, take-next}
 use Rattle.gap_checker.proofs.part.parts_of.Goals as goal

@@ -1,6 +1,6 @@
 use Rattle.std.proofs.Common.{take}
 use Rattle.bip_model.specs.StandsFor.{AreEach}
-use Rattle.gap_checker.specs.Views.{the_setting}
+use Rattle.adv_base.specs.Settings.{the_setting}
 use Rattle.gap_checker.specs.inner.Parts as kept
 use Rattle.gap_checker.proofs.part.parts_of.Given as goal
 

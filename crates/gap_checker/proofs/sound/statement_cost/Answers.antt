@@ -1,5 +1,5 @@
 use Rattle.std.proofs.Common.{arith}
-use Rattle.gap_checker.specs.Views.{the_setting}
+use Rattle.adv_base.specs.Settings.{the_setting}
 use Rattle.gap_checker.proofs.Lists.{unrented-plan}
 use Rattle.gap_checker.proofs.sound.statement_cost.Goals as goal
 

@@ -1,5 +1,5 @@
 use Rattle.std.proofs.Common.{◌+◌, arith}
-use Rattle.gap_checker.specs.Views.{the_setting}
+use Rattle.adv_base.specs.Settings.{the_setting}
 use Rattle.gap_checker.proofs.Naming.{named-more, named-all, bad-first, place-is}
 use Rattle.gap_checker.proofs.uses.bad_entry.Goals as goal
 

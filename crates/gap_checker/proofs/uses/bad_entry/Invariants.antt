@@ -2,7 +2,7 @@ use Rattle.std.proofs.Common.{◌≡◌, ◌<◌, ℕ}
 use Rattle.std.specs.Prelude.{Some, slice_get}
 use Rattle.certificate.specs.declared.cert.Entry.{Entry}
 use Rattle.gap_checker.specs.Faults as faults
-use Rattle.gap_checker.specs.Views.{the_setting}
+use Rattle.adv_base.specs.Settings.{the_setting}
 use Rattle.gap_checker.proofs.uses.bad_entry.Given as goal
 
 abbrev pub invariant-loop-i : goal.invariant-loop-i

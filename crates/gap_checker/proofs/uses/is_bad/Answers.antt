@@ -1,4 +1,4 @@
-use Rattle.gap_checker.specs.Views.{the_setting}
+use Rattle.adv_base.specs.Settings.{the_setting}
 use Rattle.gap_checker.proofs.Naming.{bad-at, named-at}
 use Rattle.gap_checker.proofs.uses.is_bad.Goals as goal
 

@@ -1,7 +1,7 @@
 use Rattle.gap_checker.proofs.Naming.{set-limits, count-at, pair-first, sets-more}
 use Rattle.std.proofs.Common.{◌+◌, refl, arith}
 use Rattle.std.proofs.lemmas.Option.{slice_get_within}
-use Rattle.gap_checker.specs.Views.{the_setting}
+use Rattle.adv_base.specs.Settings.{the_setting}
 use Rattle.gap_checker.proofs.uses.judge_pairs.Goals as goal
 
 pub bad_entry-requires-clause-limits : goal.bad_entry-requires-clause-limits

@@ -2,7 +2,7 @@ use Rattle.std.proofs.Common.{◌≡◌, ◌<◌, ℕ}
 use Rattle.std.specs.Prelude.{All, Some, slice_get}
 use Rattle.certificate.specs.declared.cert.SparseSet.{SparseSet}
 use Rattle.gap_checker.specs.Faults as faults
-use Rattle.gap_checker.specs.Views.{the_setting}
+use Rattle.adv_base.specs.Settings.{the_setting}
 use Rattle.gap_checker.proofs.uses.judge_pairs.Given as goal
 
 abbrev pub invariant-loop-j : goal.invariant-loop-j

@@ -1,4 +1,4 @@
-use Rattle.tuning.specs.Settings.{the_setting}
+use Rattle.adv_base.specs.Settings.{the_setting}
 use Rattle.tuning.specs.inner.Parts as inner
 use Rattle.tuning.proofs.building.parts_of.Given as goal
 

@@ -9,7 +9,7 @@ use Rattle.bip_model.specs.Limits.Programmes.{GrantsWithin}
 use Rattle.bip_model.specs.StandsFor.{AreEach, IsPart, blocked_from}
 use Rattle.bip_model.proofs.Totalling.{value-total}
 use Rattle.tuning.specs.Refusals.{AreFew}
-use Rattle.tuning.specs.Settings.{the_setting}
+use Rattle.adv_base.specs.Settings.{the_setting}
 use Rattle.tuning.proofs.Statements.{parts-few, all-within}
 use Rattle.tuning.proofs.building.programme.Goals as goal
 

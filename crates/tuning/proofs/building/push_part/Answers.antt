@@ -5,7 +5,7 @@ use Rattle.adv_base.specs.Named.{NamesWork}
 use Rattle.bip_model.proofs.Totalling.{named-of}
 use Rattle.bip_model.specs.declared.part.Part.{Part}
 use Rattle.tuning.specs.Refusals.{IsCause}
-use Rattle.tuning.specs.Settings.{the_setting}
+use Rattle.adv_base.specs.Settings.{the_setting}
 use Rattle.tuning.specs.inner.Parts.{ArePartsBelow}
 use Rattle.tuning.proofs.Statements.{block-cause, parts-same, parts-more}
 use Rattle.tuning.proofs.building.push_part.Goals as goal

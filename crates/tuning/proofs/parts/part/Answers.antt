@@ -8,7 +8,7 @@ use Rattle.inum_cache.specs.Caches.{orders_of}
 use Rattle.inum_cache.specs.Templates.{AreInOrder}
 use Rattle.bip_model.specs.Limits.Parts.{TemplateLimits}
 use Rattle.bip_model.specs.StandsFor.{SomeAsksNothing}
-use Rattle.tuning.specs.Settings.{the_setting}
+use Rattle.adv_base.specs.Settings.{the_setting}
 use Rattle.tuning.proofs.Parting.{has-parted}
 use Rattle.tuning.proofs.SlotParts.{asks-nothing, template-limits, slot-part}
 use Rattle.tuning.proofs.parts.part.Goals as goal

@@ -1,7 +1,7 @@
 use Rattle.std.proofs.Common.{◌≡◌, ◌*◌, ◌≤◌, All, map, take}
 use Rattle.adv_base.specs.declared.limits.TheConstants.{MOST_STATEMENTS, MOST_UPKEEP, MOST_WEIGHT}
 use Rattle.plan_model.specs.Lagrangian as lagrangian
-use Rattle.tuning.specs.Settings.{the_setting}
+use Rattle.adv_base.specs.Settings.{the_setting}
 use Rattle.tuning.proofs.sums.upkeeps.Given as goal
 
 abbrev pub invariant-loop-shape : goal.invariant-loop-shape

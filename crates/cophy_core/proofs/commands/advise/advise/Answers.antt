@@ -2,7 +2,7 @@ use Rattle.std.proofs.Common.{refl, subst}
 use Rattle.adv_base.specs.Nodes as nodes
 use Rattle.bip_model.specs.Best.{IsBest, sets_in}
 use Rattle.bip_model.specs.Proves.{free_node}
-use Rattle.report.specs.Settings.{the_setting}
+use Rattle.adv_base.specs.Settings.{the_setting}
 use Rattle.cophy_core.proofs.Advising.{root_is, root_starts, is_bounded}
 use Rattle.cophy_core.proofs.commands.advise.advise.Goals as goal
 

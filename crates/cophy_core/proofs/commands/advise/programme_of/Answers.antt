@@ -1,4 +1,4 @@
-use Rattle.report.specs.Settings.{the_setting}
+use Rattle.adv_base.specs.Settings.{the_setting}
 use Rattle.cophy_core.proofs.Advising.{tune_stops}
 use Rattle.cophy_core.proofs.commands.advise.programme_of.Goals as goal
 
