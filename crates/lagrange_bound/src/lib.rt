@@ -8,6 +8,7 @@
 //! `terms`, `carry` and `total` are the parts of a bound, so that a search can keep what doesn't change.
 #![tactic(auto)]
 
+mod ascending;
 mod bounds;
 mod candidates;
 mod carrying;
@@ -18,6 +19,7 @@ mod laws;
 mod pricing;
 mod sharing;
 
+pub use ascending::{Ascent, Pace, ascend};
 pub use bounds::bound;
 pub use carrying::{carry, terms, total};
 pub use improving::improve;
