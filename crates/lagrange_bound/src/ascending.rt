@@ -15,9 +15,7 @@ mod scratch;
 mod sheet;
 mod step;
 
-pub use climb::Pace;
-pub use scratch::Ascent;
-
+use crate::ascending::knapsack::Value;
 use crate::ascending::lists::{FREE, Rent};
 use crate::ascending::places::at;
 use crate::bounds::bound;
@@ -25,6 +23,8 @@ use crate::candidates::available;
 use adv_base::Config;
 use adv_base::limits::{MOST_PAGE_PRICE, MOST_RENT};
 use bip_model::{Fix, Multipliers, Programme};
+pub use climb::Pace;
+pub use scratch::Ascent;
 use std::mem;
 
 /// The greatest target that is looked at.
@@ -74,7 +74,11 @@ fn write_found(found: &[Rent], places: &[usize], count: usize, into: &mut [u64])
 {
     for i in 0..count {
         let rent = at(found, i, FREE);
-        put_rent(into, at(places, i, usize::MAX), (rent.parts.max(0) as u64) >> 10);
+        put_rent(
+            into,
+            at(places, i, usize::MAX),
+            (rent.parts.max(0) as u64) >> 10,
+        );
     }
 }
 
@@ -105,7 +109,7 @@ fn write_ascent(
     );
 }
 
-/// Ascends from multipliers at a node, as far as the scratch's own numbers tell, and answers the price of a page.
+/// Ascends from multipliers at a node, and answers what the scratch's own numbers say of what it leaves.
 fn climb_from(
     programme: &Programme,
     budget: u64,
@@ -116,11 +120,31 @@ fn climb_from(
     mult: &Multipliers,
     scratch: &mut Ascent,
     pace: Pace,
-) -> i64 {
+) -> Value {
     scratch.book.open(programme, budget, fix, config);
     scratch.list(programme, config, mult);
     let least = least.wrapping_sub(1).wrapping_mul(65536);
-    scratch.climb(target_parts(target), least, pace).page
+    scratch.climb(target_parts(target), least, pace)
+}
+
+/// About what the bound of a node would be after an ascent from multipliers, in thousandths of a page read: a number to choose
+/// a branch by, and no bound. Takes no memory.
+pub fn forecast(
+    programme: &Programme,
+    budget: u64,
+    fix: &Fix,
+    target: u128,
+    mult: &Multipliers,
+    scratch: &mut Ascent,
+    pace: Pace,
+) -> i128
+    requires { budget ≤ MOST_ROWS }
+{
+    let config = available(programme, budget, fix);
+    let found = climb_from(
+        programme, budget, fix, &config, target, 0, mult, scratch, pace,
+    );
+    found.value.wrapping_add(65535) >> 16
 }
 
 /// Raises the bound of a node by an ascent of its multipliers towards a target, the cost of the best configuration known, in
@@ -147,10 +171,10 @@ pub fn ascend(
 {
     let before = bound(programme, budget, fix, mult);
     let config = available(programme, budget, fix);
-    let page = climb_from(
+    let found = climb_from(
         programme, budget, fix, &config, target, before, mult, scratch, pace,
     );
-    write_ascent(programme, scratch, &config, page, mult, spare);
+    write_ascent(programme, scratch, &config, found.page, mult, spare);
     let value = bound(programme, budget, fix, spare);
     if value <= before {
         return before;

@@ -1,8 +1,8 @@
 //! Makes the lists of an ascent at a node.
 
 use crate::ascending::lists::{
-    Cell, Counts, Frame, Head, Lists, MOST_LOOKED_AT, NO_CELL, NO_PRICE, NO_RENT, NONE, Offer, Rent,
-    looked_at,
+    Cell, Counts, Frame, Head, Lists, MOST_LOOKED_AT, NO_CELL, NO_PRICE, NO_RENT, NONE, Offer,
+    Rent, looked_at,
 };
 use crate::ascending::places::{at, put};
 use crate::ascending::scratch::Ascent;
@@ -76,7 +76,11 @@ impl Ascent {
             }
         }
         let number = self.lists.counts.cells;
-        put(self.lists.cells.as_mut_slice(), number, Cell { base, offers });
+        put(
+            self.lists.cells.as_mut_slice(),
+            number,
+            Cell { base, offers },
+        );
         self.lists.counts.cells = number.wrapping_add(1);
     }
 

@@ -11,6 +11,7 @@ pub(crate) const NO_PRICE: i64 = 576_460_752_303_423_488;
 pub(crate) const MOST_LOOKED_AT: u64 = 36_028_797_018_963_968;
 /// In place of a cell or of a rent where there is none.
 pub(crate) const NO_CELL: u8 = 255;
+
 pub(crate) const NO_RENT: u32 = u32::MAX;
 
 /// The part of a statement: its weight, how many cells, templates and rents it has, and what it costs by templates that no
@@ -62,15 +63,19 @@ pub(crate) const NO_HEAD: Head = Head {
     rents: 0,
     plain: 0,
 };
+
 pub(crate) const EMPTY: Cell = Cell { base: 0, offers: 0 };
+
 pub(crate) const NO_OFFER: Offer = Offer {
     price: NO_PRICE,
     rent: NO_RENT,
 };
+
 pub(crate) const NO_FRAME: Frame = Frame {
     internal: NO_PRICE,
     cells: [NO_CELL; 8],
 };
+
 pub(crate) const FREE: Rent = Rent {
     parts: 0,
     direction: 0,

@@ -84,7 +84,13 @@ fn mark(frame: &Frame, prices: &Prices, rents: &mut [Rent]) {
 }
 
 /// The least cost of a part, whose rents that it uses are marked.
-fn part_cost(lists: &Lists, rents: &mut [Rent], head: &Head, place: &Place, prices: &Prices) -> i64 {
+fn part_cost(
+    lists: &Lists,
+    rents: &mut [Rent],
+    head: &Head,
+    place: &Place,
+    prices: &Prices,
+) -> i64 {
     let frames = lists.frames.as_slice();
     let mut best = head.plain;
     let mut chosen = usize::MAX;
