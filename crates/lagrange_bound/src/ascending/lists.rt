@@ -16,7 +16,7 @@ pub(crate) const NO_RENT: u32 = u32::MAX;
 
 /// The part of a statement: its weight, how many cells, templates and rents it has, and what it costs by templates that no
 /// offer serves.
-#[derive(Clone, Copy, Debug)]
+#[derive(Clone, Copy)]
 pub(crate) struct Head {
     pub weight: i64,
     pub cells: u32,
@@ -26,28 +26,28 @@ pub(crate) struct Head {
 }
 
 /// An order of a slot: the price of what exists, and how many offers are below it.
-#[derive(Clone, Copy, Debug)]
+#[derive(Clone, Copy)]
 pub(crate) struct Cell {
     pub base: i64,
     pub offers: u32,
 }
 
 /// What the candidate of a rent asks for an order, without the rent.
-#[derive(Clone, Copy, Debug)]
+#[derive(Clone, Copy)]
 pub(crate) struct Offer {
     pub price: i64,
     pub rent: u32,
 }
 
 /// A template: what it costs beside its cells, and the numbers of these, filled up with the cell that costs nothing.
-#[derive(Clone, Copy, Debug)]
+#[derive(Clone, Copy)]
 pub(crate) struct Frame {
     pub internal: i64,
     pub cells: [u8; 8],
 }
 
 /// The rent of a grant in parts of 1024, the direction in which it goes, its candidate, and whether a plan just used it.
-#[derive(Clone, Copy, Debug)]
+#[derive(Clone, Copy)]
 pub(crate) struct Rent {
     pub parts: i64,
     pub direction: i32,
@@ -84,7 +84,7 @@ pub(crate) const FREE: Rent = Rent {
 };
 
 /// How many there are of each.
-#[derive(Clone, Copy, Debug)]
+#[derive(Clone, Copy)]
 pub(crate) struct Counts {
     pub heads: usize,
     pub cells: usize,

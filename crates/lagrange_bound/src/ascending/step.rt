@@ -1,6 +1,6 @@
 //! A step of the rents: those that are used more than their candidates are taken rise, the others fall.
 
-use crate::ascending::knapsack::{Book, WHOLE};
+use crate::ascending::knapsack::WHOLE;
 use crate::ascending::lists::{FREE, NO_HEAD, Rent};
 use crate::ascending::places::{at, put};
 use crate::ascending::scratch::Ascent;
@@ -10,13 +10,14 @@ pub(crate) const MOST_PARTS: i64 = 1_000_000_000_000_000;
 
 /// The direction of a rent: most of what it was, and the rest by how much more it is used than its candidate is taken; none
 /// where it would fall below 0.
-fn turned(rent: &Rent, book: &Book) -> i32 {
+fn turned(rent: &Rent, taken: i32) -> i32 {
     let used = if rent.used { WHOLE } else { 0 };
-    let more = used.wrapping_sub(book.taken[rent.candidate as usize]);
-    let sum = (rent.direction as i64)
+    let more = used.wrapping_sub(taken);
+    let sum = rent
+        .direction
         .wrapping_mul(160)
         .wrapping_add(more.wrapping_mul(96));
-    let direction = sum.checked_div(256).unwrap_or(0).clamp(-65536, 65536) as i32;
+    let direction = sum.checked_div(256).unwrap_or(0);
     if rent.parts == 0 && direction < 0 {
         0
     } else {
@@ -28,18 +29,14 @@ impl Ascent {
     /// Turns the direction of each rent and forgets what was used; answers the sum of the directions' squares.
     pub(crate) fn turn(&mut self) -> i64 {
         let mut sum = 0i64;
-        let rents = self.rents.as_mut_slice();
-        for i in 0..self.lists.counts.rents {
-            let rent = at(rents, i, FREE);
-            let direction = turned(&rent, &self.book);
+        let count = self.lists.counts.rents.min(self.rents.len());
+        let rents = &mut self.rents.as_mut_slice()[..count];
+        for rent in rents.iter_mut() {
+            let direction = turned(rent, self.book.taken[rent.candidate as usize]);
             let square = (direction as i64).wrapping_mul(direction as i64);
             sum = sum.wrapping_add(square);
-            let turned = Rent {
-                direction,
-                used: false,
-                ..rent
-            };
-            put(rents, i, turned);
+            rent.direction = direction;
+            rent.used = false;
         }
         sum
     }
