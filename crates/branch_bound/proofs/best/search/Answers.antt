@@ -1,4 +1,4 @@
-use Rattle.std.proofs.Common.{◌≡◌, ◌∙◌, List, [], ◌∷◌, ◌++◌, ℤ, to_z, of_z, ap, subst, rules}
+use Rattle.std.proofs.Common.{◌≡◌, ◌∙◌, List, [], ◌∷◌, ◌++◌, length, take, ℤ, to_z, of_z, ap, subst, rules}
 use mir.Syntax.{w128}
 use Rattle.bip_model.specs.declared.answer.Answer.{Answer}
 use Rattle.bip_model.specs.declared.multipliers.Multipliers.{Multipliers}
@@ -6,7 +6,7 @@ use Rattle.bip_model.specs.Best.{IsBest}
 use Rattle.bip_model.specs.Views.{node_of}
 use Rattle.branch_bound.specs.inner.Runs.{Rules, least_bound}
 use Rattle.branch_bound.proofs.Sound.{explored-sound}
-use Rattle.branch_bound.proofs.Linking.{search-best}
+use Rattle.branch_bound.proofs.Linking.{AreKept, search-best}
 use Rattle.branch_bound.proofs.best.search.Goals as goal
 
 pub climbed-best-requires : goal.climbed-best-requires
@@ -17,7 +17,7 @@ climbed-best-requires c =
       budget = c.args.budget;
       nodes = c.args.nodes;
       zeros = c.args.room.zeros;
-      rents = c.improve.new.mult;
+      sets = c.propose.new.sets.items;
       useful = c.useful_of-useful.result.flags;
     } in
     explored-sound own c.args.root.now c.start-before.result c.explore-found.result c.args.room.tree.items c.explore-found.new.tree.items c.requires.root c.start-before.ensures.exact c.explore-found.ensures.explored
@@ -30,7 +30,7 @@ returns c =
       budget = c.args.budget;
       nodes = c.args.nodes;
       zeros = c.args.room.zeros;
-      rents = c.improve.new.mult;
+      sets = c.propose.new.sets.items;
       useful = c.useful_of-useful.result.flags;
     } in
     let answer_of : ℤ → Answer = λ b.
@@ -38,15 +38,23 @@ returns c =
       config = c.climbed-best.result.config;
       cost = c.climbed-best.result.cost;
       bound = b;
-      sets = c.keep.new.sets.items;
+      sets = c.propose.new.sets.items;
       tree = c.explore-found.new.tree.items;
       useful = c.useful_of-useful.result.count;
     } in
     let told : least_bound c.climbed-best.result.cost c.explore-found.result.low ≡ to_z w128 (of_z w128 c.least_bound-bound.result) = search (rules, c.least_bound-bound.ensures) in
-    let sets : c.keep.new.sets.items ≡ c.improve.new.mult ∷ [] = c.keep.ensures ∙ ap (λ (front : List Multipliers). front ++ c.improve.new.mult ∷ []) c.requires.room.sets_empty in
+    let start : c.keep.new.sets.items ≡ c.improve.new.mult ∷ [] = c.keep.ensures.items ∙ ap (λ (front : List Multipliers). front ++ c.improve.new.mult ∷ []) c.requires.room.sets_empty in
+    let kept : AreKept own c.improve.new.mult c.set_limit.result =
+    record {
+      front = c.propose.ensures.first ∙ ap (take 1) start;
+      some = c.propose.ensures.proposed.some;
+      few = c.propose.ensures.proposed.few;
+      fit = c.propose.ensures.proposed.fit;
+      limit = c.set_limit.ensures;
+    } in
     λ setting limits stands.
     subst (λ (b : ℤ). IsBest setting c.args.budget c.args.nodes (node_of c.args.root.now) (answer_of b)) told
-    (search-best own c.args.root.now c.start-before.result c.explore-found.result c.args.room.tree.items c.explore-found.new.tree.items c.climbed-best.result.config c.climbed-best.result.cost c.keep.new.sets.items
-    c.useful_of-useful.result.count c.requires.room.zeros_fit c.improve.ensures.within c.requires.room.zeros_page c.requires.room.zeros_are c.useful_of-useful.ensures.flags c.requires.root
-    c.start-before.ensures.long c.start-before.ensures.exact c.requires.room.tree_empty c.explore-found.ensures.explored c.explore-found.ensures.most sets c.useful_of-useful.ensures.count
+    (search-best own c.args.root.now c.start-before.result c.explore-found.result c.args.room.tree.items c.explore-found.new.tree.items c.climbed-best.result.config c.climbed-best.result.cost c.improve.new.mult
+    c.set_limit.result c.useful_of-useful.result.count c.requires.room.zeros_fit kept c.requires.room.zeros_page c.requires.room.zeros_are c.useful_of-useful.ensures.flags c.requires.root
+    c.start-before.ensures.long c.start-before.ensures.exact c.requires.room.tree_empty c.explore-found.ensures.explored c.explore-found.ensures.most c.useful_of-useful.ensures.count
     c.climbed-best.ensures.sound c.climbed-best.ensures.cheaper c.climbed-best.ensures.top c.improve.ensures.tried setting limits stands)
