@@ -61,11 +61,11 @@ fn add(
 )
     requires others { All (AreMultipliers task.now.programme.now) others.old.items }
     requires spare { AreMultipliers task.now.programme.now spare.old }
-    requires sets { proposals.AreProposed task.now sets.old.items }
+    requires sets { proposals.AreProposed task.now.programme.now task.now.most sets.old.items }
     requires room { MOST_SETS ≤ vec_capacity sets.old }
     ensures others { All (AreMultipliers task.now.programme.now) others.new.items }
     ensures spare { AreMultipliers task.now.programme.now spare.new }
-    ensures sets { proposals.AreMore task.now sets.old.items sets.new.items }
+    ensures sets { proposals.AreMore task.now.programme.now task.now.most sets.old.items sets.new.items }
     ensures room { MOST_SETS ≤ vec_capacity sets.new }
 {
     if sets.len() >= task.most {
@@ -90,9 +90,9 @@ pub(crate) fn propose(
 )
     requires others { All (AreMultipliers task.now.programme.now) others.old.items }
     requires spare { AreMultipliers task.now.programme.now spare.old }
-    requires sets { proposals.AreProposed task.now sets.old.items }
+    requires sets { proposals.AreProposed task.now.programme.now task.now.most sets.old.items }
     requires room { MOST_SETS ≤ vec_capacity sets.old }
-    ensures sets { proposals.AreMore task.now sets.old.items sets.new.items }
+    ensures sets { proposals.AreMore task.now.programme.now task.now.most sets.old.items sets.new.items }
 {
     let index = best_gain(task.gains);
     add(

@@ -52,7 +52,7 @@ fn fresh_sets(
     ensures { IfOk result (λ sets. All (AreMultipliers programme.now) sets.items) }
 {
     let mut sets = Vec::with_capacity(alloc, count)?;
-    for _ in 0..count {
+    for round in 0..count {
         let set = fresh(alloc, programme)?;
         sets.push(set)?;
     }
