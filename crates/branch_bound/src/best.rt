@@ -1,8 +1,6 @@
 //! Branch and bound.
-ghost use Rattle.std.specs.Prelude.{◌≡◌, ℕ, ◌<◌, ◌≤◌, [], ◌∷◌, ◌++◌, length, vec_len};
-ghost use Rattle.std.specs.Vec.{vec_capacity};
+ghost use Rattle.std.specs.Prelude.{◌≡◌, ◌≤◌, length};
 ghost use Rattle.adv_base.specs.declared.limits.TheConstants.{MOST_CANDIDATES, MOST_NODES, MOST_ROWS};
-ghost use Rattle.bip_model.specs.Views.{AreMultipliers};
 ghost use Rattle.branch_bound.specs.Answers.{IsBestForEach};
 ghost use Rattle.branch_bound.specs.Rooms.{IsRoomFor};
 ghost use Rattle.branch_bound.specs.Sides as sides;
@@ -14,11 +12,12 @@ use crate::explore::explore;
 use crate::fixing::inside;
 use crate::found::Found;
 use crate::frame::Frame;
-use crate::room::Room;
+use crate::propose::{Task, keep, propose};
+use crate::room::{Room, set_limit};
 use crate::useful::useful_of;
 use adv_base::limits::MOST_CANDIDATES;
 use adv_base::{Config, List};
-use bip_model::{Answer, Fix, Multipliers, Programme, value};
+use bip_model::{Answer, Fix, Programme, value};
 use lagrange_bound::improve;
 
 /// The rounds in which the multipliers of the root are improved: each tries the rent multipliers of one price of a page.
@@ -42,17 +41,6 @@ fn least_bound(cost: u128, low: i128) -> i128
         low
     } else {
         cost as i128
-    }
-}
-
-/// Keeps a set of multipliers, for which there is room.
-fn keep(sets: &mut Vec<Multipliers>, set: Multipliers)
-    requires { vec_len sets.old < vec_capacity sets.old }
-    ensures { sets.new.items ≡ sets.old.items ++ set ∷ [] }
-{
-    match sets.push(set) {
-        Ok(()) => {}
-        Err(_) => unreachable!(),
     }
 }
 
@@ -100,29 +88,40 @@ pub fn search(programme: &Programme, root: &Fix, budget: u64, nodes: u32, room: 
     let Room {
         mut tree,
         zeros,
-        mut rents,
+        mut first,
         mut spare,
+        mut others,
         mut sets,
     } = room;
-    improve(programme, budget, root, &mut rents, &mut spare, ROUNDS);
+    improve(programme, budget, root, &mut first, &mut spare, ROUNDS);
+    keep(&mut sets, first);
     let useful = useful_of(programme, budget);
     let before = start(programme, root);
     let gains = gains_of(programme, &before.config);
+    {
+        let task = Task {
+            programme,
+            budget,
+            root,
+            gains: &gains,
+            most: set_limit(programme),
+        };
+        propose(&task, &mut others, &mut spare, &mut sets);
+    }
     let found = {
         let frame = Frame {
             programme,
             budget,
             nodes,
             zeros: &zeros,
-            rents: &rents,
+            sets: sets.as_slice(),
             useful: &useful.flags,
             gains: &gains,
         };
-        explore(&frame, root, before, &mut tree)
+        explore(&frame, root, before, &mut tree, &mut 0)
     };
     let best = climbed(programme, budget, root, &found);
     let bound = least_bound(best.cost, found.low);
-    keep(&mut sets, rents);
     Answer {
         config: best.config,
         cost: best.cost,

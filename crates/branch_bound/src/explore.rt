@@ -1,5 +1,5 @@
 //! The tree of a search, explored depth first.
-ghost use Rattle.std.specs.Prelude.{◌≡◌, ◌+◌, ◌<◌, ◌≤◌, [], ◌∷◌, ◌++◌, vec_len};
+ghost use Rattle.std.specs.Prelude.{◌≡◌, ◌+◌, ◌<◌, ◌≤◌, [], ◌∷◌, ◌++◌, length, vec_len};
 ghost use Rattle.std.specs.Vec.{vec_capacity};
 ghost use Rattle.bip_model.specs.declared.answer.Node.{Node};
 ghost use Rattle.branch_bound.specs.inner.Runs as runs;
@@ -25,6 +25,7 @@ fn append(tree: &mut Vec<Node>, node: Node)
 
 /// What was found, with a leaf at which the search gives up, under the set of this number.
 fn given_up(frame: &Frame<'_>, fix: &Fix, found: Found, set: u8) -> Found
+    requires { set ≤ length frame.now.sets.now }
     ensures { result ≡ runs.lowered found (runs.lag (runs.rules_of frame.now) fix.now set) }
 {
     Found {
@@ -48,20 +49,29 @@ fn branched(found: Found, nodes: u32) -> Found
     }
 }
 
-/// Explores what is below a node that was made, and appends its tree in preorder.
-pub(crate) fn explore(frame: &Frame<'_>, fix: &Fix, before: Found, tree: &mut Vec<Node>) -> Found
+/// Explores what is below a node that was made, and appends its tree in preorder; `hint` is the set that closed the last leaf.
+pub(crate) fn explore(
+    frame: &Frame<'_>,
+    fix: &Fix,
+    before: Found,
+    tree: &mut Vec<Node>,
+    hint: &mut u8,
+) -> Found
     requires pending { vec_len tree.old < before.made }
     requires made { before.made ≤ frame.now.nodes }
     requires room { frame.now.nodes ≤ vec_capacity tree.old }
+    requires hint { hint.old ≤ length frame.now.sets.now }
     ensures explored { runs.IsExplored (runs.rules_of frame.now) fix.now before tree.old.items result tree.new.items }
     ensures count { vec_len tree.new + before.made ≡ vec_len tree.old + 1 + result.made }
     ensures more { before.made ≤ result.made }
     ensures most { result.made ≤ frame.now.nodes }
     ensures room { vec_capacity tree.old ≤ vec_capacity tree.new }
+    ensures hint { hint.new ≤ length frame.now.sets.now }
 {
     let found = visited(frame, fix, before);
-    match fate_of(frame, fix, &found) {
+    match fate_of(frame, fix, &found, *hint) {
         Fate::Closed(set) => {
+            *hint = set;
             append(tree, Node::Bounded(set));
             found
         }
@@ -72,8 +82,8 @@ pub(crate) fn explore(frame: &Frame<'_>, fix: &Fix, before: Found, tree: &mut Ve
         Fate::Branch(index) => {
             append(tree, Node::Branch(index as u16 + 1));
             let below = branched(found, frame.nodes);
-            let middle = explore(frame, &fixed(fix, index, State::In), below, tree);
-            explore(frame, &fixed(fix, index, State::Out), middle, tree)
+            let middle = explore(frame, &fixed(fix, index, State::In), below, tree, hint);
+            explore(frame, &fixed(fix, index, State::Out), middle, tree, hint)
         }
     }
 }

@@ -2,9 +2,9 @@
 //!
 //! In goes a programme, a root that fixes some candidates, a budget of pages and one of nodes; out comes a configuration
 //! that fits, what it costs, and a tree of Lagrangian bounds below which no configuration that fits goes. The tree is
-//! explored depth first, the side that takes a candidate in before the side that leaves it out, under two sets of
-//! multipliers: zeros, and the rent multipliers that bound the root best. All memory is taken before the search, in its
-//! room.
+//! explored depth first, the side that takes a candidate in before the side that leaves it out, under zeros and up to 16
+//! sets of multipliers: the first bounds the root best, others are made for subtrees. All memory is taken before the search,
+//! in its room.
 #![tactic(auto)]
 
 mod best;
@@ -14,6 +14,7 @@ mod fixing;
 mod found;
 mod frame;
 mod node;
+mod propose;
 mod room;
 mod useful;
 

@@ -15,7 +15,7 @@ use lagrange_bound::bound;
 pub(crate) enum Fate {
     /// A leaf below which nothing is cheaper than what was found, by the set of this number.
     Closed(u8),
-    /// A leaf where nodes have run out, under the set of this number, which gives the higher value of both.
+    /// A leaf where nodes have run out, under the set of this number, which gives the highest value.
     Forced(u8),
     /// A branch on the candidate of this index.
     Branch(usize),
@@ -128,38 +128,82 @@ fn branch(frame: &Frame<'_>, fix: &Fix, found: &Found) -> Option<usize>
     choice(frame, fix)
 }
 
-/// The Lagrangian value of a node under the set of a number: zeros, or the rents.
+/// The Lagrangian value of a node under the set of a number: 0 is that of zeros.
 pub(crate) fn lag(frame: &Frame<'_>, fix: &Fix, set: u8) -> i128
+    requires { set ≤ length frame.now.sets.now }
     ensures { result ≡ runs.lag (runs.rules_of frame.now) fix.now set }
 {
     if set == 0 {
         bound(frame.programme, frame.budget, fix, frame.zeros)
     } else {
-        bound(frame.programme, frame.budget, fix, frame.rents)
+        let own = &frame.sets[set as usize - 1];
+        bound(frame.programme, frame.budget, fix, own)
     }
 }
 
-/// What becomes of a node, after it is visited.
-pub(crate) fn fate_of(frame: &Frame<'_>, fix: &Fix, found: &Found) -> Fate
-    requires { found.now.made ≤ frame.now.nodes }
+/// The number of a set, and its Lagrangian value at a node.
+#[derive(Clone, Copy)]
+struct Valued {
+    set: u8,
+    value: i128,
+}
+
+/// The set of the higher value: that which was the highest, or the one of the next number.
+fn higher(frame: &Frame<'_>, fix: &Fix, best: Valued, set: u8) -> Valued
+    requires within { set < length frame.now.sets.now }
+    requires best { runs.IsHighest (runs.rules_of frame.now) fix.now set best.set best.value }
+    ensures { runs.IsHighest (runs.rules_of frame.now) fix.now (set + 1) result.set result.value }
+{
+    let value = lag(frame, fix, set + 1);
+    if value > best.value {
+        Valued {
+            set: set + 1,
+            value,
+        }
+    } else {
+        best
+    }
+}
+
+/// The set of the highest value at a node, or one whose value is at least a cost, where that of zeros isn't.
+fn highest(frame: &Frame<'_>, fix: &Fix, cost: u128, zero: i128) -> Valued
+    requires { zero ≡ runs.lag (runs.rules_of frame.now) fix.now 0 }
+    ensures set { result.set ≤ length frame.now.sets.now }
+    ensures value { result.value ≡ runs.lag (runs.rules_of frame.now) fix.now result.set }
+    ensures over { runs.reaches result.value cost ≡ false → runs.IsHighest (runs.rules_of frame.now) fix.now (length frame.now.sets.now) result.set result.value }
+{
+    let mut best = Valued {
+        set: 0,
+        value: zero,
+    };
+    for set in 0..frame.sets.len() {
+        best = higher(frame, fix, best, set as u8);
+        if reaches(best.value, cost) {
+            return best;
+        }
+    }
+    best
+}
+
+/// What becomes of a node, after it is visited; the set that closed the last one is tried first.
+pub(crate) fn fate_of(frame: &Frame<'_>, fix: &Fix, found: &Found, hint: u8) -> Fate
+    requires made { found.now.made ≤ frame.now.nodes }
+    requires hint { hint ≤ length frame.now.sets.now }
     ensures { runs.IsFate (runs.rules_of frame.now) fix.now found.now result }
 {
+    if hint > 0 && reaches(lag(frame, fix, hint), found.cost) {
+        return Fate::Closed(hint);
+    }
     let zero = lag(frame, fix, 0);
     if reaches(zero, found.cost) {
         return Fate::Closed(0);
     }
-    let rent = lag(frame, fix, 1);
-    if reaches(rent, found.cost) {
-        return Fate::Closed(1);
+    let best = highest(frame, fix, found.cost, zero);
+    if reaches(best.value, found.cost) {
+        return Fate::Closed(best.set);
     }
     match branch(frame, fix, found) {
         Some(index) => Fate::Branch(index),
-        None => {
-            if zero >= rent {
-                Fate::Forced(0)
-            } else {
-                Fate::Forced(1)
-            }
-        }
+        None => Fate::Forced(best.set),
     }
 }

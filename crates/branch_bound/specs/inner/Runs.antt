@@ -1,5 +1,5 @@
 -- A run of the search below a node: what it had found before and what after, and the tree that it wrote.
-use Rattle.std.specs.Prelude.{◌≡◌, ℕ, ◌+◌, ◌-◌, ◌^◌, ◌<◌, ◌≤◌, ◌==◌, nat_lt, nat_le, Bool, true, false, ◌&&◌, if◌then◌else◌, ◌⊎◌, List, ◌++◌, length, Option, Some, None, slice_index_or, ℤ, pos, negsuc, ◌≤ℤ◌}
+use Rattle.std.specs.Prelude.{◌≡◌, ℕ, ◌+◌, ◌-◌, ◌^◌, ◌<◌, ◌≤◌, ◌==◌, nat_lt, nat_le, Bool, true, false, ◌&&◌, if◌then◌else◌, ◌⊎◌, List, ◌∷◌, ◌++◌, length, Option, Some, None, slice_index_or, ℤ, pos, negsuc, ◌≤ℤ◌}
 use Rattle.std.specs.Int.{int_min}
 use Rattle.bip_model.specs.declared.answer.Node.{Node}
 use Rattle.bip_model.specs.declared.fix.Fix.{Fix}
@@ -20,7 +20,7 @@ pub record Rules : Type 0 where
   pub budget : ℕ
   pub nodes : ℕ
   pub zeros : Multipliers
-  pub rents : Multipliers
+  pub sets : List Multipliers
   pub useful : List Bool
 
 abbrev pub rules_of : Frame → Rules
@@ -30,13 +30,13 @@ rules_of frame =
       budget = frame.budget;
       nodes = frame.nodes;
       zeros = frame.zeros.now;
-      rents = frame.rents.now;
+      sets = frame.sets.now;
       useful = frame.useful.now;
     }
 
--- the set of a number
+-- the set of a number: 0 is that of zeros
 abbrev pub set_of : Rules → ℕ → Multipliers
-set_of rules k = if k == 0 then rules.zeros else rules.rents
+set_of rules k = slice_index_or (rules.zeros ∷ rules.sets) k rules.zeros
 
 -- the Lagrangian value of a node under it
 abbrev pub lag : Rules → Fix → ℕ → ℤ
@@ -73,16 +73,20 @@ abbrev pub IsChoiceBelow : Rules → Fix → ℕ → Option ℕ → Type 0
 IsChoiceBelow rules fix n None = NoChoiceBelow rules fix n
 IsChoiceBelow rules fix n (Some i) = IsChoice rules fix i
 
+-- of the sets up to a number the set of another gives the highest value
+pub record IsHighest (rules : Rules) (fix : Fix) (most k : ℕ) (value : ℤ) : Type 0 where
+  pub set : k ≤ most
+  pub value_is : value ≡ lag rules fix k
+  pub over : (j : ℕ) → j ≤ most → lag rules fix j ≤ℤ value
+
 -- a leaf below which nothing is cheaper than what was found
 pub record IsClosed (rules : Rules) (fix : Fix) (found : Found) (k : ℕ) : Type 0 where
-  pub set : k ≤ 1
+  pub set : k ≤ length rules.sets
   pub reached : reaches (lag rules fix k) found.cost ≡ true
 
--- a leaf where nodes have run out, or no candidate is left, under the set that gives the higher value
+-- a leaf where nodes have run out, or no candidate is left, under the set that gives the highest value
 pub record IsForced (rules : Rules) (fix : Fix) (found : Found) (k : ℕ) : Type 0 where
-  pub set : k ≤ 1
-  pub over_zeros : lag rules fix 0 ≤ℤ lag rules fix k
-  pub over_rents : lag rules fix 1 ≤ℤ lag rules fix k
+  pub highest : IsHighest rules fix (length rules.sets) k (lag rules fix k)
   pub promising : reaches (lag rules fix 0) found.cost ≡ false
   pub why : (rules.nodes < found.made + 2) ⊎ NoChoice rules fix
 
