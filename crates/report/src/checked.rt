@@ -1,5 +1,5 @@
 //! The texts of what a check of a certificate answers.
-ghost use Rattle.std.specs.Prelude.{◌≡◌, ◌++◌, OnOk, codes};
+ghost use Rattle.std.specs.Prelude.{◌≡◌, ◌++◌, ◌∷◌, [], OnOk, codes};
 ghost use Rattle.report.specs.Texts.{line, numbered, signed, bound_words, proved_words, checked_text, check_fault, not_proved};
 
 use crate::NotProved;
@@ -7,22 +7,21 @@ use crate::usage::{push_numbered, push_signed};
 use gap_checker::{CheckFault, Checked};
 use std::alloc::{AllocError, Global};
 
-/// Adds a bound under a budget.
+/// Adds the bound and the budget that are told.
 #[tactic(auto, unfolding(crate::specs::Texts::bound_words))]
-fn push_bound(alloc: Global, out: &mut Vec<u8>, bound: i128, budget: u64) -> Result<(), AllocError>
-    ensures { OnOk result (out.new.items ≡ out.old.items ++ bound_words bound budget) }
+fn push_bound(alloc: Global, out: &mut Vec<u8>, checked: &Checked) -> Result<(), AllocError>
+    ensures { OnOk result (out.new.items ≡ out.old.items ++ bound_words checked.now.bound checked.now.budget) }
 {
-    push_signed(alloc, out, b" bound ", bound)?;
-    push_numbered(alloc, out, b" budget ", budget as u128)
+    push_signed(alloc, out, b" bound ", checked.bound)?;
+    push_numbered(alloc, out, b" budget ", checked.budget as u128)
 }
 
 /// Adds what a certificate proves.
-#[tactic(auto, unfolding(crate::specs::Texts::proved_words))]
 fn push_proved(alloc: Global, out: &mut Vec<u8>, checked: &Checked) -> Result<(), AllocError>
     ensures { OnOk result (out.new.items ≡ out.old.items ++ proved_words checked.now) }
 {
     push_numbered(alloc, out, b"proved cost ", checked.cost)?;
-    push_bound(alloc, out, checked.bound, checked.budget)
+    push_bound(alloc, out, checked)
 }
 
 /// Adds the line of what a certificate proves.
@@ -34,7 +33,7 @@ pub(crate) fn push_checked(
     ensures { OnOk result (out.new.items ≡ out.old.items ++ checked_text checked.now) }
 {
     push_proved(alloc, out, checked)?;
-    out.extend_from_slice(b"\n")
+    push_end(out)
 }
 
 /// Adds two numbers, each behind its words.
@@ -117,6 +116,13 @@ fn push_not_proved(alloc: Global, out: &mut Vec<u8>, why: NotProved) -> Result<(
     }
 }
 
+/// Ends a line.
+fn push_end(out: &mut Vec<u8>) -> Result<(), AllocError>
+    ensures { OnOk result (out.new.items ≡ out.old.items ++ 10 ∷ []) }
+{
+    out.extend_from_slice(b"\n")
+}
+
 /// Adds words and why a certificate proves nothing.
 fn push_why(
     alloc: Global,
@@ -139,5 +145,5 @@ pub(crate) fn push_unproved(
     ensures { OnOk result (out.new.items ≡ out.old.items ++ line (codes "not proved: " ++ not_proved why)) }
 {
     push_why(alloc, out, b"not proved: ", why)?;
-    out.extend_from_slice(b"\n")
+    push_end(out)
 }
