@@ -7,11 +7,12 @@ use Rattle.adv_shelf.specs.Shelf.{Files}
 use Rattle.adv_shelf.specs.Sink.{append_to}
 use Rattle.report.specs.Texts.{done_text}
 use Rattle.report.specs.declared.done.Done.{Done}
-use Rattle.report.specs.declared.done.Done.TheVariants.{Usage, ReadFault, WriteFault, Refused, Memory, Priced, Listed, Explained as ExplainedDone, Advised}
+use Rattle.report.specs.declared.done.Done.TheVariants.{Usage, ReadFault, WriteFault, Refused, Memory, Priced, Listed, Explained as ExplainedDone, Advised, Checked, NotProved as NotProvedDone}
+use Rattle.report.specs.declared.done.NotProved.{NotProved}
 use Rattle.report.specs.declared.done.WordFault.{WordFault}
 use Rattle.cophy_core.specs.Answers.{Answers}
-use Rattle.cophy_core.specs.Causes.{IsOrMemory, IsSteady, UsageIsTrue, ReadFaultIsTrue, WriteFaultIsTrue, RefusalIsTrue, MemoryWritesNothing, IsSound, IsWritten, IsBounded}
-use Rattle.cophy_core.specs.ReadWords.{PlainCommand, Candidates, Cost, WhatIf, Explain, Advise, command_of}
+use Rattle.cophy_core.specs.Causes.{IsOrMemory, IsSteady, UsageIsTrue, ReadFaultIsTrue, WriteFaultIsTrue, RefusalIsTrue, IsUnproved, NotProvedIsTrue, MemoryWritesNothing, IsSound, IsWritten, IsBounded}
+use Rattle.cophy_core.specs.ReadWords.{PlainCommand, Candidates, Cost, WhatIf, Explain, Advise, Check, command_of}
 use Rattle.cophy_core.specs.Endings.{Put, Outside, EndsWhole, EndsUnwritten, Ends}
 use Rattle.cophy_core.specs.Files.{ReadCounts, counts}
 use Rattle.cophy_core.specs.Reading.{StopsAtFiles}
@@ -20,12 +21,14 @@ use Rattle.cophy_core.specs.Stops.{done_of}
 use Rattle.cophy_core.specs.declared.stop.Stop.{Stop}
 use Rattle.cophy_core.specs.declared.stop.Stop.TheVariants as stops
 
--- a command's files answer with prices, candidates, an explained plan or a refusal
+-- a command's files answer with what it gives or a refusal
 abbrev IsAnswer : Done → Type 0
 IsAnswer (Priced prices) = Unit {0}
 IsAnswer (Listed found) = Unit {0}
 IsAnswer (ExplainedDone explained) = Unit {0}
 IsAnswer (Advised advice) = Unit {0}
+IsAnswer (Checked checked) = Unit {0}
+IsAnswer (NotProvedDone why) = Unit {0}
 IsAnswer (Refused why) = Unit {0}
 IsAnswer done = ⊥
 
@@ -34,12 +37,15 @@ is_answer command files (Priced prices) h = tt
 is_answer command files (Listed found) h = tt
 is_answer command files (ExplainedDone explained) h = tt
 is_answer command files (Advised advice) h = tt
+is_answer command files (Checked checked) h = tt
+is_answer command files (NotProvedDone why) h = tt
 is_answer command files (Refused why) h = tt
 is_answer (Candidates cat load) files done h = absurd h.holds
 is_answer (Cost cat load) files done h = absurd h.holds
 is_answer (WhatIf cat load conf) files done h = absurd h.holds
 is_answer (Explain cat load conf number) files done h = absurd h.holds
 is_answer (Advise cat load budget nodes None) files done h = absurd h.holds
+is_answer (Check cat load cert) files done h = absurd h.holds
 is_answer command files done h = absurd (let e = h in cc)
 
 -- ## Replies
@@ -58,6 +64,21 @@ refusal_of : (words : Result PlainCommand WordFault) (files : Option Files) (bef
 refusal_of (Ok command) files before after (Refused why) h = (command, refl, h)
 refusal_of (Err fault) files before after (Refused why) h = absurd h
 refusal_of words files before after reply h = tt
+
+-- a command whose files prove nothing is `check`
+unproved : (command : PlainCommand) (files : Option Files) (why : NotProved) → Answers command files (NotProvedDone why) → IsUnproved (Ok command) files why
+unproved (Candidates cat load) files why h = absurd h.holds
+unproved (Cost cat load) files why h = absurd h.holds
+unproved (WhatIf cat load conf) files why h = absurd h.holds
+unproved (Explain cat load conf number) files why h = absurd h.holds
+unproved (Advise cat load budget nodes None) files why h = absurd h.holds
+unproved (Check cat load cert) files why h = record { cat = cat; load = load; cert = cert; words_are = refl; first = h }
+unproved command files why h = absurd (let e = h in cc)
+
+not_proved_of : (words : Result PlainCommand WordFault) (files : Option Files) (before after : ReadCounts) (reply : Done) → MayAnswerWords words files before after reply → NotProvedIsTrue words files reply
+not_proved_of (Ok command) files before after (NotProvedDone why) h = unproved command files why h
+not_proved_of (Err fault) files before after (NotProvedDone why) h = absurd h
+not_proved_of words files before after reply h = tt
 
 sound_of : (command : PlainCommand) (files : Option Files) (before after : ReadCounts) (reply : Done) → MayAnswer command files before after reply → IsSound command files reply
 sound_of command files before after (ReadFault role) h = tt
@@ -190,6 +211,10 @@ write_fault words files before after old new reply puts text done r e =
 pub refused : (words : List (List ℕ)) (files : Option Files) (before after : ReadCounts) (old new : Outside) (reply : Done) (puts : List Put) (text : List ℕ) (done : Done) → IsReply words files before after reply puts text → Ends old new reply puts text done → RefusalIsTrue (command_of words) files done
 refused words files before after old new reply puts text done r e =
     settle (RefusalIsTrue (command_of words) files) old new reply puts text done r.no_puts e (refusal_of (command_of words) files before after reply r.answers) (λ rose. tt)
+
+pub not_proved : (words : List (List ℕ)) (files : Option Files) (before after : ReadCounts) (old new : Outside) (reply : Done) (puts : List Put) (text : List ℕ) (done : Done) → IsReply words files before after reply puts text → Ends old new reply puts text done → NotProvedIsTrue (command_of words) files done
+not_proved words files before after old new reply puts text done r e =
+    settle (NotProvedIsTrue (command_of words) files) old new reply puts text done r.no_puts e (not_proved_of (command_of words) files before after reply r.answers) (λ rose. tt)
 
 -- the answer to words that are a command
 to_command : (words : Result PlainCommand WordFault) (command : PlainCommand) (files : Option Files) (before after : ReadCounts) (reply : Done) → words ≡ Ok command → MayAnswerWords words files before after reply → MayAnswer command files before after reply

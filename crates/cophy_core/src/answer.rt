@@ -13,6 +13,7 @@ ghost use Rattle.cophy_core.specs.Replies.{IsReply, Replies};
 ghost use Rattle.cophy_core.specs.Stops.{StopsAt};
 
 use crate::commands::advise::advise;
+use crate::commands::check::check;
 use crate::commands::cost::cost;
 use crate::commands::explain::explain;
 use crate::commands::list_candidates::list_candidates;
@@ -52,9 +53,8 @@ fn work(
             cert: None,
             ..
         } => advise(alloc, setting, budget, nodes),
-        Command::Advise { cert: Some(_), .. } | Command::Check { .. } | Command::Bench { .. } => {
-            unreachable!()
-        }
+        Command::Check { .. } => Ok(check(alloc, setting, bytes_at(inputs, 2))?),
+        Command::Advise { cert: Some(_), .. } | Command::Bench { .. } => unreachable!(),
     }
 }
 

@@ -20,6 +20,7 @@ mod tally;
 mod top;
 mod words;
 
+pub use commands::check::checks_have_one_answer;
 pub use conf::read_conf;
 pub use top::{Outcome, run};
 pub use words::{Command, DEFAULT_NODES, read_words};
