@@ -15,26 +15,6 @@ USES = ("branch_bound", "lagrange_bound", "tuning", "workload_gen", "candidates"
 ADVICE = Source("advice_bench", USES, ("programme", "1", "2", "1", "1"))
 
 
-@dataclass(frozen=True)
-class Workload:
-    """The generator's numbers."""
-    seed: int
-    tables: int
-    statements: int
-
-    @property
-    def words(self) -> list[str]:
-        return [str(self.seed), str(self.tables), str(self.statements)]
-
-    def __str__(self) -> str:
-        return "-".join(self.words)
-
-
-def workload_of(text: str) -> Workload:
-    seed, tables, statements = map(int, text.split("-"))
-    return Workload(seed, tables, statements)
-
-
 @dataclass
 class Advice:
     """The program, by the path of what was built, or as what is run unproved."""

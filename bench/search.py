@@ -6,15 +6,17 @@ import os
 from dataclasses import dataclass, field
 from tempfile import TemporaryDirectory
 
-from advice import Advice, Workload, add_options, made, workload_of
+from advice import Advice, add_options, made
 from measure import print_row
 from printed import Programme, cost, lp_text, programme_of, useful
 from searches import numbers
 from solvers import MOST_SECONDS, Solved, installed
+from workloads import Workload, workload_of
 
 # Hundredths of the pages of all useful candidates; 100 stands for 10^12 pages.
 SHARES = (2, 5, 10, 20, 40, 70, 100)
-WORKLOADS = "1-5-20 2-20-20 3-10-50 4-20-50 5-5-100 6-10-100 7-20-100 8-10-200 9-20-200 10-20-300 11-5-500 12-10-500 13-20-500"
+FULL = "1-5-20 2-20-20 3-10-50 4-20-50 5-5-100 6-10-100 7-20-100 8-10-200 9-20-200 10-20-300 11-5-500 12-10-500 13-20-500"
+WORKLOADS = "1-5-20 3-10-50 4-20-50 6-10-100 7-20-100 9-20-200 12-10-500"
 QUICK = "1-5-20 3-10-50 6-10-100"
 WIDTHS = (10, 13, 7, 8, 6, 4, 6, 9, 9, 9)
 
@@ -134,12 +136,13 @@ def measured(options: argparse.Namespace, advice: Advice, workloads: list[Worklo
 def main() -> None:
     parser = argparse.ArgumentParser(description=__doc__)
     add_options(parser)
-    parser.add_argument("--workloads", help="seed-tables-statements, with blanks between (default: thirteen)")
+    parser.add_argument("--workloads", help=f"seed-tables-statements, with blanks between (default: {WORKLOADS})")
+    parser.add_argument("--full", action="store_true", help="thirteen workloads; the solvers alone take minutes")
     parser.add_argument("--nodes", type=int, default=20000, help="nodes of a search (default: 20000)")
     parser.add_argument("--most", type=float, default=MOST_SECONDS, help="seconds that a solver may take (default: 60)")
     parser.add_argument("--no-solvers", action="store_true", help="leave the solvers out")
     options = parser.parse_args()
-    listed = options.workloads or (QUICK if options.quick else WORKLOADS)
+    listed = options.workloads or (QUICK if options.quick else FULL if options.full else WORKLOADS)
     workloads = [workload_of(word) for word in listed.split()]
     with made(options) as advice, TemporaryDirectory() as folder:
         print_sums(measured(options, advice, workloads, folder))
