@@ -80,7 +80,7 @@ def solve(row: Row, programme: Programme, folder: str, most: float) -> None:
     with open(file, "w") as out:
         out.write(lp_text(programme, row.told["budget"]))
     for name, call in installed().items():
-        row.solved[name] = call(folder, file, most)
+        row.solved[name] = call(file, most)
 
 
 def told(solved: Solved | None) -> str:

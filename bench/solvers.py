@@ -1,10 +1,10 @@
 """Open solvers of such programmes, where they are installed: Debian's `coinor-cbc` and `glpk-utils`."""
-import os
 import re
 import shutil
-import subprocess
-import time
+from collections.abc import Callable
 from dataclasses import dataclass
+
+from measure import run_once
 
 # Longer than this no solver is waited for.
 MOST_SECONDS = 60
@@ -12,17 +12,16 @@ MOST_SECONDS = 60
 
 @dataclass
 class Solved:
-    """The seconds of a run less those of one that only reads the file, and the objective, which is None where the solver
-    didn't show that it is least."""
+    """The processor's seconds of a run less those of one that only reads the file, and the objective, which is None where the
+    solver didn't show that it is least."""
     seconds: float
     cost: float | None
 
 
-def run(words: list[str], folder: str, seconds: float) -> tuple[float, str]:
-    """The seconds that a command took, and what it printed."""
-    begun = time.perf_counter()
-    done = subprocess.run(words, cwd=folder, capture_output=True, text=True, timeout=seconds)
-    return time.perf_counter() - begun, done.stdout
+def run(words: list[str]) -> tuple[float, str]:
+    """The processor's seconds that a command took, and what it printed."""
+    done = run_once(words)
+    return done.processor, done.output.decode(errors="replace")
 
 
 def optimal(pattern: str, text: str) -> float | None:
@@ -30,24 +29,23 @@ def optimal(pattern: str, text: str) -> float | None:
     return float(found.group(1)) if found else None
 
 
-def cbc(folder: str, file: str, most: float = MOST_SECONDS) -> Solved:
-    reading, _ = run(["cbc", file, "quit"], folder, most)
-    words = ["cbc", file, "ratioGap", "0", "allowableGap", "0", "seconds", str(int(most)), "solve", "solution", "/dev/null", "quit"]
-    whole, text = run(words, folder, most + 30)
+def cbc(file: str, most: float = MOST_SECONDS) -> Solved:
+    reading, _ = run(["cbc", file, "quit"])
+    solve = ["ratioGap", "0", "allowableGap", "0", "seconds", str(int(most)), "solve", "quit"]
+    whole, text = run(["cbc", file, *solve])
     cost = optimal(r"Result - Optimal solution found.*?Objective value:\s+(\S+)", text)
     return Solved(max(0.0, whole - reading), cost)
 
 
-def glpk(folder: str, file: str, most: float = MOST_SECONDS) -> Solved:
-    reading, _ = run(["glpsol", "--lp", file, "--check"], folder, most)
-    out = os.path.join(folder, "glpk.txt")
-    words = ["glpsol", "--lp", file, "--cuts", "--tmlim", str(int(most)), "-o", out]
-    whole, _ = run(words, folder, most + 30)
+def glpk(file: str, most: float = MOST_SECONDS) -> Solved:
+    reading, _ = run(["glpsol", "--lp", file, "--check"])
+    out = f"{file}.glpk"
+    whole, _ = run(["glpsol", "--lp", file, "--cuts", "--tmlim", str(int(most)), "-o", out])
     with open(out) as text:
         cost = optimal(r"Status:\s+(?:INTEGER )?OPTIMAL.*?Objective:\s+obj = (\S+)", text.read())
     return Solved(max(0.0, whole - reading), cost)
 
 
-def installed() -> dict[str, object]:
+def installed() -> dict[str, Callable[[str, float], Solved]]:
     """The solvers that are here, by name."""
     return {name: call for name, word, call in (("cbc", "cbc", cbc), ("glpk", "glpsol", glpk)) if shutil.which(word)}
