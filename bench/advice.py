@@ -8,6 +8,7 @@ from tempfile import TemporaryDirectory
 
 from builds import Source, built, run_built, run_unproved
 from measure import ROOT
+from plain import plain
 
 
 USES = ("branch_bound", "lagrange_bound", "tuning", "workload_gen", "candidates", "binder", "catalogue", "sql_reader",
@@ -36,6 +37,8 @@ def add_options(parser: argparse.ArgumentParser) -> None:
                         "temporary folder)")
     parser.add_argument("--unproved", action="store_true", help="run it by `rt try`, without proof and unoptimised: numbers "
                         "of nodes and costs are right, times aren't")
+    parser.add_argument("--plain", action="store_true", help="build it by rustc, as plain Rust without contracts: unproved, in "
+                        "a minute; its times are a little above those of what is proved")
     parser.add_argument("--quick", action="store_true", help="smaller workloads alone")
 
 
@@ -46,7 +49,9 @@ def made(options: argparse.Namespace) -> Iterator[Advice]:
         folder = os.path.abspath(options.folder or os.path.join(temporary, "copy"))
         os.makedirs(folder, exist_ok=True)
         program = options.program
-        if not program and not options.unproved:
+        if options.plain:
+            program = plain(folder, options.root)
+        elif not program and not options.unproved:
             program = built(ADVICE, folder, options.root)
         yield Advice(program, folder, options.root)
 

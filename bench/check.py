@@ -4,7 +4,10 @@ size of the certificate."""
 import os
 from tempfile import TemporaryDirectory
 
-from measure import arguments, need_program, need_status_0, print_row, run_lightest
+from builds import run_built
+from measure import ROOT, arguments, need_program, need_status_0, print_row, run_lightest
+from plain import plain
+from searches import numbers
 from workloads import Workload, advice_of, budget_of, candidate_pages, put, workload_of
 
 SHARES = (2, 5, 10, 20, 40, 70, 100)
@@ -14,11 +17,17 @@ HEADS = ("workload", "budget", "finished", "nodes", "certificate", "advise ms", 
 WIDTHS = (10, 13, 8, 6, 11, 9, 9, 6)
 
 
-def measured(program: str, workload: Workload, folder: str, repeat: int) -> tuple[float, float]:
-    """Prints a line for each budget, and answers the seconds of `advise` and of `check` for all of them."""
+def print_line(workload: Workload, budget: int, finished: bool, nodes: int, size: int, times: tuple[float, float]) -> None:
+    advise, check = times
+    print_row((workload, budget, "yes" if finished else "no", nodes, size, f"{1000 * advise:.1f}", f"{1000 * check:.1f}",
+               f"{check / max(advise, 1e-9):.2f}"), WIDTHS)
+
+
+def by_commands(program: str, workload: Workload, folder: str, repeat: int) -> list[tuple[float, float]]:
+    """Prints a line for each budget, and answers the seconds of `advise` and of `check`."""
     catalogue, load = put(workload, folder)
     pages = candidate_pages(program, workload, folder)
-    advised = checked = 0.0
+    found = []
     for share in SHARES:
         budget = budget_of(share, pages)
         certificate = os.path.join(folder, "certificate")
@@ -27,30 +36,44 @@ def measured(program: str, workload: Workload, folder: str, repeat: int) -> tupl
         need_status_0(advise, f"advise {workload} {budget}")
         check = run_lightest([program, "check", catalogue, load, certificate], repeat)
         need_status_0(check, f"check {workload} {budget}")
-        advised += advise.processor
-        checked += check.processor
         told = advice_of(advise)
-        print_row((workload, budget, "yes" if told.finished else "no", told.nodes, os.path.getsize(certificate),
-                   f"{1000 * advise.processor:.1f}", f"{1000 * check.processor:.1f}",
-                   f"{check.processor / max(advise.processor, 1e-9):.2f}"), WIDTHS)
-    return advised, checked
+        found.append((advise.processor, check.processor))
+        print_line(workload, budget, told.finished, told.nodes, os.path.getsize(certificate), found[-1])
+    return found
+
+
+def by_calls(program: str, workload: Workload) -> list[tuple[float, float]]:
+    """The same by the crates' calls, as plain Rust, without the reading of text."""
+    text = run_built(program, [["check", *workload.words, "20000", *map(str, SHARES)]])[0]
+    found = []
+    for line in text.splitlines():
+        told = numbers(line)
+        found.append((told["advise"] / 1e6, told["check"] / 1e6))
+        print_line(workload, told["budget"], bool(told["closed"]), told["nodes"], told["bytes"], found[-1])
+        if not told["proved"]:
+            print("  WRONG: the certificate isn't proved", flush=True)
+    return found
 
 
 def main() -> None:
     parser = arguments(__doc__)
     parser.set_defaults(repeat=1)
     parser.add_argument("--workloads", help=f"seed-tables-statements, with blanks between (default: {WORKLOADS})")
+    parser.add_argument("--plain", action="store_true", help="the crates' calls as plain Rust in the place of the commands, "
+                        "unproved and built by rustc")
+    parser.add_argument("--root", default=ROOT, help="the repository whose crates are built so (default: this one)")
     parser.add_argument("--quick", action="store_true", help=f"smaller workloads alone ({QUICK})")
     options = parser.parse_args()
-    need_program(options.program)
-    listed = options.workloads or (QUICK if options.quick else WORKLOADS)
-    print_row(HEADS, WIDTHS)
-    advised = checked = 0.0
+    listed = (options.workloads or (QUICK if options.quick else WORKLOADS)).split()
+    if not options.plain:
+        need_program(options.program)
+    found: list[tuple[float, float]] = []
     with TemporaryDirectory() as folder:
-        for word in listed.split():
-            more = measured(options.program, workload_of(word), folder, options.repeat)
-            advised += more[0]
-            checked += more[1]
+        program = plain(folder, options.root) if options.plain else options.program
+        print_row(HEADS, WIDTHS)
+        for workload in map(workload_of, listed):
+            found += by_calls(program, workload) if options.plain else by_commands(program, workload, folder, options.repeat)
+    advised, checked = (sum(times) for times in zip(*found))
     print(f"in all: advise {advised:.2f} s, check {checked:.2f} s, {checked / max(advised, 1e-9):.2f} of advise")
     if checked > advised:
         print("NOT MET: check takes no longer than advise in all")
