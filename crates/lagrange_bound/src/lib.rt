@@ -20,7 +20,7 @@ mod laws;
 mod pricing;
 mod sharing;
 
-pub use ascending::{Ascent, Pace, ascend, forecast};
+pub use ascending::{Ascent, Pace, ascend};
 pub use bounds::bound;
 pub use carrying::{carry, terms, total};
 pub use improving::improve;
