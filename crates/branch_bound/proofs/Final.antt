@@ -45,10 +45,11 @@ use Rattle.bip_model.proofs.Totalling.{value-total}
 use Rattle.bip_model.proofs.Usefulness.{useful-counted}
 use Rattle.bip_model.proofs.Using.{multipliers-used, multipliers-kept}
 use Rattle.lagrange_bound.specs.Bounds.{state_at, lagrangian}
+use Rattle.branch_bound.specs.declared.climb.Costed.{Costed}
 use Rattle.branch_bound.specs.declared.found.Found.{Found}
 use Rattle.branch_bound.specs.Sides.{inside, total, IsRoot}
 use Rattle.branch_bound.specs.inner.Climbs.{flag_at, IsSound, IsTop}
-use Rattle.branch_bound.specs.inner.Runs.{Rules, lag, MOST_LOW, start, Runs, least_bound}
+use Rattle.branch_bound.specs.inner.Runs.{Rules, lag, MOST_LOW, started, Runs, least_bound}
 use Rattle.branch_bound.proofs.Climbing.{free-is}
 use Rattle.branch_bound.proofs.Running.{AreRulesFor, own_sets, first_set, first-fits, first-value, first-found, runs-explored, runs-shows, less-of, not-less-of}
 use Rattle.branch_bound.proofs.Sound.{under-root, sound-inside}
@@ -160,13 +161,13 @@ never-start : (bound low : ℤ) (cost : ℕ) → bound ≡ low → low ≡ pos M
 never-start bound low cost is at_start few below = omega (arith, ints, is, at_start, few, below)
 
 -- the bound is the cost, or the least value of the leaves where nodes had run out
-pub given-up : (setting : TheSetting) (rules : Rules) (root : Fix) (tree : Tree) (after : Found) (cost : ℕ) → AreRulesFor setting rules → IsConfigOf setting.shapes (inside root) → cost < MOST_TOTAL →
-    Runs rules root (start rules.programme root) tree after → least_bound cost after.low <ℤ pos cost → IsLowest setting rules (subproblems (node_of root) tree) (least_bound cost after.low) after.made
-given-up setting rules root tree after cost are config few run below =
+pub given-up : (setting : TheSetting) (rules : Rules) (root : Fix) (known : Costed) (tree : Tree) (after : Found) (cost : ℕ) → AreRulesFor setting rules → IsConfigOf setting.shapes (inside root) → cost < MOST_TOTAL →
+    Runs rules root (started known) tree after → least_bound cost after.low <ℤ pos cost → IsLowest setting rules (subproblems (node_of root) tree) (least_bound cost after.low) after.made
+given-up setting rules root known tree after cost are config few run below =
     elim (bound-cases cost after.low) [
       | inl same ↦ absurd (not-below (least_bound cost after.low) cost same below)
       | inr low ↦
-          elim (runs-lowest setting rules root (start rules.programme root) tree after are config run) [
+          elim (runs-lowest setting rules root (started known) tree after are config run) [
             | inl at_start ↦ absurd (never-start (least_bound cost after.low) after.low cost low at_start few below)
             | inr lowest ↦ subst (λ (v : ℤ). IsLowest setting rules (subproblems (node_of root) tree) v after.made) (sym low) lowest
           ]
@@ -210,20 +211,20 @@ root-cost setting rules root config cost are sound =
     at-most (pos m) n less = omega (arith, ints, less)
     at-most (negsuc m) n less = omega (arith, ints)
 
-root-bound : (setting : TheSetting) (rules : Rules) (root : Fix) (tree : Tree) (after : Found) (config : Config) (cost : ℕ) → AreRulesFor setting rules → IsConfigOf setting.shapes (inside root) →
-    IsSound rules.programme rules.budget root config cost → AreExplored setting rules.budget (subproblems (node_of root) tree) (start rules.programme root).cost after.cost →
-    Runs rules root (start rules.programme root) tree after → lag rules root 1 ≤ℤ least_bound cost after.low
-root-bound setting rules root tree after config cost are config_is sound explored run =
+root-bound : (setting : TheSetting) (rules : Rules) (root : Fix) (known : Costed) (tree : Tree) (after : Found) (config : Config) (cost : ℕ) → AreRulesFor setting rules → IsConfigOf setting.shapes (inside root) →
+    IsSound rules.programme rules.budget root config cost → AreExplored setting rules.budget (subproblems (node_of root) tree) (started known).cost after.cost →
+    Runs rules root (started known) tree after → lag rules root 1 ≤ℤ least_bound cost after.low
+root-bound setting rules root known tree after config cost are config_is sound explored run =
     let most = root-cost setting rules root config cost are sound in
     elim (bound-cases cost after.low) [
       | inl same ↦ first (lag rules root 1) (least_bound cost after.low) cost same most
       | inr low ↦
-          elim (runs-lowest setting rules root (start rules.programme root) tree after are config_is run) [
+          elim (runs-lowest setting rules root (started known) tree after are config_is run) [
             | inl at_start ↦ second (lag rules root 1) (least_bound cost after.low) after.low cost low at_start most (cost-below setting rules config cost are sound.cost_is)
             | inr lowest ↦
                 let tight = lowest.tight in
                 let own = tight.highest 1 (multipliers_of rules.programme (first_set rules)) (first-found setting rules are) in
-                let at' = useful-branches setting rules.budget (node_of root) tree (explored-worthwhile setting rules.budget (subproblems (node_of root) tree) (start rules.programme root).cost after.cost explored) in
+                let at' = useful-branches setting rules.budget (node_of root) tree (explored-worthwhile setting rules.budget (subproblems (node_of root) tree) (started known).cost after.cost explored) in
                 let rises = value-below setting rules.budget (node_of root) tree (multipliers_of rules.programme (first_set rules)) (lag rules root 1) own.value (rents-limited rules.programme (first_set rules) (first-fits setting rules are)) at'
                 tight.number tight.leaf tight.leaf_found (first-value setting rules root are) own.value_is in
                 third (lag rules root 1) own.value after.low (least_bound cost after.low) low rises own.holds
@@ -299,23 +300,23 @@ whole-node root long = record { inside = length-map root.state is_in ∙ long; o
 smaller : (nodes made list useful : ℕ) → nodes ≤ made + 1 → made ≡ list → list + 3 ≤ 2 ^ (useful + 1) → nodes < 2 ^ (useful + 1) - 1
 smaller nodes made list useful one two three = omega (arith, one, two, three)
 
-pub best-answer : (setting : TheSetting) (rules : Rules) (root : Fix) (tree : Tree) (after : Found) (config : Config) (cost : ℕ) (sets : List Multipliers) (list : List Node) (useful : ℕ) →
-    AreRulesFor setting rules → IsRoot rules.programme rules.budget root → length root.state ≡ MOST_CANDIDATES → Runs rules root (start rules.programme root) tree after → list ≡ preorder tree →
+pub best-answer : (setting : TheSetting) (rules : Rules) (root : Fix) (known : Costed) (tree : Tree) (after : Found) (config : Config) (cost : ℕ) (sets : List Multipliers) (list : List Node) (useful : ℕ) →
+    AreRulesFor setting rules → IsRoot rules.programme rules.budget root → length root.state ≡ MOST_CANDIDATES → Runs rules root (started known) tree after → list ≡ preorder tree →
     length list ≡ after.made → after.made ≤ rules.nodes → sets ≡ rules.sets → useful ≡ useful_below rules.programme rules.budget (length rules.programme.sizes) →
     IsSound rules.programme rules.budget root config cost → cost ≤ after.cost → IsTop rules.programme rules.budget root config cost →
     AtMostRents setting rules root 0 → ((j : ℕ) → j < 40 → AtMostRents setting rules root (2 ^ j)) →
     IsBest setting rules.budget rules.nodes (node_of root) (record { config = config; cost = cost; bound = least_bound cost after.low; sets = sets; tree = list; useful = useful })
 unfolding AtMostRents
-best-answer setting rules root tree after config cost sets list useful are is_root long run list_is made most sets_are useful_is sound cheaper top none powers =
+best-answer setting rules root known tree after config cost sets list useful are is_root long run list_is made most sets_are useful_is sound cheaper top none powers =
     let bound : ℤ = least_bound cost after.low in
     let nodes_of : List Subproblem = subproblems (node_of root) tree in
     let root_config = sound-config setting rules root (inside root) (total rules.programme root) are (sound-inside rules.programme rules.budget root root (under-root rules.programme rules.budget root is_root)) in
     let root_fits : Fits setting.cat setting.shapes (inside root) rules.budget = omega (arith, pages-same setting rules.programme (inside root) are.stands, is_root.fits) in
-    let explored = runs-explored setting rules root (start rules.programme root) tree after are run in
-    let worthwhile = explored-worthwhile setting rules.budget nodes_of (start rules.programme root).cost after.cost explored in
+    let explored = runs-explored setting rules root (started known) tree after are run in
+    let worthwhile = explored-worthwhile setting rules.budget nodes_of (started known).cost after.cost explored in
     let own : map (multipliers_in setting) sets ≡ own_sets rules = ap (map (multipliers_in setting)) sets_are ∙ sets-used setting rules.programme rules.sets are.stands in
     let in_tree = costs-less setting rules.budget nodes_of after.cost cost cheaper explored.costs in
-    let up = root-bound setting rules root tree after config cost are root_config sound explored run in
+    let up = root-bound setting rules root known tree after config cost are root_config sound explored run in
     let counted = subst (λ (n : ℕ). AreUseful setting rules.budget n) (sym useful_is) (useful-counted setting rules.programme rules.budget are.stands) in
     record {
       proves =
@@ -330,7 +331,7 @@ best-answer setting rules root tree after config cost sets list useful are is_ro
                   list_is = list_is;
                   shows =
                       subst (λ (ms : List TheMultipliers). Shows setting rules.budget bound ms (node_of root) tree) (sym own)
-                      (runs-shows setting rules root (start rules.programme root) tree after bound are run (below-both bound cost after.cost (bound-cost cost after.low) cheaper) (bound-low cost after.low));
+                      (runs-shows setting rules root (started known) tree after bound are run (below-both bound cost after.cost (bound-cost cost after.low) cheaper) (bound-low cost after.low));
                 };
           };
       obeys = sound-below rules root config cost sound;
@@ -338,7 +339,7 @@ best-answer setting rules root tree after config cost sets list useful are is_ro
       worthwhile = worthwhile;
       nodes_most = omega (arith, made, most);
       gave_up = λ below.
-          let lowest = given-up setting rules root tree after cost are root_config (cost-below setting rules config cost are sound.cost_is) run below in
+          let lowest = given-up setting rules root known tree after cost are root_config (cost-below setting rules config cost are sound.cost_is) run below in
           let same = subproblems-length (node_of root) tree ∙ ap length (sym list_is) in
           let small = tight-smaller setting rules.budget useful (node_of root) tree (own_sets rules) bound cost are.limits counted (whole-node root long) root_config root_fits worthwhile in_tree lowest.tight below in
           record {

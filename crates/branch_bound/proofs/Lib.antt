@@ -7,3 +7,4 @@ pub mod Tight
 pub mod Finding
 pub mod Final
 pub mod Linking
+pub mod Ledgers

@@ -1,11 +1,13 @@
 -- The memory of a search, and how many sets of multipliers it may keep.
-use Rattle.std.specs.Prelude.{◌≡◌, ℕ, ◌*◌, ◌≤◌, ◌⊎◌, [], replicate, All}
+use Rattle.std.specs.Prelude.{◌≡◌, ℕ, ◌*◌, ◌<◌, ◌≤◌, ◌⊎◌, [], replicate, All, length}
 use Rattle.std.specs.Vec.{vec_capacity}
 use Rattle.adv_base.specs.declared.limits.TheConstants.{MOST_ENTRIES, MOST_SETS}
 use Rattle.bip_model.specs.declared.programme.Programme.{Programme}
 use Rattle.bip_model.specs.Values.{grant_count}
 use Rattle.bip_model.specs.Views.{AreMultipliers}
+use Rattle.lagrange_bound.specs.Ledgers.{HasRoom}
 use Rattle.branch_bound.specs.declared.room.Room.{Room}
+use Rattle.branch_bound.specs.inner.Proposals.{AreHands}
 
 -- so many sets, of which at least one is always kept, have no more rents than an answer may have
 pub record IsSetLimit (programme : Programme) (count : ℕ) : Type 0 where
@@ -23,5 +25,6 @@ pub record IsRoomFor (programme : Programme) (nodes : ℕ) (room : Room) : Type 
   pub zeros_are : room.zeros.lambda ≡ replicate (grant_count programme) 0
   pub zeros_fit : AreMultipliers programme room.zeros
   pub first_fits : AreMultipliers programme room.first
-  pub spare_fits : AreMultipliers programme room.spare
-  pub others_fit : All (AreMultipliers programme) room.others.items
+  pub hands_fit : AreHands programme room.hands
+  pub ledgers_room : All (HasRoom programme) room.ledgers.items
+  pub ledgers_most : MOST_SETS < length room.ledgers.items

@@ -13,9 +13,14 @@ mod explore;
 mod fixing;
 mod found;
 mod frame;
+mod guide;
+mod hands;
+mod incumbent;
 mod node;
-mod propose;
+mod opening;
+mod plan;
 mod room;
+mod task;
 mod useful;
 
 pub use best::search;

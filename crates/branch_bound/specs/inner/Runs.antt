@@ -8,6 +8,9 @@ use Rattle.bip_model.specs.declared.multipliers.Multipliers.{Multipliers}
 use Rattle.bip_model.specs.declared.programme.Programme.{Programme}
 use Rattle.bip_model.specs.Trees.{Tree, Branches, Leaf, Full, preorder}
 use Rattle.lagrange_bound.specs.Bounds.{state_at, fits_beside, lagrangian}
+use Rattle.lagrange_bound.specs.declared.ledger.Ledger.{Ledger}
+use Rattle.lagrange_bound.specs.Ledgers.{IsLedger}
+use Rattle.branch_bound.specs.declared.climb.Costed.{Costed}
 use Rattle.branch_bound.specs.declared.found.Found.{Found}
 use Rattle.branch_bound.specs.declared.frame.Frame.{Frame}
 use Rattle.branch_bound.specs.declared.node.Fate.{Fate}
@@ -37,6 +40,14 @@ rules_of frame =
 -- the set of a number: 0 is that of zeros
 abbrev pub set_of : Rules → ℕ → Multipliers
 set_of rules k = slice_index_or (rules.zeros ∷ rules.sets) k rules.zeros
+
+-- the first ledgers keep the bounds under zeros and so many of the sets, one each
+pub record AreOpen (programme : Programme) (zeros : Multipliers) (sets : List Multipliers) (n : ℕ) (ledgers : List Ledger) : Type 0 where
+  pub enough : n < length ledgers
+  pub each : (k : ℕ) (d : Ledger) → k ≤ n → IsLedger programme (slice_index_or (zeros ∷ sets) k zeros) (slice_index_or ledgers k d)
+
+abbrev pub AreLedgers : Rules → List Ledger → Type 0
+AreLedgers rules ledgers = AreOpen rules.programme rules.zeros rules.sets (length rules.sets) ledgers
 
 -- the Lagrangian value of a node under it
 abbrev pub lag : Rules → Fix → ℕ → ℤ
@@ -135,12 +146,12 @@ Runs rules fix before (Branches a inside_tree outside_tree) after =
     (λ i middle. Runs rules (fixed fix i Out) middle outside_tree after)
 Runs rules fix before Full after = ⊥
 
--- what a search knows at its root
+-- what a search knows at its root, where a configuration is known
 abbrev pub MOST_LOW : ℕ
 MOST_LOW = 2 ^ 127 - 1
 
-abbrev pub start : Programme → Fix → Found
-start programme root = record { config = inside root; cost = total programme root; low = pos MOST_LOW; made = 1 }
+abbrev pub started : Costed → Found
+started known = record { config = known.config; cost = known.cost; low = pos MOST_LOW; made = 1 }
 
 -- a run, whose tree was appended to a list
 pub record IsExplored (rules : Rules) (fix : Fix) (before : Found) (old : List Node) (after : Found) (new : List Node) : Type 0 where
