@@ -8,3 +8,4 @@ pub mod Finding
 pub mod Final
 pub mod Linking
 pub mod Ledgers
+pub mod Proposing
