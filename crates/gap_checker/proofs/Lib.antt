@@ -10,3 +10,7 @@ pub mod Walking
 pub mod Excluding
 pub mod Judging
 pub mod Answering
+pub mod Desks
+pub mod Changing
+pub mod Keeping
+pub mod Remembering

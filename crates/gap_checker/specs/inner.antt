@@ -11,3 +11,5 @@ pub mod Claims
 pub mod Judges
 pub mod Walks
 pub mod Searches
+pub mod Changes
+pub mod Memos

@@ -82,17 +82,6 @@ pub(crate) fn statement_at<'b>(setting: &Setting<'b>, place: usize) -> &'b State
     }
 }
 
-/// What the searches of a statement start from, by the statement's place.
-pub(crate) fn part_at<'b>(figures: &'b Figures<'_>, place: usize) -> &'b Option<Part>
-    requires { place < length figures.now.parts.items }
-    ensures { slice_get figures.now.parts.items place ≡ Some result.now }
-{
-    match figures.parts.get(place) {
-        Some(part) => part,
-        None => unreachable!(),
-    }
-}
-
 impl<'a> Figures<'a> {
     ghost use Rattle.gap_checker.specs.inner.Figures.{AreFigures};
 

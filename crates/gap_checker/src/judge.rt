@@ -8,12 +8,14 @@ ghost use Rattle.gap_checker.specs.Views as views;
 ghost use Rattle.gap_checker.specs.Visits as visits;
 ghost use Rattle.gap_checker.specs.inner.Figures.{AreFigures, setting_of};
 ghost use Rattle.gap_checker.specs.inner.Judges as judges;
+ghost use Rattle.gap_checker.specs.inner.Memos.{IsMemo};
 ghost use Rattle.gap_checker.specs.inner.Nodes.{node_of};
 
 use crate::available::pages_inside;
 use crate::fault::CheckFault;
 use crate::figures::Figures;
 use crate::lagrangian::lagrangian_value;
+use crate::memo::Memo;
 use crate::multipliers::{Multipliers, multipliers_of};
 use crate::rents::Rents;
 use crate::subproblem::Subproblem;
@@ -144,18 +146,31 @@ impl<'a> Judge<'a> {
     fn judge_leaf(
         &self,
         alloc: Global,
+        memo: &mut Memo<'_>,
         cert: &Cert,
         number: u32,
         at: &Subproblem,
         set: u8,
     ) -> Result<(), CheckFault>
         requires judge { judges.IsJudge self.now cert.now }
+        requires memo_is { IsMemo (setting_of self.now.figures.now) cert.now memo.old }
         requires set_in { set ≤ length cert.now.sets }
+        ensures memo { OnOk result (IsMemo (setting_of self.now.figures.now) cert.now memo.new) }
         ensures right { OnOk result (visits.IsRightAt (setting_of self.now.figures.now) cert.now.budget cert.now.bound (views.sets_of cert.now) (node_of at.now) (Bounded set)) }
         ensures wrong { IfErr result (judges.IsWrong (setting_of self.now.figures.now) cert.now number (node_of at.now) (Bounded set)) }
     {
         let multipliers = kept_set_at(self.sets.as_slice(), set as usize);
-        let value = lagrangian_value(alloc, self.figures, multipliers, self.budget, at)?;
+        let last = &mut memo.lasts[set as usize];
+        let desks = memo.desks.as_mut_slice();
+        let value = lagrangian_value(
+            alloc,
+            self.figures,
+            desks,
+            last,
+            multipliers,
+            self.budget,
+            at,
+        )?;
         if value < self.bound {
             return Err(CheckFault::LeafBelow(number, value, self.bound));
         }
@@ -180,19 +195,22 @@ impl<'a> Judge<'a> {
     pub(crate) fn judge(
         &self,
         alloc: Global,
+        memo: &mut Memo<'_>,
         cert: &Cert,
         number: u32,
         at: &Subproblem,
         node: Node,
     ) -> Result<(), CheckFault>
         requires judge { judges.IsJudge self.now cert.now }
+        requires memo_is { IsMemo (setting_of self.now.figures.now) cert.now memo.old }
         requires limits { limits.NodeLimits (length cert.now.sets) node }
+        ensures memo { OnOk result (IsMemo (setting_of self.now.figures.now) cert.now memo.new) }
         ensures right { OnOk result (visits.IsRightAt (setting_of self.now.figures.now) cert.now.budget cert.now.bound (views.sets_of cert.now) (node_of at.now) node) }
         ensures wrong { IfErr result (judges.IsWrong (setting_of self.now.figures.now) cert.now number (node_of at.now) node) }
     {
         match node {
             Node::Branch(candidate) => self.judge_branch(cert, number, at, candidate),
-            Node::Bounded(set) => self.judge_leaf(alloc, cert, number, at, set),
+            Node::Bounded(set) => self.judge_leaf(alloc, memo, cert, number, at, set),
             Node::Overfull => self.judge_overfull(cert, number, at),
         }
     }

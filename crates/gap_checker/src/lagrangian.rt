@@ -1,21 +1,24 @@
 //! The Lagrangian value of a node.
-ghost use Rattle.std.specs.Prelude.{◌≡◌, ◌+◌, ◌-◌, ◌*◌, ◌<◌, ◌≤◌, ◌^◌, IfOk, if◌then◌else◌, length, slice_index_or, suc};
+ghost use Rattle.std.specs.Prelude.{◌≡◌, ◌+◌, ◌-◌, ◌*◌, ◌<◌, ◌≤◌, ◌^◌, IfOk, OnOk, if◌then◌else◌, length, slice_index_or, suc};
 ghost use Rattle.adv_base.specs.Configs.{has_candidate};
 ghost use Rattle.adv_base.specs.Nodes as nodes;
 ghost use Rattle.adv_base.specs.declared.limits.TheConstants.{MOST_CANDIDATES, MOST_INDEX_PAGES, MOST_PAGE_PRICE, MOST_RENT, MOST_ROWS, MOST_SLOTS, MOST_STATEMENTS, MOST_UPKEEP, MOST_WEIGHT};
 ghost use Rattle.certificate.specs.Limits.{EntriesFrom};
 ghost use Rattle.plan_model.specs.Lagrangian as lagrangian;
 ghost use Rattle.plan_model.specs.declared.plan.TheConstants.{MOST_COST};
-ghost use Rattle.gap_checker.specs.inner.Charges.{charge_of};
-ghost use Rattle.gap_checker.specs.inner.Earnings.{AreEarned};
+ghost use Rattle.gap_checker.specs.inner.Earnings.{AreEarned, rent_of};
 ghost use Rattle.gap_checker.specs.inner.Figures.{AreFigures, setting_of};
+ghost use Rattle.gap_checker.specs.inner.Memos as memos;
 ghost use Rattle.gap_checker.specs.inner.Nodes.{node_of};
+ghost use Rattle.gap_checker.specs.inner.Parts.{AreDesks};
 ghost use Rattle.gap_checker.specs.inner.Sums as sums;
 
 use crate::available::available;
-use crate::figures::{Figures, part_at, statement_at};
+use crate::desk::Desk;
+use crate::figures::Figures;
+use crate::memo::Last;
 use crate::multipliers::Multipliers;
-use crate::planning::plan_cost;
+use crate::plans::weighted_plans;
 use crate::subproblem::Subproblem;
 use crate::terms::Terms;
 use adv_base::{Config, NoMemory};
@@ -23,24 +26,6 @@ use std::alloc::Global;
 
 /// Parts of a whole, in which pages are priced.
 const PARTS: u128 = 65536;
-
-/// The sum of weight times least plan cost over what is available, with rents.
-fn weighted_plans(alloc: Global, figures: &Figures<'_>, terms: &Terms<'_>) -> Result<u128, NoMemory>
-    requires figures_are { AreFigures figures.now }
-    requires rise { EntriesFrom 0 terms.now.rents.entries.now }
-    ensures sum { IfOk result (sums.IsRentedSum (setting_of figures.now) terms.now.config.now (charge_of terms.now)) }
-    ensures most { IfOk result (λ sum. sum ≤ MOST_STATEMENTS * (MOST_WEIGHT * MOST_COST)) }
-{
-    let setting = figures.setting;
-    let mut sum: u128 = 0;
-    'statements: for i in 0..setting.statements.len() {
-        let statement = statement_at(setting, i);
-        let part = part_at(figures, i);
-        let cost = plan_cost(alloc, setting, statement, part, terms, i as u16 + 1)?;
-        sum += statement.weight as u128 * cost;
-    }
-    Ok(sum)
-}
 
 /// What a candidate costs where it is chosen: its upkeep and its pages.
 fn candidate_cost(figures: &Figures<'_>, mu: u128, a: usize) -> u128
@@ -164,23 +149,29 @@ pub(crate) fn rounded_up(more: u128, less: u128) -> i128
 pub(crate) fn lagrangian_value(
     alloc: Global,
     figures: &Figures<'_>,
+    desks: &mut [Option<Desk<'_>>],
+    last: &mut Last,
     set: &Multipliers<'_>,
     budget: u64,
     node: &Subproblem,
 ) -> Result<i128, NoMemory>
     requires figures_are { AreFigures figures.now }
+    requires desks_are { AreDesks (setting_of figures.now) desks.old }
+    requires last_is { memos.IsLast (setting_of figures.now) (rent_of set.now.rents) last.old }
     requires earned { AreEarned (setting_of figures.now) set.now }
     requires price { set.now.rents.mu ≤ MOST_PAGE_PRICE }
     requires rise { EntriesFrom 0 set.now.rents.entries.now }
     requires budget_most { budget ≤ MOST_ROWS }
-    ensures { IfOk result (lagrangian.IsLagrangian (setting_of figures.now) budget (node_of node.now) (sums.the_multipliers set.now.rents)) }
+    ensures desks { OnOk result (AreDesks (setting_of figures.now) desks.new) }
+    ensures last { OnOk result (memos.IsLast (setting_of figures.now) (rent_of set.now.rents) last.new) }
+    ensures value { IfOk result (lagrangian.IsLagrangian (setting_of figures.now) budget (node_of node.now) (sums.the_multipliers set.now.rents)) }
 {
     let config = available(figures, node, budget);
     let terms = Terms {
         config: &config,
         rents: set.rents,
     };
-    let plans = weighted_plans(alloc, figures, &terms)?;
+    let plans = weighted_plans(alloc, figures.setting, desks, last, &terms)?;
     let more = PARTS * (plans + figures.kept) + costs_inside(figures, set, node);
     let less = earnings(figures, set, budget, node, &config) + set.rents.mu * budget as u128;
     Ok(rounded_up(more, less))

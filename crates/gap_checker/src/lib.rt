@@ -2,22 +2,28 @@
 //!
 //! In go a setting and a certificate; out comes what the certificate proves, or the first place at which it proves nothing.
 //! Costs come from searches of least plans: of each statement under the configuration, and at each leaf of the tree over
-//! what is available there, with the rents of the leaf's set of multipliers added. No cache of plans and no programme is
-//! read. `specs/Views` has the certificate as the definitions of `bip_model` see it, `specs/Faults` what each answer says.
+//! what is available there, with the rents of the leaf's set of multipliers added. The search of a statement is made once,
+//! its offers are priced once, and what it cost at a set's last leaf stays where none of its tables has other candidates
+//! available. No cache of plans and no programme is read. `specs/Views` has the certificate as the definitions of
+//! `bip_model` see it, `specs/Faults` what each answer says.
 #![tactic(auto)]
 
 mod available;
 mod board;
 mod candidates;
+mod changes;
 mod checking;
+mod desk;
 mod fault;
 mod figures;
 mod judge;
 mod lagrangian;
 mod laws;
+mod memo;
 mod multipliers;
 mod part;
 mod planning;
+mod plans;
 mod rents;
 mod row;
 mod shown;

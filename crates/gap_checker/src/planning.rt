@@ -14,13 +14,13 @@ ghost use Rattle.gap_checker.specs.inner.Parts as kept;
 ghost use Rattle.gap_checker.specs.inner.Rows as rows;
 
 use crate::board::Board;
+use crate::desk::Desk;
 use crate::part::{Part, block_of};
 use crate::row::Row;
 use crate::shown::Shown;
 use crate::terms::Terms;
 use adv_base::{Block, NoMemory, Setting, Statement};
 use plan_model::Offers;
-use planner::Search;
 use std::alloc::Global;
 
 /// Puts an offer at the end.
@@ -116,20 +116,43 @@ fn block_cost(
     alloc: Global,
     setting: &Setting<'_>,
     block: &Block,
-    part: &Part,
+    desk: &mut Desk<'_>,
     terms: &Terms<'_>,
     statement: u16,
 ) -> Result<u128, NoMemory>
     requires named { NamesBlock setting.now.cat.now block.now }
-    requires part_is { kept.IsPart (the_setting setting.now) block.now part.now }
+    requires part_is { kept.IsPart (the_setting setting.now) block.now desk.old.part.now }
     requires rise { EntriesFrom 0 terms.now.rents.entries.now }
     ensures least { IfOk result (lagrangian.IsRentedCost (the_setting setting.now) terms.now.config.now (charge_of terms.now statement) block.now) }
     ensures most { IfOk result (λ cost. cost < MOST_COST) }
+    ensures same { OnOk result (desk.new.part.now ≡ desk.old.part.now) }
 {
+    let part = desk.part;
     let board = board_of(alloc, setting, block, part, terms, statement)?;
     board.limits();
-    let mut search = Search::new(alloc, &part.task)?;
-    Ok(search.cost(&board))
+    Ok(desk.search.cost(&board))
+}
+
+/// The same of the block of a statement.
+fn desk_cost(
+    alloc: Global,
+    setting: &Setting<'_>,
+    statement: &Statement,
+    desk: &mut Desk<'_>,
+    terms: &Terms<'_>,
+    number: u16,
+) -> Result<u128, NoMemory>
+    requires named { NamesWork setting.now.cat.now statement.now.work }
+    requires part_is { kept.IsPlanned (the_setting setting.now) statement.now desk.old.part.now }
+    requires rise { EntriesFrom 0 terms.now.rents.entries.now }
+    ensures least { IfOk result (lagrangian.IsRentedPlan (the_setting setting.now) terms.now.config.now (charge_of terms.now number) statement.now.work) }
+    ensures most { IfOk result (λ cost. cost < MOST_COST) }
+    ensures same { OnOk result (desk.new.part.now ≡ desk.old.part.now) }
+{
+    match block_of(&statement.work) {
+        Some(block) => block_cost(alloc, setting, block, desk, terms, number),
+        None => unreachable!(),
+    }
 }
 
 /// The same of the statement of a number, from 1; an INSERT has no plan.
@@ -137,18 +160,19 @@ pub(crate) fn plan_cost(
     alloc: Global,
     setting: &Setting<'_>,
     statement: &Statement,
-    part: &Option<Part>,
+    desk: &mut Option<Desk<'_>>,
     terms: &Terms<'_>,
     number: u16,
 ) -> Result<u128, NoMemory>
     requires named { NamesWork setting.now.cat.now statement.now.work }
-    requires part_is { kept.HasPart (the_setting setting.now) statement.now part.now }
+    requires desk_is { kept.HasDesk (the_setting setting.now) statement.now desk.old }
     requires rise { EntriesFrom 0 terms.now.rents.entries.now }
     ensures least { IfOk result (lagrangian.IsRentedPlan (the_setting setting.now) terms.now.config.now (charge_of terms.now number) statement.now.work) }
     ensures most { IfOk result (λ cost. cost < MOST_COST) }
+    ensures desk { OnOk result (kept.HasDesk (the_setting setting.now) statement.now desk.new) }
 {
-    match (block_of(&statement.work), part) {
-        (Some(block), Some(part)) => block_cost(alloc, setting, block, part, terms, number),
-        _ => Ok(0),
+    match desk {
+        Some(desk) => desk_cost(alloc, setting, statement, desk, terms, number),
+        None => Ok(0),
     }
 }

@@ -12,12 +12,14 @@ ghost use Rattle.adv_base.specs.Settings.{the_setting};
 ghost use Rattle.gap_checker.specs.Views as views;
 ghost use Rattle.gap_checker.specs.inner.Claims as claims;
 ghost use Rattle.gap_checker.specs.inner.Figures.{AreFigures, setting_of};
-ghost use Rattle.gap_checker.specs.inner.Parts.{HasPart};
+ghost use Rattle.gap_checker.specs.inner.Memos.{IsMemo};
+ghost use Rattle.gap_checker.specs.inner.Parts.{AreDesks, HasDesk};
 
 use crate::candidates::pages_in;
+use crate::desk::Desk;
 use crate::fault::CheckFault;
-use crate::figures::{Figures, part_at, statement_at};
-use crate::part::Part;
+use crate::figures::{Figures, statement_at};
+use crate::memo::Memo;
 use crate::planning::plan_cost;
 use crate::rents::Rents;
 use crate::subproblem::with_candidate;
@@ -78,14 +80,15 @@ fn statement_cost(
     alloc: Global,
     setting: &Setting<'_>,
     statement: &Statement,
-    part: &Option<Part>,
+    desk: &mut Option<Desk<'_>>,
     config: &Config,
     number: u16,
 ) -> Result<u128, NoMemory>
     requires named { NamesWork setting.now.cat.now statement.now.work }
-    requires part_is { HasPart (the_setting setting.now) statement.now part.now }
+    requires desk_is { HasDesk (the_setting setting.now) statement.now desk.old }
     ensures cost { IfOk result (totals.IsCost setting.now.cat.now setting.now.shapes.now config.now statement.now.work) }
     ensures most { IfOk result (λ cost. cost ≤ MOST_COST + (MOST_INDEXES + MOST_CANDIDATES) * MOST_UPKEEP) }
+    ensures desk { OnOk result (HasDesk (the_setting setting.now) statement.now desk.new) }
 {
     let terms = Terms {
         config,
@@ -94,22 +97,29 @@ fn statement_cost(
             entries: &[],
         },
     };
-    let plan = plan_cost(alloc, setting, statement, part, &terms, number)?;
+    let plan = plan_cost(alloc, setting, statement, desk, &terms, number)?;
     let kept = kept_upkeep(setting.cat, statement);
     Ok(plan + (kept + config_upkeep(setting.cat, statement, setting.shapes, config)))
 }
 
 /// What the workload costs under a configuration.
-fn total_cost(alloc: Global, figures: &Figures<'_>, config: &Config) -> Result<u128, NoMemory>
-    requires { AreFigures figures.now }
-    ensures { IfOk result (totals.IsTotal figures.now.setting.now.cat.now figures.now.setting.now.shapes.now config.now figures.now.setting.now.statements.now) }
+fn total_cost(
+    alloc: Global,
+    figures: &Figures<'_>,
+    desks: &mut [Option<Desk<'_>>],
+    config: &Config,
+) -> Result<u128, NoMemory>
+    requires figures_are { AreFigures figures.now }
+    requires desks_are { AreDesks (setting_of figures.now) desks.old }
+    ensures desks { OnOk result (AreDesks (setting_of figures.now) desks.new) }
+    ensures total { IfOk result (totals.IsTotal figures.now.setting.now.cat.now figures.now.setting.now.shapes.now config.now figures.now.setting.now.statements.now) }
 {
     let setting = figures.setting;
     let mut total: u128 = 0;
     'statements: for i in 0..setting.statements.len() {
         let statement = statement_at(setting, i);
-        let part = part_at(figures, i);
-        let cost = statement_cost(alloc, setting, statement, part, config, i as u16 + 1)?;
+        let desk = &mut desks[i];
+        let cost = statement_cost(alloc, setting, statement, desk, config, i as u16 + 1)?;
         total += statement.weight as u128 * cost;
     }
     Ok(total)
@@ -119,15 +129,18 @@ fn total_cost(alloc: Global, figures: &Figures<'_>, config: &Config) -> Result<u
 pub(crate) fn judge_claims(
     alloc: Global,
     figures: &Figures<'_>,
+    memo: &mut Memo<'_>,
     cert: &Cert,
 ) -> Result<(), CheckFault>
     requires figures_are { AreFigures figures.now }
+    requires memo_is { IsMemo (setting_of figures.now) cert.now memo.old }
     requires limits { limits.CertLimits cert.now }
+    ensures memo { OnOk result (IsMemo (setting_of figures.now) cert.now memo.new) }
     ensures sound { OnOk result (faults.IsSound (setting_of figures.now) cert.now) }
     ensures fault { IfErr result (faults.IsFault (setting_of figures.now) cert.now) }
 {
     let config = judge_config(figures, cert)?;
-    let total = total_cost(alloc, figures, &config)?;
+    let total = total_cost(alloc, figures, memo.desks.as_mut_slice(), &config)?;
     if total != cert.cost {
         return Err(CheckFault::CostDiffers(cert.cost, total));
     }

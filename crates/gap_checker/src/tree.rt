@@ -7,12 +7,14 @@ ghost use Rattle.gap_checker.specs.Faults as faults;
 ghost use Rattle.gap_checker.specs.Views as views;
 ghost use Rattle.gap_checker.specs.inner.Figures.{AreFigures, setting_of};
 ghost use Rattle.gap_checker.specs.inner.Judges as judges;
+ghost use Rattle.gap_checker.specs.inner.Memos.{IsMemo};
 ghost use Rattle.gap_checker.specs.inner.Nodes as kept;
 ghost use Rattle.gap_checker.specs.inner.Walks as walks;
 
 use crate::fault::CheckFault;
 use crate::figures::Figures;
 use crate::judge::Judge;
+use crate::memo::Memo;
 use crate::subproblem::Subproblem;
 use adv_base::NoMemory;
 use bip_model::Node;
@@ -68,28 +70,37 @@ fn node_at(cert: &Cert, place: usize) -> Node
 fn judge_next(
     alloc: Global,
     judge: &Judge<'_>,
+    memo: &mut Memo<'_>,
     cert: &Cert,
     starts: &mut Vec<Subproblem>,
     i: usize,
 ) -> Result<(), CheckFault>
     requires judge { judges.IsJudge judge.now cert.now }
+    requires memo_is { IsMemo (setting_of judge.now.figures.now) cert.now memo.old }
     requires limits { limits.CertLimits cert.now }
     requires sound { faults.IsSound (setting_of judge.now.figures.now) cert.now }
     requires within { i < length cert.now.tree }
     requires walk { judges.IsWalk (setting_of judge.now.figures.now) cert.now i (kept.starts_of starts.old.items) }
+    ensures memo { OnOk result (IsMemo (setting_of judge.now.figures.now) cert.now memo.new) }
     ensures walk { OnOk result (judges.IsWalk (setting_of judge.now.figures.now) cert.now (i + 1) (kept.starts_of starts.new.items)) }
     ensures fault { IfErr result (faults.IsFault (setting_of judge.now.figures.now) cert.now) }
 {
     let node = node_at(cert, i);
     let at = next_start(starts);
-    judge.judge(alloc, cert, i as u32 + 1, &at, node)?;
+    judge.judge(alloc, memo, cert, i as u32 + 1, &at, node)?;
     keep_sides(starts, &at, node)?;
     Ok(())
 }
 
 /// Judges the nodes of the tree in preorder.
-fn judge_nodes(alloc: Global, judge: &Judge<'_>, cert: &Cert) -> Result<(), CheckFault>
+fn judge_nodes(
+    alloc: Global,
+    judge: &Judge<'_>,
+    memo: &mut Memo<'_>,
+    cert: &Cert,
+) -> Result<(), CheckFault>
     requires judge { judges.IsJudge judge.now cert.now }
+    requires memo_is { IsMemo (setting_of judge.now.figures.now) cert.now memo.old }
     requires limits { limits.CertLimits cert.now }
     requires sound { faults.IsSound (setting_of judge.now.figures.now) cert.now }
     ensures proof { OnOk result (views.IsProof (setting_of judge.now.figures.now) cert.now) }
@@ -98,7 +109,7 @@ fn judge_nodes(alloc: Global, judge: &Judge<'_>, cert: &Cert) -> Result<(), Chec
     let mut starts = Vec::new(alloc);
     put(&mut starts, Subproblem::root())?;
     for i in 0..cert.tree.len() {
-        judge_next(alloc, judge, cert, &mut starts, i)?;
+        judge_next(alloc, judge, memo, cert, &mut starts, i)?;
     }
     Ok(())
 }
@@ -107,14 +118,16 @@ fn judge_nodes(alloc: Global, judge: &Judge<'_>, cert: &Cert) -> Result<(), Chec
 pub(crate) fn judge_tree(
     alloc: Global,
     figures: &Figures<'_>,
+    memo: &mut Memo<'_>,
     cert: &Cert,
 ) -> Result<(), CheckFault>
     requires figures_are { AreFigures figures.now }
+    requires memo_is { IsMemo (setting_of figures.now) cert.now memo.old }
     requires limits { limits.CertLimits cert.now }
     requires sound { faults.IsSound (setting_of figures.now) cert.now }
     ensures proof { OnOk result (views.IsProof (setting_of figures.now) cert.now) }
     ensures fault { IfErr result (faults.IsFault (setting_of figures.now) cert.now) }
 {
     let judge = Judge::new(alloc, figures, cert)?;
-    judge_nodes(alloc, &judge, cert)
+    judge_nodes(alloc, &judge, memo, cert)
 }

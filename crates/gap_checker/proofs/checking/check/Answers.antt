@@ -6,21 +6,14 @@ use Rattle.adv_base.specs.Settings.{the_setting}
 use Rattle.gap_checker.proofs.Excluding.{excluded, sets-rise, bounds-all}
 use Rattle.gap_checker.proofs.checking.check.Goals as goal
 
-pub returns-in_err-judge_claims-clause-proved : goal.returns-in_err-judge_claims-clause-proved
-returns-in_err-judge_claims-clause-proved c = λ proof.
-    let p = err_from_is_err_and c.from_residual-in_err-judge_claims.result c.from_residual-in_err-judge_claims.ensures.1 in
-    let same : p.0 ≡ c.in_err-judge_claims.field-0.0 = cc (p.2) in
+pub returns-in_err-judge_parts-clause-proved : goal.returns-in_err-judge_parts-clause-proved
+returns-in_err-judge_parts-clause-proved c = λ proof.
+    let p = err_from_is_err_and c.from_residual-in_err-judge_parts.result c.from_residual-in_err-judge_parts.ensures.1 in
+    let same : p.0 ≡ c.in_err-judge_parts.field-0.0 = cc (p.2) in
     rw p.1
-    (same ∙ excluded (the_setting c.args.setting.now) c.args.cert.now c.in_err-judge_claims.field-0.0 c.requires (sets-rise c.args.cert.now.sets c.requires.sets) proof (rw c.in_ok-figures.ensures.setting at c.in_err-judge_claims.ensures.fault))
-
-pub returns-in_err-judge_tree-clause-proved : goal.returns-in_err-judge_tree-clause-proved
-returns-in_err-judge_tree-clause-proved c = λ proof.
-    let p = err_from_is_err_and c.from_residual-in_err-judge_tree.result c.from_residual-in_err-judge_tree.ensures.1 in
-    let same : p.0 ≡ c.in_err-judge_tree.field-0.0 = cc (p.2) in
-    rw p.1
-    (same ∙ excluded (the_setting c.args.setting.now) c.args.cert.now c.in_err-judge_tree.field-0.0 c.requires (sets-rise c.args.cert.now.sets c.requires.sets) proof (rw c.in_ok-figures.ensures.setting at c.in_err-judge_tree.ensures.fault))
+    (same ∙ excluded (the_setting c.args.setting.now) c.args.cert.now c.in_err-judge_parts.field-0.0 c.requires (sets-rise c.args.cert.now.sets c.requires.sets) proof (rw c.in_ok-figures.ensures.setting at c.in_err-judge_parts.ensures.fault))
 
 pub returns-clause-bounds : goal.returns-clause-bounds
 returns-clause-bounds c =
     rw (to_z-of_z w128 c.args.cert.now.bound (search rules))
-    (bounds-all (the_setting c.args.setting.now) c.args.cert.now c.args.setting.now.limits (rw c.in_ok-figures.ensures.setting at c.in_ok-judge_tree.ensures.proof))
+    (bounds-all (the_setting c.args.setting.now) c.args.cert.now c.args.setting.now.limits (rw c.in_ok-figures.ensures.setting at c.in_ok-judge_parts.ensures.proof))

@@ -7,8 +7,8 @@ use Rattle.gap_checker.specs.inner.Sums.{the_multipliers}
 use Rattle.gap_checker.proofs.Valuing.{value-made}
 use Rattle.gap_checker.proofs.lagrangian.lagrangian_value.Goals as goal
 
-pub returns : goal.returns
-returns c =
+pub returns-clause-value : goal.returns-clause-value
+returns-clause-value c =
     rw (to_z-of_z w128 c.rounded_up.result (search rules))
     (value-made (setting_of c.args.figures.now) c.args.budget (node_of c.args.node.now) (the_multipliers c.args.set.now.rents) c.available-config.result c.in_ok-plans.plans c.args.figures.now.kept c.costs_inside.result c.earnings.result c.rounded_up.result
     c.available-config.ensures c.in_ok-plans.ensures.sum c.requires.figures_are.kept_is c.costs_inside.ensures.exact c.earnings.ensures.exact c.rounded_up.ensures)

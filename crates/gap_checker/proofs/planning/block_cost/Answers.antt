@@ -12,7 +12,7 @@ pub cost-requires : goal.cost-requires
 cost-requires c = λ slot h.
     let setting = c.args.setting.now in
     let charge = charge_of c.args.terms.now c.args.statement in
-    let slots = ap (λ (t : Task). t.slots) c.in_ok-search.ensures in
+    let slots = ap (λ (t : Task). t.slots) c.args.desk.now.task in
     let within : slot < length c.args.block.now.slots = omega (arith, h, slots, c.requires.part_is.task_is.slots_are) in
     subst (λ (t : OfferTable). 0 < length (t slot)) (sym c.in_ok-board.ensures)
     ((tables-charged charge setting.cat.now c.args.block.now c.requires.named setting.shapes.now c.args.terms.now.config.now).some slot within)
@@ -20,11 +20,11 @@ cost-requires c = λ slot h.
 pub returns-clause-least : goal.returns-clause-least
 returns-clause-least c =
     record {
-      task = c.args.part.now.task;
+      task = c.args.desk.now.part.now.task;
       task_is = c.requires.part_is.task_is;
       least =
-          subst (λ (t : OfferTable). Least c.args.part.now.task t c.cost.result) c.in_ok-board.ensures
-          (subst (λ (t : Task). Least t (table_of c.in_ok-board.board.rows.items) c.cost.result) c.in_ok-search.ensures c.cost.ensures.least);
+          subst (λ (t : OfferTable). Least c.args.desk.now.part.now.task t c.cost.result) c.in_ok-board.ensures
+          (subst (λ (t : Task). Least t (table_of c.in_ok-board.board.rows.items) c.cost.result) c.args.desk.now.task c.cost.ensures.least);
     }
 
 pub returns-clause-most : goal.returns-clause-most

@@ -15,6 +15,6 @@ returns-clause-sound c =
       fits = c.in_ok-config.ensures.fits;
       cost_is =
           subst (λ (n : ℕ). totals.IsTotal setting.cat.now setting.shapes.now (views.config_of c.args.cert.now) setting.statements.now n) c.if-total-cert.false
-          (subst (λ (x : Config). totals.IsTotal setting.cat.now setting.shapes.now x setting.statements.now c.in_ok-total.total) c.in_ok-config.ensures.config c.in_ok-total.ensures);
+          (subst (λ (x : Config). totals.IsTotal setting.cat.now setting.shapes.now x setting.statements.now c.in_ok-total.total) c.in_ok-config.ensures.config c.in_ok-total.ensures.total);
       rents = all-named (setting_of c.args.figures.now) c.args.cert.now (sets-rise c.args.cert.now.sets c.requires.limits.sets) c.in_ok-judge_pairs.ensures.right;
     }
