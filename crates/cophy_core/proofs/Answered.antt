@@ -1,5 +1,5 @@
 -- What is answered over a command's files is an answer to the command.
-use Rattle.std.proofs.Common.{◌≡◌, ℕ, ◌≤◌, List, [], ◌∷◌, length, Option, Some, None}
+use Rattle.std.proofs.Common.{◌≡◌, ℕ, ◌≤◌, List, [], ◌∷◌, length, Option, Some}
 use Rattle.adv_base.specs.declared.limits.TheConstants.{MOST_FILE_BYTES}
 use Rattle.adv_shelf.specs.Shelf.{Files}
 use Rattle.adv_base.specs.Settings.{TheSetting}
@@ -10,12 +10,13 @@ use Rattle.report.specs.declared.done.Refusal.{Refusal}
 use Rattle.report.specs.declared.done.Refusal.TheVariants.{TooLong, Cat, Sql, Bind}
 use Rattle.cophy_core.specs.declared.stop.Stop.{Stop}
 use Rattle.cophy_core.specs.declared.stop.Stop.TheVariants.{Memory, Failed, Refused}
-use Rattle.cophy_core.specs.Answers.{RefusesOver, GivesOver, OfSetting, AnswersOver, Answers, IsBuilt}
+use Rattle.cophy_core.specs.Answers.{RefusesOver, GivesOver, PutsOver, OfSetting, AnswersOver, Answers, IsBuilt}
 use Rattle.cophy_core.specs.ReadWords.{PlainCommand, Candidates, Cost, WhatIf, Explain, Advise}
 use Rattle.cophy_core.specs.Files.{files_of, AreInputs, input, ReadCounts}
 use Rattle.cophy_core.specs.Reading.{StopsReading, StopsAtFiles}
 use Rattle.cophy_core.specs.Settings.{IsSetting, IsSettingRefusal}
-use Rattle.cophy_core.specs.Replies.{IsTextOf}
+use Rattle.cophy_core.specs.Endings.{Put}
+use Rattle.cophy_core.specs.Replies.{ArePuts, IsTextOf}
 use Rattle.cophy_core.specs.Stops.{StopsAt}
 
 -- a refusal that is neither of the files nor of the setting
@@ -40,7 +41,7 @@ over (Candidates cat load) files done built h = h
 over (Cost cat load) files done built h = h
 over (WhatIf cat load conf) files done built h = h
 over (Explain cat load conf number) files done built h = h
-over (Advise cat load budget nodes None) files done built h = h
+over (Advise cat load budget nodes cert) files done built h = h
 over command files done built h = absurd built
 
 -- the second file of a built command is within the limit of a workload
@@ -57,9 +58,9 @@ second_short (WhatIf cat load conf) files (a ∷ b ∷ more) built are = are.1.0
 second_short (Explain cat load conf number) files [] built are = absurd are
 second_short (Explain cat load conf number) files (a ∷ []) built are = absurd are.1
 second_short (Explain cat load conf number) files (a ∷ b ∷ more) built are = are.1.0.short
-second_short (Advise cat load budget nodes None) files [] built are = absurd are
-second_short (Advise cat load budget nodes None) files (a ∷ []) built are = absurd are.1
-second_short (Advise cat load budget nodes None) files (a ∷ b ∷ more) built are = are.1.0.short
+second_short (Advise cat load budget nodes cert) files [] built are = absurd are
+second_short (Advise cat load budget nodes cert) files (a ∷ []) built are = absurd are.1
+second_short (Advise cat load budget nodes cert) files (a ∷ b ∷ more) built are = are.1.0.short
 second_short command files inputs built are = absurd built
 
 -- the files of a built command could not be read
@@ -93,11 +94,11 @@ own (Explain cat load conf number) inputs setting (Cat fault) h = h
 own (Explain cat load conf number) inputs setting (Sql fault) h = h
 own (Explain cat load conf number) inputs setting (Bind fault) h = h
 own (Explain cat load conf number) inputs setting why h = tt
-own (Advise cat load budget nodes None) inputs setting (TooLong role) h = h
-own (Advise cat load budget nodes None) inputs setting (Cat fault) h = h
-own (Advise cat load budget nodes None) inputs setting (Sql fault) h = h
-own (Advise cat load budget nodes None) inputs setting (Bind fault) h = h
-own (Advise cat load budget nodes None) inputs setting why h = tt
+own (Advise cat load budget nodes cert) inputs setting (TooLong role) h = h
+own (Advise cat load budget nodes cert) inputs setting (Cat fault) h = h
+own (Advise cat load budget nodes cert) inputs setting (Sql fault) h = h
+own (Advise cat load budget nodes cert) inputs setting (Bind fault) h = h
+own (Advise cat load budget nodes cert) inputs setting why h = tt
 own command inputs setting why h = absurd h
 
 -- such a refusal is the first of the files
@@ -127,8 +128,8 @@ given (WhatIf cat load conf) inputs setting (answers.Priced prices) h = tt
 given (WhatIf cat load conf) inputs setting done h = absurd h
 given (Explain cat load conf number) inputs setting (answers.Explained explained) h = tt
 given (Explain cat load conf number) inputs setting done h = absurd h
-given (Advise cat load budget nodes None) inputs setting (answers.Advised advice) h = tt
-given (Advise cat load budget nodes None) inputs setting done h = absurd h
+given (Advise cat load budget nodes cert) inputs setting (answers.Advised advice) h = tt
+given (Advise cat load budget nodes cert) inputs setting done h = absurd h
 given command inputs setting done h = absurd h
 
 given_over : (command : PlainCommand) (files : Option Files) (done : Done) → IsGiven done → OfSetting files command (λ inputs setting. GivesOver command inputs setting done) → AnswersOver command files done
@@ -144,6 +145,30 @@ work_gives command files inputs setting left_over done built are is h =
     over command files done built
     (given_over command files done (given command inputs setting done h)
     (record { inputs = inputs; setting = setting; left_over = left_over; inputs_are = are; setting_is = is; holds = h }))
+
+-- an answer that is no advice
+abbrev IsOther : Done → Type 0
+IsOther (answers.Advised advice) = ⊥
+IsOther done = Unit {0}
+
+-- nothing is put for it
+none_put : (command : PlainCommand) (setting : TheSetting) (done : Done) (puts : List Put) → IsOther done → PutsOver command setting done puts → puts ≡ []
+none_put (Advise cat load budget nodes cert) setting (answers.Advised advice) puts other h = absurd other
+none_put (Advise cat load budget nodes cert) setting done puts other h = h
+none_put command setting done puts other h = h
+
+-- what is put for its answer is put over that setting
+pub work_puts : (command : PlainCommand) (files : Option Files) (words : List (List ℕ)) (inputs : List (List ℕ)) (setting : TheSetting) (left_over : ℕ) (done : Done) (puts : List Put) (text : List ℕ) → AreInputs files (files_of command) inputs → IsSetting (input inputs 0) (input inputs 1) setting left_over → GivesOver command inputs setting done → PutsOver command setting done puts → text ≡ done_text words (Some setting) done → ArePuts command files words done puts text
+work_puts command files words inputs setting left_over (answers.Advised advice) puts text are is gives put e =
+    record {
+      inputs = inputs;
+      setting = setting;
+      left_over = left_over;
+      inputs_are = are;
+      setting_is = is;
+      holds = record { gives = gives; puts_are = put; text_is = e };
+    }
+work_puts command files words inputs setting left_over done puts text are is gives put e = none_put command setting done puts tt put
 
 -- its text is told over that setting
 pub work_told : (command : PlainCommand) (files : Option Files) (words : List (List ℕ)) (inputs : List (List ℕ)) (setting : TheSetting) (left_over : ℕ) (done : Done) (text : List ℕ) → AreInputs files (files_of command) inputs → IsSetting (input inputs 0) (input inputs 1) setting left_over → GivesOver command inputs setting done → text ≡ done_text words (Some setting) done → IsTextOf command files words done text

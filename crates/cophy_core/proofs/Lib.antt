@@ -13,4 +13,5 @@ pub mod FilesRead
 pub mod Puts
 pub mod Answered
 pub mod CauseLemmas
+pub mod LeftFiles
 pub mod Grammar

@@ -1,5 +1,5 @@
 -- What each command answers over the files.
-use Rattle.std.specs.Prelude.{◌≡◌, ℕ, List, Option, None}
+use Rattle.std.specs.Prelude.{◌≡◌, ℕ, List, [], Option}
 use Rattle.adv_shelf.specs.Shelf.{Files}
 use Rattle.adv_base.specs.Settings.{TheSetting}
 use Rattle.report.specs.declared.done.Done.{Done}
@@ -11,6 +11,7 @@ use Rattle.cophy_core.specs.commands.Candidates as candidates
 use Rattle.cophy_core.specs.commands.Cost as cost
 use Rattle.cophy_core.specs.commands.Explain as explain
 use Rattle.cophy_core.specs.commands.WhatIf as what_if
+use Rattle.cophy_core.specs.Endings.{Put}
 use Rattle.cophy_core.specs.ReadWords.{PlainCommand, Candidates, Cost, WhatIf, Explain, Advise}
 use Rattle.cophy_core.specs.Files.{files_of, AreInputs, input, IsTooLong}
 use Rattle.cophy_core.specs.Settings.{IsSetting, HasCatFault, IsSqlRefusal, IsBindRefusal}
@@ -19,7 +20,7 @@ use Rattle.cophy_core.specs.Settings.{IsSetting, HasCatFault, IsSqlRefusal, IsBi
 abbrev pub RefusesOver : PlainCommand → List (List ℕ) → TheSetting → Refusal → Type 0
 RefusesOver (WhatIf cat load conf) inputs setting why = what_if.Refuses (input inputs 2) setting why
 RefusesOver (Explain cat load conf number) inputs setting why = explain.Refuses number (input inputs 2) setting why
-RefusesOver (Advise cat load budget nodes None) inputs setting why = advise.Refuses setting why
+RefusesOver (Advise cat load budget nodes cert) inputs setting why = advise.Refuses setting why
 RefusesOver command inputs setting why = ⊥
 
 -- what a command gives over the bytes of its files and their setting
@@ -28,8 +29,13 @@ GivesOver (Candidates cat load) inputs setting done = candidates.Gives setting d
 GivesOver (Cost cat load) inputs setting done = cost.Gives setting done
 GivesOver (WhatIf cat load conf) inputs setting done = what_if.Gives (input inputs 2) setting done
 GivesOver (Explain cat load conf number) inputs setting done = explain.Gives number (input inputs 2) setting done
-GivesOver (Advise cat load budget nodes None) inputs setting done = advise.Gives budget nodes setting done
+GivesOver (Advise cat load budget nodes cert) inputs setting done = advise.Gives budget nodes setting done
 GivesOver command inputs setting done = ⊥
+
+-- what a command puts for an answer over a setting
+abbrev pub PutsOver : PlainCommand → TheSetting → Done → List Put → Type 0
+PutsOver (Advise cat load budget nodes cert) setting done puts = advise.Puts cert setting done puts
+PutsOver command setting done puts = puts ≡ []
 
 -- the files of a command hold these bytes, which have P
 pub record OfFiles (files : Option Files) (command : PlainCommand) (P : List (List ℕ) → Type 0) : Type 0 where
@@ -62,7 +68,7 @@ Answers (Candidates cat load) files done = AnswersOver (Candidates cat load) fil
 Answers (Cost cat load) files done = AnswersOver (Cost cat load) files done
 Answers (WhatIf cat load conf) files done = AnswersOver (WhatIf cat load conf) files done
 Answers (Explain cat load conf number) files done = AnswersOver (Explain cat load conf number) files done
-Answers (Advise cat load budget nodes None) files done = AnswersOver (Advise cat load budget nodes None) files done
+Answers (Advise cat load budget nodes cert) files done = AnswersOver (Advise cat load budget nodes cert) files done
 Answers command files done = done ≡ Refused NotBuilt
 
 -- the commands that are built
@@ -71,5 +77,5 @@ IsBuilt (Candidates cat load) = Unit {0}
 IsBuilt (Cost cat load) = Unit {0}
 IsBuilt (WhatIf cat load conf) = Unit {0}
 IsBuilt (Explain cat load conf number) = Unit {0}
-IsBuilt (Advise cat load budget nodes None) = Unit {0}
+IsBuilt (Advise cat load budget nodes cert) = Unit {0}
 IsBuilt command = ⊥

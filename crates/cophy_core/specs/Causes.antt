@@ -12,6 +12,8 @@ use Rattle.report.specs.declared.done.WordFault.{WordFault}
 use Rattle.cophy_core.specs.Answers.{Answers}
 use Rattle.cophy_core.specs.ReadWords.{PlainCommand, command_of}
 use Rattle.cophy_core.specs.Files.{files_of, ReadCounts, IsReadFault}
+use Rattle.cophy_core.specs.Endings.{Outside}
+use Rattle.cophy_core.specs.Left.{PutsFileTo}
 use Rattle.cophy_core.specs.Replies.{MayAnswerWords, IsTextTo}
 
 -- the exit status of advice: 1 where its bound isn't its cost
@@ -51,10 +53,11 @@ ReadFaultIsTrue words files before after (ReadFault role) =
     (command : PlainCommand) × (words ≡ Ok command) × IsReadFault files (files_of command) before after role
 ReadFaultIsTrue words files before after done = Unit {0}
 
--- a write fault comes only where the count of the sink's faults rose
-abbrev pub WriteFaultIsTrue : ℕ → ℕ → Done → Type 0
-WriteFaultIsTrue before after WriteFault = Rose before after
-WriteFaultIsTrue before after done = Unit {0}
+-- a write fault comes only where the count of the sink's faults rose, or the command puts a file and that of failed puts did
+abbrev pub WriteFaultIsTrue : Result PlainCommand WordFault → Outside → Outside → Done → Type 0
+WriteFaultIsTrue words before after WriteFault =
+    Rose before.faults after.faults ⊎ (PutsFileTo words × Rose before.put_faults after.put_faults)
+WriteFaultIsTrue words before after done = Unit {0}
 
 -- a refusal comes only where it is the first of a command's files
 abbrev pub RefusalIsTrue : Result PlainCommand WordFault → Option Files → Done → Type 0

@@ -1,5 +1,5 @@
 -- The files that a command reads, and what they hold.
-use Rattle.std.specs.Prelude.{◌≡◌, ℕ, ◌<◌, ◌≤◌, List, [], ◌∷◌, ◌++◌, length, map, slice_index_or, Option, None}
+use Rattle.std.specs.Prelude.{◌≡◌, ℕ, ◌<◌, ◌≤◌, List, [], ◌∷◌, ◌++◌, length, map, slice_index_or, Option}
 use Rattle.adv_base.specs.declared.limits.TheConstants.{MOST_FILE_BYTES}
 use Rattle.adv_shelf.specs.Faults.{Rose}
 use Rattle.adv_shelf.specs.Shelf.{Files, HasFile, IsFile}
@@ -30,7 +30,7 @@ files_of (Candidates cat load) = setting_files cat load
 files_of (Cost cat load) = setting_files cat load
 files_of (WhatIf cat load conf) = setting_files cat load ++ input_file Third conf MOST_FILE_BYTES ∷ []
 files_of (Explain cat load conf number) = setting_files cat load ++ input_file Third conf MOST_FILE_BYTES ∷ []
-files_of (Advise cat load budget nodes None) = setting_files cat load
+files_of (Advise cat load budget nodes cert) = setting_files cat load
 files_of command = []
 
 -- where the shelf tells its files, these bytes are the whole file, and no longer than its limit

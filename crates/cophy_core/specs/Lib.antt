@@ -5,10 +5,11 @@ pub mod Confs
 pub mod Settings
 pub mod Opened
 pub mod Files
+pub mod Endings
 pub mod commands
 pub mod Answers
 pub mod Stops
 pub mod Reading
-pub mod Endings
 pub mod Replies
+pub mod Left
 pub mod Causes

@@ -111,12 +111,7 @@ pub(crate) fn read_files<S: Shelf>(
     match *command {
         Command::Candidates { cat, load }
         | Command::Cost { cat, load }
-        | Command::Advise {
-            cat,
-            load,
-            cert: None,
-            ..
-        } => {
+        | Command::Advise { cat, load, .. } => {
             let files = [
                 plain_file(Role::Catalogue, cat),
                 plain_file(Role::Workload, load),
@@ -137,7 +132,7 @@ pub(crate) fn read_files<S: Shelf>(
             ];
             read_each(alloc, shelf, &files)
         }
-        Command::Advise { cert: Some(_), .. } | Command::Check { .. } | Command::Bench { .. } => {
+        Command::Check { .. } | Command::Bench { .. } => {
             Err(Stop::Refused(Refusal::NotBuilt))
         }
     }

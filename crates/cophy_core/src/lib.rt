@@ -19,6 +19,7 @@ mod stop;
 mod tally;
 mod top;
 mod words;
+mod worked;
 
 pub use conf::read_conf;
 pub use top::{Outcome, run};

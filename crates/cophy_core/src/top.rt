@@ -4,7 +4,9 @@ ghost use Rattle.report.specs.declared.done.WordFault.{WordFault};
 ghost use Rattle.cophy_core.specs.Causes.{advice_status_of, status_of, IsOrMemory, IsSteady, UsageIsTrue, ReadFaultIsTrue, WriteFaultIsTrue, RefusalIsTrue, MemoryWritesNothing, IsSound, IsWritten, IsBounded};
 ghost use Rattle.cophy_core.specs.Answers.{Answers};
 ghost use Rattle.cophy_core.specs.ReadWords.{texts, PlainCommand, command_of};
+ghost use Rattle.cophy_core.specs.Endings.{outside};
 ghost use Rattle.cophy_core.specs.Files.{counts};
+ghost use Rattle.cophy_core.specs.Left.{LeavesFiles};
 
 use crate::answer::reply;
 use crate::reply::give;
@@ -48,13 +50,14 @@ fn status(done: &Done) -> u8
     }
 }
 
-/// Answers the words of a command line: reads the files that its command names, and writes the answer's text to the
-/// output. No file changes.
+/// Answers the words of a command line: reads the files that its command names, puts the certificate of advice where one is
+/// asked for, and writes the answer's text to the output. No other file changes.
 ///
 /// The first of these that fails is the answer: the words; the files, each to its end, in the order of the words; the
-/// catalogue; the workload's text; its names; what the command alone asks for; the work; the write. Prices and explained plans are those of least plans (System R's search, over bushy plans). A fault of
-/// reading or writing is answered only where the shelf's or the sink's count of faults rose in this call. Want of memory
-/// may come at any time, and then nothing is written.
+/// catalogue; the workload's text; its names; what the command alone asks for; the work; the put of the certificate; the
+/// write. Prices and explained plans are those of least plans (System R's search, over bushy plans). A fault of reading or
+/// writing is answered only where the shelf's or the sink's count of faults rose in this call. Want of memory may come at
+/// any time before the write, and then nothing is written and no file changes.
 pub fn run<S: Shelf, O: Sink>(
     alloc: Global,
     words: &[String],
@@ -68,21 +71,28 @@ pub fn run<S: Shelf, O: Sink>(
         IsSteady (O.faults out.old) (O.faults out.new) → IsOrMemory (Done.Usage fault) result.done }
     ensures read_fault { ReadFaultIsTrue (command_of (texts words.now)) (S.files shelf.old)
         (counts (S.read_faults shelf.old) (S.read_faults_at shelf.old)) (counts (S.read_faults shelf.new) (S.read_faults_at shelf.new)) result.done }
-    ensures write_fault { WriteFaultIsTrue (O.faults out.old) (O.faults out.new) result.done }
+    ensures write_fault { WriteFaultIsTrue (command_of (texts words.now))
+        (outside (S.files shelf.old) (S.put_faults shelf.old) (O.written out.old) (O.faults out.old))
+        (outside (S.files shelf.new) (S.put_faults shelf.new) (O.written out.new) (O.faults out.new)) result.done }
     ensures refused { RefusalIsTrue (command_of (texts words.now)) (S.files shelf.old) result.done }
     ensures memory { MemoryWritesNothing (O.written out.old) (O.written out.new) result.done }
     // Whatever the counts did, what is answered to a command is true of the files.
     ensures soundness { (command : PlainCommand) → command_of (texts words.now) ≡ Ok command → IsSound command (S.files shelf.old) result.done }
     // Where no count of faults rose, a command has its answer.
     ensures completeness { (command : PlainCommand) → command_of (texts words.now) ≡ Ok command →
-        IsSteady (S.read_faults shelf.old) (S.read_faults shelf.new) → IsSteady (O.faults out.old) (O.faults out.new) →
+        IsSteady (S.read_faults shelf.old) (S.read_faults shelf.new) → IsSteady (S.put_faults shelf.old) (S.put_faults shelf.new) →
+        IsSteady (O.faults out.old) (O.faults out.new) →
         Answers command (S.files shelf.old) result.done ⊎ (result.done ≡ Done.Memory) }
     ensures text { IsWritten (texts words.now) (S.files shelf.old)
         (counts (S.read_faults shelf.old) (S.read_faults_at shelf.old)) (counts (S.read_faults shelf.new) (S.read_faults_at shelf.new))
         (O.written out.old) (O.written out.new) result.done }
     ensures bound { IsBounded result.done }
 
-    ensures files { S.files shelf.new ≡ S.files shelf.old }
+    // No file changes but the one that advice puts its certificate into.
+    ensures files { LeavesFiles (command_of (texts words.now))
+        (counts (S.read_faults shelf.old) (S.read_faults_at shelf.old)) (counts (S.read_faults shelf.new) (S.read_faults_at shelf.new))
+        (outside (S.files shelf.old) (S.put_faults shelf.old) (O.written out.old) (O.faults out.old))
+        (outside (S.files shelf.new) (S.put_faults shelf.new) (O.written out.new) (O.faults out.new)) result.done }
     ensures puts { S.put_faults shelf.old ≤ S.put_faults shelf.new }
     ensures reads { S.read_faults shelf.old ≤ S.read_faults shelf.new }
     ensures reads_at { (n : List ℕ) → S.read_faults_at shelf.old n ≤ S.read_faults_at shelf.new n }
