@@ -11,7 +11,7 @@ use Rattle.report.specs.declared.done.Refusal.TheVariants.{TooLong, Cat, Sql, Bi
 use Rattle.cophy_core.specs.declared.stop.Stop.{Stop}
 use Rattle.cophy_core.specs.declared.stop.Stop.TheVariants.{Memory, Failed, Refused}
 use Rattle.cophy_core.specs.Answers.{RefusesOver, GivesOver, PutsOver, OfSetting, AnswersOver, Answers, IsBuilt}
-use Rattle.cophy_core.specs.ReadWords.{PlainCommand, Candidates, Cost, WhatIf, Explain, Advise}
+use Rattle.cophy_core.specs.ReadWords.{PlainCommand, Candidates, Cost, WhatIf, Explain, Advise, Check}
 use Rattle.cophy_core.specs.Files.{files_of, AreInputs, input, ReadCounts}
 use Rattle.cophy_core.specs.Reading.{StopsReading, StopsAtFiles}
 use Rattle.cophy_core.specs.Settings.{IsSetting, IsSettingRefusal}
@@ -33,6 +33,8 @@ IsGiven (answers.Priced prices) = Unit {0}
 IsGiven (answers.Listed found) = Unit {0}
 IsGiven (answers.Explained explained) = Unit {0}
 IsGiven (answers.Advised advice) = Unit {0}
+IsGiven (answers.Checked checked) = Unit {0}
+IsGiven (answers.NotProved why) = Unit {0}
 IsGiven done = ⊥
 
 -- a built command answers so
@@ -42,6 +44,7 @@ over (Cost cat load) files done built h = h
 over (WhatIf cat load conf) files done built h = h
 over (Explain cat load conf number) files done built h = h
 over (Advise cat load budget nodes cert) files done built h = h
+over (Check cat load cert) files done built h = h
 over command files done built h = absurd built
 
 -- the second file of a built command is within the limit of a workload
@@ -61,6 +64,9 @@ second_short (Explain cat load conf number) files (a ∷ b ∷ more) built are =
 second_short (Advise cat load budget nodes cert) files [] built are = absurd are
 second_short (Advise cat load budget nodes cert) files (a ∷ []) built are = absurd are.1
 second_short (Advise cat load budget nodes cert) files (a ∷ b ∷ more) built are = are.1.0.short
+second_short (Check cat load cert) files [] built are = absurd are
+second_short (Check cat load cert) files (a ∷ []) built are = absurd are.1
+second_short (Check cat load cert) files (a ∷ b ∷ more) built are = are.1.0.short
 second_short command files inputs built are = absurd built
 
 -- the files of a built command could not be read
@@ -118,7 +124,7 @@ work_stops command files before after inputs setting left_over (Refused why) bui
     (refused_over command files why (own command inputs setting why h)
     (record { inputs = inputs; setting = setting; left_over = left_over; inputs_are = are; setting_is = is; holds = h }))
 
--- what a command gives is prices, candidates or an explained plan
+-- what a command gives is prices, candidates, an explained plan, advice, or what a certificate proves or doesn't
 given : (command : PlainCommand) (inputs : List (List ℕ)) (setting : TheSetting) (done : Done) → GivesOver command inputs setting done → IsGiven done
 given (Candidates cat load) inputs setting (answers.Listed found) h = tt
 given (Candidates cat load) inputs setting done h = absurd h
@@ -130,6 +136,9 @@ given (Explain cat load conf number) inputs setting (answers.Explained explained
 given (Explain cat load conf number) inputs setting done h = absurd h
 given (Advise cat load budget nodes cert) inputs setting (answers.Advised advice) h = tt
 given (Advise cat load budget nodes cert) inputs setting done h = absurd h
+given (Check cat load cert) inputs setting (answers.Checked checked) h = tt
+given (Check cat load cert) inputs setting (answers.NotProved why) h = tt
+given (Check cat load cert) inputs setting done h = absurd h
 given command inputs setting done h = absurd h
 
 given_over : (command : PlainCommand) (files : Option Files) (done : Done) → IsGiven done → OfSetting files command (λ inputs setting. GivesOver command inputs setting done) → AnswersOver command files done
@@ -137,6 +146,8 @@ given_over command files (answers.Priced prices) is_given h = h
 given_over command files (answers.Listed found) is_given h = h
 given_over command files (answers.Explained explained) is_given h = h
 given_over command files (answers.Advised advice) is_given h = h
+given_over command files (answers.Checked checked) is_given h = h
+given_over command files (answers.NotProved why) is_given h = h
 given_over command files done is_given h = absurd is_given
 
 -- a command gave its answer over its setting
@@ -179,4 +190,6 @@ work_told command files words inputs setting left_over (answers.Listed found) te
 work_told command files words inputs setting left_over (answers.Advised advice) text are is h e =
     record { inputs = inputs; setting = setting; left_over = left_over; inputs_are = are; setting_is = is; holds = e }
 work_told command files words inputs setting left_over (answers.Explained explained) text are is h e = e
+work_told command files words inputs setting left_over (answers.Checked checked) text are is h e = e
+work_told command files words inputs setting left_over (answers.NotProved why) text are is h e = e
 work_told command files words inputs setting left_over done text are is h e = e

@@ -9,12 +9,13 @@ use Rattle.adv_shelf.specs.declared.shelf.PutFault.{PutFault}
 use Rattle.adv_shelf.specs.declared.shelf.PutFault.TheVariants as faults
 use Rattle.report.specs.Texts.{done_text}
 use Rattle.report.specs.declared.done.Done.{Done}
-use Rattle.report.specs.declared.done.Done.TheVariants.{Usage, ReadFault, WriteFault, Refused, Memory, Priced, Listed, Explained as ExplainedDone, Advised}
+use Rattle.report.specs.declared.done.Done.TheVariants.{Usage, ReadFault, WriteFault, Refused, Memory, Priced, Listed, Explained as ExplainedDone, Advised, Checked, NotProved as NotProvedDone}
+use Rattle.report.specs.declared.done.NotProved.{NotProved}
 use Rattle.report.specs.declared.done.WordFault.{WordFault}
 use Rattle.cophy_core.specs.Answers.{Answers}
-use Rattle.cophy_core.specs.Causes.{IsOrMemory, IsSteady, UsageIsTrue, ReadFaultIsTrue, WriteFaultIsTrue, RefusalIsTrue, MemoryWritesNothing, IsSound, IsWritten, IsBounded}
-use Rattle.cophy_core.specs.ReadWords.{PlainCommand, Candidates, Cost, WhatIf, Explain, Advise, command_of}
-use Rattle.cophy_core.specs.Endings.{Put, Outside, outside, put_all, put_answer, IsPutFault, EndsUnput, Ends}
+use Rattle.cophy_core.specs.Causes.{IsOrMemory, IsSteady, UsageIsTrue, ReadFaultIsTrue, WriteFaultIsTrue, RefusalIsTrue, MemoryWritesNothing, IsSound, IsWritten, IsBounded, IsUnproved, NotProvedIsTrue}
+use Rattle.cophy_core.specs.ReadWords.{PlainCommand, Candidates, Cost, WhatIf, Explain, Advise, command_of, Check}
+use Rattle.cophy_core.specs.Endings.{Put, Outside, outside, put_all, put_answer, IsPutFault, EndsUnput, Ends, EndsWhole, EndsUnwritten}
 use Rattle.cophy_core.specs.Left.{PutsFile, PutsFileTo}
 use Rattle.cophy_core.specs.Files.{ReadCounts, counts}
 use Rattle.cophy_core.specs.Reading.{StopsAtFiles}
@@ -23,12 +24,14 @@ use Rattle.cophy_core.specs.Stops.{done_of}
 use Rattle.cophy_core.specs.declared.stop.Stop.{Stop}
 use Rattle.cophy_core.specs.declared.stop.Stop.TheVariants as stops
 
--- a command's files answer with prices, candidates, an explained plan or a refusal
+-- a command's files answer with what it gives or a refusal
 abbrev IsAnswer : Done → Type 0
 IsAnswer (Priced prices) = Unit {0}
 IsAnswer (Listed found) = Unit {0}
 IsAnswer (ExplainedDone explained) = Unit {0}
 IsAnswer (Advised advice) = Unit {0}
+IsAnswer (Checked checked) = Unit {0}
+IsAnswer (NotProvedDone why) = Unit {0}
 IsAnswer (Refused why) = Unit {0}
 IsAnswer done = ⊥
 
@@ -37,12 +40,15 @@ is_answer command files (Priced prices) h = tt
 is_answer command files (Listed found) h = tt
 is_answer command files (ExplainedDone explained) h = tt
 is_answer command files (Advised advice) h = tt
+is_answer command files (Checked checked) h = tt
+is_answer command files (NotProvedDone why) h = tt
 is_answer command files (Refused why) h = tt
 is_answer (Candidates cat load) files done h = absurd h.holds
 is_answer (Cost cat load) files done h = absurd h.holds
 is_answer (WhatIf cat load conf) files done h = absurd h.holds
 is_answer (Explain cat load conf number) files done h = absurd h.holds
 is_answer (Advise cat load budget nodes cert) files done h = absurd h.holds
+is_answer (Check cat load cert) files done h = absurd h.holds
 is_answer command files done h = absurd (let e = h in cc)
 
 -- a command for whose answer something is put puts a file
@@ -72,6 +78,21 @@ refusal_of : (words : Result PlainCommand WordFault) (files : Option Files) (bef
 refusal_of (Ok command) files before after (Refused why) h = (command, refl, h)
 refusal_of (Err fault) files before after (Refused why) h = absurd h
 refusal_of words files before after reply h = tt
+
+-- a command whose files prove nothing is `check`
+unproved : (command : PlainCommand) (files : Option Files) (why : NotProved) → Answers command files (NotProvedDone why) → IsUnproved (Ok command) files why
+unproved (Candidates cat load) files why h = absurd h.holds
+unproved (Cost cat load) files why h = absurd h.holds
+unproved (WhatIf cat load conf) files why h = absurd h.holds
+unproved (Explain cat load conf number) files why h = absurd h.holds
+unproved (Advise cat load budget nodes None) files why h = absurd h.holds
+unproved (Check cat load cert) files why h = record { cat = cat; load = load; cert = cert; words_are = refl; first = h }
+unproved command files why h = absurd (let e = h in cc)
+
+not_proved_of : (words : Result PlainCommand WordFault) (files : Option Files) (before after : ReadCounts) (reply : Done) → MayAnswerWords words files before after reply → NotProvedIsTrue words files reply
+not_proved_of (Ok command) files before after (NotProvedDone why) h = unproved command files why h
+not_proved_of (Err fault) files before after (NotProvedDone why) h = absurd h
+not_proved_of words files before after reply h = tt
 
 sound_of : (command : PlainCommand) (files : Option Files) (before after : ReadCounts) (reply : Done) → MayAnswer command files before after reply → IsSound command files reply
 sound_of command files before after (ReadFault role) h = tt
@@ -220,6 +241,10 @@ write_fault words files before after old new reply puts text done r e =
 pub refused : (words : List (List ℕ)) (files : Option Files) (before after : ReadCounts) (old new : Outside) (reply : Done) (puts : List Put) (text : List ℕ) (done : Done) → IsReply words files before after reply puts text → Ends old new reply puts text done → RefusalIsTrue (command_of words) files done
 refused words files before after old new reply puts text done r e =
     settle (RefusalIsTrue (command_of words) files) old new reply puts text done e (refusal_of (command_of words) files before after reply r.answers) (λ rose. tt) (λ unput rose. tt) tt
+
+pub not_proved : (words : List (List ℕ)) (files : Option Files) (before after : ReadCounts) (old new : Outside) (reply : Done) (puts : List Put) (text : List ℕ) (done : Done) → IsReply words files before after reply puts text → Ends old new reply puts text done → NotProvedIsTrue (command_of words) files done
+not_proved words files before after old new reply puts text done r e =
+    settle (NotProvedIsTrue (command_of words) files) old new reply puts text done e (not_proved_of (command_of words) files before after reply r.answers) (λ rose. tt) (λ unput rose. tt) tt
 
 -- the answer to words that are a command
 pub to_command : (words : Result PlainCommand WordFault) (command : PlainCommand) (files : Option Files) (before after : ReadCounts) (reply : Done) → words ≡ Ok command → MayAnswerWords words files before after reply → MayAnswer command files before after reply

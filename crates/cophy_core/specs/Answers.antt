@@ -8,11 +8,12 @@ use Rattle.report.specs.declared.done.Refusal.{Refusal}
 use Rattle.report.specs.declared.done.Refusal.TheVariants.{TooLong, Cat, Sql, Bind, NotBuilt}
 use Rattle.cophy_core.specs.commands.Advise as advise
 use Rattle.cophy_core.specs.commands.Candidates as candidates
+use Rattle.cophy_core.specs.commands.Check as check
 use Rattle.cophy_core.specs.commands.Cost as cost
 use Rattle.cophy_core.specs.commands.Explain as explain
 use Rattle.cophy_core.specs.commands.WhatIf as what_if
 use Rattle.cophy_core.specs.Endings.{Put}
-use Rattle.cophy_core.specs.ReadWords.{PlainCommand, Candidates, Cost, WhatIf, Explain, Advise}
+use Rattle.cophy_core.specs.ReadWords.{PlainCommand, Candidates, Cost, WhatIf, Explain, Advise, Check}
 use Rattle.cophy_core.specs.Files.{files_of, AreInputs, input, IsTooLong}
 use Rattle.cophy_core.specs.Settings.{IsSetting, HasCatFault, IsSqlRefusal, IsBindRefusal}
 
@@ -30,6 +31,7 @@ GivesOver (Cost cat load) inputs setting done = cost.Gives setting done
 GivesOver (WhatIf cat load conf) inputs setting done = what_if.Gives (input inputs 2) setting done
 GivesOver (Explain cat load conf number) inputs setting done = explain.Gives number (input inputs 2) setting done
 GivesOver (Advise cat load budget nodes cert) inputs setting done = advise.Gives budget nodes setting done
+GivesOver (Check cat load cert) inputs setting done = check.Gives (input inputs 2) setting done
 GivesOver command inputs setting done = ⊥
 
 -- what a command puts for an answer over a setting
@@ -69,6 +71,7 @@ Answers (Cost cat load) files done = AnswersOver (Cost cat load) files done
 Answers (WhatIf cat load conf) files done = AnswersOver (WhatIf cat load conf) files done
 Answers (Explain cat load conf number) files done = AnswersOver (Explain cat load conf number) files done
 Answers (Advise cat load budget nodes cert) files done = AnswersOver (Advise cat load budget nodes cert) files done
+Answers (Check cat load cert) files done = AnswersOver (Check cat load cert) files done
 Answers command files done = done ≡ Refused NotBuilt
 
 -- the commands that are built
@@ -78,4 +81,5 @@ IsBuilt (Cost cat load) = Unit {0}
 IsBuilt (WhatIf cat load conf) = Unit {0}
 IsBuilt (Explain cat load conf number) = Unit {0}
 IsBuilt (Advise cat load budget nodes cert) = Unit {0}
+IsBuilt (Check cat load cert) = Unit {0}
 IsBuilt command = ⊥

@@ -7,13 +7,15 @@ use Rattle.adv_shelf.specs.Sink.{append_to, AppendsPrefix}
 use Rattle.plan_model.specs.declared.plan.TheConstants.{MOST_COST, MOST_TOTAL}
 use Rattle.report.specs.declared.done.Advice.{Advice}
 use Rattle.report.specs.declared.done.Done.{Done}
-use Rattle.report.specs.declared.done.Done.TheVariants.{Usage, ReadFault, WriteFault, Refused, Memory, Priced, Explained as ExplainedDone, Advised}
+use Rattle.report.specs.declared.done.Done.TheVariants.{Usage, ReadFault, WriteFault, Refused, Memory, Priced, Explained as ExplainedDone, Advised, NotProved as NotProvedDone}
+use Rattle.report.specs.declared.done.NotProved.{NotProved}
 use Rattle.report.specs.declared.done.WordFault.{WordFault}
-use Rattle.cophy_core.specs.Answers.{Answers}
-use Rattle.cophy_core.specs.ReadWords.{PlainCommand, command_of}
-use Rattle.cophy_core.specs.Files.{files_of, ReadCounts, IsReadFault}
+use Rattle.cophy_core.specs.Answers.{Answers, OfSetting}
+use Rattle.cophy_core.specs.ReadWords.{PlainCommand, command_of, Check}
+use Rattle.cophy_core.specs.Files.{files_of, ReadCounts, IsReadFault, input}
 use Rattle.cophy_core.specs.Endings.{Outside}
 use Rattle.cophy_core.specs.Left.{PutsFileTo}
+use Rattle.cophy_core.specs.commands.Check.{ProvesNothing}
 use Rattle.cophy_core.specs.Replies.{MayAnswerWords, IsTextTo}
 
 -- the exit status of advice: 1 where its bound isn't its cost
@@ -31,6 +33,7 @@ status_of (ReadFault role) = 3
 status_of WriteFault = 4
 status_of (Refused why) = 5
 status_of (Advised advice) = advice_status_of advice
+status_of (NotProvedDone why) = 6
 status_of Memory = 7
 status_of done = 0
 
@@ -63,6 +66,19 @@ WriteFaultIsTrue words before after done = Unit {0}
 abbrev pub RefusalIsTrue : Result PlainCommand WordFault → Option Files → Done → Type 0
 RefusalIsTrue words files (Refused why) = (command : PlainCommand) × (words ≡ Ok command) × Answers command files (Refused why)
 RefusalIsTrue words files done = Unit {0}
+
+-- the words ask for a check, nothing is refused, and the third file proves nothing of the setting: this is its first fault
+pub record IsUnproved (words : Result PlainCommand WordFault) (files : Option Files) (why : NotProved) : Type 0 where
+  pub cat : List ℕ
+  pub load : List ℕ
+  pub cert : List ℕ
+  pub words_are : words ≡ Ok (Check cat load cert)
+  pub first : OfSetting files (Check cat load cert) (λ inputs setting. ProvesNothing setting (input inputs 2) why)
+
+-- a certificate is said to prove nothing only so
+abbrev pub NotProvedIsTrue : Result PlainCommand WordFault → Option Files → Done → Type 0
+NotProvedIsTrue words files (NotProvedDone why) = IsUnproved words files why
+NotProvedIsTrue words files done = Unit {0}
 
 -- where memory ran out, nothing was written
 abbrev pub MemoryWritesNothing : Option (List ℕ) → Option (List ℕ) → Done → Type 0

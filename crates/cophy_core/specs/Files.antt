@@ -1,12 +1,12 @@
 -- The files that a command reads, and what they hold.
-use Rattle.std.specs.Prelude.{◌≡◌, ℕ, ◌<◌, ◌≤◌, List, [], ◌∷◌, ◌++◌, length, map, slice_index_or, Option}
-use Rattle.adv_base.specs.declared.limits.TheConstants.{MOST_FILE_BYTES}
+use Rattle.std.specs.Prelude.{◌≡◌, ℕ, ◌<◌, ◌≤◌, List, [], ◌∷◌, ◌++◌, length, map, slice_index_or, Option, None}
+use Rattle.adv_base.specs.declared.limits.TheConstants.{MOST_FILE_BYTES, MOST_CERTIFICATE_BYTES}
 use Rattle.adv_shelf.specs.Faults.{Rose}
 use Rattle.adv_shelf.specs.Shelf.{Files, HasFile, IsFile}
 use Rattle.report.specs.declared.done.Role.{Role}
 use Rattle.report.specs.declared.done.Role.TheVariants.{Catalogue, Workload, Third}
 use Rattle.cophy_core.specs.declared.files.FileUse.{FileUse}
-use Rattle.cophy_core.specs.ReadWords.{PlainCommand, Candidates, Cost, WhatIf, Explain, Advise}
+use Rattle.cophy_core.specs.ReadWords.{PlainCommand, Candidates, Cost, WhatIf, Explain, Advise, Check}
 
 -- a file that a command reads: in which role, by what name, and of how many bytes at most
 pub record InputFile : Type 0 where
@@ -31,6 +31,7 @@ files_of (Cost cat load) = setting_files cat load
 files_of (WhatIf cat load conf) = setting_files cat load ++ input_file Third conf MOST_FILE_BYTES ∷ []
 files_of (Explain cat load conf number) = setting_files cat load ++ input_file Third conf MOST_FILE_BYTES ∷ []
 files_of (Advise cat load budget nodes cert) = setting_files cat load
+files_of (Check cat load cert) = setting_files cat load ++ input_file Third cert MOST_CERTIFICATE_BYTES ∷ []
 files_of command = []
 
 -- where the shelf tells its files, these bytes are the whole file, and no longer than its limit

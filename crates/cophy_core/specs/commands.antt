@@ -1,5 +1,6 @@
 pub mod Advise
 pub mod Candidates
+pub mod Check
 pub mod Cost
 pub mod Explain
 pub mod WhatIf

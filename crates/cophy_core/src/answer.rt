@@ -13,6 +13,7 @@ ghost use Rattle.cophy_core.specs.Replies.{IsReply, Replies};
 ghost use Rattle.cophy_core.specs.Stops.{StopsAt};
 
 use crate::commands::advise::advise;
+use crate::commands::check::check;
 use crate::commands::cost::cost;
 use crate::commands::explain::explain;
 use crate::commands::list_candidates::list_candidates;
@@ -66,7 +67,11 @@ fn work<'a>(
             cert,
             ..
         } => advise(alloc, setting, budget, nodes, cert),
-        Command::Check { .. } | Command::Bench { .. } => unreachable!(),
+        Command::Check { .. } => {
+            let done = check(alloc, setting, bytes_at(inputs, 2))?;
+            Ok(Worked::alone(alloc, done))
+        }
+        Command::Bench { .. } => unreachable!(),
     }
 }
 

@@ -1,6 +1,7 @@
 //! The files of a command.
 ghost use Rattle.std.specs.Prelude.{◌≡◌, ◌≤◌, ◌<◌, ◌∷◌, [], ◌++◌, ℕ, List, Some, IfOk, IfErr, OnOk, length, slice_get};
-ghost use Rattle.adv_base.specs.declared.limits.TheConstants.{MOST_FILE_BYTES};
+ghost use Rattle.adv_base.specs.declared.limits.TheConstants.{MOST_CERTIFICATE_BYTES, MOST_FILE_BYTES};
+ghost use Rattle.report.specs.declared.done.Role.TheVariants.{Third};
 ghost use Rattle.cophy_core.specs.Answers.{IsBuilt};
 ghost use Rattle.cophy_core.specs.ReadWords.{plain_command};
 ghost use Rattle.cophy_core.specs.Files.{counts, input, input_file, plain_uses, files_of, IsInput, AreInputs};
@@ -8,7 +9,7 @@ ghost use Rattle.cophy_core.specs.Reading.{IsUnreadFile, StopsReading, StopsAtFi
 
 use crate::Command;
 use crate::stop::Stop;
-use adv_base::limits::MOST_FILE_BYTES;
+use adv_base::limits::{MOST_CERTIFICATE_BYTES, MOST_FILE_BYTES};
 use adv_base::{Bytes, List, NoMemory};
 use adv_shelf::{GetFault, Shelf, read_all};
 use report::{Refusal, Role};
@@ -30,6 +31,17 @@ fn plain_file<'a>(role: Role, name: &'a str) -> FileUse<'a>
         role,
         name,
         most: MOST_FILE_BYTES,
+    }
+}
+
+/// A certificate, the third file of a command.
+fn certificate_file<'a>(name: &'a str) -> FileUse<'a>
+    ensures { input_file result.role result.name.now result.most ≡ input_file Third name.now MOST_CERTIFICATE_BYTES }
+{
+    FileUse {
+        role: Role::Third,
+        name,
+        most: MOST_CERTIFICATE_BYTES,
     }
 }
 
@@ -132,7 +144,15 @@ pub(crate) fn read_files<S: Shelf>(
             ];
             read_each(alloc, shelf, &files)
         }
-        Command::Check { .. } | Command::Bench { .. } => {
+        Command::Check { cat, load, cert } => {
+            let files = [
+                plain_file(Role::Catalogue, cat),
+                plain_file(Role::Workload, load),
+                certificate_file(cert),
+            ];
+            read_each(alloc, shelf, &files)
+        }
+        Command::Bench { .. } => {
             Err(Stop::Refused(Refusal::NotBuilt))
         }
     }

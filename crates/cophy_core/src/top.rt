@@ -1,7 +1,7 @@
 //! The call that the program makes.
 ghost use Rattle.std.specs.Prelude.{◌≡◌, ◌≤◌, ◌⊎◌, ℕ, List, Ok, Err};
 ghost use Rattle.report.specs.declared.done.WordFault.{WordFault};
-ghost use Rattle.cophy_core.specs.Causes.{advice_status_of, status_of, IsOrMemory, IsSteady, UsageIsTrue, ReadFaultIsTrue, WriteFaultIsTrue, RefusalIsTrue, MemoryWritesNothing, IsSound, IsWritten, IsBounded};
+ghost use Rattle.cophy_core.specs.Causes.{advice_status_of, status_of, IsOrMemory, IsSteady, UsageIsTrue, ReadFaultIsTrue, WriteFaultIsTrue, RefusalIsTrue, NotProvedIsTrue, MemoryWritesNothing, IsSound, IsWritten, IsBounded};
 ghost use Rattle.cophy_core.specs.Answers.{Answers};
 ghost use Rattle.cophy_core.specs.ReadWords.{texts, PlainCommand, command_of};
 ghost use Rattle.cophy_core.specs.Endings.{outside};
@@ -47,6 +47,8 @@ fn status(done: &Done) -> u8
         Done::Listed(_) => 0,
         Done::Explained(_) => 0,
         Done::Advised(advice) => advice_status(advice),
+        Done::Checked(_) => 0,
+        Done::NotProved(_) => 6,
     }
 }
 
@@ -54,10 +56,10 @@ fn status(done: &Done) -> u8
 /// asked for, and writes the answer's text to the output. No other file changes.
 ///
 /// The first of these that fails is the answer: the words; the files, each to its end, in the order of the words; the
-/// catalogue; the workload's text; its names; what the command alone asks for; the work; the put of the certificate; the
-/// write. Prices and explained plans are those of least plans (System R's search, over bushy plans). A fault of reading or
-/// writing is answered only where the shelf's or the sink's count of faults rose in this call. Want of memory may come at
-/// any time before the write, and then nothing is written and no file changes.
+/// catalogue; the workload's text; its names; what the command alone asks for; the work, and with it what a certificate fails
+/// to prove; the put of the certificate; the write. Prices and explained plans are those of least plans (System R's search,
+/// over bushy plans). A fault of reading or writing is answered only where the shelf's or the sink's count of faults rose in
+/// this call. Want of memory may come at any time before the write, and then nothing is written and no file changes.
 pub fn run<S: Shelf, O: Sink>(
     alloc: Global,
     words: &[String],
@@ -75,6 +77,8 @@ pub fn run<S: Shelf, O: Sink>(
         (outside (S.files shelf.old) (S.put_faults shelf.old) (O.written out.old) (O.faults out.old))
         (outside (S.files shelf.new) (S.put_faults shelf.new) (O.written out.new) (O.faults out.new)) result.done }
     ensures refused { RefusalIsTrue (command_of (texts words.now)) (S.files shelf.old) result.done }
+    // A certificate is said to prove nothing only to `check`, where nothing is refused, for the first of its faults.
+    ensures not_proved { NotProvedIsTrue (command_of (texts words.now)) (S.files shelf.old) result.done }
     ensures memory { MemoryWritesNothing (O.written out.old) (O.written out.new) result.done }
     // Whatever the counts did, what is answered to a command is true of the files.
     ensures soundness { (command : PlainCommand) → command_of (texts words.now) ≡ Ok command → IsSound command (S.files shelf.old) result.done }

@@ -17,6 +17,7 @@ const LINES: &str = r#"4|cost CAT LOAD|statement 1 weight 1 cost 30000~total 300
 5|explain CAT LOAD CONF 1|statement 1 plan 30000 upkeep 0~heap on t cost 30000~
 5|explain CAT LOAD CONF 2|refused: no statement 2 of 1~
 5|whatif CAT LOAD CONF|size 0~statement 1 weight 1 cost 30000~total 30000~
+5|check CAT LOAD CONF|not proved: malformed at line 1~
 0|cost CAT|usage: missing word 3~
 0|bench 1 2 5 0|refused: not built~"#;
 

@@ -113,6 +113,31 @@ const ADVICE: &str =
 3|0|advise CAT LOAD 10|T|SELECT c FROM t ORDER BY c; UPDATE t SET c = 1 -- its upkeep is 16020000||budget 10~candidates 1 left over 0~size 0~cost 110000~bound 110000~gap 0~nodes # of 20000~finished~
 1|0|advise CAT LOAD 10|EMPTY|||budget 10~candidates 0 left over 0~size 0~cost 0~bound 0~gap 0~nodes # of 20000~finished~"#;
 
+/// Certificates, and what each proves.
+const CHECKED: &str =
+    r#"0|check CAT LOAD CONF|KNAP|-- weight 10~SELECT c FROM t ORDER BY c;~-- weight 11~SELECT d, e FROM v ORDER BY d, e;~|cophy certificate 1~budget 4~config 2~cost 954000~bound 954000~sets 0~tree 3~B 1~L 0~L 0~end~|proved cost 954000 bound 954000 budget 4~
+6|check CAT LOAD CONF|KNAP|-- weight 10~SELECT c FROM t ORDER BY c;~-- weight 11~SELECT d, e FROM v ORDER BY d, e;~|cophy certificate 1~budget 4~config 2~cost 954000~bound 954001~sets 0~tree 3~B 1~L 0~L 0~end~|not proved: leaf 3 has 954000 below 954001~
+6|check CAT LOAD CONF|KNAP|-- weight 10~SELECT c FROM t ORDER BY c;~-- weight 11~SELECT d, e FROM v ORDER BY d, e;~|cophy certificate 1~budget 4~config 2~cost 954000~bound 954000~sets 0~tree 3~B 1~L 0~L 0~end~x|not proved: malformed at line 12~
+6|check CAT LOAD CONF|KNAP|-- weight 10~SELECT c FROM t ORDER BY c;~-- weight 11~SELECT d, e FROM v ORDER BY d, e;~|cophy certificate 1~budget 4~config 2~cost 954000~bound 954000~sets 0~tree 3~B 1~L 0~L 0~end~~|not proved: malformed at line 12~
+6|check CAT LOAD CONF|KNAP|-- weight 10~SELECT c FROM t ORDER BY c;~-- weight 11~SELECT d, e FROM v ORDER BY d, e;~|cophy certificate 1~budget 4~config 2~cost 954000~bound 954000~sets 0~tree 3~B 1~L 0~L 0~end|not proved: malformed at line 11~
+6|check CAT LOAD CONF|KNAP|-- weight 10~SELECT c FROM t ORDER BY c;~-- weight 11~SELECT d, e FROM v ORDER BY d, e;~||not proved: malformed at line 1~
+6|check CAT LOAD CONF|KNAP|-- weight 10~SELECT c FROM t ORDER BY c;~-- weight 11~SELECT d, e FROM v ORDER BY d, e;~|cophy certificate 1~budget 4~config 2~cost 954000~bound 954000~sets 0~tree 2~B 1~L 0~L 0~end~|not proved: malformed at line 7~
+6|check CAT LOAD CONF|KNAP|-- weight 9~SELECT c FROM t ORDER BY c;~-- weight 11~SELECT d, e FROM v ORDER BY d, e;~|cophy certificate 1~budget 4~config 2~cost 954000~bound 954000~sets 0~tree 3~B 1~L 0~L 0~end~|not proved: cost 954000 computed 874000~
+6|check CAT LOAD CONF|KNAP|-- weight 10~SELECT c FROM t ORDER BY c;~-- weight 11~SELECT d, e FROM v ORDER BY d, e;~|cophy certificate 1~budget 4~config 3~cost 954000~bound 954000~sets 0~tree 3~B 1~L 0~L 0~end~|not proved: no candidate 3~
+6|check CAT LOAD CONF|KNAP|-- weight 10~SELECT c FROM t ORDER BY c;~-- weight 11~SELECT d, e FROM v ORDER BY d, e;~|cophy certificate 1~budget 3~config 2~cost 954000~bound 954000~sets 0~tree 3~B 1~L 0~L 0~end~|not proved: size 4 over 3~
+6|check CAT LOAD CONF|KNAP|-- weight 10~SELECT c FROM t ORDER BY c;~-- weight 11~SELECT d, e FROM v ORDER BY d, e;~|cophy certificate 1~budget 4~config 2~cost 954000~bound 954000~sets 1~set 0 1~1 2 1 5~tree 3~B 1~L 0~L 0~end~|not proved: set 1 entry 1 names no pair~
+6|check CAT LOAD CONF|KNAP|-- weight 10~SELECT c FROM t ORDER BY c;~-- weight 11~SELECT d, e FROM v ORDER BY d, e;~|cophy certificate 1~budget 4~config 2~cost 954000~bound 954000~sets 0~tree 3~B 3~L 0~L 0~end~|not proved: branch at node 1~
+6|check CAT LOAD CONF|KNAP|-- weight 10~SELECT c FROM t ORDER BY c;~-- weight 11~SELECT d, e FROM v ORDER BY d, e;~|cophy certificate 1~budget 4~config 2~cost 954000~bound 954000~sets 0~tree 3~B 1~X~L 0~end~|not proved: leaf 2 has size 3~
+0|check CAT LOAD CONF|KNAP|-- a page is priced at 10^6: 284000 less 4 of them~-- weight 10~SELECT c FROM t ORDER BY c;~-- weight 11~SELECT d, e FROM v ORDER BY d, e;~|cophy certificate 1~budget 4~config 2~cost 954000~bound -3716000~sets 1~set 65536000000 0~tree 1~L 1~end~|proved cost 954000 bound -3716000 budget 4~
+6|check CAT LOAD CONF|KNAP|-- weight 10~SELECT c FROM t ORDER BY c;~-- weight 11~SELECT d, e FROM v ORDER BY d, e;~|cophy certificate 1~budget 4~config 2~cost 954000~bound -3715999~sets 1~set 65536000000 0~tree 1~L 1~end~|not proved: leaf 1 has -3716000 below -3715999~
+0|check CAT LOAD CONF|STAR|SELECT count(*) FROM hub, p, q, r, s WHERE k1 = p.x AND k2 = p.y AND k3 = p.z AND k4 = q.x AND k5 = q.y AND k6 = q.z AND k7 = r.x AND k8 = r.y AND k9 = r.z AND k10 = s.w AND k11 = s.x AND k12 = s.y AND k13 = s.z -- 4480 combinations; no index fits|cophy certificate 1~budget 0~config~cost 198088~bound 198088~sets 0~tree 1~L 0~end~|proved cost 198088 bound 198088 budget 0~
+0|check CAT LOAD CONF|EMPTY||cophy certificate 1~budget 0~config~cost 0~bound 0~sets 0~tree 1~L 0~end~|proved cost 0 bound 0 budget 0~
+5|check CAT LOAD CONF|KNAP|SELECT c FROM t WHERE|no certificate|refused: syntax at 22~
+5|check CAT LOAD CONF|=version = 2~||no certificate|refused: out of range version~
+5|check CAT LOAD CONF|XZ|SELECT * FROM v|no certificate|refused: no table at 15~
+3|check CAT LOAD none|KNAP|SELECT c FROM||read fault: none~
+3|check CAT gone none|KNAP|SELECT c FROM||read fault: gone~"#;
+
 /// Lists of candidates.
 const CANDIDATES: &str =
     r#"0|candidates CAT LOAD|ORDERS|-- weight 50~SELECT o.o_id, o.o_date, sum(l.l_price) AS revenue~FROM customer c JOIN orders o ON c.c_id = o.o_cust JOIN lineitem l ON l.l_order = o.o_id~WHERE c.c_segment = 'BUILDING' AND o.o_date BETWEEN DATE '1995-01-01' AND DATE '1995-03-31'~GROUP BY o.o_id, o.o_date ORDER BY revenue DESC, o.o_date LIMIT 10;~||1 customer(c_segment) 42 pages~2 customer(c_segment, c_id) 56 pages~3 orders(o_date) 294 pages~4 orders(o_cust) 368 pages~5 orders(o_id, o_date) 442 pages~6 orders(o_date, o_id, o_cust) 589 pages~7 lineitem(l_order) 1471 pages~8 lineitem(l_order, l_price) 2063 pages~left over 0~
@@ -138,7 +163,8 @@ const WORDS: &str = r#"2||TI|||usage: no command~
 5|advise CAT LOAD 10|STAR|SELECT count(*) FROM hub, p, q, r, s WHERE k1 = p.x AND k2 = p.y AND k3 = p.z AND k4 = q.x AND k5 = q.y AND k6 = q.z AND k7 = r.x AND k8 = r.y AND k9 = r.z AND k10 = s.w AND k11 = s.x AND k12 = s.y AND k13 = s.z||refused: statement 1 has 4480 combinations~
 3|whatif none none none|TI|||read fault: none~
 2|whatif CAT LOAD|TI|||usage: missing word 4~
-5|check none none none|TI|||refused: not built~
+2|check CAT LOAD|TI|||usage: missing word 4~
+3|check none none none|TI|||read fault: none~
 5|bench 1 2 5 0|TI|||refused: not built~
 3|cost none LOAD|TI|||read fault: none~
 3|cost CAT none|TI|||read fault: none~"#;
@@ -287,6 +313,11 @@ fn one_node_is_not_enough(rt: HostRuntime) {
     let end = spread(&rt, alloc, "nodes 1 of 1~stopped~");
     assert_eq!(rt; status, 1);
     assert!(rt; out.bytes().ends_with(end.as_slice()));
+}
+
+#[test]
+fn certificates_are_checked(rt: HostRuntime) {
+    compare_all(&rt, rt.alloc(), CHECKED);
 }
 
 #[test]

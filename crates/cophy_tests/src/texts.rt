@@ -8,7 +8,8 @@ use adv_base::{Catalogue, Config, List, Rates, Setting};
 use binder::BindFault;
 use bip_model::Answer;
 use catalogue::{CatFault, KeyField, KeyPart, KeyPath};
-use report::{Advice, Done, Prices, Refusal, Role, WordFault, text};
+use gap_checker::{CheckFault, Checked};
+use report::{Advice, Done, NotProved, Prices, Refusal, Role, WordFault, text};
 use sql_reader::SqlFault;
 use std::alloc::Global;
 use std::process::Abort;
@@ -342,4 +343,62 @@ fn advice_is_told_with_its_gap(rt: HostRuntime) {
         -3,
         "budget 10\ncandidates 0 left over 7\nsize 0\ncost 5\nbound -3\ngap 8\nnodes 0 of 20000\nstopped\n",
     );
+}
+
+#[test]
+fn proofs_are_told_with_their_bound(rt: HostRuntime) {
+    for (cost, bound, want) in [
+        (5, 5, "proved cost 5 bound 5 budget 4\n"),
+        (5, -3, "proved cost 5 bound -3 budget 4\n"),
+        (
+            170141183460469231731687303715884105727,
+            -170141183460469231731687303715884105727,
+            "proved cost 170141183460469231731687303715884105727 bound -170141183460469231731687303715884105727 budget 4\n",
+        ),
+    ] {
+        let done = Done::Checked(Checked {
+            budget: 4,
+            cost,
+            bound,
+        });
+        assert_text(&rt, rt.alloc(), &done, None, want);
+    }
+}
+
+#[test]
+fn faults_of_certificates(rt: HostRuntime) {
+    for (fault, want) in [
+        (CheckFault::BadConfig(3), "not proved: no candidate 3\n"),
+        (CheckFault::OverBudget(7, 4), "not proved: size 7 over 4\n"),
+        (
+            CheckFault::CostDiffers(954000, 874000),
+            "not proved: cost 954000 computed 874000\n",
+        ),
+        (
+            CheckFault::BadPair(16, 1500000),
+            "not proved: set 16 entry 1500000 names no pair\n",
+        ),
+        (
+            CheckFault::BadBranch(999999),
+            "not proved: branch at node 999999\n",
+        ),
+        (
+            CheckFault::LeafBelow(3, 954000, 954001),
+            "not proved: leaf 3 has 954000 below 954001\n",
+        ),
+        (
+            CheckFault::LeafBelow(3, -8, -7),
+            "not proved: leaf 3 has -8 below -7\n",
+        ),
+        (
+            CheckFault::NotInfeasible(2, 3),
+            "not proved: leaf 2 has size 3\n",
+        ),
+    ] {
+        let done = Done::NotProved(NotProved::Fault(fault));
+        assert_text(&rt, rt.alloc(), &done, None, want);
+    }
+    let done = Done::NotProved(NotProved::Malformed(1500028));
+    let want = "not proved: malformed at line 1500028\n";
+    assert_text(&rt, rt.alloc(), &done, None, want);
 }

@@ -9,13 +9,18 @@ use Rattle.binder.specs.declared.fault.BindFault.TheVariants as bind
 use Rattle.candidates.specs.declared.answer.Candidates.{Candidates}
 use Rattle.catalogue.specs.declared.fault.CatFault.{CatFault}
 use Rattle.catalogue.specs.declared.fault.CatFault.TheVariants as cat
+use Rattle.gap_checker.specs.declared.fault.Checked.{Checked}
+use Rattle.gap_checker.specs.declared.fault.CheckFault.{CheckFault}
+use Rattle.gap_checker.specs.declared.fault.CheckFault.TheVariants as check
 use Rattle.plan_model.specs.declared.plan.TheConstants.{MOST_TOTAL}
 use Rattle.sql_reader.specs.declared.parsed.SqlFault.{SqlFault}
 use Rattle.sql_reader.specs.declared.parsed.SqlFault.TheVariants as sql
 use Rattle.report.specs.declared.done.Advice.{Advice}
 use Rattle.report.specs.declared.done.Done.{Done}
-use Rattle.report.specs.declared.done.Done.TheVariants.{Usage, ReadFault, Refused, Priced, Listed, Explained as ExplainedDone, Advised}
+use Rattle.report.specs.declared.done.Done.TheVariants.{Usage, ReadFault, Refused, Priced, Listed, Explained as ExplainedDone, Advised, Checked as CheckedDone, NotProved as NotProvedDone}
 use Rattle.report.specs.declared.done.Explained.{Explained}
+use Rattle.report.specs.declared.done.NotProved.{NotProved}
+use Rattle.report.specs.declared.done.NotProved.TheVariants.{Malformed, Fault}
 use Rattle.report.specs.declared.done.Prices.{Prices}
 use Rattle.report.specs.declared.done.Refusal.{Refusal}
 use Rattle.report.specs.declared.done.Refusal.TheVariants.{TooLong, Cat, Sql, Bind, NoStatement, BadConf, TooManyCombinations, NotBuilt}
@@ -179,6 +184,29 @@ abbrev pub advised_text : Option TheSetting → Advice → List ℕ
 advised_text None advice = []
 advised_text (Some setting) advice = advice_text setting advice
 
+-- what a certificate proves
+abbrev pub checked_text : Checked → List ℕ
+checked_text checked =
+    line (numbered (codes "proved cost ") checked.cost ++ (signed (codes " bound ") checked.bound ++ numbered (codes " budget ") checked.budget))
+
+-- where a certificate first fails to be a proof
+abbrev pub check_fault : CheckFault → List ℕ
+check_fault check.Memory = []
+check_fault (check.BadConfig number) = numbered (codes "no candidate ") number
+check_fault (check.OverBudget size budget) = numbered (codes "size ") size ++ numbered (codes " over ") budget
+check_fault (check.CostDiffers claimed computed) = numbered (codes "cost ") claimed ++ numbered (codes " computed ") computed
+check_fault (check.BadPair set entry) =
+    numbered (codes "set ") set ++ (numbered (codes " entry ") entry ++ codes " names no pair")
+check_fault (check.BadBranch node) = numbered (codes "branch at node ") node
+check_fault (check.LeafBelow node computed claimed) =
+    numbered (codes "leaf ") node ++ (signed (codes " has ") computed ++ signed (codes " below ") claimed)
+check_fault (check.NotInfeasible node size) = numbered (codes "leaf ") node ++ numbered (codes " has size ") size
+
+-- why a certificate proves nothing, behind `not proved: `
+abbrev pub not_proved : NotProved → List ℕ
+not_proved (Malformed number) = numbered (codes "malformed at line ") number
+not_proved (Fault fault) = check_fault fault
+
 -- the text of an answer to these words, over the setting of which it speaks
 abbrev pub done_text : List (List ℕ) → Option TheSetting → Done → List ℕ
 done_text words setting (Usage fault) = line (codes "usage: " ++ word_fault fault)
@@ -188,6 +216,8 @@ done_text words setting (Priced prices) = prices_text (statements_in setting) pr
 done_text words setting (Listed found) = listed_text setting found
 done_text words setting (ExplainedDone explained) = explained_text explained
 done_text words setting (Advised advice) = advised_text setting advice
+done_text words setting (CheckedDone checked) = checked_text checked
+done_text words setting (NotProvedDone why) = line (codes "not proved: " ++ not_proved why)
 done_text words setting done = []
 
 -- candidates name what the catalogue of their setting has

@@ -4,6 +4,7 @@ use binder::BindFault;
 use bip_model::Answer;
 use candidates::Candidates;
 use catalogue::CatFault;
+use gap_checker::{CheckFault, Checked};
 use plan_model::Whole;
 use sql_reader::SqlFault;
 
@@ -49,6 +50,15 @@ pub enum Refusal {
     NotBuilt,
 }
 
+/// Why a certificate proves nothing.
+#[derive(Clone, Copy, Debug, PartialEq, Eq)]
+pub enum NotProved {
+    /// Up to that line no certificate begins with the file's lines.
+    Malformed(u64),
+    /// The certificate has this fault first.
+    Fault(CheckFault),
+}
+
 /// The cost of each statement, without its weight, and the total with the weights. `size` is the pages of the
 /// configuration, where there is one.
 #[derive(Debug, Drop)]
@@ -91,4 +101,6 @@ pub enum Done {
     Listed(Candidates),
     Explained(Explained),
     Advised(Advice),
+    Checked(Checked),
+    NotProved(NotProved),
 }

@@ -1,11 +1,13 @@
 //! What the program answers, and the texts that it prints.
 //!
-//! `Done` is an answer: a list of prices or of candidates, an explained plan, advice, a refusal, a fault. `text` gives the bytes that stand for it
-//! on the output: one line a fact, each ended by a line feed. Costs are in thousandths of a page read, places are byte
+//! `Done` is an answer: a list of prices or of candidates, an explained plan, advice, what a certificate proves or why it
+//! proves nothing, a refusal, a fault. `text` gives the bytes that stand for it on the output: one line a fact, each ended by
+//! a line feed. Costs are in thousandths of a page read, places are byte
 //! offsets from 1, and numbers of statements, words and lines count from 1. Finding an answer is left to others.
 #![tactic(auto)]
 
 mod advised;
+mod checked;
 mod done;
 mod listed;
 mod path;
@@ -13,5 +15,5 @@ mod printed;
 mod refusal;
 mod usage;
 
-pub use done::{Advice, Done, Explained, Prices, Refusal, Role, WordFault};
+pub use done::{Advice, Done, Explained, NotProved, Prices, Refusal, Role, WordFault};
 pub use printed::text;

@@ -22,6 +22,9 @@ returns-clause-write_fault g c =
 pub returns-clause-refused : goal.returns-clause-refused
 returns-clause-refused g c = cause.refused _ _ _ _ _ _ _ _ _ _ c.reply-reply.ensures.reply c.give-done.ensures.ends
 
+pub returns-clause-not_proved : goal.returns-clause-not_proved
+returns-clause-not_proved g c = cause.not_proved _ _ _ _ _ _ _ _ _ _ c.reply-reply.ensures.reply c.give-done.ensures.ends
+
 pub returns-clause-memory : goal.returns-clause-memory
 returns-clause-memory g c = cause.memory _ _ _ _ _ _ _ _ _ _ c.reply-reply.ensures.reply c.give-done.ensures.ends
 

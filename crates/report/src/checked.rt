@@ -1,0 +1,116 @@
+//! The texts of what a check of a certificate answers.
+ghost use Rattle.std.specs.Prelude.{◌≡◌, ◌++◌, OnOk, codes};
+ghost use Rattle.report.specs.Texts.{line, numbered, signed, checked_text, check_fault, not_proved};
+
+use crate::NotProved;
+use crate::usage::{push_numbered, push_signed};
+use gap_checker::{CheckFault, Checked};
+use std::alloc::{AllocError, Global};
+
+/// Adds the line of what a certificate proves.
+pub(crate) fn push_checked(
+    alloc: Global,
+    out: &mut Vec<u8>,
+    checked: &Checked,
+) -> Result<(), AllocError>
+    ensures { OnOk result (out.new.items ≡ out.old.items ++ checked_text checked.now) }
+{
+    push_numbered(alloc, out, b"proved cost ", checked.cost)?;
+    push_signed(alloc, out, b" bound ", checked.bound)?;
+    push_numbered(alloc, out, b" budget ", checked.budget as u128)?;
+    out.extend_from_slice(b"\n")
+}
+
+/// Adds two numbers, each behind its words.
+fn push_both(
+    alloc: Global,
+    out: &mut Vec<u8>,
+    before: &[u8],
+    first: u128,
+    between: &[u8],
+    second: u128,
+) -> Result<(), AllocError>
+    ensures { OnOk result (out.new.items ≡ out.old.items ++ (numbered before.now first ++ numbered between.now second)) }
+{
+    push_numbered(alloc, out, before, first)?;
+    push_numbered(alloc, out, between, second)
+}
+
+/// Adds that an entry of a set names no use of a candidate.
+fn push_bad_pair(alloc: Global, out: &mut Vec<u8>, set: u8, entry: u32) -> Result<(), AllocError>
+    ensures { OnOk result (out.new.items ≡ out.old.items
+        ++ (numbered (codes "set ") set ++ (numbered (codes " entry ") entry ++ codes " names no pair"))) }
+{
+    push_numbered(alloc, out, b"set ", set as u128)?;
+    push_numbered(alloc, out, b" entry ", entry as u128)?;
+    out.extend_from_slice(b" names no pair")
+}
+
+/// Adds that a leaf is below the bound.
+fn push_leaf(
+    alloc: Global,
+    out: &mut Vec<u8>,
+    node: u32,
+    computed: i128,
+    claimed: i128,
+) -> Result<(), AllocError>
+    ensures { OnOk result (out.new.items ≡ out.old.items
+        ++ (numbered (codes "leaf ") node ++ (signed (codes " has ") computed ++ signed (codes " below ") claimed))) }
+{
+    push_numbered(alloc, out, b"leaf ", node as u128)?;
+    push_signed(alloc, out, b" has ", computed)?;
+    push_signed(alloc, out, b" below ", claimed)
+}
+
+/// Adds a fault of a certificate as a proof.
+fn push_check_fault(alloc: Global, out: &mut Vec<u8>, fault: CheckFault) -> Result<(), AllocError>
+    ensures { OnOk result (out.new.items ≡ out.old.items ++ check_fault fault) }
+{
+    match fault {
+        CheckFault::Memory => Ok(()),
+        CheckFault::BadConfig(number) => {
+            push_numbered(alloc, out, b"no candidate ", number as u128)
+        }
+        CheckFault::OverBudget(size, budget) => {
+            push_both(alloc, out, b"size ", size, b" over ", budget as u128)
+        }
+        CheckFault::CostDiffers(claimed, computed) => {
+            push_both(alloc, out, b"cost ", claimed, b" computed ", computed)
+        }
+        CheckFault::BadPair(set, entry) => push_bad_pair(alloc, out, set, entry),
+        CheckFault::BadBranch(node) => {
+            push_numbered(alloc, out, b"branch at node ", node as u128)
+        }
+        CheckFault::LeafBelow(node, computed, claimed) => {
+            push_leaf(alloc, out, node, computed, claimed)
+        }
+        CheckFault::NotInfeasible(node, size) => {
+            push_both(alloc, out, b"leaf ", node as u128, b" has size ", size)
+        }
+    }
+}
+
+/// Adds why a certificate proves nothing.
+fn push_not_proved(alloc: Global, out: &mut Vec<u8>, why: NotProved) -> Result<(), AllocError>
+    ensures { OnOk result (out.new.items ≡ out.old.items ++ not_proved why) }
+{
+    match why {
+        NotProved::Malformed(number) => {
+            push_numbered(alloc, out, b"malformed at line ", number as u128)
+        }
+        NotProved::Fault(fault) => push_check_fault(alloc, out, fault),
+    }
+}
+
+/// Adds the line of a certificate that proves nothing.
+pub(crate) fn push_unproved(
+    alloc: Global,
+    out: &mut Vec<u8>,
+    why: NotProved,
+) -> Result<(), AllocError>
+    ensures { OnOk result (out.new.items ≡ out.old.items ++ line (codes "not proved: " ++ not_proved why)) }
+{
+    out.extend_from_slice(b"not proved: ")?;
+    push_not_proved(alloc, out, why)?;
+    out.extend_from_slice(b"\n")
+}
