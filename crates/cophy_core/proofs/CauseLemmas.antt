@@ -85,7 +85,7 @@ unproved (Candidates cat load) files why h = absurd h.holds
 unproved (Cost cat load) files why h = absurd h.holds
 unproved (WhatIf cat load conf) files why h = absurd h.holds
 unproved (Explain cat load conf number) files why h = absurd h.holds
-unproved (Advise cat load budget nodes None) files why h = absurd h.holds
+unproved (Advise cat load budget nodes cert) files why h = absurd h.holds
 unproved (Check cat load cert) files why h = record { cat = cat; load = load; cert = cert; words_are = refl; first = h }
 unproved command files why h = absurd (let e = h in cc)
 
@@ -249,6 +249,10 @@ not_proved words files before after old new reply puts text done r e =
 -- the answer to words that are a command
 pub to_command : (words : Result PlainCommand WordFault) (command : PlainCommand) (files : Option Files) (before after : ReadCounts) (reply : Done) → words ≡ Ok command → MayAnswerWords words files before after reply → MayAnswer command files before after reply
 to_command words command files before after reply is h = subst (λ (w : Result PlainCommand WordFault). MayAnswerWords w files before after reply) is h
+
+-- what is put for it
+pub to_puts : (words : Result PlainCommand WordFault) (command : PlainCommand) (files : Option Files) (line : List (List ℕ)) (reply : Done) (puts : List Put) (text : List ℕ) → words ≡ Ok command → ArePutsTo words files line reply puts text → ArePuts command files line reply puts text
+to_puts words command files line reply puts text is h = subst (λ (w : Result PlainCommand WordFault). ArePutsTo w files line reply puts text) is h
 
 pub soundness : (words : List (List ℕ)) (files : Option Files) (before after : ReadCounts) (old new : Outside) (reply : Done) (puts : List Put) (text : List ℕ) (done : Done) → IsReply words files before after reply puts text → Ends old new reply puts text done → (command : PlainCommand) → command_of words ≡ Ok command → IsSound command files done
 soundness words files before after old new reply puts text done r e command is =

@@ -14,4 +14,5 @@ pub mod Puts
 pub mod Answered
 pub mod CauseLemmas
 pub mod LeftFiles
+pub mod Headlines
 pub mod Grammar

@@ -18,13 +18,14 @@ use Rattle.cophy_core.specs.Left.{PutsFileTo}
 use Rattle.cophy_core.specs.commands.Check.{ProvesNothing}
 use Rattle.cophy_core.specs.Replies.{MayAnswerWords, IsTextTo}
 
--- the exit status of advice: 1 where its bound isn't its cost
+-- the exit status of a search: 1 where its bound isn't its cost
+abbrev pub gap_status : ℕ → ℤ → ℕ
+gap_status cost (pos bound) = if bound == cost then 0 else 1
+gap_status cost (negsuc below) = 1
+
+-- the exit status of advice
 abbrev pub advice_status_of : Advice → ℕ
-advice_status_of advice = by_bound advice.answer.cost advice.answer.bound
-  where
-    by_bound : ℕ → ℤ → ℕ
-    by_bound cost (pos bound) = if bound == cost then 0 else 1
-    by_bound cost (negsuc below) = 1
+advice_status_of advice = gap_status advice.answer.cost advice.answer.bound
 
 -- the exit status of an answer
 abbrev pub status_of : Done → ℕ

@@ -13,3 +13,4 @@ pub mod Reading
 pub mod Replies
 pub mod Left
 pub mod Causes
+pub mod Headline

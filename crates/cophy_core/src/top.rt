@@ -1,16 +1,20 @@
 //! The call that the program makes.
-ghost use Rattle.std.specs.Prelude.{◌≡◌, ◌≤◌, ◌⊎◌, ℕ, List, Ok, Err};
+ghost use Rattle.std.specs.Prelude.{◌≡◌, ◌≢◌, ◌≤◌, ◌⊎◌, ℕ, List, Some, Ok, Err};
+ghost use Rattle.adv_shelf.specs.Shelf.{Files};
 ghost use Rattle.report.specs.declared.done.WordFault.{WordFault};
 ghost use Rattle.cophy_core.specs.Causes.{advice_status_of, status_of, IsOrMemory, IsSteady, UsageIsTrue, ReadFaultIsTrue, WriteFaultIsTrue, RefusalIsTrue, NotProvedIsTrue, MemoryWritesNothing, IsSound, IsWritten, IsBounded};
 ghost use Rattle.cophy_core.specs.Answers.{Answers};
 ghost use Rattle.cophy_core.specs.ReadWords.{texts, PlainCommand, command_of};
 ghost use Rattle.cophy_core.specs.Endings.{outside};
 ghost use Rattle.cophy_core.specs.Files.{counts};
+ghost use Rattle.cophy_core.specs.Headline.{Asked, asked_command, IsAccepted, Headline};
 ghost use Rattle.cophy_core.specs.Left.{LeavesFiles};
 
 use crate::answer::reply;
 use crate::reply::give;
 use adv_shelf::{Shelf, Sink};
+use certificate::written_certificates_fit;
+use gap_checker::best_answers_are_proved;
 use report::{Advice, Done};
 use std::alloc::Global;
 
@@ -91,6 +95,12 @@ pub fn run<S: Shelf, O: Sink>(
         (counts (S.read_faults shelf.old) (S.read_faults_at shelf.old)) (counts (S.read_faults shelf.new) (S.read_faults_at shelf.new))
         (O.written out.old) (O.written out.new) result.done }
     ensures bound { IsBounded result.done }
+    // What advice promises of accepted files, where no count of faults rose and there was memory.
+    ensures headline { (files : Files) (asked : Asked) → S.files shelf.old ≡ Some files →
+        command_of (texts words.now) ≡ Ok (asked_command asked) → IsAccepted files asked →
+        IsSteady (S.read_faults shelf.old) (S.read_faults shelf.new) → IsSteady (S.put_faults shelf.old) (S.put_faults shelf.new) →
+        IsSteady (O.faults out.old) (O.faults out.new) → result.done ≢ Done.Memory →
+        Headline (texts words.now) files asked (O.written out.old) result.status (S.files shelf.new) (O.written out.new) }
 
     // No file changes but the one that advice puts its certificate into.
     ensures files { LeavesFiles (command_of (texts words.now))
@@ -102,6 +112,8 @@ pub fn run<S: Shelf, O: Sink>(
     ensures reads_at { (n : List ℕ) → S.read_faults_at shelf.old n ≤ S.read_faults_at shelf.new n }
     ensures writes { O.faults out.old ≤ O.faults out.new }
 {
+    written_certificates_fit();
+    best_answers_are_proved();
     let reply = reply(alloc, words, shelf);
     let done = give(shelf, out, reply);
     Outcome {

@@ -24,12 +24,14 @@ use Rattle.cophy_core.specs.declared.stop.Stop.{Stop}
 use Rattle.cophy_core.specs.declared.stop.Stop.TheVariants.{Memory, Refused}
 
 -- Each statement has few enough combinations. The answer is best under both budgets, from a root that leaves each candidate
--- free: its configuration fits and costs what is told, and no configuration that fits costs less than the bound.
+-- free: its configuration fits and costs what is told, and no configuration that fits costs less than the bound. The
+-- configuration has a flag for each candidate that there may be.
 pub record IsAdvice (budget nodes : ℕ) (setting : TheSetting) (advice : Advice) : Type 0 where
   pub budget_is : advice.budget ≡ budget
   pub nodes_is : advice.nodes ≡ nodes
   pub left_over_is : advice.left_over ≡ length (candidates.fresh_lists setting.cat setting.statements) - MOST_CANDIDATES
   pub few : AreFew setting.cat setting.statements
+  pub flags : length advice.answer.config.on ≡ MOST_CANDIDATES
   pub best : IsBest setting budget nodes free_node advice.answer
   pub bounds : BoundsAll setting budget advice.answer.cost advice.answer.bound
 

@@ -1,5 +1,5 @@
 //! `advise`: which candidates to make within a budget of pages.
-ghost use Rattle.std.specs.Prelude.{◌≡◌, ◌≤◌, replicate, option_map, IfOk, IfErr, Some};
+ghost use Rattle.std.specs.Prelude.{◌≡◌, ◌≤◌, length, replicate, option_map, IfOk, IfErr, Some};
 ghost use Rattle.adv_base.specs.declared.limits.TheConstants.{MOST_CANDIDATES, MOST_NODES, MOST_ROWS};
 ghost use Rattle.bip_model.specs.StandsFor.{StandsFor};
 ghost use Rattle.adv_base.specs.Settings.{TheSetting, the_setting};
@@ -14,7 +14,7 @@ ghost use Rattle.cophy_core.specs.commands.Advise as spec;
 use crate::stop::Stop;
 use crate::worked::{FilePut, Worked};
 use adv_base::limits::MOST_CANDIDATES;
-use adv_base::{List, NoMemory, Setting};
+use adv_base::{Config, List, NoMemory, Setting};
 use bip_model::{Answer, Fix, Programme, State, shown_bounds};
 use branch_bound::{Room, search};
 use candidates::candidates;
@@ -54,6 +54,13 @@ fn programme_of(alloc: Global, setting: &Setting<'_>) -> Result<Programme, Stop>
         Ok(programme) => Ok(programme),
         Err(fault) => Err(tune_stop(fault)),
     }
+}
+
+/// A configuration has a flag for each candidate that there may be.
+fn has_all_flags(config: &Config)
+    ensures { length config.now.on ≡ MOST_CANDIDATES }
+{
+    let _flags = config.on;
 }
 
 /// The certificate of an answer, to be put into a file of that name.
@@ -120,6 +127,7 @@ pub(crate) fn advise<'a>(
     let room = Room::new(alloc, &programme, nodes)?;
     let answer = search(&programme, &root, budget, nodes, room);
     shown_bounds();
+    has_all_flags(&answer.config);
     best_answers_keep_limits();
     standing_programmes_are_in_order();
     let puts = certified(alloc, &programme, budget, &answer, cert)?;

@@ -1,5 +1,6 @@
-use Rattle.std.proofs.Common.{◌∙◌}
+use Rattle.std.proofs.Common.{refl}
 use Rattle.cophy_core.proofs.CauseLemmas as cause
+use Rattle.cophy_core.proofs.Headlines.{headline}
 use Rattle.cophy_core.proofs.LeftFiles.{left}
 use Rattle.cophy_core.proofs.top.run.Goals as goal
 
@@ -50,3 +51,9 @@ returns-clause-files g c =
     let e = cause.from_start _ _ _ _ _ _ _ _ _ _ _ c.reply-reply.ensures.files c.reply-reply.ensures.puts c.give-done.ensures.ends in
     let r = cause.moved _ _ _ _ _ _ _ _ _ _ c.give-done.ensures.reads c.give-done.ensures.reads_at c.reply-reply.ensures.reply in
     left _ _ _ _ _ _ _ _ _ r e
+
+pub returns-clause-headline : goal.returns-clause-headline
+returns-clause-headline g c =
+    let e = cause.from_start _ _ _ _ _ _ _ _ _ _ _ c.reply-reply.ensures.files c.reply-reply.ensures.puts c.give-done.ensures.ends in
+    let r = cause.moved _ _ _ _ _ _ _ _ _ _ c.give-done.ensures.reads c.give-done.ensures.reads_at c.reply-reply.ensures.reply in
+    headline c.written_certificates_fit.ensures c.best_answers_are_proved.ensures _ _ _ _ _ _ _ _ _ _ _ r e refl c.status.ensures

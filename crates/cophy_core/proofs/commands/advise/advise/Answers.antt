@@ -32,6 +32,7 @@ returns-clause-gives c =
       nodes_is = refl;
       left_over_is = c.in_ok-found.ensures.left_over;
       few = c.in_ok-programme.ensures.few;
+      flags = c.has_all_flags.ensures;
       best = best;
       bounds = c.shown_bounds.ensures.free setting c.args.budget answer.config answer.cost answer.bound (sets_in setting answer) answer.tree c.args.setting.now.limits best.proves;
     }
