@@ -159,7 +159,7 @@ const WORDS: &str = r#"2||TI|||usage: no command~
 2|advise c l 10 --node|TI|||usage: unknown option at word 5~
 2|bench 1 1 5 0|TI|||usage: bad number at word 3~
 3|advise none none 10|TI|||read fault: none~
-5|advise none none 10 --cert none|TI|||refused: not built~
+3|advise none none 10 --cert none|TI|||read fault: none~
 5|advise CAT LOAD 10|STAR|SELECT count(*) FROM hub, p, q, r, s WHERE k1 = p.x AND k2 = p.y AND k3 = p.z AND k4 = q.x AND k5 = q.y AND k6 = q.z AND k7 = r.x AND k8 = r.y AND k9 = r.z AND k10 = s.w AND k11 = s.x AND k12 = s.y AND k13 = s.z||refused: statement 1 has 4480 combinations~
 3|whatif none none none|TI|||read fault: none~
 2|whatif CAT LOAD|TI|||usage: missing word 4~
