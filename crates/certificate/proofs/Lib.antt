@@ -17,3 +17,5 @@ pub mod OneText
 pub mod WriteLaws
 pub mod Places
 pub mod InOrder
+pub mod Best
+pub mod Sizes

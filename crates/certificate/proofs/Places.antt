@@ -20,18 +20,18 @@ use Rattle.certificate.specs.inner.Writing.{grant_place}
 use Rattle.certificate.proofs.WriteLaws.{set-count}
 
 -- where a place stands among entries
-abbrev number_of : Place → ℕ
+abbrev pub number_of : Place → ℕ
 number_of place = place.statement * 2048 + suc place.slot * 256 + place.candidate
 
-record PlaceLimits (place : Place) : Type 0 where
-  statement_least : 1 ≤ place.statement
-  statement_most : place.statement ≤ MOST_STATEMENTS
-  slot_most : place.slot < MOST_SLOTS
-  candidate_least : 1 ≤ place.candidate
-  candidate_most : place.candidate ≤ MOST_CANDIDATES
+pub record PlaceLimits (place : Place) : Type 0 where
+  pub statement_least : 1 ≤ place.statement
+  pub statement_most : place.statement ≤ MOST_STATEMENTS
+  pub slot_most : place.slot < MOST_SLOTS
+  pub candidate_least : 1 ≤ place.candidate
+  pub candidate_most : place.candidate ≤ MOST_CANDIDATES
 
 -- places, from a number on, each behind the one before
-abbrev PlacesFrom : ℕ → List Place → Type 0
+abbrev pub PlacesFrom : ℕ → List Place → Type 0
 PlacesFrom least [] = Unit {0}
 PlacesFrom least (place ∷ places) = PlaceLimits place × (least ≤ number_of place) × PlacesFrom (number_of place + 1) places
 
@@ -43,7 +43,7 @@ entries-low : (m least : ℕ) (es : List Entry) → EntriesFrom m es → least �
 entries-low m least [] h low = tt
 entries-low m least (e ∷ es) h low = (h.0, omega (arith, h.1), h.2)
 
-entries-from : (least : ℕ) (ps : List Place) (rents : List ℕ) → PlacesFrom least ps → AllByRecursion (λ (rent : ℕ). rent ≤ MOST_RENT) rents → EntriesFrom least (entries_of ps rents)
+pub entries-from : (least : ℕ) (ps : List Place) (rents : List ℕ) → PlacesFrom least ps → AllByRecursion (λ (rent : ℕ). rent ≤ MOST_RENT) rents → EntriesFrom least (entries_of ps rents)
 entries-from least [] rents h most = tt
 entries-from least (p ∷ ps) [] h most = tt
 entries-from least (p ∷ ps) (zero ∷ rents) h most =
@@ -88,14 +88,14 @@ slots-from q s least (slot ∷ slots) rest some most few rise low h =
     subst (λ (ps : List Place). PlacesFrom least ps) (sym (append_assoc (map (grant_place q s) slot.grants) (slot_places q (suc s) slots) rest))
     (grants-from q s 1 least slot.grants (slot_places q (suc s) slots ++ rest) some most (omega arith) (omega arith) rise.0 low behind)
 
-parts-from : (k : ℕ) (parts : List Part) → PartsRise k parts → PlacesFrom (k * 2048 + 257) (part_places parts)
+pub parts-from : (k : ℕ) (parts : List Part) → PartsRise k parts → PlacesFrom (k * 2048 + 257) (part_places parts)
 parts-from k [] h = tt
 parts-from k (part ∷ parts) h =
     let limits = part.limits in
     slots-from part.statement 0 (k * 2048 + 257) part.slots (part_places parts) limits.statement_least limits.statement_most (omega (arith, limits.slots_most)) h.1 (omega (arith, h.0)) (parts-from (suc part.statement) parts h.2)
 
 -- what all elements are
-all-of : {X : Type 0} (P : X → Type 0) (xs : List X) → All P xs → AllByRecursion P xs
+pub all-of : {X : Type 0} (P : X → Type 0) (xs : List X) → All P xs → AllByRecursion P xs
 all-of P [] h = tt
 all-of P (x ∷ xs) h = (h 0 x (omega arith), all-of P xs (λ k d below. h (suc k) d (omega arith)))
 

@@ -2,12 +2,14 @@
 use Rattle.std.specs.Prelude.{ℕ, zero, suc, ◌<◌, ◌≤◌, ◌^◌, not, ◌==◌, Bool, true, false, List, [], ◌∷◌, ◌++◌, length, map, All, sum_by, count_by}
 use Rattle.std.specs.List.{AllByRecursion}
 use Rattle.adv_base.specs.declared.limits.TheConstants.{MOST_ROWS, MOST_SETS, MOST_ENTRIES, MOST_NODES}
-use Rattle.adv_base.specs.Settings.{TheSetting}
+use Rattle.adv_base.specs.Nodes as nodes
+use Rattle.adv_base.specs.Settings.{TheSetting, KeepsLimits}
 use Rattle.bip_model.specs.declared.answer.Answer.{Answer}
 use Rattle.bip_model.specs.declared.grant.Grant.{Grant}
 use Rattle.bip_model.specs.declared.multipliers.Multipliers.{Multipliers}
 use Rattle.bip_model.specs.declared.part.Part.{Part}
 use Rattle.bip_model.specs.declared.programme.Programme.{Programme}
+use Rattle.bip_model.specs.Best.{IsBest}
 use Rattle.bip_model.specs.StandsFor.{StandsFor}
 use Rattle.bip_model.specs.Views.{Place, places, AreMultipliers}
 use Rattle.certificate.specs.Limits.{IsSmall, NodeLimits, AreTrees}
@@ -83,3 +85,10 @@ InOrder programme = PartsRise 1 programme.parts
 -- those of a programme that stands for a setting are
 abbrev pub StandingInOrder : Type 0
 StandingInOrder = (setting : TheSetting) (programme : Programme) → StandsFor setting programme → InOrder programme
+
+-- the best answer of a search over such a programme keeps the limits of certificates
+abbrev pub BestKeepLimits : Type 0
+BestKeepLimits =
+    (setting : TheSetting) (programme : Programme) (budget node_budget : ℕ) (root : nodes.Node) (answer : Answer) → KeepsLimits setting →
+    StandsFor setting programme → budget ≤ MOST_ROWS → node_budget ≤ MOST_NODES → IsBest setting budget node_budget root answer →
+    AnswerLimits programme budget answer

@@ -1,6 +1,7 @@
 -- Which bytes are a certificate's text, and at which line other bytes break.
-use Rattle.std.specs.Prelude.{◌≡◌, ◌≢◌, ℕ, suc, List, ◌++◌, length, All}
+use Rattle.std.specs.Prelude.{◌≡◌, ◌≢◌, ◌≤◌, ℕ, suc, List, ◌++◌, length, All}
 use Rattle.std.specs.List.{AllByRecursion}
+use Rattle.adv_base.specs.declared.limits.TheConstants.{MOST_CERTIFICATE_BYTES}
 use Rattle.certificate.specs.Limits.{CertLimits}
 use Rattle.certificate.specs.Texts.{text_of, cert_text}
 use Rattle.certificate.specs.declared.cert.Cert.{Cert}
@@ -48,3 +49,7 @@ OneCertificate = (bytes : List ℕ) (cert other : Cert) → IsCertificate bytes 
 -- a certificate has one text
 abbrev pub OneText : Type 0
 OneText = (cert : Cert) (bytes other : List ℕ) → IsCertificate bytes cert → IsCertificate other cert → bytes ≡ other
+
+-- no text of a certificate is longer than its file may be
+abbrev pub TextsFit : Type 0
+TextsFit = (bytes : List ℕ) (cert : Cert) → IsCertificate bytes cert → length bytes ≤ MOST_CERTIFICATE_BYTES

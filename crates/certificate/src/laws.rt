@@ -30,3 +30,14 @@ pub fn texts_are_one()
 pub fn standing_programmes_are_in_order()
     ensures { answers.StandingInOrder }
 {}
+
+/// The best answer of a search, with at most a million nodes and a space budget of at most 10^12 pages, keeps the limits
+/// that `write_cert` asks for.
+pub fn best_answers_keep_limits()
+    ensures { answers.BestKeepLimits }
+{}
+
+/// The text of a certificate is never longer than the file of a certificate may be: 64 MiB.
+pub fn written_certificates_fit()
+    ensures { certificates.TextsFit }
+{}
