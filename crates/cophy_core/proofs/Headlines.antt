@@ -29,7 +29,7 @@ use Rattle.report.specs.declared.done.Refusal.{Refusal}
 use Rattle.report.specs.declared.done.Refusal.TheVariants.{TooLong, Cat, Sql, Bind, TooManyCombinations}
 use Rattle.report.specs.declared.done.Role.{Role}
 use Rattle.report.specs.declared.done.Role.TheVariants.{Catalogue, Workload, Third}
-use Rattle.tuning.specs.Refusals.{AreFew, IsFirstBeyond}
+use Rattle.tuning.specs.Refusals.{AreFew, IsFew, IsFirstBeyond}
 use Rattle.cophy_core.specs.commands.Advise.{IsAdvice, IsCertificateOf, IsCertificatePut, PutsFor}
 use Rattle.cophy_core.specs.Answers.{Answers}
 use Rattle.cophy_core.specs.Causes.{IsSteady, gap_status, status_of}
@@ -87,7 +87,7 @@ all-at P xs i x all there = subst P (get_or_from_slice_get xs i x x there) (all 
 
 none_beyond : (setting : TheSetting) (n count : ℕ) → AreFew setting.cat setting.statements → IsFirstBeyond setting n count → ⊥
 none_beyond setting n count few h =
-    let within = all-at (λ (s : Statement). (block : Block) → block_of s.work ≡ Some block → _) setting.statements (n - 1) h.statement few h.found h.block h.block_is count h.has in
+    let within = all-at (λ (s : Statement). (block : Block) → block_of s.work ≡ Some block → IsFew setting.cat block) setting.statements (n - 1) h.statement few h.found h.block h.block_is count h.has in
     let beyond = h.beyond in
     absurd (omega (arith, within, beyond))
 
@@ -126,19 +126,19 @@ whole_end old new reply puts text done put writes some (inr (inr unput)) =
 
 -- ## How the search ended
 
+spent_by : (made nodes : ℕ) → nodes ≤ made + 1 → made ≤ nodes → (test : Bool) → eqb made nodes ≡ test → (made ≡ nodes) ⊎ (made + 1 ≡ nodes)
+spent_by made nodes low high true e = inl (eqb-true made nodes e)
+spent_by made nodes low high false e = let apart = eqb-false made nodes e in inr (omega (arith, apart, low, high))
+
 spent_nodes : (made nodes : ℕ) → nodes ≤ made + 1 → made ≤ nodes → (made ≡ nodes) ⊎ (made + 1 ≡ nodes)
-spent_nodes made nodes low high = by (eqb made nodes) refl
-  where
-    by : (test : Bool) → eqb made nodes ≡ test → (made ≡ nodes) ⊎ (made + 1 ≡ nodes)
-    by true e = inl (eqb-true made nodes e)
-    by false e = let apart = eqb-false made nodes e in inr (omega (arith, apart, low, high))
+spent_nodes made nodes low high = spent_by made nodes low high (eqb made nodes) refl
+
+gap_test : (cost b : ℕ) → pos b ≤ℤ pos cost → (test : Bool) → (b == cost) ≡ test → ((pos b ≡ pos cost) × (gap_status cost (pos b) ≡ 0)) ⊎ ((pos b <ℤ pos cost) × (gap_status cost (pos b) ≡ 1))
+gap_test cost b most true e = inl (ap pos (eqb-true b cost e), ap (λ (t : Bool). if t then 0 else 1) e)
+gap_test cost b most false e = let apart = eqb-false b cost e in inr (omega (arith, ints, apart, most), ap (λ (t : Bool). if t then 0 else 1) e)
 
 gap_by : (cost : ℕ) (bound : ℤ) → bound ≤ℤ pos cost → ((bound ≡ pos cost) × (gap_status cost bound ≡ 0)) ⊎ ((bound <ℤ pos cost) × (gap_status cost bound ≡ 1))
-gap_by cost (pos b) most = by (b == cost) refl
-  where
-    by : (test : Bool) → (b == cost) ≡ test → ((pos b ≡ pos cost) × ((if b == cost then 0 else 1) ≡ 0)) ⊎ ((pos b <ℤ pos cost) × ((if b == cost then 0 else 1) ≡ 1))
-    by true e = inl (ap pos (eqb-true b cost e), ap (λ (t : Bool). if t then 0 else 1) e)
-    by false e = let apart = eqb-false b cost e in inr (omega (arith, ints, apart, most), ap (λ (t : Bool). if t then 0 else 1) e)
+gap_by cost (pos b) most = gap_test cost b most (b == cost) refl
 gap_by cost (negsuc n) most = inr (omega (arith, ints), refl)
 
 ended : (setting : TheSetting) (asked : Asked) (advice : Advice) (status : ℕ) → IsAdvice asked.budget asked.nodes setting advice → status ≡ gap_status advice.answer.cost advice.answer.bound → IsEnd setting asked.budget asked.nodes advice.answer status
