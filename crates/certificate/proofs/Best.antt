@@ -1,6 +1,6 @@
 -- The best answer of a search keeps the limits of certificates.
-use Rattle.std.proofs.Common.{◌≡◌, ◌∙◌, ℕ, zero, suc, ◌+◌, ◌-◌, ◌*◌, ◌<◌, ◌≤◌, ◌^◌, ◌==◌, Bool, true, false, cond, List, [], ◌∷◌, ◌++◌, length, map, ℤ, pos, negsuc, refl, sym, ap, subst, arith}
-use Rattle.std.specs.Prelude.{All, Option, Some, None, slice_get, if◌then◌else◌, ◌≤ℤ◌}
+use Rattle.std.proofs.Common.{◌≡◌, ◌∙◌, ℕ, zero, suc, ◌+◌, ◌-◌, ◌*◌, ◌<◌, ◌≤◌, ◌^◌, ◌==◌, Bool, true, false, cond, List, [], ◌∷◌, ◌++◌, length, map, ℤ, pos, negsuc, sym, ap, subst, arith}
+use Rattle.std.specs.Prelude.{All, Some, ◌≤ℤ◌}
 use Rattle.std.specs.Option.{option_map_or}
 use Rattle.std.proofs.Math.Nat.{mul-le-mul}
 use Rattle.std.proofs.lemmas.Int.{ints}
@@ -8,7 +8,7 @@ use Rattle.std.proofs.lemmas.List.{length-map}
 use Rattle.std.proofs.lemmas.List.Elements.{All-cons, All-append, All-nil}
 use Rattle.std.proofs.lemmas.Option.{slice_get_within}
 use Rattle.adv_base.specs.declared.catalogue.index.IndexShape.{IndexShape}
-use Rattle.adv_base.specs.declared.limits.TheConstants.{MOST_RENT, MOST_CANDIDATES, MOST_ROWS, MOST_NODES}
+use Rattle.adv_base.specs.declared.limits.TheConstants.{MOST_RENT, MOST_ROWS, MOST_NODES}
 use Rattle.adv_base.specs.declared.workload.Statement.{Statement}
 use Rattle.adv_base.specs.declared.workload.Work.{Work}
 use Rattle.adv_base.specs.declared.workload.Work.TheVariants.{Select, Update, Delete, Insert}
@@ -19,7 +19,7 @@ use Rattle.adv_base.specs.Nodes as nodes
 use Rattle.adv_base.specs.Settings.{TheSetting, KeepsLimits}
 use Rattle.adv_base.proofs.OfferBounds.{offers-limits}
 use Rattle.plan_model.specs.declared.plan.TheConstants.{MOST_TOTAL}
-use Rattle.plan_model.specs.Lagrangian.{TheMultipliers, IsLagrangian, IsRoundedUp, slot_rents, weighted_rents, candidate_cost, candidate_rents, earnings}
+use Rattle.plan_model.specs.Lagrangian.{TheMultipliers, IsRoundedUp, slot_rents, weighted_rents, candidate_cost, candidate_rents, earnings}
 use Rattle.plan_model.specs.Totals.{block_of, IsTotal}
 use Rattle.plan_model.proofs.TotalBound.{total-below}
 use Rattle.bip_model.specs.declared.answer.Answer.{Answer}
@@ -31,7 +31,7 @@ use Rattle.bip_model.specs.Best.{IsBest, sets_in}
 use Rattle.bip_model.specs.StandsFor.{StandsFor}
 use Rattle.bip_model.specs.Trees.{Tree, Branches, Leaf, Full, preorder, in_side, out_side, set_at, Shows}
 use Rattle.bip_model.specs.Uses.{uses, multipliers_in, AreMultipliersIn, share, rent_multipliers}
-use Rattle.bip_model.specs.Views.{Place, places, is_place, rent_at, AreMultipliers}
+use Rattle.bip_model.specs.Views.{Place, is_place, rent_at, AreMultipliers}
 use Rattle.bip_model.proofs.Using.{places-used, places-counted}
 use Rattle.certificate.specs.Answers.{AnswerLimits}
 use Rattle.certificate.specs.Limits.{IsSmall, NodeLimits, AreTrees}

@@ -1,16 +1,14 @@
 -- How many bytes the text of a certificate has at most.
-use Rattle.std.proofs.Common.{◌≡◌, ◌∙◌, ℕ, zero, suc, ◌+◌, ◌*◌, ◌<◌, ◌≤◌, ◌^◌, List, [], ◌∷◌, ◌++◌, length, map, ℤ, pos, negsuc, refl, sym, ap, arith, length-append}
-use Rattle.std.specs.Prelude.{codes, decimal, sum_by}
-use Rattle.std.specs.Fmt.{signed_decimal}
+use Rattle.std.proofs.Common.{◌≡◌, ◌∙◌, ℕ, suc, ◌+◌, ◌*◌, ◌<◌, ◌≤◌, ◌^◌, List, [], ◌∷◌, ◌++◌, length, map, ℤ, pos, negsuc, refl, ap, arith, length-append}
+use Rattle.std.specs.Prelude.{decimal}
 use Rattle.std.specs.List.{AllByRecursion}
 use Rattle.std.proofs.lemmas.Fmt.{length-decimal-le_wide}
 use Rattle.std.proofs.lemmas.List.Sums.{sum_by-cons}
-use Rattle.adv_base.specs.declared.limits.TheConstants.{MOST_CANDIDATES, MOST_CERTIFICATE_BYTES}
 use Rattle.bip_model.specs.declared.answer.Node.{Node}
 use Rattle.bip_model.specs.declared.answer.Node.TheVariants.{Branch, Bounded, Overfull}
-use Rattle.certificate.specs.Certificates.{IsCertificate, TextsFit}
+use Rattle.certificate.specs.Certificates.{TextsFit}
 use Rattle.certificate.specs.Limits.{Rise, IsSmall, EntryLimits, EntriesFrom, entry_place, SetLimits, NodeLimits, entry_count, CertLimits}
-use Rattle.certificate.specs.Texts.{text_of, word, words, title_line, budget_line, config_line, cost_line, bound_line, sets_line, set_line, entry_line, tree_line, node_line, end_line, set_lines, sets_lines, head_lines, tree_lines, cert_lines, cert_text}
+use Rattle.certificate.specs.Texts.{text_of, word, words, title_line, budget_line, config_line, cost_line, bound_line, sets_line, set_line, entry_line, tree_line, node_line, end_line, set_lines, sets_lines, head_lines, tree_lines, cert_text}
 use Rattle.certificate.specs.declared.cert.Cert.{Cert}
 use Rattle.certificate.specs.declared.cert.Entry.{Entry}
 use Rattle.certificate.specs.declared.cert.SparseSet.{SparseSet}

@@ -17,20 +17,26 @@ use Rattle.adv_shelf.specs.Shelf.{Files, HasFile, put_file}
 use Rattle.adv_shelf.specs.Sink.{append_to}
 use Rattle.bip_model.specs.declared.answer.Answer.{Answer}
 use Rattle.bip_model.specs.Best.{IsBest, HasGivenUp}
-use Rattle.certificate.specs.Certificates.{TextsFit}
+use Rattle.certificate.specs.declared.cert.Cert.{Cert}
+use Rattle.certificate.specs.Certificates.{IsCertificate, OneCertificate, TextsFit}
 use Rattle.certificate.specs.Answers.{answer_cert}
-use Rattle.gap_checker.specs.Laws.{BestAreProved}
+use Rattle.gap_checker.specs.declared.fault.Checked.{Checked as GapChecked}
+use Rattle.gap_checker.specs.Faults.{IsFault}
+use Rattle.gap_checker.specs.Laws.{BestAreProved, FaultsExcludeProofs}
+use Rattle.gap_checker.specs.Views.{IsProof}
 use Rattle.plan_model.specs.Totals.{block_of}
 use Rattle.plan_model.specs.Useful.{AreUseful}
 use Rattle.report.specs.declared.done.Advice.{Advice}
 use Rattle.report.specs.declared.done.Done.{Done}
-use Rattle.report.specs.declared.done.Done.TheVariants.{ReadFault, WriteFault, Refused, Memory, Advised, Checked}
+use Rattle.report.specs.declared.done.Done.TheVariants.{ReadFault, WriteFault, Refused, Memory, Advised, Checked, NotProved}
+use Rattle.report.specs.declared.done.NotProved.TheVariants.{Malformed, Fault}
 use Rattle.report.specs.declared.done.Refusal.{Refusal}
 use Rattle.report.specs.declared.done.Refusal.TheVariants.{TooLong, Cat, Sql, Bind, TooManyCombinations}
 use Rattle.report.specs.declared.done.Role.{Role}
 use Rattle.report.specs.declared.done.Role.TheVariants.{Catalogue, Workload, Third}
 use Rattle.tuning.specs.Refusals.{AreFew, IsFew, IsFirstBeyond}
 use Rattle.cophy_core.specs.commands.Advise.{IsAdvice, IsCertificateOf, IsCertificatePut, PutsFor}
+use Rattle.cophy_core.specs.commands.Check as check
 use Rattle.cophy_core.specs.Answers.{Answers}
 use Rattle.cophy_core.specs.Causes.{IsSteady, gap_status, status_of}
 use Rattle.cophy_core.specs.Endings.{Put, Outside, put_all, put_answer, IsPutFault, EndsWhole, Ends}
@@ -154,6 +160,31 @@ ended setting asked advice status is e =
 
 -- ## The certificate
 
+-- laws of certificates and of their checker
+pub record Laws : Type 0 where
+  pub fit : TextsFit
+  pub one : OneCertificate
+  pub proved : BestAreProved
+  pub exclude : FaultsExcludeProofs
+
+checked_is : (checked : GapChecked) (budget cost : ℕ) (bound : ℤ) → checked.budget ≡ budget → checked.cost ≡ cost → checked.bound ≡ bound → checked ≡ record { budget = budget; cost = cost; bound = bound }
+checked_is checked budget cost bound e f g =
+    let Made : ℕ → ℕ → ℤ → GapChecked = λ (b : ℕ) (c : ℕ) (d : ℤ). record { budget = b; cost = c; bound = d } in
+    ap (λ (b : ℕ). Made b checked.cost checked.bound) e ∙ (ap (λ (c : ℕ). Made budget c checked.bound) f ∙ ap (λ (d : ℤ). Made budget cost d) g)
+
+-- of a certificate that is a proof, nothing else is told
+only_proved : (laws : Laws) (setting : TheSetting) (bytes : List ℕ) (cert : Cert) (done : Done) → IsCertificate bytes cert → IsProof setting cert → check.Gives bytes setting done → done ≡ Checked (record { budget = cert.budget; cost = cert.cost; bound = cert.bound })
+only_proved laws setting bytes cert (Checked checked) is proof h =
+    let same = laws.one bytes h.cert cert h.cert_is is in
+    let told = h.checked_is in
+    ap Checked (checked_is checked cert.budget cert.cost cert.bound (told.budget_is ∙ ap (λ (c : Cert). c.budget) same) (told.cost_is ∙ ap (λ (c : Cert). c.cost) same) (told.bound_is ∙ ap (λ (c : Cert). c.bound) same))
+only_proved laws setting bytes cert (NotProved (Malformed line)) is proof h = absurd (h.none cert is)
+only_proved laws setting bytes cert (NotProved (Fault fault)) is proof h =
+    let same = laws.one bytes h.cert cert h.cert_is is in
+    let fault_is = subst (λ (c : Cert). IsFault setting c fault) same h.fault_is in
+    absurd (h.no_memory (laws.exclude setting cert fault is.limits proof fault_is))
+only_proved laws setting bytes cert done is proof h = absurd h
+
 checked_inputs : (files : Files) (cat load file : List ℕ) (a b bytes : List ℕ) (after : Option Files) → AreInputs (Some files) (setting_files cat load) (a ∷ b ∷ []) → after ≡ put_file (Some files) file bytes → file ≢ cat → file ≢ load → length bytes ≤ MOST_CERTIFICATE_BYTES → AreInputs after (files_of (Check cat load file)) (a ∷ b ∷ bytes ∷ [])
 checked_inputs files cat load file a b bytes after are e not_cat not_load few =
     let m = insert files file bytes in
@@ -164,20 +195,22 @@ checked_inputs files cat load file a b bytes after are e not_cat not_load few =
     (record { whole = others_stay files file bytes load load_apart ∙ are.1.0.whole; short = are.1.0.short },
     (record { whole = put_is_there files file bytes; short = few }, tt)))
 
-certified : (fit : TextsFit) (proved : BestAreProved) (setting : TheSetting) (files : Files) (asked : Asked) (advice : Advice) (left_over : ℕ) (a b : List ℕ) (cert : Option (List ℕ)) (puts : List Put) (after : Option Files) → AreInputs (Some files) (setting_files asked.cat asked.load) (a ∷ b ∷ []) → IsSetting a b setting left_over → IsAdvice asked.budget asked.nodes setting advice → PutsFor cert setting asked.budget advice.answer puts → after ≡ put_all (Some files) puts → Certifies cert setting files asked advice.answer after
-certified fit proved setting files asked advice left_over a b (Some file) puts after are is_setting is put e =
+certified : (laws : Laws) (setting : TheSetting) (files : Files) (asked : Asked) (advice : Advice) (left_over : ℕ) (a b : List ℕ) (cert : Option (List ℕ)) (puts : List Put) (after : Option Files) → AreInputs (Some files) (setting_files asked.cat asked.load) (a ∷ b ∷ []) → IsSetting a b setting left_over → IsAdvice asked.budget asked.nodes setting advice → PutsFor cert setting asked.budget advice.answer puts → after ≡ put_all (Some files) puts → Certifies cert setting files asked advice.answer after
+certified laws setting files asked advice left_over a b (Some file) puts after are is_setting is put e =
     let answer = advice.answer in
     let own = put.certificate_is in
+    let proof = laws.proved setting own.programme asked.budget asked.nodes answer own.stands is.flags is.best in
     let there : after ≡ put_file (Some files) file put.bytes = e ∙ ap (put_all (Some files)) put.puts_are in
     record {
       bytes = put.bytes;
       certificate_is = own;
       files_are = there;
+      nothing_else = λ done h. only_proved laws setting put.bytes (answer_cert own.programme asked.budget answer) done own.is_text proof h;
       accepted = λ not_cat not_load. record {
         inputs = a ∷ b ∷ put.bytes ∷ [];
         setting = setting;
         left_over = left_over;
-        inputs_are = checked_inputs files asked.cat asked.load file a b put.bytes after are there not_cat not_load (fit put.bytes (answer_cert own.programme asked.budget answer) own.is_text);
+        inputs_are = checked_inputs files asked.cat asked.load file a b put.bytes after are there not_cat not_load (laws.fit put.bytes (answer_cert own.programme asked.budget answer) own.is_text);
         setting_is = is_setting;
         holds = record {
           cert = answer_cert own.programme asked.budget answer;
@@ -186,18 +219,18 @@ certified fit proved setting files asked advice left_over a b (Some file) puts a
             budget_is = refl;
             cost_is = refl;
             bound_is = refl;
-            proof = proved setting own.programme asked.budget asked.nodes answer own.stands is.flags is.best;
+            proof = proof;
           };
           bounds = is.bounds;
         };
       };
     }
-certified fit proved setting files asked advice left_over a b None puts after are is_setting is put e = e ∙ ap (put_all (Some files)) put
+certified laws setting files asked advice left_over a b None puts after are is_setting is put e = e ∙ ap (put_all (Some files)) put
 
 -- ## The whole
 
-from_advice : (fit : TextsFit) (proved : BestAreProved) (words : List (List ℕ)) (files : Files) (asked : Asked) (written : Option (List ℕ)) (status : ℕ) (advice : Advice) (puts : List Put) (text : List ℕ) (files_after : Option Files) (written_after : Option (List ℕ)) → IsAccepted files asked → ArePuts (asked_command asked) (Some files) words (Advised advice) puts text → status ≡ status_of (Advised advice) → files_after ≡ put_all (Some files) puts → written_after ≡ append_to written text → Headline words files asked written status files_after written_after
-from_advice fit proved words files asked written status advice puts text files_after written_after ok h is put wrote =
+from_advice : (laws : Laws) (words : List (List ℕ)) (files : Files) (asked : Asked) (written : Option (List ℕ)) (status : ℕ) (advice : Advice) (puts : List Put) (text : List ℕ) (files_after : Option Files) (written_after : Option (List ℕ)) → IsAccepted files asked → ArePuts (asked_command asked) (Some files) words (Advised advice) puts text → status ≡ status_of (Advised advice) → files_after ≡ put_all (Some files) puts → written_after ≡ append_to written text → Headline words files asked written status files_after written_after
+from_advice laws words files asked written status advice puts text files_after written_after ok h is put wrote =
     let same = same_inputs files asked h.inputs ok h.inputs_are in
     let setting = h.setting in
     let gives : IsAdvice asked.budget asked.nodes setting advice = h.holds.gives in
@@ -217,18 +250,18 @@ from_advice fit proved words files asked written status advice puts text files_a
       printed = wrote ∙ ap (append_to written) h.holds.text_is;
       bounded = record { candidates = gives.best.proves.members; fits = gives.best.proves.fits; cost_is = gives.best.proves.cost_is; bound = gives.bounds.all };
       ended = ended setting asked advice status gives is;
-      certified = certified fit proved setting files asked advice h.left_over ok.cat_bytes ok.load_bytes asked.cert puts files_after are is_setting gives puts_are put;
+      certified = certified laws setting files asked advice h.left_over ok.cat_bytes ok.load_bytes asked.cert puts files_after are is_setting gives puts_are put;
     }
 
-pub headline : (fit : TextsFit) (proved : BestAreProved) (words : List (List ℕ)) (told : Option Files) (before after : ReadCounts) (old new : Outside) (reply : Done) (puts : List Put) (text : List ℕ) (done : Done) (status : ℕ) → IsReply words told before after reply puts text → Ends old new reply puts text done → old.files ≡ told → status ≡ status_of done → (files : Files) (asked : Asked) → told ≡ Some files → command_of words ≡ Ok (asked_command asked) → IsAccepted files asked → IsSteady before.all after.all → IsSteady old.put_faults new.put_faults → IsSteady old.faults new.faults → done ≢ Memory → Headline words files asked old.written status new.files new.written
-headline fit proved words told before after old new reply puts text done status r e same is files asked tells asks ok reads put writes some =
+pub headline : (laws : Laws) (words : List (List ℕ)) (told : Option Files) (before after : ReadCounts) (old new : Outside) (reply : Done) (puts : List Put) (text : List ℕ) (done : Done) (status : ℕ) → IsReply words told before after reply puts text → Ends old new reply puts text done → old.files ≡ told → status ≡ status_of done → (files : Files) (asked : Asked) → told ≡ Some files → command_of words ≡ Ok (asked_command asked) → IsAccepted files asked → IsSteady before.all after.all → IsSteady old.put_faults new.put_faults → IsSteady old.faults new.faults → done ≢ Memory → Headline words files asked old.written status new.files new.written
+headline laws words told before after old new reply puts text done status r e same is files asked tells asks ok reads put writes some =
     let whole = whole_end old new reply puts text done put writes some e in
     let some_reply : reply ≢ Memory = λ m. some (whole.stands ∙ m) in
     let may = subst (λ (fs : Option Files). MayAnswer (asked_command asked) fs before after reply) tells (to_command (command_of words) (asked_command asked) told before after reply asks r.answers) in
     let advice = told_advice files asked before after reply ok reads some_reply may in
     let here = subst (λ (fs : Option Files). ArePuts (asked_command asked) fs words reply puts text) tells (to_puts (command_of words) (asked_command asked) told words reply puts text asks r.puts_are) in
     let puts_are = subst (λ (d : Done). ArePuts (asked_command asked) (Some files) words d puts text) advice.1 here in
-    from_advice fit proved words files asked old.written status advice.0 puts text new.files new.written ok puts_are
+    from_advice laws words files asked old.written status advice.0 puts text new.files new.written ok puts_are
     (is ∙ ap status_of (whole.stands ∙ advice.1))
     (whole.files_are ∙ ap (λ (fs : Option Files). put_all fs puts) (same ∙ tells))
     whole.written

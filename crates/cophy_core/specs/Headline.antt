@@ -16,12 +16,14 @@ use Rattle.plan_model.specs.Lagrangian.{IsAtMost}
 use Rattle.plan_model.specs.Totals.{IsTotal}
 use Rattle.plan_model.specs.Useful.{AreUseful}
 use Rattle.report.specs.declared.done.Advice.{Advice}
+use Rattle.report.specs.declared.done.Done.{Done}
 use Rattle.report.specs.declared.done.Done.TheVariants.{Advised, Checked}
 use Rattle.report.specs.declared.done.Refusal.{Refusal}
 use Rattle.report.specs.declared.done.Role.TheVariants.{Catalogue, Workload}
 use Rattle.report.specs.Texts.{done_text}
 use Rattle.tuning.specs.Refusals.{AreFew}
 use Rattle.cophy_core.specs.commands.Advise.{IsAdvice, IsCertificateOf}
+use Rattle.cophy_core.specs.commands.Check as check
 use Rattle.cophy_core.specs.Answers.{Answers}
 use Rattle.cophy_core.specs.Files.{IsInput, AreInputs, input_file, setting_files}
 use Rattle.cophy_core.specs.ReadWords.{PlainCommand, Advise, Check}
@@ -77,14 +79,19 @@ IsEnd setting budget nodes answer status =
 
 -- ## What is written
 
+-- what `check` says of the certificate of an answer
+abbrev pub proved : Asked → Answer → Done
+proved asked answer = Checked (record { budget = asked.budget; cost = answer.cost; bound = answer.bound })
+
 -- The file holds the certificate of the answer, and every other file is as it was. Unless it took the place of the catalogue
--- or the workload, `check` of these files and that one finds the budget, the cost and the bound proved.
+-- or the workload, `check` of these files and that one finds the budget, the cost and the bound proved; and over the setting it
+-- finds nothing else.
 pub record IsCertified (setting : TheSetting) (files : Files) (asked : Asked) (file : List ℕ) (answer : Answer) (after : Option Files) : Type 0 where
   pub bytes : List ℕ
   pub certificate_is : IsCertificateOf setting asked.budget answer bytes
   pub files_are : after ≡ put_file (Some files) file bytes
-  pub accepted : file ≢ asked.cat → file ≢ asked.load →
-      Answers (Check asked.cat asked.load file) after (Checked (record { budget = asked.budget; cost = answer.cost; bound = answer.bound }))
+  pub accepted : file ≢ asked.cat → file ≢ asked.load → Answers (Check asked.cat asked.load file) after (proved asked answer)
+  pub nothing_else : (done : Done) → check.Gives bytes setting done → done ≡ proved asked answer
 
 -- where a file is named for it; else no file changes
 abbrev pub Certifies : Option (List ℕ) → TheSetting → Files → Asked → Answer → Option Files → Type 0

@@ -13,8 +13,8 @@ ghost use Rattle.cophy_core.specs.Left.{LeavesFiles};
 use crate::answer::reply;
 use crate::reply::give;
 use adv_shelf::{Shelf, Sink};
-use certificate::written_certificates_fit;
-use gap_checker::best_answers_are_proved;
+use certificate::{texts_are_one, written_certificates_fit};
+use gap_checker::{best_answers_are_proved, faults_exclude_proofs};
 use report::{Advice, Done};
 use std::alloc::Global;
 
@@ -113,7 +113,9 @@ pub fn run<S: Shelf, O: Sink>(
     ensures writes { O.faults out.old ≤ O.faults out.new }
 {
     written_certificates_fit();
+    texts_are_one();
     best_answers_are_proved();
+    faults_exclude_proofs();
     let reply = reply(alloc, words, shelf);
     let done = give(shelf, out, reply);
     Outcome {

@@ -9,3 +9,4 @@ pub mod Visiting
 pub mod Walking
 pub mod Excluding
 pub mod Judging
+pub mod Answering

@@ -1,6 +1,13 @@
 -- Laws of what a checker answers.
-use Rattle.std.specs.Prelude.{◌≡◌}
+use Rattle.std.specs.Prelude.{◌≡◌, ℕ, length}
+use Rattle.adv_base.specs.declared.limits.TheConstants.{MOST_CANDIDATES}
 use Rattle.adv_base.specs.Settings.{TheSetting}
+use Rattle.bip_model.specs.declared.answer.Answer.{Answer}
+use Rattle.bip_model.specs.declared.programme.Programme.{Programme}
+use Rattle.bip_model.specs.Best.{IsBest}
+use Rattle.bip_model.specs.Proves.{free_node}
+use Rattle.bip_model.specs.StandsFor.{StandsFor}
+use Rattle.certificate.specs.Answers.{answer_cert}
 use Rattle.certificate.specs.declared.cert.Cert.{Cert}
 use Rattle.certificate.specs.Limits.{CertLimits}
 use Rattle.gap_checker.specs.declared.fault.CheckFault.{CheckFault}
@@ -12,3 +19,11 @@ use Rattle.gap_checker.specs.Views.{IsProof}
 abbrev pub FaultsExcludeProofs : Type 0
 FaultsExcludeProofs =
     (setting : TheSetting) (cert : Cert) (fault : CheckFault) → CertLimits cert → IsProof setting cert → IsFault setting cert fault → fault ≡ Memory
+
+-- The certificate of the best answer of a search, over a programme that stands for the setting and from a root that leaves
+-- every candidate free, proves its bound. A configuration has a flag for each candidate that there may be.
+abbrev pub BestAreProved : Type 0
+BestAreProved =
+    (setting : TheSetting) (programme : Programme) (budget node_budget : ℕ) (answer : Answer) → StandsFor setting programme →
+    length answer.config.on ≡ MOST_CANDIDATES → IsBest setting budget node_budget free_node answer →
+    IsProof setting (answer_cert programme budget answer)

@@ -1,7 +1,13 @@
 //! Laws of what a checker answers.
-ghost use Rattle.gap_checker.specs.Laws.{FaultsExcludeProofs};
+ghost use Rattle.gap_checker.specs.Laws.{FaultsExcludeProofs, BestAreProved};
 
 /// A certificate that proves its bound has no fault; want of memory alone says nothing of it.
 pub fn faults_exclude_proofs()
     ensures { FaultsExcludeProofs }
+{}
+
+/// The certificate of the best answer of a search proves its bound, so that `check` accepts it: the rents that it lists are
+/// those of the answer, and its numbers are those of the answer's configuration.
+pub fn best_answers_are_proved()
+    ensures { BestAreProved }
 {}

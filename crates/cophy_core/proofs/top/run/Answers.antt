@@ -1,6 +1,6 @@
 use Rattle.std.proofs.Common.{refl}
 use Rattle.cophy_core.proofs.CauseLemmas as cause
-use Rattle.cophy_core.proofs.Headlines.{headline}
+use Rattle.cophy_core.proofs.Headlines.{Laws, headline}
 use Rattle.cophy_core.proofs.LeftFiles.{left}
 use Rattle.cophy_core.proofs.top.run.Goals as goal
 
@@ -56,4 +56,10 @@ pub returns-clause-headline : goal.returns-clause-headline
 returns-clause-headline g c =
     let e = cause.from_start _ _ _ _ _ _ _ _ _ _ _ c.reply-reply.ensures.files c.reply-reply.ensures.puts c.give-done.ensures.ends in
     let r = cause.moved _ _ _ _ _ _ _ _ _ _ c.give-done.ensures.reads c.give-done.ensures.reads_at c.reply-reply.ensures.reply in
-    headline c.written_certificates_fit.ensures c.best_answers_are_proved.ensures _ _ _ _ _ _ _ _ _ _ _ r e refl c.status.ensures
+    let laws : Laws = record {
+      fit = c.written_certificates_fit.ensures;
+      one = c.texts_are_one.ensures.certificate;
+      proved = c.best_answers_are_proved.ensures;
+      exclude = c.faults_exclude_proofs.ensures;
+    } in
+    headline laws _ _ _ _ _ _ _ _ _ _ _ r e refl c.status.ensures
