@@ -7,12 +7,12 @@ use Rattle.adv_shelf.specs.Shelf.{Files}
 use Rattle.adv_shelf.specs.Sink.{append_to}
 use Rattle.report.specs.Texts.{done_text}
 use Rattle.report.specs.declared.done.Done.{Done}
-use Rattle.report.specs.declared.done.Done.TheVariants.{Usage, ReadFault, WriteFault, Refused, Memory, Priced, Listed, Explained as ExplainedDone, Advised, Checked, NotProved as NotProvedDone}
+use Rattle.report.specs.declared.done.Done.TheVariants.{Usage, ReadFault, WriteFault, Refused, Memory, Priced, Listed, Explained as ExplainedDone, Advised, Checked, NotProved as NotProvedDone, Benched}
 use Rattle.report.specs.declared.done.NotProved.{NotProved}
 use Rattle.report.specs.declared.done.WordFault.{WordFault}
 use Rattle.cophy_core.specs.Answers.{Answers}
 use Rattle.cophy_core.specs.Causes.{IsOrMemory, IsSteady, UsageIsTrue, ReadFaultIsTrue, WriteFaultIsTrue, RefusalIsTrue, IsUnproved, NotProvedIsTrue, MemoryWritesNothing, IsSound, IsWritten, IsBounded}
-use Rattle.cophy_core.specs.ReadWords.{PlainCommand, Candidates, Cost, WhatIf, Explain, Advise, Check, command_of}
+use Rattle.cophy_core.specs.ReadWords.{PlainCommand, Candidates, Cost, WhatIf, Explain, Advise, Check, Bench, command_of}
 use Rattle.cophy_core.specs.Endings.{Put, Outside, EndsWhole, EndsUnwritten, Ends}
 use Rattle.cophy_core.specs.Files.{ReadCounts, counts}
 use Rattle.cophy_core.specs.Reading.{StopsAtFiles}
@@ -29,6 +29,7 @@ IsAnswer (ExplainedDone explained) = Unit {0}
 IsAnswer (Advised advice) = Unit {0}
 IsAnswer (Checked checked) = Unit {0}
 IsAnswer (NotProvedDone why) = Unit {0}
+IsAnswer (Benched bench) = Unit {0}
 IsAnswer (Refused why) = Unit {0}
 IsAnswer done = ⊥
 
@@ -39,6 +40,7 @@ is_answer command files (ExplainedDone explained) h = tt
 is_answer command files (Advised advice) h = tt
 is_answer command files (Checked checked) h = tt
 is_answer command files (NotProvedDone why) h = tt
+is_answer command files (Benched bench) h = tt
 is_answer command files (Refused why) h = tt
 is_answer (Candidates cat load) files done h = absurd h.holds
 is_answer (Cost cat load) files done h = absurd h.holds
@@ -46,6 +48,7 @@ is_answer (WhatIf cat load conf) files done h = absurd h.holds
 is_answer (Explain cat load conf number) files done h = absurd h.holds
 is_answer (Advise cat load budget nodes None) files done h = absurd h.holds
 is_answer (Check cat load cert) files done h = absurd h.holds
+is_answer (Bench seed tables statements budget) files done h = absurd h.holds
 is_answer command files done h = absurd (let e = h in cc)
 
 -- ## Replies

@@ -5,6 +5,7 @@ pub mod Confs
 pub mod Settings
 pub mod Opened
 pub mod Files
+pub mod Inputs
 pub mod commands
 pub mod Answers
 pub mod Stops

@@ -13,12 +13,13 @@ ghost use Rattle.cophy_core.specs.Replies.{IsReply, Replies};
 ghost use Rattle.cophy_core.specs.Stops.{StopsAt};
 
 use crate::commands::advise::advise;
+use crate::commands::bench::bench;
 use crate::commands::check::check;
 use crate::commands::cost::cost;
 use crate::commands::explain::explain;
 use crate::commands::list_candidates::list_candidates;
 use crate::commands::what_if::what_if;
-use crate::files::{bytes_at, read_files};
+use crate::files::{bytes_at, inputs_of};
 use crate::reply::Reply;
 use crate::setting::open;
 use crate::stop::Stop;
@@ -28,7 +29,7 @@ use adv_shelf::Shelf;
 use report::{Done, text};
 use std::alloc::Global;
 
-/// What a command gives over the bytes of its files and their setting.
+/// What a command gives over the bytes that it answers from and their setting.
 fn work(
     alloc: Global,
     command: &Command<'_>,
@@ -54,7 +55,8 @@ fn work(
             ..
         } => advise(alloc, setting, budget, nodes),
         Command::Check { .. } => Ok(check(alloc, setting, bytes_at(inputs, 2))?),
-        Command::Advise { cert: Some(_), .. } | Command::Bench { .. } => unreachable!(),
+        Command::Bench { budget, .. } => bench(alloc, setting, budget),
+        Command::Advise { cert: Some(_), .. } => unreachable!(),
     }
 }
 
@@ -76,7 +78,7 @@ fn answer<'a, S: Shelf>(
     ensures counts_at { (n : List ℕ) → S.read_faults_at shelf.old n ≤ S.read_faults_at shelf.new n }
     ensures puts { S.put_faults shelf.new ≡ S.put_faults shelf.old }
 {
-    let inputs = read_files(alloc, shelf, command)?;
+    let inputs = inputs_of(alloc, shelf, command)?;
     let opened = open(alloc, bytes_at(&inputs, 0), bytes_at(&inputs, 1))?;
     let setting = opened.setting();
     let done = work(alloc, command, &inputs, &setting)?;

@@ -47,6 +47,7 @@ fn status(done: &Done) -> u8
         Done::Advised(advice) => advice_status(advice),
         Done::Checked(_) => 0,
         Done::NotProved(_) => 6,
+        Done::Benched(bench) => advice_status(&bench.advice),
     }
 }
 
