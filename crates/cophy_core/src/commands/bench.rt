@@ -1,7 +1,7 @@
 //! `bench`: advice on a workload that is made.
 ghost use Rattle.std.specs.Prelude.{◌≡◌, ◌≤◌, IfOk, IfErr, Some, sum_by};
 ghost use Rattle.adv_base.specs.Limits.Settings as settings;
-ghost use Rattle.adv_base.specs.declared.limits.TheConstants.{MOST_ROWS, MOST_SLOTS, MOST_SLOTS_IN_ALL};
+ghost use Rattle.adv_base.specs.declared.limits.TheConstants.{MOST_ROWS, MOST_SLOTS};
 ghost use Rattle.adv_base.specs.Settings.{the_setting};
 ghost use Rattle.report.specs.Texts.{FitsSetting};
 ghost use Rattle.cophy_core.specs.Causes.{IsBounded};
@@ -12,7 +12,7 @@ ghost use Rattle.cophy_core.specs.commands.Bench as spec;
 use crate::commands::advise::advise;
 use crate::stop::Stop;
 use crate::words::DEFAULT_NODES;
-use adv_base::{Setting, Statement, Work};
+use adv_base::{Setting, Work};
 use report::{Bench, Done};
 use std::alloc::Global;
 
@@ -29,14 +29,13 @@ fn slot_count(work: &Work) -> u32
     }
 }
 
-/// How many slots statements have together.
-fn slots_in_all(statements: &[Statement]) -> u32
-    requires { sum_by (λ statement. settings.slot_count statement.work) statements.now ≤ MOST_SLOTS_IN_ALL }
-    ensures { result ≡ sum_by (λ statement. settings.slot_count statement.work) statements.now }
+/// How many slots the statements of a setting have together.
+fn slots_in_all(setting: &Setting<'_>) -> u32
+    ensures { result ≡ sum_by (λ statement. settings.slot_count statement.work) setting.now.statements.now }
 {
     let mut slots = 0;
-    'statements: for at in 0..statements.len() {
-        slots += slot_count(&statements[at].work);
+    for statement in setting.statements {
+        slots += slot_count(&statement.work);
     }
     slots
 }
@@ -54,7 +53,7 @@ pub(crate) fn bench(alloc: Global, setting: &Setting<'_>, budget: u64) -> Result
         Done::Advised(advice) => Ok(Done::Benched(Bench {
             tables: setting.cat.tables.len() as u32,
             statements: setting.statements.len() as u32,
-            slots: slots_in_all(setting.statements),
+            slots: slots_in_all(setting),
             advice,
         })),
         _ => unreachable!(),
