@@ -75,6 +75,7 @@ unproved (Cost cat load) files why h = absurd h.holds
 unproved (WhatIf cat load conf) files why h = absurd h.holds
 unproved (Explain cat load conf number) files why h = absurd h.holds
 unproved (Advise cat load budget nodes None) files why h = absurd h.holds
+unproved (Bench seed tables statements budget) files why h = absurd h.holds
 unproved (Check cat load cert) files why h = record { cat = cat; load = load; cert = cert; words_are = refl; first = h }
 unproved command files why h = absurd (let e = h in cc)
 

@@ -51,8 +51,8 @@ fn status(done: &Done) -> u8
     }
 }
 
-/// Answers the words of a command line: reads the files that its command names, and writes the answer's text to the
-/// output. No file changes.
+/// Answers the words of a command line: reads the files that its command names, or makes what `bench` advises on, and writes
+/// the answer's text to the output. No file changes.
 ///
 /// The first of these that fails is the answer: the words; the files, each to its end, in the order of the words; the
 /// catalogue; the workload's text; its names; what the command alone asks for; the work, and with it what a certificate fails

@@ -122,7 +122,8 @@ const MADE: &str =
 1|0|bench 7 20 500 0|T|||tables 20~statements 500~slots 606~budget 0~candidates 180 left over 0~size 0~cost 568912639352~bound 568912639352~gap 0~nodes # of 20000~finished~"#;
 
 /// Command lines that advise on made workloads, and how what they print begins.
-const MADE_TWICE: &str = r#"bench 7 4 20 2000|tables 4~statements 20~slots 25~budget 2000~candidates 23 left over 0~
+const MADE_TWICE: &str =
+    r#"bench 7 4 20 2000|tables 4~statements 20~slots 25~budget 2000~candidates 23 left over 0~
 bench 18446744073709551615 3 8 1000000000000|tables 3~statements 8~slots 11~budget 1000000000000~"#;
 
 /// Certificates, and what each proves.
