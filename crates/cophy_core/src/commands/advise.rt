@@ -3,7 +3,7 @@ ghost use Rattle.std.specs.Prelude.{◌≡◌, ◌≤◌, replicate, IfOk, IfErr
 ghost use Rattle.adv_base.specs.declared.limits.TheConstants.{MOST_CANDIDATES, MOST_NODES, MOST_ROWS};
 ghost use Rattle.bip_model.specs.StandsFor.{StandsFor};
 ghost use Rattle.adv_base.specs.Settings.{the_setting};
-ghost use Rattle.report.specs.Texts.{FitsSetting};
+ghost use Rattle.report.specs.Texts.{FitsSetting, IsBoundedBy};
 ghost use Rattle.tuning.specs.Refusals.{AreFew};
 ghost use Rattle.cophy_core.specs.Causes.{IsBounded};
 ghost use Rattle.cophy_core.specs.Stops.{StopsAt};
@@ -56,6 +56,34 @@ fn programme_of(alloc: Global, setting: &Setting<'_>) -> Result<Programme, Stop>
 /// and bound over CoPhy's programme), with what the workload costs under it and a bound that no set within the budget
 /// undercuts; both are the same unless the nodes were spent. Or the first refusal: a statement with too many combinations
 /// of interesting orders.
+pub(crate) fn advice_on(
+    alloc: Global,
+    setting: &Setting<'_>,
+    budget: u64,
+    nodes: u32,
+) -> Result<Advice, Stop>
+    requires budget { budget ≤ MOST_ROWS }
+    requires some { 1 ≤ nodes }
+    requires nodes { nodes ≤ MOST_NODES }
+    ensures advice { IfOk result (spec.IsAdvice budget nodes (the_setting setting.now)) }
+    ensures bounded { IfOk result (λ advice. IsBoundedBy advice.answer.cost advice.answer.bound) }
+    ensures stop { IfErr result (StopsAt (spec.Refuses (the_setting setting.now))) }
+{
+    let programme = programme_of(alloc, setting)?;
+    let found = candidates(alloc, setting.cat, setting.statements)?;
+    let root = free_root();
+    let room = Room::new(alloc, &programme, nodes)?;
+    let answer = search(&programme, &root, budget, nodes, room);
+    shown_bounds();
+    Ok(Advice {
+        budget,
+        nodes,
+        left_over: found.left_over,
+        answer,
+    })
+}
+
+/// Advice on a setting.
 pub(crate) fn advise(
     alloc: Global,
     setting: &Setting<'_>,
@@ -70,16 +98,5 @@ pub(crate) fn advise(
     ensures bound { IfOk result IsBounded }
     ensures stop { IfErr result (StopsAt (spec.Refuses (the_setting setting.now))) }
 {
-    let programme = programme_of(alloc, setting)?;
-    let found = candidates(alloc, setting.cat, setting.statements)?;
-    let root = free_root();
-    let room = Room::new(alloc, &programme, nodes)?;
-    let answer = search(&programme, &root, budget, nodes, room);
-    shown_bounds();
-    Ok(Done::Advised(Advice {
-        budget,
-        nodes,
-        left_over: found.left_over,
-        answer,
-    }))
+    Ok(Done::Advised(advice_on(alloc, setting, budget, nodes)?))
 }

@@ -9,7 +9,7 @@ ghost use Rattle.cophy_core.specs.Stops.{StopsAt};
 ghost use Rattle.cophy_core.specs.commands.Advise as advice;
 ghost use Rattle.cophy_core.specs.commands.Bench as spec;
 
-use crate::commands::advise::advise;
+use crate::commands::advise::advice_on;
 use crate::stop::Stop;
 use crate::words::DEFAULT_NODES;
 use adv_base::{Setting, Work};
@@ -49,13 +49,11 @@ pub(crate) fn bench(alloc: Global, setting: &Setting<'_>, budget: u64) -> Result
     ensures bound { IfOk result IsBounded }
     ensures stop { IfErr result (StopsAt (advice.Refuses (the_setting setting.now))) }
 {
-    match advise(alloc, setting, budget, DEFAULT_NODES)? {
-        Done::Advised(advice) => Ok(Done::Benched(Bench {
-            tables: setting.cat.tables.len() as u32,
-            statements: setting.statements.len() as u32,
-            slots: slots_in_all(setting),
-            advice,
-        })),
-        _ => unreachable!(),
-    }
+    let advice = advice_on(alloc, setting, budget, DEFAULT_NODES)?;
+    Ok(Done::Benched(Bench {
+        tables: setting.cat.tables.len() as u32,
+        statements: setting.statements.len() as u32,
+        slots: slots_in_all(setting),
+        advice,
+    }))
 }
