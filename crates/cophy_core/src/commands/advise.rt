@@ -10,8 +10,8 @@ ghost use Rattle.cophy_core.specs.Stops.{StopsAt};
 ghost use Rattle.cophy_core.specs.commands.Advise as spec;
 
 use crate::stop::Stop;
-use adv_base::Setting;
 use adv_base::limits::MOST_CANDIDATES;
+use adv_base::{NoMemory, Setting};
 use bip_model::{Fix, Programme, State, shown_bounds};
 use branch_bound::{Room, search};
 use candidates::candidates;
@@ -53,9 +53,37 @@ fn programme_of(alloc: Global, setting: &Setting<'_>) -> Result<Programme, Stop>
 }
 
 /// A best set of candidates that together take at most `budget` pages, found by a search of at most so many nodes (branch
-/// and bound over CoPhy's programme), with what the workload costs under it and a bound that no set within the budget
-/// undercuts; both are the same unless the nodes were spent. Or the first refusal: a statement with too many combinations
-/// of interesting orders.
+/// and bound over CoPhy's programme, which is the setting's), with what the workload costs under it and a bound that no set
+/// within the budget undercuts; both are the same unless the nodes were spent.
+fn best_advice(
+    alloc: Global,
+    setting: &Setting<'_>,
+    programme: &Programme,
+    budget: u64,
+    nodes: u32,
+) -> Result<Advice, NoMemory>
+    requires stands { StandsFor (the_setting setting.now) programme.now }
+    requires few { AreFew setting.now.cat.now setting.now.statements.now }
+    requires budget { budget ≤ MOST_ROWS }
+    requires some { 1 ≤ nodes }
+    requires nodes { nodes ≤ MOST_NODES }
+    ensures advice { IfOk result (spec.IsAdvice budget nodes (the_setting setting.now)) }
+    ensures bounded { IfOk result (λ advice. IsBoundedBy advice.answer.cost advice.answer.bound) }
+{
+    let found = candidates(alloc, setting.cat, setting.statements)?;
+    let root = free_root();
+    let room = Room::new(alloc, programme, nodes)?;
+    let answer = search(programme, &root, budget, nodes, room);
+    shown_bounds();
+    Ok(Advice {
+        budget,
+        nodes,
+        left_over: found.left_over,
+        answer,
+    })
+}
+
+/// The advice on a setting. Or the first refusal: a statement with too many combinations of interesting orders.
 pub(crate) fn advice_on(
     alloc: Global,
     setting: &Setting<'_>,
@@ -70,20 +98,11 @@ pub(crate) fn advice_on(
     ensures stop { IfErr result (StopsAt (spec.Refuses (the_setting setting.now))) }
 {
     let programme = programme_of(alloc, setting)?;
-    let found = candidates(alloc, setting.cat, setting.statements)?;
-    let root = free_root();
-    let room = Room::new(alloc, &programme, nodes)?;
-    let answer = search(&programme, &root, budget, nodes, room);
-    shown_bounds();
-    Ok(Advice {
-        budget,
-        nodes,
-        left_over: found.left_over,
-        answer,
-    })
+    let advice = best_advice(alloc, setting, &programme, budget, nodes)?;
+    Ok(advice)
 }
 
-/// Advice on a setting.
+/// The answer with that advice.
 pub(crate) fn advise(
     alloc: Global,
     setting: &Setting<'_>,
