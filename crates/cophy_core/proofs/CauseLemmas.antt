@@ -9,12 +9,12 @@ use Rattle.adv_shelf.specs.declared.shelf.PutFault.{PutFault}
 use Rattle.adv_shelf.specs.declared.shelf.PutFault.TheVariants as faults
 use Rattle.report.specs.Texts.{done_text}
 use Rattle.report.specs.declared.done.Done.{Done}
-use Rattle.report.specs.declared.done.Done.TheVariants.{Usage, ReadFault, WriteFault, Refused, Memory, Priced, Listed, Explained as ExplainedDone, Advised, Checked, NotProved as NotProvedDone}
+use Rattle.report.specs.declared.done.Done.TheVariants.{Usage, ReadFault, WriteFault, Refused, Memory, Priced, Listed, Explained as ExplainedDone, Advised, Checked, NotProved as NotProvedDone, Benched}
 use Rattle.report.specs.declared.done.NotProved.{NotProved}
 use Rattle.report.specs.declared.done.WordFault.{WordFault}
 use Rattle.cophy_core.specs.Answers.{Answers}
 use Rattle.cophy_core.specs.Causes.{IsOrMemory, IsSteady, UsageIsTrue, ReadFaultIsTrue, WriteFaultIsTrue, RefusalIsTrue, MemoryWritesNothing, IsSound, IsWritten, IsBounded, IsUnproved, NotProvedIsTrue}
-use Rattle.cophy_core.specs.ReadWords.{PlainCommand, Candidates, Cost, WhatIf, Explain, Advise, command_of, Check}
+use Rattle.cophy_core.specs.ReadWords.{PlainCommand, Candidates, Cost, WhatIf, Explain, Advise, Check, Bench, command_of}
 use Rattle.cophy_core.specs.Endings.{Put, Outside, outside, put_all, put_answer, IsPutFault, EndsUnput, Ends, EndsWhole, EndsUnwritten}
 use Rattle.cophy_core.specs.Left.{PutsFile, PutsFileTo}
 use Rattle.cophy_core.specs.Files.{ReadCounts, counts}
@@ -32,6 +32,7 @@ IsAnswer (ExplainedDone explained) = Unit {0}
 IsAnswer (Advised advice) = Unit {0}
 IsAnswer (Checked checked) = Unit {0}
 IsAnswer (NotProvedDone why) = Unit {0}
+IsAnswer (Benched bench) = Unit {0}
 IsAnswer (Refused why) = Unit {0}
 IsAnswer done = ⊥
 
@@ -42,6 +43,7 @@ is_answer command files (ExplainedDone explained) h = tt
 is_answer command files (Advised advice) h = tt
 is_answer command files (Checked checked) h = tt
 is_answer command files (NotProvedDone why) h = tt
+is_answer command files (Benched bench) h = tt
 is_answer command files (Refused why) h = tt
 is_answer (Candidates cat load) files done h = absurd h.holds
 is_answer (Cost cat load) files done h = absurd h.holds
@@ -49,6 +51,7 @@ is_answer (WhatIf cat load conf) files done h = absurd h.holds
 is_answer (Explain cat load conf number) files done h = absurd h.holds
 is_answer (Advise cat load budget nodes cert) files done h = absurd h.holds
 is_answer (Check cat load cert) files done h = absurd h.holds
+is_answer (Bench seed tables statements budget) files done h = absurd h.holds
 is_answer command files done h = absurd (let e = h in cc)
 
 -- a command for whose answer something is put puts a file
@@ -86,6 +89,7 @@ unproved (Cost cat load) files why h = absurd h.holds
 unproved (WhatIf cat load conf) files why h = absurd h.holds
 unproved (Explain cat load conf number) files why h = absurd h.holds
 unproved (Advise cat load budget nodes cert) files why h = absurd h.holds
+unproved (Bench seed tables statements budget) files why h = absurd h.holds
 unproved (Check cat load cert) files why h = record { cat = cat; load = load; cert = cert; words_are = refl; first = h }
 unproved command files why h = absurd (let e = h in cc)
 

@@ -7,7 +7,7 @@ use Rattle.adv_shelf.specs.Sink.{append_to, AppendsPrefix}
 use Rattle.plan_model.specs.declared.plan.TheConstants.{MOST_COST, MOST_TOTAL}
 use Rattle.report.specs.declared.done.Advice.{Advice}
 use Rattle.report.specs.declared.done.Done.{Done}
-use Rattle.report.specs.declared.done.Done.TheVariants.{Usage, ReadFault, WriteFault, Refused, Memory, Priced, Explained as ExplainedDone, Advised, NotProved as NotProvedDone}
+use Rattle.report.specs.declared.done.Done.TheVariants.{Usage, ReadFault, WriteFault, Refused, Memory, Priced, Explained as ExplainedDone, Advised, NotProved as NotProvedDone, Benched}
 use Rattle.report.specs.declared.done.NotProved.{NotProved}
 use Rattle.report.specs.declared.done.WordFault.{WordFault}
 use Rattle.cophy_core.specs.Answers.{Answers, OfSetting}
@@ -35,6 +35,7 @@ status_of WriteFault = 4
 status_of (Refused why) = 5
 status_of (Advised advice) = advice_status_of advice
 status_of (NotProvedDone why) = 6
+status_of (Benched bench) = advice_status_of bench.advice
 status_of Memory = 7
 status_of done = 0
 

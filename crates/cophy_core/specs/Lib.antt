@@ -6,6 +6,7 @@ pub mod Settings
 pub mod Opened
 pub mod Files
 pub mod Endings
+pub mod Inputs
 pub mod commands
 pub mod Answers
 pub mod Stops

@@ -4,7 +4,7 @@ use Rattle.adv_base.specs.Settings.{TheSetting}
 use Rattle.adv_shelf.specs.Shelf.{Files}
 use Rattle.report.specs.Texts.{done_text}
 use Rattle.report.specs.declared.done.Done.{Done}
-use Rattle.report.specs.declared.done.Done.TheVariants.{Usage, ReadFault, Memory, Priced, Listed, Advised}
+use Rattle.report.specs.declared.done.Done.TheVariants.{Usage, ReadFault, Memory, Priced, Listed, Advised, Benched}
 use Rattle.report.specs.declared.done.WordFault.{WordFault}
 use Rattle.cophy_core.specs.Answers.{GivesOver, PutsOver, OfSetting, Answers}
 use Rattle.cophy_core.specs.ReadWords.{PlainCommand, command_of}
@@ -25,7 +25,7 @@ MayAnswerWords (Err fault) files before after (Usage told) = told ≡ fault
 MayAnswerWords (Err fault) files before after Memory = Unit {0}
 MayAnswerWords (Err fault) files before after done = ⊥
 
--- the text of an answer to a command: prices, candidates and advice are told over the setting of its files
+-- the text of an answer to a command: prices, candidates and advice are told over its setting
 abbrev pub IsTextOf : PlainCommand → Option Files → List (List ℕ) → Done → List ℕ → Type 0
 IsTextOf command files words (Priced prices) text =
     OfSetting files command (λ inputs setting. text ≡ done_text words (Some setting) (Priced prices))
@@ -33,6 +33,8 @@ IsTextOf command files words (Listed found) text =
     OfSetting files command (λ inputs setting. text ≡ done_text words (Some setting) (Listed found))
 IsTextOf command files words (Advised advice) text =
     OfSetting files command (λ inputs setting. text ≡ done_text words (Some setting) (Advised advice))
+IsTextOf command files words (Benched bench) text =
+    OfSetting files command (λ inputs setting. text ≡ done_text words (Some setting) (Benched bench))
 IsTextOf command files words done text = text ≡ done_text words None done
 
 -- the same to words

@@ -13,12 +13,13 @@ ghost use Rattle.cophy_core.specs.Replies.{IsReply, Replies};
 ghost use Rattle.cophy_core.specs.Stops.{StopsAt};
 
 use crate::commands::advise::advise;
+use crate::commands::bench::bench;
 use crate::commands::check::check;
 use crate::commands::cost::cost;
 use crate::commands::explain::explain;
 use crate::commands::list_candidates::list_candidates;
 use crate::commands::what_if::what_if;
-use crate::files::{bytes_at, read_files};
+use crate::files::{bytes_at, inputs_of};
 use crate::reply::Reply;
 use crate::setting::open;
 use crate::stop::Stop;
@@ -29,7 +30,7 @@ use adv_shelf::Shelf;
 use report::{Done, text};
 use std::alloc::Global;
 
-/// What a command gives over the bytes of its files and their setting, and the files that it puts for that.
+/// What a command gives over the bytes that it answers from and their setting, and the files that it puts for that.
 fn work<'a>(
     alloc: Global,
     command: &Command<'a>,
@@ -71,7 +72,10 @@ fn work<'a>(
             let done = check(alloc, setting, bytes_at(inputs, 2))?;
             Ok(Worked::alone(alloc, done))
         }
-        Command::Bench { .. } => unreachable!(),
+        Command::Bench { budget, .. } => {
+            let done = bench(alloc, setting, budget)?;
+            Ok(Worked::alone(alloc, done))
+        }
     }
 }
 
@@ -93,7 +97,7 @@ fn answer<'a, S: Shelf>(
     ensures counts_at { (n : List ℕ) → S.read_faults_at shelf.old n ≤ S.read_faults_at shelf.new n }
     ensures puts { S.put_faults shelf.new ≡ S.put_faults shelf.old }
 {
-    let inputs = read_files(alloc, shelf, command)?;
+    let inputs = inputs_of(alloc, shelf, command)?;
     let opened = open(alloc, bytes_at(&inputs, 0), bytes_at(&inputs, 1))?;
     let setting = opened.setting();
     let worked = work(alloc, command, &inputs, &setting)?;

@@ -9,6 +9,7 @@ mod answer;
 mod commands;
 mod conf;
 mod files;
+mod made;
 mod number;
 mod opened;
 mod planned;

@@ -53,11 +53,12 @@ fn status(done: &Done) -> u8
         Done::Advised(advice) => advice_status(advice),
         Done::Checked(_) => 0,
         Done::NotProved(_) => 6,
+        Done::Benched(bench) => advice_status(&bench.advice),
     }
 }
 
-/// Answers the words of a command line: reads the files that its command names, puts the certificate of advice where one is
-/// asked for, and writes the answer's text to the output. No other file changes.
+/// Answers the words of a command line: reads the files that its command names, or makes what `bench` advises on, puts the
+/// certificate of advice where one is asked for, and writes the answer's text to the output. No other file changes.
 ///
 /// The first of these that fails is the answer: the words; the files, each to its end, in the order of the words; the
 /// catalogue; the workload's text; its names; what the command alone asks for; the work, and with it what a certificate fails

@@ -16,8 +16,9 @@ use Rattle.plan_model.specs.declared.plan.TheConstants.{MOST_TOTAL}
 use Rattle.sql_reader.specs.declared.parsed.SqlFault.{SqlFault}
 use Rattle.sql_reader.specs.declared.parsed.SqlFault.TheVariants as sql
 use Rattle.report.specs.declared.done.Advice.{Advice}
+use Rattle.report.specs.declared.done.Bench.{Bench}
 use Rattle.report.specs.declared.done.Done.{Done}
-use Rattle.report.specs.declared.done.Done.TheVariants.{Usage, ReadFault, Refused, Priced, Listed, Explained as ExplainedDone, Advised, Checked as CheckedDone, NotProved as NotProvedDone}
+use Rattle.report.specs.declared.done.Done.TheVariants.{Usage, ReadFault, Refused, Priced, Listed, Explained as ExplainedDone, Advised, Checked as CheckedDone, NotProved as NotProvedDone, Benched}
 use Rattle.report.specs.declared.done.Explained.{Explained}
 use Rattle.report.specs.declared.done.NotProved.{NotProved}
 use Rattle.report.specs.declared.done.NotProved.TheVariants.{Malformed, Fault}
@@ -184,10 +185,23 @@ abbrev pub advised_text : Option TheSetting → Advice → List ℕ
 advised_text None advice = []
 advised_text (Some setting) advice = advice_text setting advice
 
+-- how large a made workload is
+abbrev pub sizes_text : ℕ → ℕ → ℕ → List ℕ
+sizes_text tables statements slots =
+    line (numbered (codes "tables ") tables)
+    ++ (line (numbered (codes "statements ") statements) ++ line (numbered (codes "slots ") slots))
+
+-- advice on a made workload
+abbrev pub benched_text : Option TheSetting → Bench → List ℕ
+benched_text setting bench = sizes_text bench.tables bench.statements bench.slots ++ advised_text setting bench.advice
+
+-- a bound under a budget
+abbrev pub bound_words : ℤ → ℕ → List ℕ
+bound_words bound budget = signed (codes " bound ") bound ++ numbered (codes " budget ") budget
+
 -- what a certificate proves
 abbrev pub checked_text : Checked → List ℕ
-checked_text checked =
-    line (numbered (codes "proved cost ") checked.cost ++ (signed (codes " bound ") checked.bound ++ numbered (codes " budget ") checked.budget))
+checked_text checked = line (numbered (codes "proved cost ") checked.cost ++ bound_words checked.bound checked.budget)
 
 -- where a certificate first fails to be a proof
 abbrev pub check_fault : CheckFault → List ℕ
@@ -196,7 +210,7 @@ check_fault (check.BadConfig number) = numbered (codes "no candidate ") number
 check_fault (check.OverBudget size budget) = numbered (codes "size ") size ++ numbered (codes " over ") budget
 check_fault (check.CostDiffers claimed computed) = numbered (codes "cost ") claimed ++ numbered (codes " computed ") computed
 check_fault (check.BadPair set entry) =
-    numbered (codes "set ") set ++ (numbered (codes " entry ") entry ++ codes " names no pair")
+    (numbered (codes "set ") set ++ numbered (codes " entry ") entry) ++ codes " names no pair"
 check_fault (check.BadBranch node) = numbered (codes "branch at node ") node
 check_fault (check.LeafBelow node computed claimed) =
     numbered (codes "leaf ") node ++ (signed (codes " has ") computed ++ signed (codes " below ") claimed)
@@ -218,6 +232,7 @@ done_text words setting (ExplainedDone explained) = explained_text explained
 done_text words setting (Advised advice) = advised_text setting advice
 done_text words setting (CheckedDone checked) = checked_text checked
 done_text words setting (NotProvedDone why) = line (codes "not proved: " ++ not_proved why)
+done_text words setting (Benched bench) = benched_text setting bench
 done_text words setting done = []
 
 -- candidates name what the catalogue of their setting has
@@ -241,4 +256,5 @@ abbrev pub FitsSetting : Option TheSetting → Done → Type 0
 FitsSetting setting (Priced prices) = length prices.costs ≡ length (statements_in setting)
 FitsSetting setting (Listed found) = AreNamedIn setting found
 FitsSetting setting (Advised advice) = IsAdvice setting advice
+FitsSetting setting (Benched bench) = IsAdvice setting bench.advice
 FitsSetting setting done = Unit {0}

@@ -3,7 +3,7 @@ ghost use Rattle.std.specs.Prelude.{◌≡◌, ◌≤◌, length, replicate, opt
 ghost use Rattle.adv_base.specs.declared.limits.TheConstants.{MOST_CANDIDATES, MOST_NODES, MOST_ROWS};
 ghost use Rattle.bip_model.specs.StandsFor.{StandsFor};
 ghost use Rattle.adv_base.specs.Settings.{TheSetting, the_setting};
-ghost use Rattle.report.specs.Texts.{FitsSetting};
+ghost use Rattle.report.specs.Texts.{FitsSetting, IsBoundedBy};
 ghost use Rattle.certificate.specs.Answers as answers;
 ghost use Rattle.tuning.specs.Refusals.{AreFew};
 ghost use Rattle.cophy_core.specs.Causes.{IsBounded};
@@ -102,9 +102,57 @@ fn certified<'a>(
 }
 
 /// A best set of candidates that together take at most `budget` pages, found by a search of at most so many nodes (branch
-/// and bound over CoPhy's programme), with what the workload costs under it and a bound that no set within the budget
-/// undercuts; both are the same unless the nodes were spent. Where a file is named for it, the certificate that shows this
-/// is to be put there. Or the first refusal: a statement with too many combinations of interesting orders.
+/// and bound over CoPhy's programme, which is the setting's), with what the workload costs under it and a bound that no set
+/// within the budget undercuts; both are the same unless the nodes were spent.
+fn best_advice(
+    alloc: Global,
+    setting: &Setting<'_>,
+    programme: &Programme,
+    budget: u64,
+    nodes: u32,
+) -> Result<Advice, NoMemory>
+    requires stands { StandsFor (the_setting setting.now) programme.now }
+    requires few { AreFew setting.now.cat.now setting.now.statements.now }
+    requires budget { budget ≤ MOST_ROWS }
+    requires some { 1 ≤ nodes }
+    requires nodes { nodes ≤ MOST_NODES }
+    ensures advice { IfOk result (spec.IsAdvice budget nodes (the_setting setting.now)) }
+    ensures bounded { IfOk result (λ advice. IsBoundedBy advice.answer.cost advice.answer.bound) }
+{
+    let found = candidates(alloc, setting.cat, setting.statements)?;
+    let root = free_root();
+    let room = Room::new(alloc, programme, nodes)?;
+    let answer = search(programme, &root, budget, nodes, room);
+    shown_bounds();
+    has_all_flags(&answer.config);
+    Ok(Advice {
+        budget,
+        nodes,
+        left_over: found.left_over,
+        answer,
+    })
+}
+
+/// The advice on a setting. Or the first refusal: a statement with too many combinations of interesting orders.
+pub(crate) fn advice_on(
+    alloc: Global,
+    setting: &Setting<'_>,
+    budget: u64,
+    nodes: u32,
+) -> Result<Advice, Stop>
+    requires budget { budget ≤ MOST_ROWS }
+    requires some { 1 ≤ nodes }
+    requires nodes { nodes ≤ MOST_NODES }
+    ensures advice { IfOk result (spec.IsAdvice budget nodes (the_setting setting.now)) }
+    ensures bounded { IfOk result (λ advice. IsBoundedBy advice.answer.cost advice.answer.bound) }
+    ensures stop { IfErr result (StopsAt (spec.Refuses (the_setting setting.now))) }
+{
+    let programme = programme_of(alloc, setting)?;
+    let advice = best_advice(alloc, setting, &programme, budget, nodes)?;
+    Ok(advice)
+}
+
+/// The answer with that advice. Where a file is named for it, the certificate that shows it is to be put there.
 pub(crate) fn advise<'a>(
     alloc: Global,
     setting: &Setting<'_>,
@@ -122,21 +170,10 @@ pub(crate) fn advise<'a>(
     ensures stop { IfErr result (StopsAt (spec.Refuses (the_setting setting.now))) }
 {
     let programme = programme_of(alloc, setting)?;
-    let found = candidates(alloc, setting.cat, setting.statements)?;
-    let root = free_root();
-    let room = Room::new(alloc, &programme, nodes)?;
-    let answer = search(&programme, &root, budget, nodes, room);
-    shown_bounds();
-    has_all_flags(&answer.config);
+    let advice = best_advice(alloc, setting, &programme, budget, nodes)?;
     best_answers_keep_limits();
     standing_programmes_are_in_order();
-    let puts = certified(alloc, &programme, budget, &answer, cert)?;
-    let advice = Advice {
-        budget,
-        nodes,
-        left_over: found.left_over,
-        answer,
-    };
+    let puts = certified(alloc, &programme, budget, &advice.answer, cert)?;
     Ok(Worked {
         done: Done::Advised(advice),
         puts,

@@ -13,7 +13,7 @@ use Rattle.cophy_core.proofs.answer.answer.Goals as goal
 
 pub open-requires : goal.open-requires
 open-requires g c =
-    rw c.bytes_at-2.ensures (second_short (plain_command c.args.command.now) _ c.in_ok-inputs.inputs c.in_ok-inputs.ensures.built c.in_ok-inputs.ensures.inputs)
+    rw c.bytes_at-2.ensures (second_short (plain_command c.args.command.now) _ c.in_ok-inputs.inputs c.in_ok-inputs.ensures.built c.requires c.in_ok-inputs.ensures.inputs)
 
 pub returns-in_err-opened-clause-stop : goal.returns-in_err-opened-clause-stop
 returns-in_err-opened-clause-stop g c =
@@ -21,7 +21,7 @@ returns-in_err-opened-clause-stop g c =
     let inputs = c.in_ok-inputs.inputs in
     let stop = c.in_err-opened.field-0.0 in
     let before = counts (g.S.Shelf.read_faults c.args.shelf.now) (g.S.Shelf.read_faults_at c.args.shelf.now) in
-    let after = counts (g.S.Shelf.read_faults c.read_files.new.shelf) (g.S.Shelf.read_faults_at c.read_files.new.shelf) in
+    let after = counts (g.S.Shelf.read_faults c.inputs_of.new.shelf) (g.S.Shelf.read_faults_at c.inputs_of.new.shelf) in
     let why : StopsAt (IsSettingRefusal (input inputs 0) (input inputs 1)) stop = rw (c.bytes_at.ensures, c.bytes_at-2.ensures) at c.in_err-opened.ensures.stop in
     let h : StopsAtFiles command (g.S.Shelf.files c.args.shelf.now) before after stop =
     setting_stops command (g.S.Shelf.files c.args.shelf.now) before after inputs stop c.in_ok-inputs.ensures.built c.in_ok-inputs.ensures.inputs why in
@@ -34,7 +34,7 @@ returns-in_err-worked-clause-stop g c =
     let stop = c.in_err-worked.field-0.0 in
     let setting = the_setting c.setting-setting.result in
     let before = counts (g.S.Shelf.read_faults c.args.shelf.now) (g.S.Shelf.read_faults_at c.args.shelf.now) in
-    let after = counts (g.S.Shelf.read_faults c.read_files.new.shelf) (g.S.Shelf.read_faults_at c.read_files.new.shelf) in
+    let after = counts (g.S.Shelf.read_faults c.inputs_of.new.shelf) (g.S.Shelf.read_faults_at c.inputs_of.new.shelf) in
     let opened : IsSetting (input inputs 0) (input inputs 1) (setting_in c.in_ok-opened.opened) c.in_ok-opened.opened.left_over = rw (c.bytes_at.ensures, c.bytes_at-2.ensures) at c.in_ok-opened.ensures.setting in
     let is : IsSetting (input inputs 0) (input inputs 1) setting c.in_ok-opened.opened.left_over = subst (λ (s : TheSetting). IsSetting (input inputs 0) (input inputs 1) s c.in_ok-opened.opened.left_over) (sym c.setting-setting.ensures) opened in
     let h : StopsAtFiles command (g.S.Shelf.files c.args.shelf.now) before after stop =
