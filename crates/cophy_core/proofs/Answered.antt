@@ -12,7 +12,7 @@ use Rattle.workload_gen.proofs.Lengths.{workload_short}
 use Rattle.report.specs.declared.done.Refusal.TheVariants.{TooLong, Cat, Sql, Bind}
 use Rattle.cophy_core.specs.declared.stop.Stop.{Stop}
 use Rattle.cophy_core.specs.declared.stop.Stop.TheVariants.{Memory, Failed, Refused}
-use Rattle.cophy_core.specs.Answers.{RefusesOver, GivesOver, PutsOver, OfSetting, AnswersOver, Answers, IsBuilt}
+use Rattle.cophy_core.specs.Answers.{RefusesOver, GivesOver, PutsOver, OfSetting, Answers}
 use Rattle.cophy_core.specs.ReadWords.{PlainCommand, Candidates, Cost, WhatIf, Explain, Advise, Check, Bench}
 use Rattle.cophy_core.specs.CommandLines.{IsInRange}
 use Rattle.cophy_core.specs.Files.{InputFile, input_file, setting_files, files_of, AreInputs, input, ReadCounts}
@@ -42,53 +42,41 @@ IsGiven (answers.NotProved why) = Unit {0}
 IsGiven (answers.Benched bench) = Unit {0}
 IsGiven done = ⊥
 
--- a built command answers so
-over : (command : PlainCommand) (files : Option Files) (done : Done) → IsBuilt command → AnswersOver command files done → Answers command files done
-over (Candidates cat load) files done built h = h
-over (Cost cat load) files done built h = h
-over (WhatIf cat load conf) files done built h = h
-over (Explain cat load conf number) files done built h = h
-over (Advise cat load budget nodes cert) files done built h = h
-over (Check cat load cert) files done built h = h
-over (Bench seed tables statements budget) files done built h = h
-over command files done built h = absurd built
-
 -- the second of the files is a workload's, and within its limit
 second_file : (files : Option Files) (cat load : List ℕ) (more : List InputFile) (inputs : List (List ℕ)) → AreInputs files (setting_files cat load ++ more) inputs → length (input inputs 1) ≤ MOST_FILE_BYTES
 second_file files cat load more [] are = absurd are
 second_file files cat load more (a ∷ []) are = absurd are.1
 second_file files cat load more (a ∷ b ∷ inputs) are = are.1.0.short
 
--- the workload from which a built command answers is within that limit
-pub second_short : (command : PlainCommand) (files : Option Files) (inputs : List (List ℕ)) → IsBuilt command → IsInRange command → HasInputs files command inputs → length (input inputs 1) ≤ MOST_FILE_BYTES
-second_short (Candidates cat load) files inputs built range are = second_file files cat load [] inputs are
-second_short (Cost cat load) files inputs built range are = second_file files cat load [] inputs are
-second_short (WhatIf cat load conf) files inputs built range are = second_file files cat load (input_file Third conf MOST_FILE_BYTES ∷ []) inputs are
-second_short (Explain cat load conf number) files inputs built range are = second_file files cat load (input_file Third conf MOST_FILE_BYTES ∷ []) inputs are
-second_short (Advise cat load budget nodes cert) files inputs built range are = second_file files cat load [] inputs are
-second_short (Check cat load cert) files inputs built range are = second_file files cat load (input_file Third cert MOST_CERTIFICATE_BYTES ∷ []) inputs are
-second_short (Bench seed tables statements budget) files inputs built range are =
+-- the workload from which a command answers is within that limit
+pub second_short : (command : PlainCommand) (files : Option Files) (inputs : List (List ℕ)) → IsInRange command → HasInputs files command inputs → length (input inputs 1) ≤ MOST_FILE_BYTES
+second_short (Candidates cat load) files inputs range are = second_file files cat load [] inputs are
+second_short (Cost cat load) files inputs range are = second_file files cat load [] inputs are
+second_short (WhatIf cat load conf) files inputs range are = second_file files cat load (input_file Third conf MOST_FILE_BYTES ∷ []) inputs are
+second_short (Explain cat load conf number) files inputs range are = second_file files cat load (input_file Third conf MOST_FILE_BYTES ∷ []) inputs are
+second_short (Advise cat load budget nodes cert) files inputs range are = second_file files cat load [] inputs are
+second_short (Check cat load cert) files inputs range are = second_file files cat load (input_file Third cert MOST_CERTIFICATE_BYTES ∷ []) inputs are
+second_short (Bench seed tables statements budget) files inputs range are =
     rw are (omega (arith, workload_short seed tables statements (omega (arith, range.tables_some)) range.tables_few range.statements_few))
-second_short command files inputs built range are = absurd built
 
--- the files of a built command could not be read
-pub reading_stops : (command : PlainCommand) (files : Option Files) (before after : ReadCounts) (stop : Stop) → IsBuilt command → StopsReading files (files_of command) before after stop → StopsAtFiles command files before after stop
-reading_stops command files before after Memory built h = tt
-reading_stops command files before after (Failed role) built h = h
-reading_stops command files before after (Refused (TooLong role)) built h = over command files (answers.Refused (TooLong role)) built h
-reading_stops command files before after (Refused why) built h = absurd h
+-- the files of a command could not be read
+pub reading_stops : (command : PlainCommand) (files : Option Files) (before after : ReadCounts) (stop : Stop) → StopsReading files (files_of command) before after stop → StopsAtFiles command files before after stop
+reading_stops command files before after Memory h = tt
+reading_stops command files before after (Failed role) h = h
+reading_stops command files before after (Refused (TooLong role)) h = h
+reading_stops command files before after (Refused why) h = absurd h
 
 -- the setting was refused
-pub setting_stops : (command : PlainCommand) (files : Option Files) (before after : ReadCounts) (inputs : List (List ℕ)) (stop : Stop) → IsBuilt command → HasInputs files command inputs → StopsAt (IsSettingRefusal (input inputs 0) (input inputs 1)) stop → StopsAtFiles command files before after stop
-setting_stops command files before after inputs Memory built are h = tt
-setting_stops command files before after inputs (Failed role) built are h = absurd h
-setting_stops command files before after inputs (Refused (Cat fault)) built are h =
-    over command files (answers.Refused (Cat fault)) built (record { inputs = inputs; inputs_are = are; holds = h })
-setting_stops command files before after inputs (Refused (Sql fault)) built are h =
-    over command files (answers.Refused (Sql fault)) built (record { inputs = inputs; inputs_are = are; holds = h })
-setting_stops command files before after inputs (Refused (Bind fault)) built are h =
-    over command files (answers.Refused (Bind fault)) built (record { inputs = inputs; inputs_are = are; holds = h })
-setting_stops command files before after inputs (Refused why) built are h = absurd h
+pub setting_stops : (command : PlainCommand) (files : Option Files) (before after : ReadCounts) (inputs : List (List ℕ)) (stop : Stop) → HasInputs files command inputs → StopsAt (IsSettingRefusal (input inputs 0) (input inputs 1)) stop → StopsAtFiles command files before after stop
+setting_stops command files before after inputs Memory are h = tt
+setting_stops command files before after inputs (Failed role) are h = absurd h
+setting_stops command files before after inputs (Refused (Cat fault)) are h =
+    record { inputs = inputs; inputs_are = are; holds = h }
+setting_stops command files before after inputs (Refused (Sql fault)) are h =
+    record { inputs = inputs; inputs_are = are; holds = h }
+setting_stops command files before after inputs (Refused (Bind fault)) are h =
+    record { inputs = inputs; inputs_are = are; holds = h }
+setting_stops command files before after inputs (Refused why) are h = absurd h
 
 -- what a command refuses by itself is no refusal of the files or of the setting
 own : (command : PlainCommand) (inputs : List (List ℕ)) (setting : TheSetting) (why : Refusal) → RefusesOver command inputs setting why → IsOwn why
@@ -115,7 +103,7 @@ own (Bench seed tables statements budget) inputs setting why h = tt
 own command inputs setting why h = absurd h
 
 -- such a refusal is the first of the files
-refused_over : (command : PlainCommand) (files : Option Files) (why : Refusal) → IsOwn why → OfSetting files command (λ inputs setting. RefusesOver command inputs setting why) → AnswersOver command files (answers.Refused why)
+refused_over : (command : PlainCommand) (files : Option Files) (why : Refusal) → IsOwn why → OfSetting files command (λ inputs setting. RefusesOver command inputs setting why) → Answers command files (answers.Refused why)
 refused_over command files (TooLong role) is_own h = absurd is_own
 refused_over command files (Cat fault) is_own h = absurd is_own
 refused_over command files (Sql fault) is_own h = absurd is_own
@@ -123,13 +111,12 @@ refused_over command files (Bind fault) is_own h = absurd is_own
 refused_over command files why is_own h = h
 
 -- a command stopped over its setting
-pub work_stops : (command : PlainCommand) (files : Option Files) (before after : ReadCounts) (inputs : List (List ℕ)) (setting : TheSetting) (left_over : ℕ) (stop : Stop) → IsBuilt command → HasInputs files command inputs → IsSetting (input inputs 0) (input inputs 1) setting left_over → StopsAt (RefusesOver command inputs setting) stop → StopsAtFiles command files before after stop
-work_stops command files before after inputs setting left_over Memory built are is h = tt
-work_stops command files before after inputs setting left_over (Failed role) built are is h = absurd h
-work_stops command files before after inputs setting left_over (Refused why) built are is h =
-    over command files (answers.Refused why) built
-    (refused_over command files why (own command inputs setting why h)
-    (record { inputs = inputs; setting = setting; left_over = left_over; inputs_are = are; setting_is = is; holds = h }))
+pub work_stops : (command : PlainCommand) (files : Option Files) (before after : ReadCounts) (inputs : List (List ℕ)) (setting : TheSetting) (left_over : ℕ) (stop : Stop) → HasInputs files command inputs → IsSetting (input inputs 0) (input inputs 1) setting left_over → StopsAt (RefusesOver command inputs setting) stop → StopsAtFiles command files before after stop
+work_stops command files before after inputs setting left_over Memory are is h = tt
+work_stops command files before after inputs setting left_over (Failed role) are is h = absurd h
+work_stops command files before after inputs setting left_over (Refused why) are is h =
+    refused_over command files why (own command inputs setting why h)
+    (record { inputs = inputs; setting = setting; left_over = left_over; inputs_are = are; setting_is = is; holds = h })
 
 -- what a command gives is prices, candidates, an explained plan, advice, or what a certificate proves or doesn't
 given : (command : PlainCommand) (inputs : List (List ℕ)) (setting : TheSetting) (done : Done) → GivesOver command inputs setting done → IsGiven done
@@ -148,9 +135,8 @@ given (Check cat load cert) inputs setting (answers.NotProved why) h = tt
 given (Check cat load cert) inputs setting done h = absurd h
 given (Bench seed tables statements budget) inputs setting (answers.Benched bench) h = tt
 given (Bench seed tables statements budget) inputs setting done h = absurd h
-given command inputs setting done h = absurd h
 
-given_over : (command : PlainCommand) (files : Option Files) (done : Done) → IsGiven done → OfSetting files command (λ inputs setting. GivesOver command inputs setting done) → AnswersOver command files done
+given_over : (command : PlainCommand) (files : Option Files) (done : Done) → IsGiven done → OfSetting files command (λ inputs setting. GivesOver command inputs setting done) → Answers command files done
 given_over command files (answers.Priced prices) is_given h = h
 given_over command files (answers.Listed found) is_given h = h
 given_over command files (answers.Explained explained) is_given h = h
@@ -161,11 +147,10 @@ given_over command files (answers.Benched bench) is_given h = h
 given_over command files done is_given h = absurd is_given
 
 -- a command gave its answer over its setting
-pub work_gives : (command : PlainCommand) (files : Option Files) (inputs : List (List ℕ)) (setting : TheSetting) (left_over : ℕ) (done : Done) → IsBuilt command → HasInputs files command inputs → IsSetting (input inputs 0) (input inputs 1) setting left_over → GivesOver command inputs setting done → Answers command files done
-work_gives command files inputs setting left_over done built are is h =
-    over command files done built
-    (given_over command files done (given command inputs setting done h)
-    (record { inputs = inputs; setting = setting; left_over = left_over; inputs_are = are; setting_is = is; holds = h }))
+pub work_gives : (command : PlainCommand) (files : Option Files) (inputs : List (List ℕ)) (setting : TheSetting) (left_over : ℕ) (done : Done) → HasInputs files command inputs → IsSetting (input inputs 0) (input inputs 1) setting left_over → GivesOver command inputs setting done → Answers command files done
+work_gives command files inputs setting left_over done are is h =
+    given_over command files done (given command inputs setting done h)
+    (record { inputs = inputs; setting = setting; left_over = left_over; inputs_are = are; setting_is = is; holds = h })
 
 -- an answer that is no advice
 abbrev IsOther : Done → Type 0

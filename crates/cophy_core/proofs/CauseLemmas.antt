@@ -52,7 +52,6 @@ is_answer (Explain cat load conf number) files done h = absurd h.holds
 is_answer (Advise cat load budget nodes cert) files done h = absurd h.holds
 is_answer (Check cat load cert) files done h = absurd h.holds
 is_answer (Bench seed tables statements budget) files done h = absurd h.holds
-is_answer command files done h = absurd (let e = h in cc)
 
 -- a command for whose answer something is put puts a file
 puts_file_of : (command : PlainCommand) (files : Option Files) (words : List (List ℕ)) (reply : Done) (puts : List Put) (text : List ℕ) → ArePuts command files words reply puts text → (puts ≡ [] → ⊥) → PutsFile command
@@ -91,7 +90,6 @@ unproved (Explain cat load conf number) files why h = absurd h.holds
 unproved (Advise cat load budget nodes cert) files why h = absurd h.holds
 unproved (Bench seed tables statements budget) files why h = absurd h.holds
 unproved (Check cat load cert) files why h = record { cat = cat; load = load; cert = cert; words_are = refl; first = h }
-unproved command files why h = absurd (let e = h in cc)
 
 not_proved_of : (words : Result PlainCommand WordFault) (files : Option Files) (before after : ReadCounts) (reply : Done) → MayAnswerWords words files before after reply → NotProvedIsTrue words files reply
 not_proved_of (Ok command) files before after (NotProvedDone why) h = unproved command files why h

@@ -190,10 +190,13 @@ checked_inputs files cat load file a b bytes after are e not_cat not_load few =
     let m = insert files file bytes in
     let cat_apart : cat ≢ file = λ x. not_cat (sym x) in
     let load_apart : load ≢ file = λ x. not_load (sym x) in
-    subst (λ (fs : Option Files). AreInputs fs (files_of (Check cat load file)) (a ∷ b ∷ bytes ∷ [])) (sym e)
-    (record { whole = others_stay files file bytes cat cat_apart ∙ are.0.whole; short = are.0.short },
-    (record { whole = others_stay files file bytes load load_apart ∙ are.1.0.whole; short = are.1.0.short },
-    (record { whole = put_is_there files file bytes; short = few }, tt)))
+    subst (λ (fs : Option Files). AreInputs fs (files_of (Check cat load file)) (a ∷ b ∷ bytes ∷ [])) (sym e) (
+      record { whole = others_stay files file bytes cat cat_apart ∙ are.0.whole; short = are.0.short },
+      (
+        record { whole = others_stay files file bytes load load_apart ∙ are.1.0.whole; short = are.1.0.short },
+        (record { whole = put_is_there files file bytes; short = few }, tt),
+      ),
+    )
 
 certified : (laws : Laws) (setting : TheSetting) (files : Files) (asked : Asked) (advice : Advice) (left_over : ℕ) (a b : List ℕ) (cert : Option (List ℕ)) (puts : List Put) (after : Option Files) → AreInputs (Some files) (setting_files asked.cat asked.load) (a ∷ b ∷ []) → IsSetting a b setting left_over → IsAdvice asked.budget asked.nodes setting advice → PutsFor cert setting asked.budget advice.answer puts → after ≡ put_all (Some files) puts → Certifies cert setting files asked advice.answer after
 certified laws setting files asked advice left_over a b (Some file) puts after are is_setting is put e =
@@ -237,7 +240,7 @@ from_advice laws words files asked written status advice puts text files_after w
     let are = subst (AreInputs (Some files) (setting_files asked.cat asked.load)) same h.inputs_are in
     let is_setting = subst (λ (inputs : List (List ℕ)). IsSetting (input inputs 0) (input inputs 1) setting h.left_over) same h.setting_is in
     let puts_are : PutsFor asked.cert setting asked.budget advice.answer puts =
-        subst (λ (budget : ℕ). PutsFor asked.cert setting budget advice.answer puts) gives.budget_is h.holds.puts_are in
+    subst (λ (budget : ℕ). PutsFor asked.cert setting budget advice.answer puts) gives.budget_is h.holds.puts_are in
     record {
       cat_bytes = ok.cat_bytes;
       load_bytes = ok.load_bytes;

@@ -5,7 +5,7 @@ use Rattle.adv_base.specs.Settings.{TheSetting}
 use Rattle.report.specs.declared.done.Done.{Done}
 use Rattle.report.specs.declared.done.Done.TheVariants.{Refused}
 use Rattle.report.specs.declared.done.Refusal.{Refusal}
-use Rattle.report.specs.declared.done.Refusal.TheVariants.{TooLong, Cat, Sql, Bind, NotBuilt}
+use Rattle.report.specs.declared.done.Refusal.TheVariants.{TooLong, Cat, Sql, Bind}
 use Rattle.cophy_core.specs.commands.Advise as advise
 use Rattle.cophy_core.specs.commands.Bench as bench
 use Rattle.cophy_core.specs.commands.Candidates as candidates
@@ -36,7 +36,6 @@ GivesOver (Explain cat load conf number) inputs setting done = explain.Gives num
 GivesOver (Advise cat load budget nodes cert) inputs setting done = advise.Gives budget nodes setting done
 GivesOver (Check cat load cert) inputs setting done = check.Gives (input inputs 2) setting done
 GivesOver (Bench seed tables statements budget) inputs setting done = bench.Gives budget setting done
-GivesOver command inputs setting done = ⊥
 
 -- what a command puts for an answer over a setting
 abbrev pub PutsOver : PlainCommand → TheSetting → Done → List Put → Type 0
@@ -60,32 +59,10 @@ pub record OfSetting (files : Option Files) (command : PlainCommand) (P : List (
 
 -- the first refusal in the order of work: a file that is too long, a fault of the catalogue, of the workload's text, of
 -- its names, what the command alone refuses; else what the command gives
-abbrev pub AnswersOver : PlainCommand → Option Files → Done → Type 0
-AnswersOver command files (Refused (TooLong role)) = IsTooLong files (files_of command) role
-AnswersOver command files (Refused (Cat fault)) = OfFiles files command (λ inputs. HasCatFault (input inputs 0) fault)
-AnswersOver command files (Refused (Sql fault)) = OfFiles files command (λ inputs. IsSqlRefusal (input inputs 0) (input inputs 1) fault)
-AnswersOver command files (Refused (Bind fault)) = OfFiles files command (λ inputs. IsBindRefusal (input inputs 0) (input inputs 1) fault)
-AnswersOver command files (Refused why) = OfSetting files command (λ inputs setting. RefusesOver command inputs setting why)
-AnswersOver command files done = OfSetting files command (λ inputs setting. GivesOver command inputs setting done)
-
--- what is answered to a command over the files; one that isn't built is refused
 abbrev pub Answers : PlainCommand → Option Files → Done → Type 0
-Answers (Candidates cat load) files done = AnswersOver (Candidates cat load) files done
-Answers (Cost cat load) files done = AnswersOver (Cost cat load) files done
-Answers (WhatIf cat load conf) files done = AnswersOver (WhatIf cat load conf) files done
-Answers (Explain cat load conf number) files done = AnswersOver (Explain cat load conf number) files done
-Answers (Advise cat load budget nodes cert) files done = AnswersOver (Advise cat load budget nodes cert) files done
-Answers (Check cat load cert) files done = AnswersOver (Check cat load cert) files done
-Answers (Bench seed tables statements budget) files done = AnswersOver (Bench seed tables statements budget) files done
-Answers command files done = done ≡ Refused NotBuilt
-
--- the commands that are built
-abbrev pub IsBuilt : PlainCommand → Type 0
-IsBuilt (Candidates cat load) = Unit {0}
-IsBuilt (Cost cat load) = Unit {0}
-IsBuilt (WhatIf cat load conf) = Unit {0}
-IsBuilt (Explain cat load conf number) = Unit {0}
-IsBuilt (Advise cat load budget nodes cert) = Unit {0}
-IsBuilt (Check cat load cert) = Unit {0}
-IsBuilt (Bench seed tables statements budget) = Unit {0}
-IsBuilt command = ⊥
+Answers command files (Refused (TooLong role)) = IsTooLong files (files_of command) role
+Answers command files (Refused (Cat fault)) = OfFiles files command (λ inputs. HasCatFault (input inputs 0) fault)
+Answers command files (Refused (Sql fault)) = OfFiles files command (λ inputs. IsSqlRefusal (input inputs 0) (input inputs 1) fault)
+Answers command files (Refused (Bind fault)) = OfFiles files command (λ inputs. IsBindRefusal (input inputs 0) (input inputs 1) fault)
+Answers command files (Refused why) = OfSetting files command (λ inputs setting. RefusesOver command inputs setting why)
+Answers command files done = OfSetting files command (λ inputs setting. GivesOver command inputs setting done)

@@ -2,7 +2,7 @@
 ghost use Rattle.std.specs.Prelude.{◌≡◌, ◌≤◌, ℕ, List, Some, Ok, IfOk, IfErr};
 ghost use Rattle.adv_base.specs.Settings.{the_setting};
 ghost use Rattle.report.specs.Texts.{FitsSetting};
-ghost use Rattle.cophy_core.specs.Answers.{IsBuilt, RefusesOver, GivesOver, PutsOver};
+ghost use Rattle.cophy_core.specs.Answers.{RefusesOver, GivesOver, PutsOver};
 ghost use Rattle.cophy_core.specs.Causes.{IsBounded};
 ghost use Rattle.cophy_core.specs.CommandLines.{IsInRange};
 ghost use Rattle.cophy_core.specs.ReadWords.{texts, plain_command, command_of};
@@ -37,8 +37,7 @@ fn work<'a>(
     inputs: &List<Bytes>,
     setting: &Setting<'_>,
 ) -> Result<Worked<'a>, Stop>
-    requires built { IsBuilt (plain_command command.now) }
-    requires range { IsInRange (plain_command command.now) }
+    requires { IsInRange (plain_command command.now) }
     ensures gives { IfOk result (λ worked. GivesOver (plain_command command.now) inputs.now (the_setting setting.now) worked.done) }
     ensures puts { IfOk result (λ worked. PutsOver (plain_command command.now) (the_setting setting.now) worked.done (plain_puts worked.puts)) }
     ensures fits { IfOk result (λ worked. FitsSetting (Some (the_setting setting.now)) worked.done) }

@@ -2,7 +2,6 @@
 ghost use Rattle.std.specs.Prelude.{◌≡◌, ◌≤◌, ◌<◌, ◌∷◌, [], ◌++◌, ℕ, List, Some, IfOk, IfErr, OnOk, length, slice_get};
 ghost use Rattle.adv_base.specs.declared.limits.TheConstants.{MOST_CERTIFICATE_BYTES, MOST_FILE_BYTES};
 ghost use Rattle.report.specs.declared.done.Role.TheVariants.{Third};
-ghost use Rattle.cophy_core.specs.Answers.{IsBuilt};
 ghost use Rattle.cophy_core.specs.ReadWords.{plain_command};
 ghost use Rattle.cophy_core.specs.CommandLines.{IsInRange};
 ghost use Rattle.cophy_core.specs.Files.{counts, input, input_file, plain_uses, IsInput, AreInputs};
@@ -107,7 +106,7 @@ fn read_each<S: Shelf>(
 }
 
 /// The bytes that a command answers from: those of all its files, read in the order in which it names them; for `bench`,
-/// which reads none, those that are made. A command that isn't built is refused before any file is read.
+/// which reads none, those that are made.
 pub(crate) fn inputs_of<S: Shelf>(
     alloc: Global,
     shelf: &mut S,
@@ -115,7 +114,6 @@ pub(crate) fn inputs_of<S: Shelf>(
 ) -> Result<List<Bytes>, Stop>
     requires { IsInRange (plain_command command.now) }
     ensures inputs { IfOk result (HasInputs (S.files shelf.old) (plain_command command.now)) }
-    ensures built { IfOk result (λ _. IsBuilt (plain_command command.now)) }
     ensures stop { IfErr result (StopsAtFiles (plain_command command.now) (S.files shelf.old)
         (counts (S.read_faults shelf.old) (S.read_faults_at shelf.old)) (counts (S.read_faults shelf.new) (S.read_faults_at shelf.new))) }
 

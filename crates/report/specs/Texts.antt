@@ -24,7 +24,7 @@ use Rattle.report.specs.declared.done.NotProved.{NotProved}
 use Rattle.report.specs.declared.done.NotProved.TheVariants.{Malformed, Fault}
 use Rattle.report.specs.declared.done.Prices.{Prices}
 use Rattle.report.specs.declared.done.Refusal.{Refusal}
-use Rattle.report.specs.declared.done.Refusal.TheVariants.{TooLong, Cat, Sql, Bind, NoStatement, BadConf, TooManyCombinations, NotBuilt}
+use Rattle.report.specs.declared.done.Refusal.TheVariants.{TooLong, Cat, Sql, Bind, NoStatement, BadConf, TooManyCombinations}
 use Rattle.report.specs.declared.done.Role.{Role}
 use Rattle.report.specs.declared.done.Role.TheVariants.{Catalogue, Workload, Third}
 use Rattle.report.specs.declared.done.WordFault.{WordFault}
@@ -99,7 +99,6 @@ refusal words (NoStatement n count) = numbered (codes "no statement ") n ++ numb
 refusal words (BadConf line) = numbered (codes "configuration line ") line
 refusal words (TooManyCombinations n count) =
     numbered (codes "statement ") n ++ (numbered (codes " has ") count ++ codes " combinations")
-refusal words NotBuilt = codes "not built"
 
 abbrev pub line : List ℕ → List ℕ
 line text = text ++ 10 ∷ []

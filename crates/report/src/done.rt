@@ -46,8 +46,6 @@ pub enum Refusal {
     BadConf(u64),
     /// The statement of that number has this many combinations of interesting orders, too many for a cache of its plans.
     TooManyCombinations(u32, u64),
-    /// The command isn't built yet.
-    NotBuilt,
 }
 
 /// Why a certificate proves nothing.

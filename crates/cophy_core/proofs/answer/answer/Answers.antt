@@ -13,7 +13,7 @@ use Rattle.cophy_core.proofs.answer.answer.Goals as goal
 
 pub open-requires : goal.open-requires
 open-requires g c =
-    rw c.bytes_at-2.ensures (second_short (plain_command c.args.command.now) _ c.in_ok-inputs.inputs c.in_ok-inputs.ensures.built c.requires c.in_ok-inputs.ensures.inputs)
+    rw c.bytes_at-2.ensures (second_short (plain_command c.args.command.now) _ c.in_ok-inputs.inputs c.requires c.in_ok-inputs.ensures.inputs)
 
 pub returns-in_err-opened-clause-stop : goal.returns-in_err-opened-clause-stop
 returns-in_err-opened-clause-stop g c =
@@ -24,7 +24,7 @@ returns-in_err-opened-clause-stop g c =
     let after = counts (g.S.Shelf.read_faults c.inputs_of.new.shelf) (g.S.Shelf.read_faults_at c.inputs_of.new.shelf) in
     let why : StopsAt (IsSettingRefusal (input inputs 0) (input inputs 1)) stop = rw (c.bytes_at.ensures, c.bytes_at-2.ensures) at c.in_err-opened.ensures.stop in
     let h : StopsAtFiles command (g.S.Shelf.files c.args.shelf.now) before after stop =
-    setting_stops command (g.S.Shelf.files c.args.shelf.now) before after inputs stop c.in_ok-inputs.ensures.built c.in_ok-inputs.ensures.inputs why in
+    setting_stops command (g.S.Shelf.files c.args.shelf.now) before after inputs stop c.in_ok-inputs.ensures.inputs why in
     search (rules, h)
 
 pub returns-in_err-worked-clause-stop : goal.returns-in_err-worked-clause-stop
@@ -38,7 +38,7 @@ returns-in_err-worked-clause-stop g c =
     let opened : IsSetting (input inputs 0) (input inputs 1) (setting_in c.in_ok-opened.opened) c.in_ok-opened.opened.left_over = rw (c.bytes_at.ensures, c.bytes_at-2.ensures) at c.in_ok-opened.ensures.setting in
     let is : IsSetting (input inputs 0) (input inputs 1) setting c.in_ok-opened.opened.left_over = subst (λ (s : TheSetting). IsSetting (input inputs 0) (input inputs 1) s c.in_ok-opened.opened.left_over) (sym c.setting-setting.ensures) opened in
     let h : StopsAtFiles command (g.S.Shelf.files c.args.shelf.now) before after stop =
-    work_stops command (g.S.Shelf.files c.args.shelf.now) before after inputs setting c.in_ok-opened.opened.left_over stop c.in_ok-inputs.ensures.built c.in_ok-inputs.ensures.inputs is c.in_err-worked.ensures.stop in
+    work_stops command (g.S.Shelf.files c.args.shelf.now) before after inputs setting c.in_ok-opened.opened.left_over stop c.in_ok-inputs.ensures.inputs is c.in_err-worked.ensures.stop in
     search (rules, h)
 
 pub returns-clause-reply : goal.returns-clause-reply
@@ -50,7 +50,7 @@ returns-clause-reply g c =
     let opened : IsSetting (input inputs 0) (input inputs 1) (setting_in c.in_ok-opened.opened) c.in_ok-opened.opened.left_over = rw (c.bytes_at.ensures, c.bytes_at-2.ensures) at c.in_ok-opened.ensures.setting in
     let is : IsSetting (input inputs 0) (input inputs 1) setting c.in_ok-opened.opened.left_over = subst (λ (s : TheSetting). IsSetting (input inputs 0) (input inputs 1) s c.in_ok-opened.opened.left_over) (sym c.setting-setting.ensures) opened in
     record {
-      answers = work_gives command files inputs setting c.in_ok-opened.opened.left_over c.in_ok-worked.worked.done c.in_ok-inputs.ensures.built c.in_ok-inputs.ensures.inputs is c.in_ok-worked.ensures.gives;
+      answers = work_gives command files inputs setting c.in_ok-opened.opened.left_over c.in_ok-worked.worked.done c.in_ok-inputs.ensures.inputs is c.in_ok-worked.ensures.gives;
       puts_are = work_puts command files (texts c.args.words.now) inputs setting c.in_ok-opened.opened.left_over c.in_ok-worked.worked.done (plain_puts c.in_ok-worked.worked.puts) c.in_ok-text.text c.in_ok-inputs.ensures.inputs is c.in_ok-worked.ensures.gives c.in_ok-worked.ensures.puts c.in_ok-text.ensures;
       text_is = work_told command files (texts c.args.words.now) inputs setting c.in_ok-opened.opened.left_over c.in_ok-worked.worked.done c.in_ok-text.text c.in_ok-inputs.ensures.inputs is c.in_ok-worked.ensures.gives c.in_ok-text.ensures;
     }
