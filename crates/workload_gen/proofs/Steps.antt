@@ -1,5 +1,5 @@
 -- One more draw, one more table, one more statement.
-use Rattle.std.proofs.Common.{◌≡◌, ℕ, zero, suc, ◌+◌, ◌*◌, ◌++◌, List, refl, subst, sym, ap, ◌∙◌, arith, zero-add}
+use Rattle.std.proofs.Common.{◌≡◌, ℕ, zero, suc, ◌+◌, ◌++◌, List, ap, ◌∙◌, arith, zero-add}
 use Rattle.std.proofs.lemmas.List.{append_assoc}
 use Rattle.workload_gen.specs.Draws.{after, next_state}
 use Rattle.workload_gen.specs.Tables.{table_text, tables_text, drawn_sizes}

@@ -1,5 +1,6 @@
 //! The two texts.
-ghost use Rattle.std.specs.Prelude.{◌≡◌, ◌≤◌, IfOk, string_bytes};
+ghost use Rattle.std.specs.Prelude.{◌≡◌, ◌≤◌, IfOk, length, string_bytes};
+ghost use Rattle.adv_base.specs.declared.limits.TheConstants.{MOST_FILE_BYTES};
 ghost use Rattle.workload_gen.specs.Texts.{catalogue_text, workload_text};
 
 use crate::draws::Draws;
@@ -38,7 +39,8 @@ fn make_texts(
 }
 
 /// Makes a catalogue of 2 to 20 tables and a workload of 1 to 500 statements over them. A seed gives the same bytes each
-/// time. The only error is want of memory, of which the texts take the most.
+/// time. Each text is short enough to be read where a file would be. The only error is want of memory, of which the texts
+/// take the most.
 pub fn make(alloc: Global, seed: u64, tables: u32, statements: u32) -> Result<Made, NoMemory>
     requires tables_some { 2 ≤ tables }
     requires tables_few { tables ≤ 20 }
@@ -46,6 +48,8 @@ pub fn make(alloc: Global, seed: u64, tables: u32, statements: u32) -> Result<Ma
     requires statements_few { statements ≤ 500 }
     ensures catalogue { IfOk result (λ made. made.catalogue ≡ catalogue_text seed tables) }
     ensures workload { IfOk result (λ made. made.workload ≡ workload_text seed tables statements) }
+    ensures catalogue_short { IfOk result (λ made. length made.catalogue ≤ MOST_FILE_BYTES) }
+    ensures workload_short { IfOk result (λ made. length made.workload ≤ MOST_FILE_BYTES) }
 {
     match make_texts(alloc, seed, tables, statements) {
         Ok((catalogue, workload)) => Ok(Made {

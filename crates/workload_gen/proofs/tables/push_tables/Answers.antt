@@ -1,4 +1,4 @@
-use Rattle.std.proofs.Common.{◌≡◌, ◌+◌, ◌-◌, ◌*◌, ◌++◌, suc, arith}
+use Rattle.std.proofs.Common.{◌≡◌, ◌+◌, ◌-◌, ◌*◌, ◌++◌, arith}
 use Rattle.std.specs.Prelude.{string_bytes}
 use Rattle.workload_gen.specs.Tables.{tables_text, table_text, drawn_sizes}
 use Rattle.workload_gen.proofs.Steps.{after-three, tables_text-suc, append-piece}
