@@ -184,10 +184,13 @@ abbrev pub advised_text : Option TheSetting → Advice → List ℕ
 advised_text None advice = []
 advised_text (Some setting) advice = advice_text setting advice
 
+-- a bound under a budget
+abbrev pub bound_words : ℤ → ℕ → List ℕ
+bound_words bound budget = signed (codes " bound ") bound ++ numbered (codes " budget ") budget
+
 -- what a certificate proves
 abbrev pub checked_text : Checked → List ℕ
-checked_text checked =
-    line (numbered (codes "proved cost ") checked.cost ++ (signed (codes " bound ") checked.bound ++ numbered (codes " budget ") checked.budget))
+checked_text checked = line (numbered (codes "proved cost ") checked.cost ++ bound_words checked.bound checked.budget)
 
 -- where a certificate first fails to be a proof
 abbrev pub check_fault : CheckFault → List ℕ
@@ -196,7 +199,7 @@ check_fault (check.BadConfig number) = numbered (codes "no candidate ") number
 check_fault (check.OverBudget size budget) = numbered (codes "size ") size ++ numbered (codes " over ") budget
 check_fault (check.CostDiffers claimed computed) = numbered (codes "cost ") claimed ++ numbered (codes " computed ") computed
 check_fault (check.BadPair set entry) =
-    numbered (codes "set ") set ++ (numbered (codes " entry ") entry ++ codes " names no pair")
+    (numbered (codes "set ") set ++ numbered (codes " entry ") entry) ++ codes " names no pair"
 check_fault (check.BadBranch node) = numbered (codes "branch at node ") node
 check_fault (check.LeafBelow node computed claimed) =
     numbered (codes "leaf ") node ++ (signed (codes " has ") computed ++ signed (codes " below ") claimed)

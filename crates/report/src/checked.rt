@@ -1,11 +1,19 @@
 //! The texts of what a check of a certificate answers.
 ghost use Rattle.std.specs.Prelude.{◌≡◌, ◌++◌, OnOk, codes};
-ghost use Rattle.report.specs.Texts.{line, numbered, signed, checked_text, check_fault, not_proved};
+ghost use Rattle.report.specs.Texts.{line, numbered, signed, bound_words, checked_text, check_fault, not_proved};
 
 use crate::NotProved;
 use crate::usage::{push_numbered, push_signed};
 use gap_checker::{CheckFault, Checked};
 use std::alloc::{AllocError, Global};
+
+/// Adds a bound under a budget.
+fn push_bound(alloc: Global, out: &mut Vec<u8>, bound: i128, budget: u64) -> Result<(), AllocError>
+    ensures { OnOk result (out.new.items ≡ out.old.items ++ bound_words bound budget) }
+{
+    push_signed(alloc, out, b" bound ", bound)?;
+    push_numbered(alloc, out, b" budget ", budget as u128)
+}
 
 /// Adds the line of what a certificate proves.
 pub(crate) fn push_checked(
@@ -16,8 +24,7 @@ pub(crate) fn push_checked(
     ensures { OnOk result (out.new.items ≡ out.old.items ++ checked_text checked.now) }
 {
     push_numbered(alloc, out, b"proved cost ", checked.cost)?;
-    push_signed(alloc, out, b" bound ", checked.bound)?;
-    push_numbered(alloc, out, b" budget ", checked.budget as u128)?;
+    push_bound(alloc, out, checked.bound, checked.budget)?;
     out.extend_from_slice(b"\n")
 }
 
@@ -39,10 +46,9 @@ fn push_both(
 /// Adds that an entry of a set names no use of a candidate.
 fn push_bad_pair(alloc: Global, out: &mut Vec<u8>, set: u8, entry: u32) -> Result<(), AllocError>
     ensures { OnOk result (out.new.items ≡ out.old.items
-        ++ (numbered (codes "set ") set ++ (numbered (codes " entry ") entry ++ codes " names no pair"))) }
+        ++ ((numbered (codes "set ") set ++ numbered (codes " entry ") entry) ++ codes " names no pair")) }
 {
-    push_numbered(alloc, out, b"set ", set as u128)?;
-    push_numbered(alloc, out, b" entry ", entry as u128)?;
+    push_both(alloc, out, b"set ", set as u128, b" entry ", entry as u128)?;
     out.extend_from_slice(b" names no pair")
 }
 
