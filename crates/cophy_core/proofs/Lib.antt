@@ -6,6 +6,7 @@ pub mod Offered
 pub mod PriceLists
 pub mod Cached
 pub mod Advising
+pub mod Checking
 pub mod Ranges
 pub mod Stopped
 pub mod Mapped

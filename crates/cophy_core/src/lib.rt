@@ -22,6 +22,7 @@ mod top;
 mod words;
 mod worked;
 
+pub use commands::check::checks_have_one_answer;
 pub use conf::read_conf;
 pub use top::{Outcome, run};
 pub use words::{Command, DEFAULT_NODES, read_words};

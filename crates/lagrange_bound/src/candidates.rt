@@ -22,7 +22,7 @@ fn if_in(pages: u64, state: State) -> u64
 }
 
 /// The pages of the candidates that are in.
-fn pages_inside(programme: &Programme, fix: &Fix) -> u64
+pub(crate) fn pages_inside(programme: &Programme, fix: &Fix) -> u64
     ensures exact { result ≡ bounds.pages_inside programme.now fix.now }
     ensures most { result ≤ MOST_CANDIDATES * MOST_INDEX_PAGES }
 {

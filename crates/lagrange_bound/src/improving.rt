@@ -52,8 +52,8 @@ fn try_rents(
 }
 
 /// Improves multipliers at a node, with others as room: afterwards the bound there is at least what it was, and at least
-/// that of the rent multipliers of each of the first `rounds` prices of a page, of at most 41: 0, 1, 2, 4 and so on. Takes
-/// no memory.
+/// that of the rent multipliers of each of the first `rounds` prices of a page, of at most 41: 0, 1, 2, 4 and so on. Rounds
+/// beyond these change nothing: `ascend` goes on from here. Takes no memory.
 pub fn improve(
     programme: &Programme,
     budget: u64,

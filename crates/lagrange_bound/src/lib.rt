@@ -4,10 +4,12 @@
 //! budget has a price, what the least plans of all statements cost, with what is in, less what the rents bring in and the
 //! budget's price, bounds every fitting configuration below the node. `bound` tells that number from a programme alone;
 //! `specs/` says which number it is, and a law that it is the Lagrangian value of every setting for which the programme
-//! stands. `rent` makes multipliers under which no candidate earns more than it costs, and `improve` picks better ones.
+//! stands. `rent` makes multipliers under which no candidate earns more than it costs, `improve` picks the best of these, and
+//! `ascend` raises multipliers further, with a scratch that is made once.
 //! `terms`, `carry` and `total` are the parts of a bound, so that a search can keep what doesn't change.
 #![tactic(auto)]
 
+mod ascending;
 mod bounds;
 mod candidates;
 mod carrying;
@@ -18,6 +20,7 @@ mod laws;
 mod pricing;
 mod sharing;
 
+pub use ascending::{Ascent, Pace, ascend, forecast};
 pub use bounds::bound;
 pub use carrying::{carry, terms, total};
 pub use improving::improve;

@@ -22,7 +22,7 @@ fn node(states: [State; 4]) -> Fix {
 }
 
 /// The node at which each candidate is free.
-fn free() -> Fix {
+pub(crate) fn free() -> Fix {
     node([State::Free; 4])
 }
 
@@ -43,7 +43,7 @@ fn state(number: u32, place: u32) -> State
 }
 
 /// The node of a number below 81, which has in base 3 a digit for each candidate.
-fn numbered_node(number: u32) -> Fix {
+pub(crate) fn numbered_node(number: u32) -> Fix {
     node([
         state(number, 1),
         state(number, 3),
@@ -53,7 +53,7 @@ fn numbered_node(number: u32) -> Fix {
 }
 
 /// The multipliers that are all 0.
-fn zero(rt: &impl Abort, alloc: Global, programme: &Programme) -> Multipliers
+pub(crate) fn zero(rt: &impl Abort, alloc: Global, programme: &Programme) -> Multipliers
     ensures { AreMultipliers programme.now result }
 {
     Multipliers::zero(alloc, programme).expect(rt, "memory")

@@ -3,6 +3,8 @@
 #![tactic(auto)]
 
 #[cfg(test)]
+mod ascents;
+#[cfg(test)]
 mod bounds;
 #[cfg(test)]
 mod made;

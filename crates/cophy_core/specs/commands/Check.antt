@@ -1,8 +1,10 @@
 -- What `check` answers: what a certificate proves, or the first place at which it proves nothing.
-use Rattle.std.specs.Prelude.{◌≢◌, ℕ, List}
+use Rattle.std.specs.Prelude.{◌≡◌, ◌≢◌, ℕ, List}
 use Rattle.adv_base.specs.Settings.{TheSetting}
 use Rattle.bip_model.specs.Laws.{BoundsAll}
 use Rattle.certificate.specs.declared.cert.Cert.{Cert}
+use Rattle.certificate.specs.declared.cert.CertFault.{CertFault}
+use Rattle.certificate.specs.declared.cert.CertFault.TheVariants as reading
 use Rattle.certificate.specs.Certificates.{IsCertificate, BreaksAt}
 use Rattle.gap_checker.specs.declared.fault.Checked.{Checked}
 use Rattle.gap_checker.specs.declared.fault.CheckFault.{CheckFault}
@@ -34,8 +36,19 @@ abbrev pub ProvesNothing : TheSetting → List ℕ → NotProved → Type 0
 ProvesNothing setting bytes (Malformed line) = BreaksAt bytes line
 ProvesNothing setting bytes (Fault fault) = IsFaulty setting bytes fault
 
+-- why bytes prove nothing at a fault of reading them
+abbrev pub IsUnread : CertFault → NotProved → Type 0
+IsUnread reading.Memory why = ⊥
+IsUnread (reading.Malformed line) why = why ≡ Malformed line
+
 -- what is proved, or why nothing is
 abbrev pub Gives : List ℕ → TheSetting → Done → Type 0
 Gives bytes setting (CheckedDone checked) = IsProved setting bytes checked
 Gives bytes setting (NotProvedDone why) = ProvesNothing setting bytes why
 Gives bytes setting done = ⊥
+
+-- what proves something of a setting is never said to prove nothing
+abbrev pub OneAnswer : Type 0
+OneAnswer =
+    (setting : TheSetting) (bytes : List ℕ) (checked : Checked) (why : NotProved) →
+    IsProved setting bytes checked → ProvesNothing setting bytes why → ⊥

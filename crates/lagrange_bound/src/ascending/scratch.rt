@@ -1,0 +1,63 @@
+//! The memory of an ascent.
+
+use crate::ascending::knapsack::Book;
+use crate::ascending::lists::{FREE, Lists, Rent, most};
+use adv_base::NoMemory;
+use bip_model::Programme;
+use std::alloc::Global;
+
+/// All the memory that the ascents of a programme's multipliers take, and what the last one found: how much of each candidate
+/// the best fractional choices take.
+#[derive(Drop)]
+pub struct Ascent {
+    pub(crate) lists: Lists,
+    pub(crate) rents: Vec<Rent>,
+    /// Where the rents stand among those of multipliers.
+    pub(crate) places: Vec<usize>,
+    /// Their average, and those of the best value, in parts of 1024.
+    pub(crate) average: Vec<i64>,
+    pub(crate) top: Vec<i64>,
+    /// The candidate of each rent of multipliers, from 1.
+    pub(crate) owners: Vec<u16>,
+    pub(crate) book: Book,
+}
+
+/// Writes the candidate of each grant.
+fn write_owners(programme: &Programme, owners: &mut Vec<u16>) -> Result<(), NoMemory> {
+    for part in programme.parts.as_slice() {
+        for slot in part.slots.as_slice() {
+            for grant in slot.grants.as_slice() {
+                owners.push(grant.candidate)?;
+            }
+        }
+    }
+    Ok(())
+}
+
+impl Ascent {
+    /// The memory of the ascents of a programme's multipliers. Want of memory is the one error.
+    pub fn new(alloc: Global, programme: &Programme) -> Result<Ascent, NoMemory> {
+        let counts = most(programme);
+        let lists = Lists::new(alloc, &counts)?;
+        let rents = vec![in alloc; FREE; counts.rents]?;
+        let places = vec![in alloc; 0; counts.rents]?;
+        let average = vec![in alloc; 0; counts.rents]?;
+        let top = vec![in alloc; 0; counts.rents]?;
+        let mut owners = Vec::new(alloc);
+        write_owners(programme, &mut owners)?;
+        Ok(Ascent {
+            lists,
+            rents,
+            places,
+            average,
+            top,
+            owners,
+            book: Book::BLANK,
+        })
+    }
+
+    /// How much of the candidate at a place, from 0, the choices of the last ascent took on the average, in parts of 65536.
+    pub fn share(&self, a: usize) -> u64 {
+        (self.book.average[a & 255].max(0)) as u64
+    }
+}
