@@ -1,5 +1,5 @@
 //! `bench`: advice on a workload that is made.
-ghost use Rattle.std.specs.Prelude.{◌≡◌, ◌≤◌, IfOk, IfErr, Some, sum_by};
+ghost use Rattle.std.specs.Prelude.{◌≡◌, ◌≤◌, IfOk, IfErr, Some, length, sum_by};
 ghost use Rattle.adv_base.specs.Limits.Settings as settings;
 ghost use Rattle.adv_base.specs.declared.limits.TheConstants.{MOST_ROWS, MOST_SLOTS};
 ghost use Rattle.adv_base.specs.Settings.{the_setting};
@@ -12,9 +12,16 @@ ghost use Rattle.cophy_core.specs.commands.Bench as spec;
 use crate::commands::advise::advice_on;
 use crate::stop::Stop;
 use crate::words::DEFAULT_NODES;
-use adv_base::{Setting, Work};
+use adv_base::{Catalogue, Setting, Work};
 use report::{Bench, Done};
 use std::alloc::Global;
+
+/// How many tables a catalogue has.
+fn table_count(cat: &Catalogue) -> u32
+    ensures { result ≡ length cat.now.tables }
+{
+    cat.tables.len() as u32
+}
 
 /// How many slots a statement has.
 fn slot_count(work: &Work) -> u32
@@ -51,7 +58,7 @@ pub(crate) fn bench(alloc: Global, setting: &Setting<'_>, budget: u64) -> Result
 {
     let advice = advice_on(alloc, setting, budget, DEFAULT_NODES)?;
     Ok(Done::Benched(Bench {
-        tables: setting.cat.tables.len() as u32,
+        tables: table_count(setting.cat),
         statements: setting.statements.len() as u32,
         slots: slots_in_all(setting),
         advice,
