@@ -89,3 +89,31 @@ fn files_have_a_limit(rt: HostRuntime) {
         assert_cost(&rt, alloc, cat, load, want);
     }
 }
+
+/// The longest certificate that is read, in bytes.
+const CERTIFICATE_LIMIT: usize = 67108864;
+
+/// Checks a certificate of a line that doesn't end, of so many bytes.
+fn assert_check(rt: &impl Abort, alloc: Global, len: usize, want: (u8, &str)) {
+    let piece = "xxxxxxxxxxxxxxxxxxxxxxxxxxxxxxxxxxxxxxxxxxxxxxxxxxxxxxxxxxxxxxxx";
+    let over = len % piece.len();
+    let front = piece.as_bytes();
+    let front = front.get(..over).expect(rt, "a front");
+    let cert = repeated(rt, alloc, (front, piece, ""), len);
+    assert_eq!(rt; cert.len(), len);
+    let cat = catalogue(rt, alloc, "T");
+    let mut shelf = shelf(rt, alloc, cat.as_slice(), b"", cert.as_slice());
+    let (status, out) = answer(rt, alloc, "check CAT LOAD CONF", &mut shelf, 1000);
+    let output = spread(rt, alloc, want.1);
+    assert_eq!(rt; out.bytes(), output.as_slice());
+    assert_eq!(rt; status, want.0);
+}
+
+#[test]
+fn certificates_have_a_limit_of_their_own(rt: HostRuntime) {
+    let alloc = rt.alloc();
+    let within = (6, "not proved: malformed at line 1~");
+    assert_check(&rt, alloc, CERTIFICATE_LIMIT, within);
+    let beyond = (5, "refused: too long CONF~");
+    assert_check(&rt, alloc, CERTIFICATE_LIMIT + 1, beyond);
+}

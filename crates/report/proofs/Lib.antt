@@ -1,3 +1,4 @@
 pub mod CostLines
 pub mod CandidateLines
 pub mod PickLines
+pub mod Pieces

@@ -195,12 +195,15 @@ abbrev pub benched_text : Option TheSetting → Bench → List ℕ
 benched_text setting bench = sizes_text bench.tables bench.statements bench.slots ++ advised_text setting bench.advice
 
 -- a bound under a budget
-abbrev pub bound_words : ℤ → ℕ → List ℕ
+unfoldable pub bound_words : ℤ → ℕ → List ℕ
 bound_words bound budget = signed (codes " bound ") bound ++ numbered (codes " budget ") budget
 
 -- what a certificate proves
+unfoldable pub proved_words : Checked → List ℕ
+proved_words checked = numbered (codes "proved cost ") checked.cost ++ bound_words checked.bound checked.budget
+
 abbrev pub checked_text : Checked → List ℕ
-checked_text checked = line (numbered (codes "proved cost ") checked.cost ++ bound_words checked.bound checked.budget)
+checked_text checked = line (proved_words checked)
 
 -- where a certificate first fails to be a proof
 abbrev pub check_fault : CheckFault → List ℕ

@@ -1,18 +1,27 @@
 //! The texts of what a check of a certificate answers.
-ghost use Rattle.std.specs.Prelude.{◌≡◌, ◌++◌, OnOk, codes};
-ghost use Rattle.report.specs.Texts.{line, numbered, signed, bound_words, checked_text, check_fault, not_proved};
+ghost use Rattle.std.specs.Prelude.{◌≡◌, ◌++◌, ◌∷◌, [], OnOk, codes};
+ghost use Rattle.report.specs.Texts.{line, numbered, signed, bound_words, proved_words, checked_text, check_fault, not_proved};
 
 use crate::NotProved;
 use crate::usage::{push_numbered, push_signed};
 use gap_checker::{CheckFault, Checked};
 use std::alloc::{AllocError, Global};
 
-/// Adds a bound under a budget.
-fn push_bound(alloc: Global, out: &mut Vec<u8>, bound: i128, budget: u64) -> Result<(), AllocError>
-    ensures { OnOk result (out.new.items ≡ out.old.items ++ bound_words bound budget) }
+/// Adds the bound and the budget that are told.
+#[tactic(auto, unfolding(crate::specs::Texts::bound_words))]
+fn push_bound(alloc: Global, out: &mut Vec<u8>, checked: &Checked) -> Result<(), AllocError>
+    ensures { OnOk result (out.new.items ≡ out.old.items ++ bound_words checked.now.bound checked.now.budget) }
 {
-    push_signed(alloc, out, b" bound ", bound)?;
-    push_numbered(alloc, out, b" budget ", budget as u128)
+    push_signed(alloc, out, b" bound ", checked.bound)?;
+    push_numbered(alloc, out, b" budget ", checked.budget as u128)
+}
+
+/// Adds what a certificate proves.
+fn push_proved(alloc: Global, out: &mut Vec<u8>, checked: &Checked) -> Result<(), AllocError>
+    ensures { OnOk result (out.new.items ≡ out.old.items ++ proved_words checked.now) }
+{
+    push_numbered(alloc, out, b"proved cost ", checked.cost)?;
+    push_bound(alloc, out, checked)
 }
 
 /// Adds the line of what a certificate proves.
@@ -23,9 +32,8 @@ pub(crate) fn push_checked(
 ) -> Result<(), AllocError>
     ensures { OnOk result (out.new.items ≡ out.old.items ++ checked_text checked.now) }
 {
-    push_numbered(alloc, out, b"proved cost ", checked.cost)?;
-    push_bound(alloc, out, checked.bound, checked.budget)?;
-    out.extend_from_slice(b"\n")
+    push_proved(alloc, out, checked)?;
+    push_end(out)
 }
 
 /// Adds two numbers, each behind its words.
@@ -108,6 +116,26 @@ fn push_not_proved(alloc: Global, out: &mut Vec<u8>, why: NotProved) -> Result<(
     }
 }
 
+/// Ends a line.
+fn push_end(out: &mut Vec<u8>) -> Result<(), AllocError>
+    ensures { OnOk result (out.new.items ≡ out.old.items ++ 10 ∷ []) }
+{
+    out.extend_from_slice(b"\n")
+}
+
+/// Adds words and why a certificate proves nothing.
+fn push_why(
+    alloc: Global,
+    out: &mut Vec<u8>,
+    words: &[u8],
+    why: NotProved,
+) -> Result<(), AllocError>
+    ensures { OnOk result (out.new.items ≡ out.old.items ++ (words.now ++ not_proved why)) }
+{
+    out.extend_from_slice(words)?;
+    push_not_proved(alloc, out, why)
+}
+
 /// Adds the line of a certificate that proves nothing.
 pub(crate) fn push_unproved(
     alloc: Global,
@@ -116,7 +144,6 @@ pub(crate) fn push_unproved(
 ) -> Result<(), AllocError>
     ensures { OnOk result (out.new.items ≡ out.old.items ++ line (codes "not proved: " ++ not_proved why)) }
 {
-    out.extend_from_slice(b"not proved: ")?;
-    push_not_proved(alloc, out, why)?;
-    out.extend_from_slice(b"\n")
+    push_why(alloc, out, b"not proved: ", why)?;
+    push_end(out)
 }
