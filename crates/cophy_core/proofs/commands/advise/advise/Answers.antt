@@ -9,15 +9,15 @@ use Rattle.cophy_core.proofs.commands.advise.advise.Goals as goal
 pub search-answer-requires-clause-root : goal.search-answer-requires-clause-root
 search-answer-requires-clause-root c = root_starts c.in_ok-programme.programme c.args.budget c.free_root-root.result c.free_root-root.ensures
 
-pub certified-puts-requires-clause-limits : goal.certified-puts-requires-clause-limits
-certified-puts-requires-clause-limits c =
+pub certified-requires-clause-limits : goal.certified-requires-clause-limits
+certified-requires-clause-limits c =
     let setting = the_setting c.args.setting.now in
     c.best_answers_keep_limits.ensures setting c.in_ok-programme.programme c.args.budget c.args.nodes _ c.search-answer.result c.args.setting.now.limits
     c.in_ok-programme.ensures.stands c.requires.budget c.requires.nodes
     (c.search-answer.ensures setting c.args.setting.now.limits c.in_ok-programme.ensures.stands)
 
-pub certified-puts-requires-clause-order : goal.certified-puts-requires-clause-order
-certified-puts-requires-clause-order c =
+pub certified-requires-clause-order : goal.certified-requires-clause-order
+certified-requires-clause-order c =
     c.standing_programmes_are_in_order.ensures (the_setting c.args.setting.now) c.in_ok-programme.programme c.in_ok-programme.ensures.stands
 
 pub returns-clause-gives : goal.returns-clause-gives
