@@ -1,5 +1,5 @@
 //! `advise`: which candidates to make within a budget of pages.
-ghost use Rattle.std.specs.Prelude.{◌≡◌, ◌≤◌, length, replicate, option_map, IfOk, IfErr, Some};
+ghost use Rattle.std.specs.Prelude.{◌≡◌, ◌≤◌, ◌∷◌, [], length, replicate, option_map, IfOk, IfErr, Some};
 ghost use Rattle.adv_base.specs.declared.limits.TheConstants.{MOST_CANDIDATES, MOST_NODES, MOST_ROWS};
 ghost use Rattle.bip_model.specs.StandsFor.{StandsFor};
 ghost use Rattle.adv_base.specs.Settings.{TheSetting, the_setting};
@@ -63,6 +63,17 @@ fn has_all_flags(config: &Config)
     let _flags = config.on;
 }
 
+/// A file to be put, alone.
+fn one<'a>(alloc: Global, put: FilePut<'a>) -> Result<List<FilePut<'a>>, NoMemory>
+    ensures { IfOk result (λ puts. puts ≡ put.entry ∷ []) }
+{
+    let mut items = Vec::new(alloc);
+    match items.push(put) {
+        Ok(()) => Ok(List { items }),
+        Err(_) => Err(NoMemory),
+    }
+}
+
 /// The certificate of an answer, to be put into a file of that name.
 fn one_put<'a>(
     alloc: Global,
@@ -77,9 +88,8 @@ fn one_put<'a>(
         spec.IsCertificatePut setting budget answer.now name.entry.now (plain_puts puts)) }
 {
     let bytes = write_cert(alloc, programme, budget, answer)?;
-    let mut items = Vec::new(alloc);
-    items.push(FilePut { name, bytes }).map_err(|_| NoMemory)?;
-    Ok(List { items })
+    let puts = one(alloc, FilePut { name, bytes })?;
+    Ok(puts)
 }
 
 /// The certificate of an answer, to be put where a file is named for it.

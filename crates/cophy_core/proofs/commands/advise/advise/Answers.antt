@@ -1,14 +1,14 @@
 use Rattle.adv_base.specs.Settings.{the_setting}
 use Rattle.cophy_core.proofs.commands.advise.advise.Goals as goal
 
-pub certified-puts-requires-clause-limits : goal.certified-puts-requires-clause-limits
-certified-puts-requires-clause-limits c =
+pub certified-requires-clause-limits : goal.certified-requires-clause-limits
+certified-requires-clause-limits c =
     let setting = the_setting c.args.setting.now in
     c.best_answers_keep_limits.ensures setting c.in_ok-programme.programme c.args.budget c.args.nodes _ c.in_ok-advice.advice.answer c.args.setting.now.limits
     c.in_ok-programme.ensures.stands c.requires.budget c.requires.nodes c.in_ok-advice.ensures.advice.best
 
-pub certified-puts-requires-clause-order : goal.certified-puts-requires-clause-order
-certified-puts-requires-clause-order c =
+pub certified-requires-clause-order : goal.certified-requires-clause-order
+certified-requires-clause-order c =
     c.standing_programmes_are_in_order.ensures (the_setting c.args.setting.now) c.in_ok-programme.programme c.in_ok-programme.ensures.stands
 
 pub returns-clause-puts : goal.returns-clause-puts
