@@ -1,90 +1,94 @@
-"""Caches of internal plans, timed by a program that is proved and built in a copy of the repository: how long one takes to
-build, how many templates it keeps of how many combinations, and how many look-ups a second it answers beside the planner."""
+#!/usr/bin/env python3
+"""Caches of internal plans of chains, stars and cliques: how long one takes to build, how many templates it keeps of how many
+combinations, and how long a look-up takes beside one search of a least plan and PostgreSQL's planning of the same join."""
 import argparse
 import os
-import re
-import shutil
 import subprocess
-import sys
-import tempfile
+from tempfile import TemporaryDirectory
 
-from measure import ROOT
+from builds import Source, built
+from joins import GRAPHS, select_text
+from measure import ROOT, print_row
+from postgres import Postgres
+from searches import numbers
 
-BELOW = ("adv_base", "plan_model", "planner", "interesting_orders", "inum_cache")
 # The offers and tasks are those of the planner's program.
-SHARED = ("src/task.rt", "src/table.rt", "specs", "proofs/Lib.antt", "proofs/Offered.antt", "proofs/table")
+CACHE = Source(
+    "cache_bench",
+    ("inum_cache", "interesting_orders", "planner", "plan_model", "adv_base"),
+    ("chain", "2", "0", "1"),
+    folders=("search_bench", "cache_bench"),
+    shared=("src/task.rt", "src/table.rt", "specs", "proofs/Lib.antt", "proofs/Offered.antt", "proofs/table"),
+)
+HEADS = ("graph", "slots", "combinations", "templates", "build us", "look-up ns", "look-ups/s", "least us", "postgres us",
+         "least x", "postgres x")
+WIDTHS = (6, 5, 12, 9, 9, 10, 10, 9, 11, 8, 10)
+# What is hoped for.
+LEAST_RATIO = 100
+RATIO_SLOTS = 4
+CHAIN_BUILD_US = 100_000
 
 
-def copied_source(crate):
-    """The program's files, each named and naming as the crate is."""
-    for source in ("search_bench", "cache_bench"):
-        folder = os.path.join(ROOT, "bench", source)
-        for at, _, names in os.walk(folder):
-            for name in names:
-                path = os.path.relpath(os.path.join(at, name), folder).removesuffix(".txt")
-                if source == "search_bench" and not path.startswith(SHARED):
-                    continue
-                with open(os.path.join(at, name)) as file:
-                    text = file.read().replace("search_bench", "cache_bench")
-                os.makedirs(os.path.dirname(os.path.join(crate, path)), exist_ok=True)
-                with open(os.path.join(crate, path), "w") as file:
-                    file.write(text)
-
-
-def copied(folder):
-    """The crates below in a folder of their own, with what earlier builds proved, and the program above them."""
-    crates = os.path.join(folder, "crates")
-    skipped = shutil.ignore_patterns("incremental", "must-fail")
-    for name in BELOW:
-        shutil.copytree(os.path.join(ROOT, "crates", name), os.path.join(crates, name), ignore=skipped)
-    shutil.copy(os.path.join(ROOT, "HANDLES"), folder)
-    with open(os.path.join(ROOT, "crates.txt")) as file:
-        lines = [line for line in file if line.split(":")[0] in BELOW]
-    with open(os.path.join(folder, "crates.txt"), "w") as file:
-        file.writelines([*lines, f"cache_bench: {' '.join(reversed(BELOW))} anyhow\n"])
-    crate = os.path.join(crates, "cache_bench")
-    copied_source(crate)
-    return crate
-
-
-def built(folder):
-    """The path of the built program."""
-    crate = copied(os.path.join(folder, "copy"))
-    print("proving and building cache_bench; that may take some minutes", file=sys.stderr)
-    done = subprocess.run(["rt", "run", "--", "chain", "2", "0", "1"], cwd=crate, capture_output=True, text=True)
-    program = os.path.join(crate, "out", "cache_bench")
-    if done.returncode or not os.access(program, os.X_OK):
-        sys.exit(f"cache_bench isn't built:\n{done.stdout[-2000:]}{done.stderr[-2000:]}")
-    return program
-
-
-def measured(program, graph, slots, indexes):
+def measured(program: str, graph: str, slots: int, indexes: int, calls: int) -> dict[str, int] | None:
     """The program's numbers by name, or none where the task has too many combinations."""
-    done = subprocess.run([program, graph, str(slots), str(indexes), "200"], capture_output=True, text=True)
-    if done.returncode:
-        return None
-    return {name: int(number) for name, number in re.findall(r"(\w+) (\d+)", done.stdout)}
+    words = [program, graph, str(slots), str(indexes), str(calls)]
+    done = subprocess.run(words, capture_output=True, text=True)
+    return None if done.returncode else numbers(done.stdout)
 
 
-def main():
+def unmet(graph: str, slots: int, times: dict[str, int]) -> list[str]:
+    """The goals that a line doesn't meet."""
+    found = []
+    if slots >= RATIO_SLOTS and times["least"] < LEAST_RATIO * times["cost"]:
+        found.append(f"a look-up is less than {LEAST_RATIO} times as fast as a search")
+    if graph == "chain" and times["build"] > 1000 * CHAIN_BUILD_US:
+        found.append(f"building takes more than {CHAIN_BUILD_US // 1000} ms")
+    return found
+
+
+def print_line(graph: str, slots: int, times: dict[str, int], beside: float | None) -> None:
+    look_up = max(1, times["cost"])
+    print_row((
+        graph, slots, times["combinations"], times["templates"], f"{times['build'] / 1000:.0f}", look_up, 1_000_000_000 // look_up,
+        f"{times['least'] / 1000:.1f}", "-" if beside is None else f"{beside:.0f}", f"{times['least'] / look_up:.1f}",
+        "-" if beside is None else f"{1000 * beside / look_up:.0f}",
+    ), WIDTHS)
+
+
+def print_grid(options: argparse.Namespace, program: str, postgres: Postgres | None) -> None:
+    print_row(HEADS, WIDTHS)
+    for graph in GRAPHS:
+        for slots in range(2, 9):
+            times = measured(program, graph, slots, options.indexes, 50 if options.quick else 200)
+            if times is None:
+                print(f"{graph:>6}  {slots:>5}  too many combinations", flush=True)
+                continue
+            print_line(graph, slots, times, postgres.microseconds(select_text(graph, slots)) if postgres else None)
+            for goal in unmet(graph, slots, times):
+                print(f"  NOT MET: {goal}", flush=True)
+
+
+def main() -> None:
     parser = argparse.ArgumentParser(description=__doc__)
-    parser.add_argument("--program", help="a cache_bench that is built; else it is built first")
-    parser.add_argument("--indexes", type=int, default=2, help="indexes of a slot")
-    words = parser.parse_args()
-    print("graph   slots  combinations  templates  build us  look-up ns  look-ups/s  least/look-up")
-    with tempfile.TemporaryDirectory() as folder:
-        program = words.program or built(folder)
-        for graph in ("chain", "star", "clique"):
-            for slots in range(2, 9):
-                times = measured(program, graph, slots, words.indexes)
-                if times is None:
-                    print(f"{graph:7} {slots:5}  too many combinations")
-                    continue
-                look_up = max(1, times["cost"])
-                print(
-                    f"{graph:7} {slots:5} {times['combinations']:13} {times['templates']:10} {times['build'] / 1000:9.0f}"
-                    f" {look_up:11} {1_000_000_000 // look_up:11} {times['least'] / look_up:14.1f}"
-                )
+    parser.add_argument("--program", help="a cache_bench that is built (default: it is proved and built first)")
+    parser.add_argument("--root", default=ROOT, help="the repository whose crates it is made of (default: this one)")
+    parser.add_argument("--folder", help="where it is proved and built (default: a temporary folder)")
+    parser.add_argument("--indexes", type=int, default=2, help="indexes of a slot (default: 2)")
+    parser.add_argument("--no-postgres", action="store_true", help="leave PostgreSQL out")
+    parser.add_argument("--quick", action="store_true", help="fewer calls, and no PostgreSQL")
+    options = parser.parse_args()
+    with TemporaryDirectory() as temporary:
+        folder = os.path.abspath(options.folder or os.path.join(temporary, "copy"))
+        os.makedirs(folder, exist_ok=True)
+        program = options.program or built(CACHE, folder, options.root)
+        postgres = None if options.quick or options.no_postgres else Postgres.started()
+        try:
+            if postgres:
+                postgres.make_tables(options.indexes)
+            print_grid(options, program, postgres)
+        finally:
+            if postgres:
+                postgres.stop()
 
 
 if __name__ == "__main__":

@@ -70,4 +70,4 @@ def need_status_0(run, what):
 
 
 def print_row(cells, widths):
-    print("  ".join(f"{cell:>{width}}" for cell, width in zip(cells, widths)), flush=True)
+    print("  ".join(f"{cell!s:>{width}}" for cell, width in zip(cells, widths)), flush=True)

@@ -1,82 +1,55 @@
-"""Programmes of made workloads, timed by a program that is proved and built in a copy of the repository: how long one
-takes to make, and how many parts, templates and grants it has."""
+#!/usr/bin/env python3
+"""Programmes of workloads of the generator: how long one takes to make, and how long a bound, a carried one and a round of
+better multipliers take, beside the numbers of templates and grants."""
 import argparse
-import os
-import re
-import shutil
-import subprocess
-import sys
-import tempfile
 
-from measure import ROOT
+from advice import Advice, add_options, made
+from measure import print_row
+from searches import numbers
+from workloads import Workload
 
-SOURCE = os.path.join(ROOT, "bench", "programme_bench")
-USED = ("tuning", "workload_gen", "candidates", "binder", "catalogue", "sql_reader", "bip_model", "adv_base")
-
-
-def crates():
-    """Each crate of the repository with what it stands on."""
-    with open(os.path.join(ROOT, "crates.txt")) as file:
-        lines = [line.split("#")[0].split(":") for line in file]
-    return {line[0].strip(): line[1].split() for line in lines if len(line) == 2}
+TABLES = 20
+SEED = 1
+STATEMENTS = (20, 100, 500)
+HEADS = ("statements", "candidates", "parts", "templates", "grants", "programme ms", "bound us", "terms us", "carry us", "total us",
+         "improve us", "ascend us")
+WIDTHS = (10, 10, 5, 9, 6, 12, 8, 8, 8, 8, 10, 9)
+# What is hoped for at the most statements, in microseconds.
+GOALS = {"bound": 20, "carried": 5, "round": 40}
 
 
-def below(names, known):
-    """These crates and all below them."""
-    found = set()
-    left = list(names)
-    while left:
-        name = left.pop()
-        if name in known and name not in found:
-            found.add(name)
-            left.extend(known[name])
-    return found
+def unmet(told: dict[str, int]) -> list[str]:
+    """The goals that the nanoseconds of a line don't meet. A carried bound is carried terms and their total."""
+    times = {"bound": told["bound"], "carried": told["carry"] + told["total"], "round": told.get("ascend", told["improve"])}
+    return [f"a {name} takes {times[name] / 1000:.1f} us and not {most}" for name, most in GOALS.items() if times[name] > 1000 * most]
 
 
-def copied(folder):
-    """The crates below in a folder of their own, with what earlier builds proved, and the program above them."""
-    known = crates()
-    needed = below(USED, known)
-    skipped = shutil.ignore_patterns("incremental", "must-fail")
-    for name in needed:
-        shutil.copytree(os.path.join(ROOT, "crates", name), os.path.join(folder, "crates", name), ignore=skipped)
-    shutil.copy(os.path.join(ROOT, "HANDLES"), folder)
-    with open(os.path.join(folder, "crates.txt"), "w") as file:
-        file.writelines(f"{name}: {' '.join(known[name])}\n" for name in known if name in needed)
-        file.write(f"programme_bench: {' '.join(USED)} anyhow\n")
-    crate = os.path.join(folder, "crates", "programme_bench")
-    os.makedirs(os.path.join(crate, "src"))
-    for name in os.listdir(os.path.join(SOURCE, "src")):
-        shutil.copy(os.path.join(SOURCE, "src", name), os.path.join(crate, "src", name.removesuffix(".txt")))
-    return crate
+def print_line(told: dict[str, int]) -> None:
+    counts = [told[name] for name in ("statements", "candidates", "parts", "templates", "grants")]
+    calls = [told[name] / 1000 for name in ("bound", "terms", "carry", "total", "improve")]
+    ascend = f"{told['ascend'] / 1000:.1f}" if "ascend" in told else "-"
+    print_row((*counts, f"{told['programme'] / 1e6:.1f}", *(f"{it:.1f}" for it in calls), ascend), WIDTHS)
 
 
-def built(folder):
-    """The path of the built program."""
-    crate = copied(os.path.join(folder, "copy"))
-    print("proving and building programme_bench; that may take some minutes", file=sys.stderr)
-    done = subprocess.run(["rt", "run", "--", "2", "1", "1"], cwd=crate, capture_output=True, text=True)
-    program = os.path.join(crate, "out", "programme_bench")
-    if done.returncode or not os.access(program, os.X_OK):
-        sys.exit(f"programme_bench isn't built:\n{done.stdout[-2000:]}{done.stderr[-2000:]}")
-    return program
+def print_all(advice: Advice, workloads: list[Workload], rounds: int) -> None:
+    texts = advice.printed([["programme", *workload.words, str(rounds)] for workload in workloads])
+    print_row(HEADS, WIDTHS)
+    for workload, text in zip(workloads, texts):
+        told = numbers(text)
+        print_line(told)
+        if workload.statements >= max(STATEMENTS):
+            for goal in unmet(told):
+                print(f"  NOT MET: {goal}", flush=True)
 
 
-def main():
+def main() -> None:
     parser = argparse.ArgumentParser(description=__doc__)
-    parser.add_argument("--program", help="a programme_bench that is built; else it is built first")
-    parser.add_argument("--tables", type=int, default=20)
-    parser.add_argument("--rounds", type=int, default=7)
-    words = parser.parse_args()
-    names = ("statements", "candidates", "parts", "templates", "grants")
-    print("  ".join(f"{name:>10}" for name in (*names, "ms")))
-    with tempfile.TemporaryDirectory() as folder:
-        program = words.program or built(folder)
-        for statements in (20, 100, 500):
-            call = [program, str(words.tables), str(statements), str(words.rounds)]
-            text = subprocess.run(call, capture_output=True, text=True, check=True).stdout
-            times = {name: int(number) for name, number in re.findall(r"(\w+) (\d+)", text)}
-            print("  ".join(f"{times[name]:10}" for name in names) + f"  {times['microseconds'] / 1000:10.1f}")
+    add_options(parser)
+    parser.add_argument("--rounds", type=int, default=7, help="how often each is measured; the fastest counts (default: 7)")
+    options = parser.parse_args()
+    counts = STATEMENTS[:2] if options.quick else STATEMENTS
+    with made(options) as advice:
+        print_all(advice, [Workload(SEED, TABLES, count) for count in counts], options.rounds)
 
 
 if __name__ == "__main__":

@@ -1,16 +1,17 @@
 -- A run from the root, a climb after it, and the bound of both: the best answer of each setting for which the programme stands.
-use Rattle.std.proofs.Common.{◌≡◌, ◌∙◌, ◌⊎◌, inl, inr, ℕ, zero, suc, ◌+◌, ◌-◌, ◌^◌, ◌<◌, ◌≤◌, Bool, true, false, cond, List, [], ◌∷◌, length, map, get_or, All, ℤ, pos, negsuc, refl, sym, ap, subst, arith}
-use Rattle.std.specs.Prelude.{Some, slice_get, slice_index_or, nat_lt, ◌≤ℤ◌, ◌<ℤ◌}
+use Rattle.std.proofs.Common.{◌≡◌, ◌∙◌, ◌⊎◌, inl, inr, ℕ, zero, suc, ◌+◌, ◌-◌, ◌*◌, ◌^◌, ◌<◌, ◌≤◌, Bool, true, false, cond, List, [], ◌∷◌, length, map, get_or, All, ℤ, pos, negsuc, refl, sym, ap, subst, arith}
+use Rattle.std.specs.Prelude.{Some, slice_get, slice_index_or, nat_lt, not, ◌==◌, count_by, ◌≤ℤ◌, ◌<ℤ◌}
 use Rattle.std.proofs.Math.ListN.{get_or-map, get_or-eq_default}
 use Rattle.std.proofs.lemmas.Bool.{cases_lt, false≢true}
 use Rattle.std.proofs.lemmas.Int.{ints}
 use Rattle.std.proofs.lemmas.List.{length-map}
+use Rattle.std.proofs.lemmas.List.Sums.{count_by-le-length, sum_by-cons}
 use Rattle.adv_base.specs.declared.limits.TheConstants.{MOST_CANDIDATES, MOST_ENTRIES, MOST_RENT}
 use Rattle.adv_base.specs.declared.setting.Config.{Config}
 use Rattle.adv_base.specs.Configs.{has_candidate, IsConfigOf, Fits}
 use Rattle.adv_base.specs.Laws.{IsRent}
 use Rattle.adv_base.specs.Nodes.{is_free, IsBelow}
-use Rattle.adv_base.specs.Settings.{TheSetting}
+use Rattle.adv_base.specs.Settings.{TheSetting, KeepsLimits}
 use Rattle.adv_base.specs.Sizes.{shape_pages}
 use Rattle.plan_model.specs.declared.plan.TheConstants.{MOST_TOTAL}
 use Rattle.plan_model.specs.Lagrangian.{TheMultipliers, IsLagrangian, IsAtMost}
@@ -30,7 +31,8 @@ use Rattle.bip_model.specs.Proves.{RentsUses}
 use Rattle.bip_model.specs.SearchLaws.{IsWhole}
 use Rattle.bip_model.specs.Trees.{Tree, Leaf, preorder, with_candidate, Shows}
 use Rattle.bip_model.specs.Uses.{multipliers_in, AreMultipliersIn, rent_multipliers}
-use Rattle.bip_model.specs.Values.{value}
+use Rattle.bip_model.specs.StandsFor.{StandsFor}
+use Rattle.bip_model.specs.Values.{value, grant_count}
 use Rattle.bip_model.specs.Views.{Place, is_place, rent_at, places, is_in, is_out, node_of, multipliers_of, AreMultipliers}
 use Rattle.bip_model.proofs.Counting.{tight-smaller}
 use Rattle.bip_model.proofs.Deciding.{pages-same}
@@ -43,12 +45,13 @@ use Rattle.bip_model.proofs.Totalling.{value-total}
 use Rattle.bip_model.proofs.Usefulness.{useful-counted}
 use Rattle.bip_model.proofs.Using.{multipliers-used, multipliers-kept}
 use Rattle.lagrange_bound.specs.Bounds.{state_at, lagrangian}
+use Rattle.branch_bound.specs.declared.climb.Costed.{Costed}
 use Rattle.branch_bound.specs.declared.found.Found.{Found}
 use Rattle.branch_bound.specs.Sides.{inside, total, IsRoot}
 use Rattle.branch_bound.specs.inner.Climbs.{flag_at, IsSound, IsTop}
-use Rattle.branch_bound.specs.inner.Runs.{Rules, lag, MOST_LOW, start, Runs, least_bound}
+use Rattle.branch_bound.specs.inner.Runs.{Rules, lag, MOST_LOW, started, Runs, least_bound}
 use Rattle.branch_bound.proofs.Climbing.{free-is}
-use Rattle.branch_bound.proofs.Running.{AreRulesFor, own_sets, rents-value, runs-explored, runs-shows, less-of, not-less-of}
+use Rattle.branch_bound.proofs.Running.{AreRulesFor, own_sets, first_set, first-fits, first-value, first-found, runs-explored, runs-shows, less-of, not-less-of}
 use Rattle.branch_bound.proofs.Sound.{under-root, sound-inside}
 use Rattle.branch_bound.proofs.Tight.{free-of, IsLowest, runs-lowest}
 
@@ -158,13 +161,13 @@ never-start : (bound low : ℤ) (cost : ℕ) → bound ≡ low → low ≡ pos M
 never-start bound low cost is at_start few below = omega (arith, ints, is, at_start, few, below)
 
 -- the bound is the cost, or the least value of the leaves where nodes had run out
-pub given-up : (setting : TheSetting) (rules : Rules) (root : Fix) (tree : Tree) (after : Found) (cost : ℕ) → AreRulesFor setting rules → IsConfigOf setting.shapes (inside root) → cost < MOST_TOTAL →
-    Runs rules root (start rules.programme root) tree after → least_bound cost after.low <ℤ pos cost → IsLowest setting rules (subproblems (node_of root) tree) (least_bound cost after.low) after.made
-given-up setting rules root tree after cost are config few run below =
+pub given-up : (setting : TheSetting) (rules : Rules) (root : Fix) (known : Costed) (tree : Tree) (after : Found) (cost : ℕ) → AreRulesFor setting rules → IsConfigOf setting.shapes (inside root) → cost < MOST_TOTAL →
+    Runs rules root (started known) tree after → least_bound cost after.low <ℤ pos cost → IsLowest setting rules (subproblems (node_of root) tree) (least_bound cost after.low) after.made
+given-up setting rules root known tree after cost are config few run below =
     elim (bound-cases cost after.low) [
       | inl same ↦ absurd (not-below (least_bound cost after.low) cost same below)
       | inr low ↦
-          elim (runs-lowest setting rules root (start rules.programme root) tree after are config run) [
+          elim (runs-lowest setting rules root (started known) tree after are config run) [
             | inl at_start ↦ absurd (never-start (least_bound cost after.low) after.low cost low at_start few below)
             | inr lowest ↦ subst (λ (v : ℤ). IsLowest setting rules (subproblems (node_of root) tree) v after.made) (sym low) lowest
           ]
@@ -200,7 +203,7 @@ root-cost : (setting : TheSetting) (rules : Rules) (root : Fix) (config : Config
 root-cost setting rules root config cost are sound =
     at-most (lag rules root 1) cost
     (shown setting rules.budget (lag rules root 1) (own_sets rules) (node_of root) (Leaf 1) config cost are.limits
-    (record { multipliers = multipliers_of rules.programme rules.rents; found = refl; value = lag rules root 1; value_is = rents-value setting rules root are; at_least = omega (arith, ints) })
+    (record { multipliers = multipliers_of rules.programme (first_set rules); found = first-found setting rules are; value = lag rules root 1; value_is = first-value setting rules root are; at_least = omega (arith, ints) })
     (sound-config setting rules root config cost are sound) (omega (arith, pages-same setting rules.programme config are.stands, sound.fits)) (sound-below rules root config cost sound)
     (subst (λ (n : ℕ). IsTotal setting.cat setting.shapes config setting.statements n) (sym sound.cost_is) (value-total setting rules.programme config are.limits are.stands)))
   where
@@ -208,22 +211,22 @@ root-cost setting rules root config cost are sound =
     at-most (pos m) n less = omega (arith, ints, less)
     at-most (negsuc m) n less = omega (arith, ints)
 
-root-bound : (setting : TheSetting) (rules : Rules) (root : Fix) (tree : Tree) (after : Found) (config : Config) (cost : ℕ) → AreRulesFor setting rules → IsConfigOf setting.shapes (inside root) →
-    IsSound rules.programme rules.budget root config cost → AreExplored setting rules.budget (subproblems (node_of root) tree) (start rules.programme root).cost after.cost →
-    Runs rules root (start rules.programme root) tree after → lag rules root 1 ≤ℤ least_bound cost after.low
-root-bound setting rules root tree after config cost are config_is sound explored run =
+root-bound : (setting : TheSetting) (rules : Rules) (root : Fix) (known : Costed) (tree : Tree) (after : Found) (config : Config) (cost : ℕ) → AreRulesFor setting rules → IsConfigOf setting.shapes (inside root) →
+    IsSound rules.programme rules.budget root config cost → AreExplored setting rules.budget (subproblems (node_of root) tree) (started known).cost after.cost →
+    Runs rules root (started known) tree after → lag rules root 1 ≤ℤ least_bound cost after.low
+root-bound setting rules root known tree after config cost are config_is sound explored run =
     let most = root-cost setting rules root config cost are sound in
     elim (bound-cases cost after.low) [
       | inl same ↦ first (lag rules root 1) (least_bound cost after.low) cost same most
       | inr low ↦
-          elim (runs-lowest setting rules root (start rules.programme root) tree after are config_is run) [
+          elim (runs-lowest setting rules root (started known) tree after are config_is run) [
             | inl at_start ↦ second (lag rules root 1) (least_bound cost after.low) after.low cost low at_start most (cost-below setting rules config cost are sound.cost_is)
             | inr lowest ↦
                 let tight = lowest.tight in
-                let own = tight.highest 1 (multipliers_of rules.programme rules.rents) refl in
-                let at' = useful-branches setting rules.budget (node_of root) tree (explored-worthwhile setting rules.budget (subproblems (node_of root) tree) (start rules.programme root).cost after.cost explored) in
-                let rises = value-below setting rules.budget (node_of root) tree (multipliers_of rules.programme rules.rents) (lag rules root 1) own.value (rents-limited rules.programme rules.rents are.rents_fit) at'
-                tight.number tight.leaf tight.leaf_found (rents-value setting rules root are) own.value_is in
+                let own = tight.highest 1 (multipliers_of rules.programme (first_set rules)) (first-found setting rules are) in
+                let at' = useful-branches setting rules.budget (node_of root) tree (explored-worthwhile setting rules.budget (subproblems (node_of root) tree) (started known).cost after.cost explored) in
+                let rises = value-below setting rules.budget (node_of root) tree (multipliers_of rules.programme (first_set rules)) (lag rules root 1) own.value (rents-limited rules.programme (first_set rules) (first-fits setting rules are)) at'
+                tight.number tight.leaf tight.leaf_found (first-value setting rules root are) own.value_is in
                 third (lag rules root 1) own.value after.low (least_bound cost after.low) low rises own.holds
           ]
     ]
@@ -252,6 +255,43 @@ at-most-rents setting rules root page multipliers are fit same less =
       holds = less;
     }
 
+-- ## The sets
+
+-- they are multipliers of the setting's uses
+sets-used : (setting : TheSetting) (programme : Programme) (sets : List Multipliers) → StandsFor setting programme → map (multipliers_in setting) sets ≡ map (multipliers_of programme) sets
+sets-used setting programme [] stands = refl
+sets-used setting programme (set ∷ sets) stands =
+    ap (λ (m : TheMultipliers). m ∷ map (multipliers_in setting) sets) (sym (multipliers-used setting programme set stands))
+    ∙ ap (λ (ms : List TheMultipliers). multipliers_of programme set ∷ ms) (sets-used setting programme sets stands)
+
+sets-kept : (setting : TheSetting) (rules : Rules) → AreRulesFor setting rules → All (AreMultipliersIn setting) rules.sets
+sets-kept setting rules are k d within = multipliers-kept setting rules.programme (get_or rules.sets k d) are.stands (are.sets_fit k d within)
+
+rents-step : (n g head rest whole : ℕ) → head ≤ g → rest ≤ n * g → whole ≡ head + rest → whole ≤ suc n * g
+rents-step n g head rest whole one two is = omega (arith, one, two, is)
+
+-- all their rents are at most a rent for each grant and set
+rents-most : (programme : Programme) (sets : List Multipliers) → All (AreMultipliers programme) sets → entry_count sets ≤ length sets * grant_count programme
+rents-most programme [] all = omega arith
+rents-most programme (set ∷ sets) all =
+    let fits : AreMultipliers programme set = all 0 set (omega arith) in
+    let counted = count_by-le-length (λ (rent : ℕ). not (rent == 0)) set.lambda in
+    rents-step (length sets) (grant_count programme) (count_by (λ rent. not (rent == 0)) set.lambda) (entry_count sets) (entry_count (set ∷ sets)) (omega (arith, counted, fits.one_each))
+    (rents-most programme sets (λ k d within. all (suc k) d (omega (arith, within)))) (sum_by-cons (λ (m : Multipliers). count_by (λ rent. not (rent == 0)) m.lambda) set sets)
+
+one-set : (setting : TheSetting) (sets : List Multipliers) → KeepsLimits setting → All (AreMultipliersIn setting) sets → length sets ≡ 1 → entry_count sets ≤ MOST_ENTRIES
+one-set setting [] limits all one = absurd (omega (arith, one))
+one-set setting (set ∷ []) limits all one = entries-most setting set limits (all 0 set (omega arith))
+one-set setting (set ∷ other ∷ sets) limits all one = absurd (omega (arith, one))
+
+sets-entries : (setting : TheSetting) (programme : Programme) (sets : List Multipliers) → KeepsLimits setting → All (AreMultipliersIn setting) sets → All (AreMultipliers programme) sets →
+    (length sets ≡ 1) ⊎ (length sets * grant_count programme ≤ MOST_ENTRIES) → entry_count sets ≤ MOST_ENTRIES
+sets-entries setting programme sets limits kept fit few =
+    elim few [
+      | inl one ↦ one-set setting sets limits kept one
+      | inr most ↦ let all = rents-most programme sets fit in omega (arith, all, most)
+    ]
+
 -- ## The answer
 
 whole-node : (root : Fix) → length root.state ≡ MOST_CANDIDATES → IsWhole (node_of root)
@@ -260,24 +300,23 @@ whole-node root long = record { inside = length-map root.state is_in ∙ long; o
 smaller : (nodes made list useful : ℕ) → nodes ≤ made + 1 → made ≡ list → list + 3 ≤ 2 ^ (useful + 1) → nodes < 2 ^ (useful + 1) - 1
 smaller nodes made list useful one two three = omega (arith, one, two, three)
 
-pub best-answer : (setting : TheSetting) (rules : Rules) (root : Fix) (tree : Tree) (after : Found) (config : Config) (cost : ℕ) (sets : List Multipliers) (list : List Node) (useful : ℕ) →
-    AreRulesFor setting rules → IsRoot rules.programme rules.budget root → length root.state ≡ MOST_CANDIDATES → Runs rules root (start rules.programme root) tree after → list ≡ preorder tree →
-    length list ≡ after.made → after.made ≤ rules.nodes → sets ≡ rules.rents ∷ [] → useful ≡ useful_below rules.programme rules.budget (length rules.programme.sizes) →
+pub best-answer : (setting : TheSetting) (rules : Rules) (root : Fix) (known : Costed) (tree : Tree) (after : Found) (config : Config) (cost : ℕ) (sets : List Multipliers) (list : List Node) (useful : ℕ) →
+    AreRulesFor setting rules → IsRoot rules.programme rules.budget root → length root.state ≡ MOST_CANDIDATES → Runs rules root (started known) tree after → list ≡ preorder tree →
+    length list ≡ after.made → after.made ≤ rules.nodes → sets ≡ rules.sets → useful ≡ useful_below rules.programme rules.budget (length rules.programme.sizes) →
     IsSound rules.programme rules.budget root config cost → cost ≤ after.cost → IsTop rules.programme rules.budget root config cost →
     AtMostRents setting rules root 0 → ((j : ℕ) → j < 40 → AtMostRents setting rules root (2 ^ j)) →
     IsBest setting rules.budget rules.nodes (node_of root) (record { config = config; cost = cost; bound = least_bound cost after.low; sets = sets; tree = list; useful = useful })
 unfolding AtMostRents
-best-answer setting rules root tree after config cost sets list useful are is_root long run list_is made most sets_are useful_is sound cheaper top none powers =
+best-answer setting rules root known tree after config cost sets list useful are is_root long run list_is made most sets_are useful_is sound cheaper top none powers =
     let bound : ℤ = least_bound cost after.low in
     let nodes_of : List Subproblem = subproblems (node_of root) tree in
     let root_config = sound-config setting rules root (inside root) (total rules.programme root) are (sound-inside rules.programme rules.budget root root (under-root rules.programme rules.budget root is_root)) in
     let root_fits : Fits setting.cat setting.shapes (inside root) rules.budget = omega (arith, pages-same setting rules.programme (inside root) are.stands, is_root.fits) in
-    let explored = runs-explored setting rules root (start rules.programme root) tree after are run in
-    let worthwhile = explored-worthwhile setting rules.budget nodes_of (start rules.programme root).cost after.cost explored in
-    let own : map (multipliers_in setting) sets ≡ own_sets rules =
-    ap (map (multipliers_in setting)) sets_are ∙ ap (λ (m : TheMultipliers). m ∷ []) (sym (multipliers-used setting rules.programme rules.rents are.stands)) in
+    let explored = runs-explored setting rules root (started known) tree after are run in
+    let worthwhile = explored-worthwhile setting rules.budget nodes_of (started known).cost after.cost explored in
+    let own : map (multipliers_in setting) sets ≡ own_sets rules = ap (map (multipliers_in setting)) sets_are ∙ sets-used setting rules.programme rules.sets are.stands in
     let in_tree = costs-less setting rules.budget nodes_of after.cost cost cheaper explored.costs in
-    let up = root-bound setting rules root tree after config cost are root_config sound explored run in
+    let up = root-bound setting rules root known tree after config cost are root_config sound explored run in
     let counted = subst (λ (n : ℕ). AreUseful setting rules.budget n) (sym useful_is) (useful-counted setting rules.programme rules.budget are.stands) in
     record {
       proves =
@@ -292,7 +331,7 @@ best-answer setting rules root tree after config cost sets list useful are is_ro
                   list_is = list_is;
                   shows =
                       subst (λ (ms : List TheMultipliers). Shows setting rules.budget bound ms (node_of root) tree) (sym own)
-                      (runs-shows setting rules root (start rules.programme root) tree after bound are run (below-both bound cost after.cost (bound-cost cost after.low) cheaper) (bound-low cost after.low));
+                      (runs-shows setting rules root (started known) tree after bound are run (below-both bound cost after.cost (bound-cost cost after.low) cheaper) (bound-low cost after.low));
                 };
           };
       obeys = sound-below rules root config cost sound;
@@ -300,7 +339,7 @@ best-answer setting rules root tree after config cost sets list useful are is_ro
       worthwhile = worthwhile;
       nodes_most = omega (arith, made, most);
       gave_up = λ below.
-          let lowest = given-up setting rules root tree after cost are root_config (cost-below setting rules config cost are sound.cost_is) run below in
+          let lowest = given-up setting rules root known tree after cost are root_config (cost-below setting rules config cost are sound.cost_is) run below in
           let same = subproblems-length (node_of root) tree ∙ ap length (sym list_is) in
           let small = tight-smaller setting rules.budget useful (node_of root) tree (own_sets rules) bound cost are.limits counted (whole-node root long) root_config root_fits worthwhile in_tree lowest.tight below in
           record {
@@ -315,9 +354,9 @@ best-answer setting rules root tree after config cost sets list useful are is_ro
       useful = counted;
       limits =
           record {
-            most = omega (arith, ap length sets_are);
-            each = subst (λ (ms : List Multipliers). All (AreMultipliersIn setting) ms) (sym sets_are) (one-all (AreMultipliersIn setting) rules.rents (multipliers-kept setting rules.programme rules.rents are.stands are.rents_fit));
-            entries_most = subst (λ (ms : List Multipliers). entry_count ms ≤ MOST_ENTRIES) (sym sets_are) (entries-most setting rules.rents are.limits (multipliers-kept setting rules.programme rules.rents are.stands are.rents_fit));
+            most = omega (arith, ap length sets_are, are.few);
+            each = subst (λ (ms : List Multipliers). All (AreMultipliersIn setting) ms) (sym sets_are) (sets-kept setting rules are);
+            entries_most = subst (λ (ms : List Multipliers). entry_count ms ≤ MOST_ENTRIES) (sym sets_are) (sets-entries setting rules.programme rules.sets are.limits (sets-kept setting rules are) are.sets_fit are.entries);
           };
     }
   where
@@ -335,10 +374,6 @@ best-answer setting rules root tree after config cost sets list useful are is_ro
       where
         through : (a b c : ℤ) → a ≤ℤ b → b ≤ℤ c → a ≤ℤ c
         through a b c one two = omega (arith, ints, one, two)
-
-    one-all : {X : Type 0} (P : X → Type 0) (x : X) → P x → All P (x ∷ [])
-    one-all P x holds zero d within = holds
-    one-all P x holds (suc k) d within = absurd (omega (arith, within))
 
     uses-all : (setting : TheSetting) (sets : List Multipliers) → All (RentsUses setting) (map (multipliers_in setting) sets)
     uses-all setting [] k d within = absurd (omega (arith, within))

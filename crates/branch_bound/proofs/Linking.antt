@@ -1,9 +1,10 @@
 -- What the search's code shows, as the best answer of each setting.
-use Rattle.std.proofs.Common.{◌≡◌, ◌∙◌, ℕ, zero, suc, ◌+◌, ◌^◌, ◌<◌, ◌≤◌, Bool, true, cond, false, List, [], ◌∷◌, ◌++◌, length, min, replicate, refl, ap, subst, arith}
+use Rattle.std.proofs.Common.{◌≡◌, ◌∙◌, ◌⊎◌, inl, inr, ℕ, zero, suc, ◌+◌, ◌*◌, ◌^◌, ◌<◌, ◌≤◌, Bool, true, cond, false, List, [], ◌∷◌, ◌++◌, length, take, min, replicate, All, refl, sym, ap, subst, arith}
 use Rattle.std.specs.Prelude.{slice_index_or, ◌≤ℤ◌}
 use Rattle.std.proofs.Math.Path.{fun_ext}
+use Rattle.std.proofs.Math.Nat.{mul-le-mul}
 use Rattle.std.proofs.Math.Pow.{pow_mono}
-use Rattle.adv_base.specs.declared.limits.TheConstants.{MOST_CANDIDATES, MOST_PAGE_PRICE}
+use Rattle.adv_base.specs.declared.limits.TheConstants.{MOST_CANDIDATES, MOST_ENTRIES, MOST_PAGE_PRICE}
 use Rattle.adv_base.specs.declared.setting.Config.{Config}
 use Rattle.adv_base.specs.Settings.{TheSetting}
 use Rattle.plan_model.specs.Lagrangian.{TheMultipliers}
@@ -22,11 +23,13 @@ use Rattle.lagrange_bound.specs.Bounds.{candidate_cost, lagrangian}
 use Rattle.lagrange_bound.specs.Rents.{uses, rent_multipliers, tried_price}
 use Rattle.lagrange_bound.proofs.StandingValue.{lagrangian-is}
 use Rattle.lagrange_bound.proofs.WrittenRents.{rents-within}
+use Rattle.branch_bound.specs.declared.climb.Costed.{Costed}
 use Rattle.branch_bound.specs.declared.found.Found.{Found}
 use Rattle.branch_bound.specs.Answers.{IsBestForEach}
+use Rattle.branch_bound.specs.Rooms.{IsSetLimit}
 use Rattle.branch_bound.specs.Sides.{IsRoot}
 use Rattle.branch_bound.specs.inner.Climbs.{IsSound, IsTop}
-use Rattle.branch_bound.specs.inner.Runs.{Rules, start, Runs, IsExplored, least_bound}
+use Rattle.branch_bound.specs.inner.Runs.{Rules, started, Runs, IsExplored, least_bound}
 use Rattle.branch_bound.proofs.Running.{AreRulesFor, runs-count}
 use Rattle.branch_bound.proofs.Final.{AtMostRents, at-most-rents, best-answer}
 
@@ -67,29 +70,56 @@ zeros-are programme multipliers page rents =
 
 -- ## The answer
 
-pub search-best : (rules : Rules) (root : Fix) (before after : Found) (old tree_list : List Node) (config : Config) (cost : ℕ) (sets : List Multipliers) (useful : ℕ) →
-    AreMultipliers rules.programme rules.zeros → AreMultipliers rules.programme rules.rents → rules.zeros.mu ≡ 0 → rules.zeros.lambda ≡ replicate (grant_count rules.programme) 0 →
+-- the sets that a search keeps, of which the first is this one
+pub record AreKept (rules : Rules) (first : Multipliers) (count : ℕ) : Type 0 where
+  pub front : take 1 rules.sets ≡ first ∷ []
+  pub some : 1 ≤ length rules.sets
+  pub few : length rules.sets ≤ count
+  pub fit : All (AreMultipliers rules.programme) rules.sets
+  pub limit : IsSetLimit rules.programme count
+
+front-is : (sets : List Multipliers) (first d : Multipliers) → take 1 sets ≡ first ∷ [] → slice_index_or sets 0 d ≡ first
+front-is [] first d front = absurd (cc)
+front-is (set ∷ sets) first d front = cc
+
+scaled : (n count g : ℕ) → n ≤ count → n * g ≤ count * g
+scaled n count g less = let same : g ≤ g = omega arith in mul-le-mul less same
+
+kept-entries : (rules : Rules) (first : Multipliers) (count : ℕ) → AreKept rules first count → (length rules.sets ≡ 1) ⊎ (length rules.sets * grant_count rules.programme ≤ MOST_ENTRIES)
+kept-entries rules first count kept =
+    elim kept.limit.entries [
+      | inl one ↦ inl (omega (arith, one, kept.some, kept.few))
+      | inr most ↦ let all = scaled (length rules.sets) count (grant_count rules.programme) kept.few in inr (omega (arith, all, most))
+    ]
+
+pub search-best : (rules : Rules) (root : Fix) (known : Costed) (before after : Found) (old tree_list : List Node) (config : Config) (cost : ℕ) (first : Multipliers) (count useful : ℕ) →
+    AreMultipliers rules.programme rules.zeros → AreKept rules first count → rules.zeros.mu ≡ 0 → rules.zeros.lambda ≡ replicate (grant_count rules.programme) 0 →
     ((i : ℕ) → i < length rules.programme.sizes → slice_index_or rules.useful i false ≡ is_useful rules.programme rules.budget (i + 1)) →
-    IsRoot rules.programme rules.budget root → length root.state ≡ MOST_CANDIDATES → before ≡ start rules.programme root → old ≡ [] → IsExplored rules root before old after tree_list →
-    after.made ≤ rules.nodes → sets ≡ rules.rents ∷ [] → useful ≡ useful_below rules.programme rules.budget (length rules.programme.sizes) →
+    IsRoot rules.programme rules.budget root → length root.state ≡ MOST_CANDIDATES → before ≡ started known → old ≡ [] → IsExplored rules root before old after tree_list →
+    after.made ≤ rules.nodes → useful ≡ useful_below rules.programme rules.budget (length rules.programme.sizes) →
     IsSound rules.programme rules.budget root config cost → cost ≤ after.cost → IsTop rules.programme rules.budget root config cost →
-    ((i : ℕ) → i < min 41 41 → lagrangian rules.programme rules.budget root (rent_multipliers rules.programme (tried_price i)) ≤ℤ lagrangian rules.programme rules.budget root rules.rents) →
-    IsBestForEach rules.programme rules.budget rules.nodes root (record { config = config; cost = cost; bound = least_bound cost after.low; sets = sets; tree = tree_list; useful = useful })
-search-best rules root before after old tree_list config cost sets useful zeros_fit rents_fit page lambda useful_are is_root long at_start empty explored most sets_are useful_is sound cheaper top tried setting limits stands =
+    ((i : ℕ) → i < min 41 41 → lagrangian rules.programme rules.budget root (rent_multipliers rules.programme (tried_price i)) ≤ℤ lagrangian rules.programme rules.budget root first) →
+    IsBestForEach rules.programme rules.budget rules.nodes root (record { config = config; cost = cost; bound = least_bound cost after.low; sets = rules.sets; tree = tree_list; useful = useful })
+search-best rules root known before after old tree_list config cost first count useful zeros_fit kept page lambda useful_are is_root long at_start empty explored most useful_is sound cheaper top tried setting limits stands =
     let are : AreRulesFor setting rules =
     record {
       limits = limits;
       stands = stands;
       zeros_fit = zeros_fit;
-      rents_fit = rents_fit;
+      sets_fit = kept.fit;
+      some = kept.some;
+      few = omega (arith, kept.few, kept.limit.most);
+      entries = kept-entries rules first count kept;
       zeros_are = zeros-are rules.programme rules.zeros page lambda;
       useful_are = useful_are;
       values = λ fix multipliers fit. lagrangian-is setting rules.programme rules.budget fix multipliers limits stands fit;
     } in
     let at-most : (i : ℕ) → i < 41 → AtMostRents setting rules root (tried_price i) = λ i few.
-    at-most-rents setting rules root (tried_price i) (rent_multipliers rules.programme (tried_price i)) are (tried-within rules.programme i few) (rents-linked setting rules.programme (tried_price i) stands) (tried i (omega (arith, few))) in
-    let run : Runs rules root (start rules.programme root) explored.tree after = subst (λ (f : Found). Runs rules root f explored.tree after) at_start explored.run in
+    at-most-rents setting rules root (tried_price i) (rent_multipliers rules.programme (tried_price i)) are (tried-within rules.programme i few) (rents-linked setting rules.programme (tried_price i) stands)
+    (subst (λ (m : Multipliers). lagrangian rules.programme rules.budget root (rent_multipliers rules.programme (tried_price i)) ≤ℤ lagrangian rules.programme rules.budget root m) (sym (front-is rules.sets first rules.zeros kept.front))
+    (tried i (omega (arith, few)))) in
+    let run : Runs rules root (started known) explored.tree after = subst (λ (f : Found). Runs rules root f explored.tree after) at_start explored.run in
     let list_is : tree_list ≡ preorder explored.tree = explored.list_is ∙ ap (λ (front : List Node). front ++ preorder explored.tree) empty in
-    let made = runs-count rules root (start rules.programme root) explored.tree after run in
-    best-answer setting rules root explored.tree after config cost sets tree_list useful are is_root long run list_is (omega (arith, made, ap length list_is)) most sets_are useful_is sound cheaper top
+    let made = runs-count rules root (started known) explored.tree after run in
+    best-answer setting rules root known explored.tree after config cost rules.sets tree_list useful are is_root long run list_is (omega (arith, made, ap length list_is)) most refl useful_is sound cheaper top
     (at-most 0 (omega arith)) (λ j few. at-most (suc j) (omega (arith, few)))

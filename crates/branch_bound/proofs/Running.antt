@@ -1,12 +1,14 @@
 -- What a run of the search shows of a setting for which its programme stands.
-use Rattle.std.proofs.Common.{◌≡◌, ◌∙◌, inl, inr, ℕ, zero, suc, ◌+◌, ◌-◌, ◌<◌, ◌≤◌, Bool, true, false, cond, ◌&&◌, List, [], ◌∷◌, ◌++◌, length, ℤ, pos, negsuc, refl, sym, ap, subst, arith}
-use Rattle.std.specs.Prelude.{Some, slice_index_or, slice_set, nat_le, nat_lt, ◌≤ℤ◌, ◌<ℤ◌}
+use Rattle.std.proofs.Common.{◌≡◌, ◌∙◌, ◌⊎◌, inl, inr, ℕ, zero, suc, ◌+◌, ◌-◌, ◌*◌, ◌<◌, ◌≤◌, Bool, true, false, cond, ◌&&◌, List, [], ◌∷◌, ◌++◌, length, map, get_or, All, ℤ, pos, negsuc, refl, sym, ap, subst, arith}
+use Rattle.std.specs.Prelude.{Some, slice_get, slice_index_or, slice_set, nat_le, nat_lt, ◌≤ℤ◌, ◌<ℤ◌}
 use Rattle.std.specs.Int.{int_min}
 use Rattle.std.proofs.Math.ListN.{get_or-map}
 use Rattle.std.proofs.lemmas.Bool.{false≢true}
 use Rattle.std.proofs.lemmas.Bool.Decides.{nat_tests}
 use Rattle.std.proofs.lemmas.Int.{ints, int_min_is}
 use Rattle.std.proofs.lemmas.List.{length-append, length-map}
+use Rattle.std.proofs.lemmas.Option.{slice_get_within}
+use Rattle.adv_base.specs.declared.limits.TheConstants.{MOST_ENTRIES, MOST_SETS}
 use Rattle.adv_base.specs.Configs.{has_candidate}
 use Rattle.adv_base.specs.Nodes as nodes
 use Rattle.adv_base.specs.Nodes.{is_free}
@@ -22,7 +24,7 @@ use Rattle.bip_model.specs.Best.{subproblems, HasTotal}
 use Rattle.bip_model.specs.Candidates.{is_useful, is_open, pages_of, size_of}
 use Rattle.bip_model.specs.StandsFor.{StandsFor}
 use Rattle.bip_model.specs.Trees.{Tree, Branches, Leaf, Full, preorder, in_side, out_side, zeros, set_at, Shows}
-use Rattle.bip_model.specs.Values.{value}
+use Rattle.bip_model.specs.Values.{value, grant_count}
 use Rattle.bip_model.specs.Views.{is_in, is_out, node_of, multipliers_of, AreMultipliers}
 use Rattle.bip_model.proofs.Deciding.{open-same}
 use Rattle.bip_model.proofs.Exploring.{AreExplored, leaf-explored, branch-explored, both-explored}
@@ -41,7 +43,10 @@ pub record AreRulesFor (setting : TheSetting) (rules : Rules) : Type 0 where
   pub limits : KeepsLimits setting
   pub stands : StandsFor setting rules.programme
   pub zeros_fit : AreMultipliers rules.programme rules.zeros
-  pub rents_fit : AreMultipliers rules.programme rules.rents
+  pub sets_fit : All (AreMultipliers rules.programme) rules.sets
+  pub some : 1 ≤ length rules.sets
+  pub few : length rules.sets ≤ MOST_SETS
+  pub entries : (length rules.sets ≡ 1) ⊎ (length rules.sets * grant_count rules.programme ≤ MOST_ENTRIES)
   pub zeros_are : multipliers_of rules.programme rules.zeros ≡ zeros
   pub useful_are : (i : ℕ) → i < length rules.programme.sizes → slice_index_or rules.useful i false ≡ is_useful rules.programme rules.budget (i + 1)
   pub values : (fix : Fix) (multipliers : Multipliers) → AreMultipliers rules.programme multipliers →
@@ -49,14 +54,34 @@ pub record AreRulesFor (setting : TheSetting) (rules : Rules) : Type 0 where
 
 -- the sets of an answer
 abbrev pub own_sets : Rules → List TheMultipliers
-own_sets rules = multipliers_of rules.programme rules.rents ∷ []
+own_sets rules = map (multipliers_of rules.programme) rules.sets
 
 pub zeros-value : (setting : TheSetting) (rules : Rules) (fix : Fix) → AreRulesFor setting rules → IsLagrangian setting rules.budget (node_of fix) zeros (lag rules fix 0)
 zeros-value setting rules fix are =
     subst (λ (m : TheMultipliers). IsLagrangian setting rules.budget (node_of fix) m (lag rules fix 0)) are.zeros_are (are.values fix rules.zeros are.zeros_fit)
 
-pub rents-value : (setting : TheSetting) (rules : Rules) (fix : Fix) → AreRulesFor setting rules → IsLagrangian setting rules.budget (node_of fix) (multipliers_of rules.programme rules.rents) (lag rules fix 1)
-rents-value setting rules fix are = are.values fix rules.rents are.rents_fit
+-- the first of the sets
+abbrev pub first_set : Rules → Multipliers
+first_set rules = slice_index_or rules.sets 0 rules.zeros
+
+pub first-fits : (setting : TheSetting) (rules : Rules) → AreRulesFor setting rules → AreMultipliers rules.programme (first_set rules)
+first-fits setting rules are = are.sets_fit 0 rules.zeros are.some
+
+pub first-value : (setting : TheSetting) (rules : Rules) (fix : Fix) → AreRulesFor setting rules → IsLagrangian setting rules.budget (node_of fix) (multipliers_of rules.programme (first_set rules)) (lag rules fix 1)
+first-value setting rules fix are = are.values fix (first_set rules) (first-fits setting rules are)
+
+found-map : {A B : Type 0} (f : A → B) (xs : List A) (k : ℕ) (d : A) → k < length xs → slice_get (map f xs) k ≡ Some (f (get_or xs k d))
+found-map f [] k d within = absurd (omega (arith, within))
+found-map f (x ∷ xs) zero d within = refl
+found-map f (x ∷ xs) (suc k) d within = found-map f xs k d (omega (arith, within))
+
+pub first-found : (setting : TheSetting) (rules : Rules) → AreRulesFor setting rules → set_at (own_sets rules) 1 ≡ Some (multipliers_of rules.programme (first_set rules))
+first-found setting rules are = found-map (multipliers_of rules.programme) rules.sets 0 rules.zeros are.some
+
+-- a number that has a set is that of zeros or of one of the sets
+pub set-within : (rules : Rules) (j : ℕ) (other : TheMultipliers) → set_at (own_sets rules) j ≡ Some other → j ≤ length rules.sets
+set-within rules zero other found = omega arith
+set-within rules (suc j) other found = let within = slice_get_within (own_sets rules) j other found in omega (arith, within, length-map rules.sets (multipliers_of rules.programme))
 
 -- the set of a leaf, and its value there
 pub record HasSet (setting : TheSetting) (rules : Rules) (fix : Fix) (k : ℕ) : Type 0 where
@@ -64,10 +89,15 @@ pub record HasSet (setting : TheSetting) (rules : Rules) (fix : Fix) (k : ℕ) :
   pub found : set_at (own_sets rules) k ≡ Some multipliers
   pub value_is : IsLagrangian setting rules.budget (node_of fix) multipliers (lag rules fix k)
 
-pub leaf-set : (setting : TheSetting) (rules : Rules) (fix : Fix) (k : ℕ) → AreRulesFor setting rules → k ≤ 1 → HasSet setting rules fix k
+pub leaf-set : (setting : TheSetting) (rules : Rules) (fix : Fix) (k : ℕ) → AreRulesFor setting rules → k ≤ length rules.sets → HasSet setting rules fix k
 leaf-set setting rules fix zero are few = record { multipliers = zeros; found = refl; value_is = zeros-value setting rules fix are }
-leaf-set setting rules fix (suc zero) are few = record { multipliers = multipliers_of rules.programme rules.rents; found = refl; value_is = rents-value setting rules fix are }
-leaf-set setting rules fix (suc (suc k)) are few = absurd (omega (arith, few))
+leaf-set setting rules fix (suc k) are few =
+    let within : k < length rules.sets = omega (arith, few) in
+    record {
+      multipliers = multipliers_of rules.programme (slice_index_or rules.sets k rules.zeros);
+      found = found-map (multipliers_of rules.programme) rules.sets k rules.zeros within;
+      value_is = are.values fix (slice_index_or rules.sets k rules.zeros) (are.sets_fit k rules.zeros within);
+    }
 
 -- what is in has its total
 inside-total : (setting : TheSetting) (rules : Rules) (fix : Fix) (level : ℕ) → AreRulesFor setting rules → level ≤ total rules.programme fix → HasTotal setting (node_of fix).inside (λ sum. level ≤ sum)
@@ -263,7 +293,7 @@ runs-shows setting rules fix before (Leaf k) after bound are run most low =
             at_least = at-most-cost bound (lag rules fix k) (visited rules fix before).cost after.cost cost (reach-is (lag rules fix k) (visited rules fix before).cost closed.closed.reached) most;
           }
       | inr forced ↦
-          let set = leaf-set setting rules fix k are forced.forced.set in
+          let set = leaf-set setting rules fix k are forced.forced.highest.set in
           record {
             multipliers = set.multipliers;
             found = set.found;

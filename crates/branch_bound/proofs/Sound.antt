@@ -3,20 +3,23 @@ use Rattle.std.proofs.Common.{◌≡◌, ◌∙◌, ◌≢◌, inl, inr, ℕ, �
 use Rattle.std.specs.Prelude.{slice_index_or, nat_lt}
 use Rattle.std.proofs.Math.ListN.{get_or-map}
 use Rattle.adv_base.specs.Configs.{chosen}
+use Rattle.adv_base.specs.declared.setting.Config.{Config}
 use Rattle.bip_model.specs.declared.answer.Node.{Node}
 use Rattle.bip_model.specs.declared.fix.Fix.{Fix}
 use Rattle.bip_model.specs.declared.fix.State.{State}
 use Rattle.bip_model.specs.declared.fix.State.TheVariants.{Free, In, Out}
 use Rattle.bip_model.specs.declared.programme.Programme.{Programme}
 use Rattle.bip_model.specs.Trees.{Tree, Branches, Leaf, Full}
+use Rattle.bip_model.specs.Values.{value}
 use Rattle.bip_model.specs.Views.{is_in}
 use Rattle.bip_model.proofs.Lists.{map-set}
 use Rattle.bip_model.proofs.Sides.{both-of}
 use Rattle.lagrange_bound.specs.Bounds.{state_at, fits_beside}
+use Rattle.branch_bound.specs.declared.climb.Costed.{Costed}
 use Rattle.branch_bound.specs.declared.found.Found.{Found}
 use Rattle.branch_bound.specs.Sides.{is_free_state, fixed, inside, pages, total, IsRoot}
-use Rattle.branch_bound.specs.inner.Climbs.{IsSound}
-use Rattle.branch_bound.specs.inner.Runs.{Rules, visited, start, IsChoice, IsExplored, branched, Runs}
+use Rattle.branch_bound.specs.inner.Climbs.{IsSound, IsSoundHere}
+use Rattle.branch_bound.specs.inner.Runs.{Rules, visited, started, IsChoice, IsExplored, branched, Runs}
 use Rattle.branch_bound.proofs.Climbing.{free-is, pages-off, pages-on}
 use Rattle.branch_bound.proofs.Running.{at-most-of}
 
@@ -97,9 +100,14 @@ runs-sound rules root fix before (Branches a inside_tree outside_tree) after und
     runs-sound rules root (fixed fix i Out) run.middle outside_tree after (under-out rules root fix i under run.branch.choice) first run.outside_run
 runs-sound rules root fix before Full after under sound run = absurd run
 
--- what is found below the root is sound
-pub explored-sound : (rules : Rules) (root : Fix) (before after : Found) (old new : List Node) → IsRoot rules.programme rules.budget root → before ≡ start rules.programme root →
-    IsExplored rules root before old after new → IsSoundFound rules root after
-explored-sound rules root before after old new is at_start explored =
+-- what is in at the root is so, and so is what is found below it
+pub sound-bare : (programme : Programme) (budget : ℕ) (root : Fix) (known : Costed) → IsRoot programme budget root → known.config ≡ inside root → known.cost ≡ value programme (inside root) → IsSoundHere programme budget root known
+sound-bare programme budget root known is config_is cost_is =
+    subst (λ (n : ℕ). IsSound programme budget root known.config n) (sym cost_is)
+    (subst (λ (c : Config). IsSound programme budget root c (total programme root)) (sym config_is) (sound-inside programme budget root root (under-root programme budget root is)))
+
+pub explored-sound : (rules : Rules) (root : Fix) (known : Costed) (before after : Found) (old new : List Node) → IsRoot rules.programme rules.budget root → IsSoundHere rules.programme rules.budget root known →
+    before ≡ started known → IsExplored rules root before old after new → IsSoundFound rules root after
+explored-sound rules root known before after old new is sound at_start explored =
     let under = under-root rules.programme rules.budget root is in
-    runs-sound rules root root before explored.tree after under (subst (λ (f : Found). IsSoundFound rules root f) (sym at_start) (sound-inside rules.programme rules.budget root root under)) explored.run
+    runs-sound rules root root before explored.tree after under (subst (λ (f : Found). IsSoundFound rules root f) (sym at_start) sound) explored.run

@@ -32,8 +32,8 @@ use Rattle.bip_model.proofs.Usefulness.{useful-to}
 use Rattle.lagrange_bound.specs.Bounds.{state_at, fits_beside}
 use Rattle.branch_bound.specs.declared.found.Found.{Found}
 use Rattle.branch_bound.specs.Sides.{is_free_state, fixed, inside, total}
-use Rattle.branch_bound.specs.inner.Runs.{Rules, lag, reaches, visited, NoChoice, IsForced, branched, Runs}
-use Rattle.branch_bound.proofs.Running.{AreRulesFor, own_sets, zeros-value, rents-value, leaf-set, visit, test-of, from-both, in-is, out-is, good-choice, runs-later}
+use Rattle.branch_bound.specs.inner.Runs.{Rules, lag, reaches, visited, NoChoice, IsHighest, IsForced, branched, Runs}
+use Rattle.branch_bound.proofs.Running.{AreRulesFor, own_sets, zeros-value, set-within, leaf-set, visit, test-of, from-both, in-is, out-is, good-choice, runs-later}
 
 -- ## A leaf without a choice is closed
 
@@ -83,20 +83,22 @@ min-cases x y = to (int_lt y x)
     to true = inr refl
     to false = inl refl
 
-highest-at : (setting : TheSetting) (rules : Rules) (fix : Fix) (k : ℕ) (low : ℤ) → AreRulesFor setting rules → low ≡ lag rules fix k → lag rules fix 0 ≤ℤ lag rules fix k → lag rules fix 1 ≤ℤ lag rules fix k →
+highest-at : (setting : TheSetting) (rules : Rules) (fix : Fix) (k : ℕ) (low : ℤ) → AreRulesFor setting rules → low ≡ lag rules fix k → IsHighest rules fix (length rules.sets) k (lag rules fix k) →
     (j : ℕ) (other : TheMultipliers) → set_at (own_sets rules) j ≡ Some other → HasLagrangian setting rules.budget (node_of fix) other (λ value. value ≤ℤ low)
-highest-at setting rules fix k low are is over_zeros over_rents zero other found =
-    let same : zeros ≡ other = cc in
-    record { value = lag rules fix 0; value_is = subst (λ (m : TheMultipliers). IsLagrangian setting rules.budget (node_of fix) m (lag rules fix 0)) same (zeros-value setting rules fix are); holds = omega (arith, ints, is, over_zeros) }
-highest-at setting rules fix k low are is over_zeros over_rents (suc zero) other found =
-    let same : multipliers_of rules.programme rules.rents ≡ other = cc in
-    record { value = lag rules fix 1; value_is = subst (λ (m : TheMultipliers). IsLagrangian setting rules.budget (node_of fix) m (lag rules fix 1)) same (rents-value setting rules fix are); holds = omega (arith, ints, is, over_rents) }
-highest-at setting rules fix k low are is over_zeros over_rents (suc (suc j)) other found = absurd (cc)
+highest-at setting rules fix k low are is highest j other found =
+    let within = set-within rules j other found in
+    let set = leaf-set setting rules fix j are within in
+    let same : set.multipliers ≡ other = only set.multipliers other (sym set.found ∙ found) in
+    let over = highest.over j within in
+    record { value = lag rules fix j; value_is = subst (λ (m : TheMultipliers). IsLagrangian setting rules.budget (node_of fix) m (lag rules fix j)) same set.value_is; holds = omega (arith, ints, is, over) }
+  where
+    only : (a b : TheMultipliers) → Some a ≡ Some b → a ≡ b
+    only a b e = cc
 
 forced-lowest : (setting : TheSetting) (rules : Rules) (fix : Fix) (before after : Found) (k : ℕ) → AreRulesFor setting rules → IsConfigOf setting.shapes (inside fix) → IsForced rules fix (visited rules fix before) k →
     after.low ≡ lag rules fix k → after.made ≡ (visited rules fix before).made → IsLowest setting rules (subproblems (node_of fix) (Leaf k)) after.low after.made
 forced-lowest setting rules fix before after k are config forced low made =
-    let set = leaf-set setting rules fix k are forced.set in
+    let set = leaf-set setting rules fix k are forced.highest.set in
     record {
       tight =
           record {
@@ -108,7 +110,7 @@ forced-lowest setting rules fix before after k are config forced low made =
             multipliers = set.multipliers;
             set_found = set.found;
             value_is = subst (λ (v : ℤ). IsLagrangian setting rules.budget (node_of fix) set.multipliers v) (sym low) set.value_is;
-            highest = highest-at setting rules fix k after.low are low forced.over_zeros forced.over_rents;
+            highest = highest-at setting rules fix k after.low are low forced.highest;
           };
       spent =
           elim forced.why [

@@ -1,19 +1,30 @@
--- The memory of a search.
-use Rattle.std.specs.Prelude.{◌≡◌, ℕ, ◌≤◌, [], replicate}
+-- The memory of a search, and how many sets of multipliers it may keep.
+use Rattle.std.specs.Prelude.{◌≡◌, ℕ, ◌*◌, ◌<◌, ◌≤◌, ◌⊎◌, [], replicate, All, length}
 use Rattle.std.specs.Vec.{vec_capacity}
+use Rattle.adv_base.specs.declared.limits.TheConstants.{MOST_ENTRIES, MOST_SETS}
 use Rattle.bip_model.specs.declared.programme.Programme.{Programme}
 use Rattle.bip_model.specs.Values.{grant_count}
 use Rattle.bip_model.specs.Views.{AreMultipliers}
+use Rattle.lagrange_bound.specs.Ledgers.{HasRoom}
 use Rattle.branch_bound.specs.declared.room.Room.{Room}
+use Rattle.branch_bound.specs.inner.Proposals.{AreHands}
+
+-- so many sets, of which at least one is always kept, have no more rents than an answer may have
+pub record IsSetLimit (programme : Programme) (count : ℕ) : Type 0 where
+  pub some : 1 ≤ count
+  pub most : count ≤ MOST_SETS
+  pub entries : (count ≡ 1) ⊎ (count * grant_count programme ≤ MOST_ENTRIES)
 
 -- a room is enough for a search of a programme with so many nodes
 pub record IsRoomFor (programme : Programme) (nodes : ℕ) (room : Room) : Type 0 where
   pub tree_empty : room.tree.items ≡ []
   pub tree_room : nodes ≤ vec_capacity room.tree
   pub sets_empty : room.sets.items ≡ []
-  pub sets_room : 1 ≤ vec_capacity room.sets
+  pub sets_room : MOST_SETS ≤ vec_capacity room.sets
   pub zeros_page : room.zeros.mu ≡ 0
   pub zeros_are : room.zeros.lambda ≡ replicate (grant_count programme) 0
   pub zeros_fit : AreMultipliers programme room.zeros
-  pub rents_fit : AreMultipliers programme room.rents
-  pub spare_fits : AreMultipliers programme room.spare
+  pub first_fits : AreMultipliers programme room.first
+  pub hands_fit : AreHands programme room.hands
+  pub ledgers_room : All (HasRoom programme) room.ledgers.items
+  pub ledgers_most : MOST_SETS < length room.ledgers.items

@@ -1,3 +1,4 @@
 -- What retells the code of the search; nothing above this crate cites it.
 pub mod Runs
 pub mod Climbs
+pub mod Proposals

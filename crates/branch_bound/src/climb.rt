@@ -56,7 +56,7 @@ fn added(programme: &Programme, budget: u64, from: &Costed, index: usize) -> Opt
 }
 
 /// The configuration with one flag changed, where the root leaves the candidate free and that gains something.
-fn tried(
+pub(crate) fn tried(
     programme: &Programme,
     budget: u64,
     root: &Fix,

@@ -1,5 +1,5 @@
 //! The tree of a search, explored depth first.
-ghost use Rattle.std.specs.Prelude.{◌≡◌, ◌+◌, ◌<◌, ◌≤◌, [], ◌∷◌, ◌++◌, vec_len};
+ghost use Rattle.std.specs.Prelude.{◌≡◌, ◌+◌, ◌<◌, ◌≤◌, [], ◌∷◌, ◌++◌, length, vec_len};
 ghost use Rattle.std.specs.Vec.{vec_capacity};
 ghost use Rattle.bip_model.specs.declared.answer.Node.{Node};
 ghost use Rattle.branch_bound.specs.inner.Runs as runs;
@@ -7,8 +7,10 @@ ghost use Rattle.branch_bound.specs.inner.Runs as runs;
 use crate::fixing::fixed;
 use crate::found::Found;
 use crate::frame::Frame;
+use crate::guide::Guide;
 use crate::node::{Fate, fate_of, lag, visited};
 use bip_model::{Fix, Node, State};
+use lagrange_bound::Ledger;
 
 /// Appends a node, for which there is room.
 fn append(tree: &mut Vec<Node>, node: Node)
@@ -24,13 +26,16 @@ fn append(tree: &mut Vec<Node>, node: Node)
 }
 
 /// What was found, with a leaf at which the search gives up, under the set of this number.
-fn given_up(frame: &Frame<'_>, fix: &Fix, found: Found, set: u8) -> Found
-    ensures { result ≡ runs.lowered found (runs.lag (runs.rules_of frame.now) fix.now set) }
+fn given_up(frame: &Frame<'_>, fix: &Fix, found: Found, set: u8, ledgers: &mut [Ledger]) -> Found
+    requires set { set ≤ length frame.now.sets.now }
+    requires ledgers { runs.AreLedgers (runs.rules_of frame.now) ledgers.old }
+    ensures ledgers { runs.AreLedgers (runs.rules_of frame.now) ledgers.new }
+    ensures exact { result ≡ runs.lowered found (runs.lag (runs.rules_of frame.now) fix.now set) }
 {
     Found {
         config: found.config,
         cost: found.cost,
-        low: found.low.min(lag(frame, fix, set)),
+        low: found.low.min(lag(frame, fix, set, ledgers)),
         made: found.made,
     }
 }
@@ -48,32 +53,87 @@ fn branched(found: Found, nodes: u32) -> Found
     }
 }
 
-/// Explores what is below a node that was made, and appends its tree in preorder.
-pub(crate) fn explore(frame: &Frame<'_>, fix: &Fix, before: Found, tree: &mut Vec<Node>) -> Found
+/// The places of both sides of a branch in the plan.
+#[derive(Clone, Copy)]
+struct Sides {
+    inside: usize,
+    outside: usize,
+}
+
+/// Where the sides of a branch stand in the plan; past it where the plan hasn't this branch.
+fn sides_of(frame: &Frame<'_>, place: usize, index: usize) -> Sides {
+    if place < frame.plan.len() && frame.plan[place].candidate == index {
+        Sides {
+            inside: frame.plan[place].inside,
+            outside: frame.plan[place].outside,
+        }
+    } else {
+        Sides {
+            inside: usize::MAX,
+            outside: usize::MAX,
+        }
+    }
+}
+
+/// Explores what is below a node that was made, and appends its tree in preorder. It has this place in the plan; `hint` is the
+/// set that closed the last leaf.
+pub(crate) fn explore(
+    frame: &Frame<'_>,
+    fix: &Fix,
+    before: Found,
+    place: usize,
+    tree: &mut Vec<Node>,
+    hint: &mut u8,
+    ledgers: &mut [Ledger],
+    guides: &mut [Guide],
+) -> Found
     requires pending { vec_len tree.old < before.made }
     requires made { before.made ≤ frame.now.nodes }
     requires room { frame.now.nodes ≤ vec_capacity tree.old }
+    requires ledgers { runs.AreLedgers (runs.rules_of frame.now) ledgers.old }
     ensures explored { runs.IsExplored (runs.rules_of frame.now) fix.now before tree.old.items result tree.new.items }
     ensures count { vec_len tree.new + before.made ≡ vec_len tree.old + 1 + result.made }
     ensures more { before.made ≤ result.made }
     ensures most { result.made ≤ frame.now.nodes }
     ensures room { vec_capacity tree.old ≤ vec_capacity tree.new }
+    ensures ledgers { runs.AreLedgers (runs.rules_of frame.now) ledgers.new }
 {
     let found = visited(frame, fix, before);
-    match fate_of(frame, fix, &found) {
+    match fate_of(frame, fix, &found, *hint, place, ledgers, guides) {
         Fate::Closed(set) => {
+            *hint = set;
             append(tree, Node::Bounded(set));
             found
         }
         Fate::Forced(set) => {
             append(tree, Node::Bounded(set));
-            given_up(frame, fix, found, set)
+            given_up(frame, fix, found, set, ledgers)
         }
         Fate::Branch(index) => {
             append(tree, Node::Branch(index as u16 + 1));
+            let sides = sides_of(frame, place, index);
             let below = branched(found, frame.nodes);
-            let middle = explore(frame, &fixed(fix, index, State::In), below, tree);
-            explore(frame, &fixed(fix, index, State::Out), middle, tree)
+            let middle = explore(
+                frame,
+                &fixed(fix, index, State::In),
+                below,
+                sides.inside,
+                tree,
+                hint,
+                ledgers,
+                guides,
+            );
+            let out = fixed(fix, index, State::Out);
+            explore(
+                frame,
+                &out,
+                middle,
+                sides.outside,
+                tree,
+                hint,
+                ledgers,
+                guides,
+            )
         }
     }
 }

@@ -10,7 +10,7 @@ use adv_base::limits::MOST_CANDIDATES;
 use bip_model::{Fix, State};
 
 /// Whether a candidate is in.
-fn is_in(state: State) -> bool
+pub(crate) fn is_in(state: State) -> bool
     ensures { result ≡ views.is_in state }
 {
     match state {

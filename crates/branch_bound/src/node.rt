@@ -1,21 +1,25 @@
 //! One node of a search: the total of what is in there, its bounds, and what becomes of it.
 ghost use Rattle.std.specs.Prelude.{◌≡◌, ℕ, ◌+◌, ◌*◌, ◌<◌, ◌≤◌, ◌⊎◌, false, true, length, IfNone, IfSome, slice_index_or, pos, ◌≤ℤ◌};
 ghost use Rattle.adv_base.specs.declared.limits.TheConstants.{MOST_CANDIDATES, MOST_INDEX_PAGES};
+ghost use Rattle.bip_model.specs.Views.{AreMultipliers};
 ghost use Rattle.lagrange_bound.specs.Bounds as bounds;
 ghost use Rattle.branch_bound.specs.inner.Runs as runs;
 
 use crate::fixing::{config_pages, inside, is_free};
 use crate::found::Found;
 use crate::frame::Frame;
-use bip_model::{Fix, Programme, value};
-use lagrange_bound::bound;
+use crate::guide::Guide;
+use crate::plan::{Best, best_set, gap_to, pick, usable};
+use adv_base::limits::MOST_CANDIDATES;
+use bip_model::{Fix, Multipliers, Programme, value};
+use lagrange_bound::{Ledger, bound_by};
 
 /// What becomes of a node.
 #[derive(Clone, Copy)]
 pub(crate) enum Fate {
     /// A leaf below which nothing is cheaper than what was found, by the set of this number.
     Closed(u8),
-    /// A leaf where nodes have run out, under the set of this number, which gives the higher value of both.
+    /// A leaf where nodes have run out, under the set of this number, which gives the highest value.
     Forced(u8),
     /// A branch on the candidate of this index.
     Branch(usize),
@@ -116,8 +120,48 @@ fn choice(frame: &Frame<'_>, fix: &Fix) -> Option<usize>
     best
 }
 
+/// The proposed candidate where it is open and useful, else the one that gains most alone.
+fn chosen(frame: &Frame<'_>, fix: &Fix, proposal: usize) -> Option<usize>
+    ensures { runs.IsChoiceBelow (runs.rules_of frame.now) fix.now (length frame.now.programme.now.sizes) result }
+{
+    let used = config_pages(frame.programme.sizes.as_slice(), &inside(fix));
+    if proposal < frame.programme.sizes.len() && is_choice(frame, fix, used, proposal) {
+        return Some(proposal);
+    }
+    choice(frame, fix)
+}
+
+/// The candidate that the plan proposes at one of its nodes, or that a guide proposes; by its index, 256 for none.
+fn proposed(
+    frame: &Frame<'_>,
+    fix: &Fix,
+    cost: u128,
+    place: usize,
+    best: Best,
+    guides: &mut [Guide],
+) -> usize {
+    if place < frame.plan.len() && frame.plan[place].candidate < MOST_CANDIDATES {
+        return frame.plan[place].candidate;
+    }
+    if best.set >= frame.sets.len() || best.set >= guides.len() {
+        return MOST_CANDIDATES;
+    }
+    let gap = gap_to(cost, best.value);
+    let config = usable(frame.programme, frame.budget, fix);
+    let own = &frame.sets[best.set];
+    let guide = &mut guides[best.set];
+    pick(frame.programme, frame.useful, fix, &config, own, guide, gap)
+}
+
 /// A candidate to branch on, where two more nodes are left.
-fn branch(frame: &Frame<'_>, fix: &Fix, found: &Found) -> Option<usize>
+fn branch(
+    frame: &Frame<'_>,
+    fix: &Fix,
+    found: &Found,
+    place: usize,
+    best: Best,
+    guides: &mut [Guide],
+) -> Option<usize>
     requires { found.now.made ≤ frame.now.nodes }
     ensures none { IfNone result ((frame.now.nodes < found.now.made + 2) ⊎ runs.NoChoice (runs.rules_of frame.now) fix.now) }
     ensures some { IfSome result (λ i. (found.now.made + 2 ≤ frame.now.nodes) × runs.IsChoice (runs.rules_of frame.now) fix.now i) }
@@ -125,41 +169,158 @@ fn branch(frame: &Frame<'_>, fix: &Fix, found: &Found) -> Option<usize>
     if found.made + 2 > frame.nodes {
         return None;
     }
-    choice(frame, fix)
+    let proposal = proposed(frame, fix, found.cost, place, best, guides);
+    chosen(frame, fix, proposal)
 }
 
-/// The Lagrangian value of a node under the set of a number: zeros, or the rents.
-pub(crate) fn lag(frame: &Frame<'_>, fix: &Fix, set: u8) -> i128
-    ensures { result ≡ runs.lag (runs.rules_of frame.now) fix.now set }
+/// The set of a number: 0 is that of zeros.
+fn own_set<'a>(frame: &Frame<'a>, set: u8) -> &'a Multipliers
+    requires { set ≤ length frame.now.sets.now }
+    ensures exact { result.now ≡ runs.set_of (runs.rules_of frame.now) set }
+    ensures fit { AreMultipliers frame.now.programme.now result.now }
 {
     if set == 0 {
-        bound(frame.programme, frame.budget, fix, frame.zeros)
+        frame.zeros
     } else {
-        bound(frame.programme, frame.budget, fix, frame.rents)
+        &frame.sets[set as usize - 1]
     }
 }
 
-/// What becomes of a node, after it is visited.
-pub(crate) fn fate_of(frame: &Frame<'_>, fix: &Fix, found: &Found) -> Fate
-    requires { found.now.made ≤ frame.now.nodes }
-    ensures { runs.IsFate (runs.rules_of frame.now) fix.now found.now result }
+/// The Lagrangian value of a node under the set of a number, to which its ledger is carried.
+pub(crate) fn lag(frame: &Frame<'_>, fix: &Fix, set: u8, ledgers: &mut [Ledger]) -> i128
+    requires set { set ≤ length frame.now.sets.now }
+    requires ledgers { runs.AreLedgers (runs.rules_of frame.now) ledgers.old }
+    ensures value { result ≡ runs.lag (runs.rules_of frame.now) fix.now set }
+    ensures ledgers { runs.AreLedgers (runs.rules_of frame.now) ledgers.new }
 {
-    let zero = lag(frame, fix, 0);
+    let own = own_set(frame, set);
+    bound_by(
+        frame.programme,
+        frame.budget,
+        fix,
+        own,
+        &mut ledgers[set as usize],
+    )
+}
+
+/// The number of a set, and its Lagrangian value at a node.
+#[derive(Clone, Copy)]
+struct Valued {
+    set: u8,
+    value: i128,
+}
+
+/// The set of the higher value: that which was the highest, or the one of the next number.
+fn higher(frame: &Frame<'_>, fix: &Fix, best: Valued, set: u8, ledgers: &mut [Ledger]) -> Valued
+    requires within { set < length frame.now.sets.now }
+    requires best { runs.IsHighest (runs.rules_of frame.now) fix.now set best.set best.value }
+    requires ledgers { runs.AreLedgers (runs.rules_of frame.now) ledgers.old }
+    ensures best { runs.IsHighest (runs.rules_of frame.now) fix.now (set + 1) result.set result.value }
+    ensures ledgers { runs.AreLedgers (runs.rules_of frame.now) ledgers.new }
+{
+    let value = lag(frame, fix, set + 1, ledgers);
+    if value > best.value {
+        Valued {
+            set: set + 1,
+            value,
+        }
+    } else {
+        best
+    }
+}
+
+/// The set of the highest value at a node, or one whose value is at least a cost, where that of zeros isn't.
+fn highest(frame: &Frame<'_>, fix: &Fix, cost: u128, zero: i128, ledgers: &mut [Ledger]) -> Valued
+    requires zero { zero ≡ runs.lag (runs.rules_of frame.now) fix.now 0 }
+    requires ledgers { runs.AreLedgers (runs.rules_of frame.now) ledgers.old }
+    ensures ledgers { runs.AreLedgers (runs.rules_of frame.now) ledgers.new }
+    ensures set { result.set ≤ length frame.now.sets.now }
+    ensures value { result.value ≡ runs.lag (runs.rules_of frame.now) fix.now result.set }
+    ensures over { runs.reaches result.value cost ≡ false → runs.IsHighest (runs.rules_of frame.now) fix.now (length frame.now.sets.now) result.set result.value }
+{
+    let mut best = Valued {
+        set: 0,
+        value: zero,
+    };
+    for set in 0..frame.sets.len() {
+        best = higher(frame, fix, best, set as u8, ledgers);
+        if reaches(best.value, cost) {
+            return best;
+        }
+    }
+    best
+}
+
+/// The number of the set of a place; 0 where there is none.
+fn number_of(frame: &Frame<'_>, set: usize) -> u8
+    ensures { result ≤ length frame.now.sets.now }
+{
+    if set < frame.sets.len() {
+        set as u8 + 1
+    } else {
+        0
+    }
+}
+
+/// What becomes of a node at which nothing branches: a leaf of the set of the highest value.
+fn leaf_fate(
+    frame: &Frame<'_>,
+    fix: &Fix,
+    found: &Found,
+    zero: i128,
+    ledgers: &mut [Ledger],
+) -> Fate
+    requires zero { zero ≡ runs.lag (runs.rules_of frame.now) fix.now 0 }
+    requires promising { runs.reaches (runs.lag (runs.rules_of frame.now) fix.now 0) found.now.cost ≡ false }
+    requires why { (frame.now.nodes < found.now.made + 2) ⊎ runs.NoChoice (runs.rules_of frame.now) fix.now }
+    requires ledgers { runs.AreLedgers (runs.rules_of frame.now) ledgers.old }
+    ensures fate { runs.IsFate (runs.rules_of frame.now) fix.now found.now result }
+    ensures ledgers { runs.AreLedgers (runs.rules_of frame.now) ledgers.new }
+{
+    let best = highest(frame, fix, found.cost, zero, ledgers);
+    if reaches(best.value, found.cost) {
+        Fate::Closed(best.set)
+    } else {
+        Fate::Forced(best.set)
+    }
+}
+
+/// What becomes of a node, after it is visited. Guides tell which set may close it; the set that closed the last leaf is tried
+/// first.
+pub(crate) fn fate_of(
+    frame: &Frame<'_>,
+    fix: &Fix,
+    found: &Found,
+    hint: u8,
+    place: usize,
+    ledgers: &mut [Ledger],
+    guides: &mut [Guide],
+) -> Fate
+    requires made { found.now.made ≤ frame.now.nodes }
+    requires ledgers { runs.AreLedgers (runs.rules_of frame.now) ledgers.old }
+    ensures fate { runs.IsFate (runs.rules_of frame.now) fix.now found.now result }
+    ensures ledgers { runs.AreLedgers (runs.rules_of frame.now) ledgers.new }
+{
+    let first = (hint as usize).saturating_sub(1);
+    let guess = best_set(
+        frame.programme,
+        frame.budget,
+        found.cost,
+        frame.sets,
+        guides,
+        fix,
+        first,
+    );
+    let set = number_of(frame, guess.set);
+    if reaches(guess.value, found.cost) && reaches(lag(frame, fix, set, ledgers), found.cost) {
+        return Fate::Closed(set);
+    }
+    let zero = lag(frame, fix, 0, ledgers);
     if reaches(zero, found.cost) {
         return Fate::Closed(0);
     }
-    let rent = lag(frame, fix, 1);
-    if reaches(rent, found.cost) {
-        return Fate::Closed(1);
-    }
-    match branch(frame, fix, found) {
+    match branch(frame, fix, found, place, guess, guides) {
         Some(index) => Fate::Branch(index),
-        None => {
-            if zero >= rent {
-                Fate::Forced(0)
-            } else {
-                Fate::Forced(1)
-            }
-        }
+        None => leaf_fate(frame, fix, found, zero, ledgers),
     }
 }

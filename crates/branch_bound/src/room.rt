@@ -1,19 +1,127 @@
 //! The memory of a search.
-ghost use Rattle.std.specs.Prelude.{◌≡◌, IfOk};
+ghost use Rattle.std.specs.Prelude.{◌≡◌, ◌≤◌, ◌*◌, ◌⊎◌, ℕ, All, IfOk, length};
+ghost use Rattle.std.specs.Vec.{vec_capacity};
+ghost use Rattle.adv_base.specs.declared.limits.TheConstants.{MOST_ENTRIES, MOST_SETS};
+ghost use Rattle.bip_model.specs.Values.{grant_count};
+ghost use Rattle.bip_model.specs.Views.{AreMultipliers};
+ghost use Rattle.lagrange_bound.specs.Ledgers.{HasRoom};
+ghost use Rattle.branch_bound.specs.Rooms.{IsSetLimit};
+ghost use Rattle.branch_bound.specs.inner.Proposals as proposals;
 
+use crate::guide::Guide;
+use crate::hands::Hands;
+use crate::plan::{MOST_STEPS, MOST_WAITING, Step};
 use adv_base::NoMemory;
-use bip_model::{Multipliers, Node, Programme};
+use adv_base::limits::{MOST_ENTRIES, MOST_SETS};
+use bip_model::{Multipliers, Node, Programme, grant_count};
+use lagrange_bound::{Ascent, Ledger};
 use std::alloc::Global;
 
-/// All the memory that a search takes: a tree of so many nodes, at 4 bytes each, and three sets of multipliers, each with a
-/// number of 8 bytes for each grant of the programme.
+/// All the memory that a search takes: a tree of so many nodes, at 4 bytes each; multipliers with a number of 8 bytes for each
+/// grant of the programme, which are zeros, one more that is worked on, and the sets of an answer, as many as `set_limit`
+/// says, so that these are at most 1500000 numbers or one set; for each set a guide of 320 bytes for each part, and 17 ledgers of
+/// 32 bytes for each part; what an ascent takes; and half a megabyte for the plan.
 #[derive(Drop)]
 pub struct Room {
     pub(crate) tree: Vec<Node>,
     pub(crate) zeros: Multipliers,
-    pub(crate) rents: Multipliers,
-    pub(crate) spare: Multipliers,
+    pub(crate) first: Multipliers,
     pub(crate) sets: Vec<Multipliers>,
+    pub(crate) hands: Hands,
+    pub(crate) plan: Vec<Step>,
+    pub(crate) ledgers: Vec<Ledger>,
+}
+
+/// How many sets of multipliers a search of a programme may keep: 16, or fewer where these were more rents than an answer
+/// may have, and at least one.
+pub(crate) fn set_limit(programme: &Programme) -> usize
+    ensures { IsSetLimit programme.now result }
+{
+    let grants = grant_count(programme);
+    if grants == 0 {
+        return MOST_SETS;
+    }
+    (MOST_ENTRIES / grants).min(MOST_SETS).max(1)
+}
+
+/// One set of multipliers.
+fn fresh(alloc: Global, programme: &Programme) -> Result<Multipliers, NoMemory>
+    ensures { IfOk result (AreMultipliers programme.now) }
+{
+    Multipliers::zero(alloc, programme)
+}
+
+/// So many sets of multipliers.
+fn fresh_sets(
+    alloc: Global,
+    programme: &Programme,
+    count: usize,
+) -> Result<Vec<Multipliers>, NoMemory>
+    ensures { IfOk result (λ sets. All (AreMultipliers programme.now) sets.items) }
+{
+    let mut sets = Vec::with_capacity(alloc, count)?;
+    for round in 0..count {
+        let set = fresh(alloc, programme)?;
+        sets.push(set)?;
+    }
+    Ok(sets)
+}
+
+/// A guide for each set.
+fn fresh_guides(
+    alloc: Global,
+    programme: &Programme,
+    count: usize,
+) -> Result<Vec<Guide>, NoMemory> {
+    let mut guides = Vec::with_capacity(alloc, count)?;
+    for _ in 0..count {
+        let guide = Guide::new(alloc, programme)?;
+        guides.push(guide)?;
+    }
+    Ok(guides)
+}
+
+/// One ledger.
+fn fresh_ledger(alloc: Global, programme: &Programme) -> Result<Ledger, NoMemory>
+    ensures { IfOk result (HasRoom programme.now) }
+{
+    Ledger::new(alloc, programme)
+}
+
+/// So many ledgers.
+fn fresh_ledgers(
+    alloc: Global,
+    programme: &Programme,
+    count: usize,
+) -> Result<Vec<Ledger>, NoMemory>
+    ensures all { IfOk result (λ ledgers. All (HasRoom programme.now) ledgers.items) }
+    ensures count { IfOk result (λ ledgers. length ledgers.items ≡ count) }
+{
+    let mut ledgers = Vec::with_capacity(alloc, count)?;
+    for round in 0..count {
+        let ledger = fresh_ledger(alloc, programme)?;
+        ledgers.push(ledger)?;
+    }
+    Ok(ledgers)
+}
+
+/// What a plan is made with.
+fn fresh_hands(alloc: Global, programme: &Programme) -> Result<Hands, NoMemory>
+    ensures { IfOk result (proposals.AreHands programme.now) }
+{
+    let count = set_limit(programme);
+    let others = fresh_sets(alloc, programme, count - 1)?;
+    let spare = fresh(alloc, programme)?;
+    let ascent = Ascent::new(alloc, programme)?;
+    let stack = Vec::with_capacity(alloc, MOST_WAITING)?;
+    let guides = fresh_guides(alloc, programme, count)?;
+    Ok(Hands {
+        others,
+        spare,
+        ascent,
+        stack,
+        guides,
+    })
 }
 
 impl Room {
@@ -24,16 +132,20 @@ impl Room {
         ensures { IfOk result (IsRoomFor programme.now nodes) }
     {
         let tree = Vec::with_capacity(alloc, nodes as usize)?;
-        let sets = Vec::with_capacity(alloc, 1)?;
+        let sets = Vec::with_capacity(alloc, MOST_SETS)?;
         let zeros = Multipliers::zero(alloc, programme)?;
-        let rents = Multipliers::zero(alloc, programme)?;
-        let spare = Multipliers::zero(alloc, programme)?;
+        let first = fresh(alloc, programme)?;
+        let hands = fresh_hands(alloc, programme)?;
+        let plan = Vec::with_capacity(alloc, MOST_STEPS)?;
+        let ledgers = fresh_ledgers(alloc, programme, MOST_SETS + 1)?;
         Ok(Room {
             tree,
             zeros,
-            rents,
-            spare,
+            first,
             sets,
+            hands,
+            plan,
+            ledgers,
         })
     }
 }

@@ -23,7 +23,6 @@ use Rattle.plan_model.specs.Lagrangian.{TheMultipliers, IsRoundedUp, slot_rents,
 use Rattle.plan_model.specs.Totals.{block_of, IsTotal}
 use Rattle.plan_model.proofs.TotalBound.{total-below}
 use Rattle.bip_model.specs.declared.answer.Answer.{Answer}
-use Rattle.bip_model.specs.declared.answer.Node.{Node}
 use Rattle.bip_model.specs.declared.answer.Node.TheVariants.{Branch, Bounded, Overfull}
 use Rattle.bip_model.specs.declared.multipliers.Multipliers.{Multipliers}
 use Rattle.bip_model.specs.declared.programme.Programme.{Programme}

@@ -15,7 +15,6 @@ mod scratch;
 mod sheet;
 mod step;
 
-use crate::ascending::knapsack::Value;
 use crate::ascending::lists::{FREE, Rent};
 use crate::ascending::places::at;
 use crate::bounds::bound;
@@ -109,7 +108,7 @@ fn write_ascent(
     );
 }
 
-/// Ascends from multipliers at a node, and answers what the scratch's own numbers say of what it leaves.
+/// Ascends from multipliers at a node, as far as the scratch's own numbers tell, and answers the price of a page.
 fn climb_from(
     programme: &Programme,
     budget: u64,
@@ -120,31 +119,11 @@ fn climb_from(
     mult: &Multipliers,
     scratch: &mut Ascent,
     pace: Pace,
-) -> Value {
+) -> i64 {
     scratch.book.open(programme, budget, fix, config);
     scratch.list(programme, config, mult);
     let least = least.wrapping_sub(1).wrapping_mul(65536);
-    scratch.climb(target_parts(target), least, pace)
-}
-
-/// About what the bound of a node would be after an ascent from multipliers, in thousandths of a page read: a number to choose
-/// a branch by, and no bound. Takes no memory.
-pub fn forecast(
-    programme: &Programme,
-    budget: u64,
-    fix: &Fix,
-    target: u128,
-    mult: &Multipliers,
-    scratch: &mut Ascent,
-    pace: Pace,
-) -> i128
-    requires { budget ≤ MOST_ROWS }
-{
-    let config = available(programme, budget, fix);
-    let found = climb_from(
-        programme, budget, fix, &config, target, 0, mult, scratch, pace,
-    );
-    found.value.wrapping_add(65535) >> 16
+    scratch.climb(target_parts(target), least, pace).page
 }
 
 /// Raises the bound of a node by an ascent of its multipliers towards a target, the cost of the best configuration known, in
@@ -171,10 +150,10 @@ pub fn ascend(
 {
     let before = bound(programme, budget, fix, mult);
     let config = available(programme, budget, fix);
-    let found = climb_from(
+    let page = climb_from(
         programme, budget, fix, &config, target, before, mult, scratch, pace,
     );
-    write_ascent(programme, scratch, &config, found.page, mult, spare);
+    write_ascent(programme, scratch, &config, page, mult, spare);
     let value = bound(programme, budget, fix, spare);
     if value <= before {
         return before;

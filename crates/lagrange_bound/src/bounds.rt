@@ -11,7 +11,7 @@ use crate::pricing::weighted_plans;
 use bip_model::{Fix, Multipliers, Programme};
 
 /// A difference of parts of 65536, in whole numbers, rounded up.
-fn rounded_up(more: u128, less: u128) -> i128
+pub(crate) fn rounded_up(more: u128, less: u128) -> i128
     requires more_fits { more < 2 ^ 126 }
     requires less_fits { less < 2 ^ 126 }
     ensures { result ≡ bounds.rounded_up more less }

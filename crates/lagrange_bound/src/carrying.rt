@@ -15,7 +15,7 @@ use adv_base::Config;
 use bip_model::{Fix, Grant, Multipliers, Part, Programme};
 
 /// Writes the plan cost of each part.
-fn write_costs(parts: &[Part], config: &Config, rents: &[u64], costs: &mut [u128])
+pub(crate) fn write_costs(parts: &[Part], config: &Config, rents: &[u64], costs: &mut [u128])
     requires place_each { length costs.old ≡ length parts.now }
     requires rent_each { length rents.now ≡ sum_by values.part_grants parts.now }
     requires limit { All (λ rent. rent ≤ MOST_RENT) rents.now }
@@ -107,7 +107,7 @@ fn carried_cost(
 }
 
 /// Writes the plan cost of each part where the candidates that may be used change.
-fn carry_costs(
+pub(crate) fn carry_costs(
     parts: &[Part],
     from: &Config,
     to: &Config,
@@ -162,7 +162,7 @@ pub fn carry(
 }
 
 /// The sum of weight times cost.
-fn weighted_costs(parts: &[Part], costs: &[u128]) -> u128
+pub(crate) fn weighted_costs(parts: &[Part], costs: &[u128]) -> u128
     requires few { length parts.now ≤ MOST_STATEMENTS }
     requires one_each { length costs.now ≡ length parts.now }
     requires limit { All (λ cost. cost ≤ values.MOST_PLAN) costs.now }

@@ -1,5 +1,5 @@
 -- A run of the search below a node: what it had found before and what after, and the tree that it wrote.
-use Rattle.std.specs.Prelude.{◌≡◌, ℕ, ◌+◌, ◌-◌, ◌^◌, ◌<◌, ◌≤◌, ◌==◌, nat_lt, nat_le, Bool, true, false, ◌&&◌, if◌then◌else◌, ◌⊎◌, List, ◌++◌, length, Option, Some, None, slice_index_or, ℤ, pos, negsuc, ◌≤ℤ◌}
+use Rattle.std.specs.Prelude.{◌≡◌, ℕ, ◌+◌, ◌-◌, ◌^◌, ◌<◌, ◌≤◌, ◌==◌, nat_lt, nat_le, Bool, true, false, ◌&&◌, if◌then◌else◌, ◌⊎◌, List, ◌∷◌, ◌++◌, length, Option, Some, None, slice_index_or, ℤ, pos, negsuc, ◌≤ℤ◌}
 use Rattle.std.specs.Int.{int_min}
 use Rattle.bip_model.specs.declared.answer.Node.{Node}
 use Rattle.bip_model.specs.declared.fix.Fix.{Fix}
@@ -8,6 +8,9 @@ use Rattle.bip_model.specs.declared.multipliers.Multipliers.{Multipliers}
 use Rattle.bip_model.specs.declared.programme.Programme.{Programme}
 use Rattle.bip_model.specs.Trees.{Tree, Branches, Leaf, Full, preorder}
 use Rattle.lagrange_bound.specs.Bounds.{state_at, fits_beside, lagrangian}
+use Rattle.lagrange_bound.specs.declared.ledger.Ledger.{Ledger}
+use Rattle.lagrange_bound.specs.Ledgers.{IsLedger}
+use Rattle.branch_bound.specs.declared.climb.Costed.{Costed}
 use Rattle.branch_bound.specs.declared.found.Found.{Found}
 use Rattle.branch_bound.specs.declared.frame.Frame.{Frame}
 use Rattle.branch_bound.specs.declared.node.Fate.{Fate}
@@ -20,7 +23,7 @@ pub record Rules : Type 0 where
   pub budget : ℕ
   pub nodes : ℕ
   pub zeros : Multipliers
-  pub rents : Multipliers
+  pub sets : List Multipliers
   pub useful : List Bool
 
 abbrev pub rules_of : Frame → Rules
@@ -30,13 +33,21 @@ rules_of frame =
       budget = frame.budget;
       nodes = frame.nodes;
       zeros = frame.zeros.now;
-      rents = frame.rents.now;
+      sets = frame.sets.now;
       useful = frame.useful.now;
     }
 
--- the set of a number
+-- the set of a number: 0 is that of zeros
 abbrev pub set_of : Rules → ℕ → Multipliers
-set_of rules k = if k == 0 then rules.zeros else rules.rents
+set_of rules k = slice_index_or (rules.zeros ∷ rules.sets) k rules.zeros
+
+-- the first ledgers keep the bounds under zeros and so many of the sets, one each
+pub record AreOpen (programme : Programme) (zeros : Multipliers) (sets : List Multipliers) (n : ℕ) (ledgers : List Ledger) : Type 0 where
+  pub enough : n < length ledgers
+  pub each : (k : ℕ) (d : Ledger) → k ≤ n → IsLedger programme (slice_index_or (zeros ∷ sets) k zeros) (slice_index_or ledgers k d)
+
+abbrev pub AreLedgers : Rules → List Ledger → Type 0
+AreLedgers rules ledgers = AreOpen rules.programme rules.zeros rules.sets (length rules.sets) ledgers
 
 -- the Lagrangian value of a node under it
 abbrev pub lag : Rules → Fix → ℕ → ℤ
@@ -73,16 +84,20 @@ abbrev pub IsChoiceBelow : Rules → Fix → ℕ → Option ℕ → Type 0
 IsChoiceBelow rules fix n None = NoChoiceBelow rules fix n
 IsChoiceBelow rules fix n (Some i) = IsChoice rules fix i
 
+-- of the sets up to a number the set of another gives the highest value
+pub record IsHighest (rules : Rules) (fix : Fix) (most k : ℕ) (value : ℤ) : Type 0 where
+  pub set : k ≤ most
+  pub value_is : value ≡ lag rules fix k
+  pub over : (j : ℕ) → j ≤ most → lag rules fix j ≤ℤ value
+
 -- a leaf below which nothing is cheaper than what was found
 pub record IsClosed (rules : Rules) (fix : Fix) (found : Found) (k : ℕ) : Type 0 where
-  pub set : k ≤ 1
+  pub set : k ≤ length rules.sets
   pub reached : reaches (lag rules fix k) found.cost ≡ true
 
--- a leaf where nodes have run out, or no candidate is left, under the set that gives the higher value
+-- a leaf where nodes have run out, or no candidate is left, under the set that gives the highest value
 pub record IsForced (rules : Rules) (fix : Fix) (found : Found) (k : ℕ) : Type 0 where
-  pub set : k ≤ 1
-  pub over_zeros : lag rules fix 0 ≤ℤ lag rules fix k
-  pub over_rents : lag rules fix 1 ≤ℤ lag rules fix k
+  pub highest : IsHighest rules fix (length rules.sets) k (lag rules fix k)
   pub promising : reaches (lag rules fix 0) found.cost ≡ false
   pub why : (rules.nodes < found.made + 2) ⊎ NoChoice rules fix
 
@@ -131,12 +146,12 @@ Runs rules fix before (Branches a inside_tree outside_tree) after =
     (λ i middle. Runs rules (fixed fix i Out) middle outside_tree after)
 Runs rules fix before Full after = ⊥
 
--- what a search knows at its root
+-- what a search knows at its root, where a configuration is known
 abbrev pub MOST_LOW : ℕ
 MOST_LOW = 2 ^ 127 - 1
 
-abbrev pub start : Programme → Fix → Found
-start programme root = record { config = inside root; cost = total programme root; low = pos MOST_LOW; made = 1 }
+abbrev pub started : Costed → Found
+started known = record { config = known.config; cost = known.cost; low = pos MOST_LOW; made = 1 }
 
 -- a run, whose tree was appended to a list
 pub record IsExplored (rules : Rules) (fix : Fix) (before : Found) (old : List Node) (after : Found) (new : List Node) : Type 0 where

@@ -1,4 +1,5 @@
 //! The memory of an ascent.
+ghost use Rattle.std.specs.Prelude.{◌≤◌};
 
 use crate::ascending::knapsack::Book;
 use crate::ascending::lists::{FREE, Lists, Rent, most};
@@ -57,7 +58,9 @@ impl Ascent {
     }
 
     /// How much of the candidate at a place, from 0, the choices of the last ascent took on the average, in parts of 65536.
-    pub fn share(&self, a: usize) -> u64 {
-        (self.book.average[a & 255].max(0)) as u64
+    pub fn share(&self, a: usize) -> u64
+        ensures { result ≤ 65536 }
+    {
+        self.book.average[a & 255].clamp(0, 65536) as u64
     }
 }

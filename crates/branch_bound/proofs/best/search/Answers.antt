@@ -1,15 +1,37 @@
-use Rattle.std.proofs.Common.{◌≡◌, ◌∙◌, List, [], ◌∷◌, ◌++◌, ℤ, to_z, of_z, ap, subst, rules}
+use Rattle.std.proofs.Common.{◌≡◌, ◌∙◌, ◌<◌, Bool, ℕ, List, [], ◌∷◌, ◌++◌, length, min, take, ℤ, to_z, of_z, ap, subst, arith, rules}
+use Rattle.std.specs.Prelude.{◌≤ℤ◌}
+use Rattle.std.proofs.lemmas.Int.{ints}
 use mir.Syntax.{w128}
 use Rattle.bip_model.specs.declared.answer.Answer.{Answer}
+use Rattle.bip_model.specs.declared.answer.Node.{Node}
+use Rattle.bip_model.specs.declared.fix.Fix.{Fix}
 use Rattle.bip_model.specs.declared.multipliers.Multipliers.{Multipliers}
+use Rattle.bip_model.specs.declared.programme.Programme.{Programme}
+use Rattle.branch_bound.specs.declared.found.Found.{Found}
 use Rattle.bip_model.specs.Best.{IsBest}
 use Rattle.bip_model.specs.Views.{node_of}
-use Rattle.branch_bound.specs.inner.Runs.{Rules, least_bound}
+use Rattle.branch_bound.specs.inner.Runs.{Rules, IsExplored, least_bound}
 use Rattle.branch_bound.proofs.Sound.{explored-sound}
-use Rattle.branch_bound.proofs.Linking.{search-best}
+use Rattle.branch_bound.proofs.Linking.{AreKept, search-best}
+use Rattle.lagrange_bound.specs.Bounds.{lagrangian}
+use Rattle.lagrange_bound.specs.Rents.{rent_multipliers, tried_price}
 use Rattle.branch_bound.proofs.best.search.Goals as goal
 
+at-most-both : (a b c : ℤ) → a ≤ℤ b → b ≤ℤ c → a ≤ℤ c
+at-most-both a b c one two = omega (arith, ints, one, two)
+
+-- the rules of a search under some sets
+rules_with : Programme → ℕ → ℕ → Multipliers → List Bool → List Multipliers → Rules
+rules_with programme budget nodes zeros useful sets =
+    record { programme = programme; budget = budget; nodes = nodes; zeros = zeros; sets = sets; useful = useful }
+
+same-sets : (programme : Programme) (budget nodes : ℕ) (zeros : Multipliers) (useful : List Bool) (a b : List Multipliers) (root : Fix) (before after : Found) (old new : List Node) → a ≡ b →
+    IsExplored (rules_with programme budget nodes zeros useful a) root before old after new → IsExplored (rules_with programme budget nodes zeros useful b) root before old after new
+same-sets programme budget nodes zeros useful a b root before after old new same explored =
+    subst (λ (sets : List Multipliers). IsExplored (rules_with programme budget nodes zeros useful sets) root before old after new) same explored
+
 pub climbed-best-requires : goal.climbed-best-requires
+unfolding rules_with
 climbed-best-requires c =
     let own : Rules =
     record {
@@ -17,12 +39,14 @@ climbed-best-requires c =
       budget = c.args.budget;
       nodes = c.args.nodes;
       zeros = c.args.room.zeros;
-      rents = c.improve.new.mult;
+      sets = c.propose.new.sets.items;
       useful = c.useful_of-useful.result.flags;
     } in
-    explored-sound own c.args.root.now c.start-before.result c.explore-found.result c.args.room.tree.items c.explore-found.new.tree.items c.requires.root c.start-before.ensures.exact c.explore-found.ensures.explored
+    explored-sound own c.args.root.now c.propose.new.known c.started-before.result c.explore-found.result c.args.room.tree.items c.explore-found.new.tree.items c.requires.root c.propose.ensures.known
+    c.started-before.ensures.exact (same-sets c.args.programme.now c.args.budget c.args.nodes c.args.room.zeros c.useful_of-useful.result.flags c.as_slice-own_sets.result.now c.propose.new.sets.items c.args.root.now c.started-before.result c.explore-found.result c.args.room.tree.items c.explore-found.new.tree.items c.as_slice-own_sets.ensures.value c.explore-found.ensures.explored)
 
 pub returns : goal.returns
+unfolding rules_with
 returns c =
     let own : Rules =
     record {
@@ -30,7 +54,7 @@ returns c =
       budget = c.args.budget;
       nodes = c.args.nodes;
       zeros = c.args.room.zeros;
-      rents = c.improve.new.mult;
+      sets = c.propose.new.sets.items;
       useful = c.useful_of-useful.result.flags;
     } in
     let answer_of : ℤ → Answer = λ b.
@@ -38,15 +62,26 @@ returns c =
       config = c.climbed-best.result.config;
       cost = c.climbed-best.result.cost;
       bound = b;
-      sets = c.keep.new.sets.items;
+      sets = c.propose.new.sets.items;
       tree = c.explore-found.new.tree.items;
       useful = c.useful_of-useful.result.count;
     } in
     let told : least_bound c.climbed-best.result.cost c.explore-found.result.low ≡ to_z w128 (of_z w128 c.least_bound-bound.result) = search (rules, c.least_bound-bound.ensures) in
-    let sets : c.keep.new.sets.items ≡ c.improve.new.mult ∷ [] = c.keep.ensures ∙ ap (λ (front : List Multipliers). front ++ c.improve.new.mult ∷ []) c.requires.room.sets_empty in
+    let start : c.keep.new.sets.items ≡ c.ascended-known.new.first ∷ [] = c.keep.ensures.items ∙ ap (λ (front : List Multipliers). front ++ c.ascended-known.new.first ∷ []) c.requires.room.sets_empty in
+    let kept : AreKept own c.ascended-known.new.first c.set_limit.result =
+    record {
+      front = c.propose.ensures.sets.first ∙ ap (take 1) start;
+      some = c.propose.ensures.sets.proposed.some;
+      few = c.propose.ensures.sets.proposed.few;
+      fit = c.propose.ensures.sets.proposed.fit;
+      limit = c.set_limit.ensures;
+    } in
+    let tried : (i : ℕ) → i < min 41 41 → lagrangian c.args.programme.now c.args.budget c.args.root.now (rent_multipliers c.args.programme.now (tried_price i)) ≤ℤ lagrangian c.args.programme.now c.args.budget c.args.root.now c.ascended-known.new.first = λ i few.
+    at-most-both (lagrangian c.args.programme.now c.args.budget c.args.root.now (rent_multipliers c.args.programme.now (tried_price i))) (lagrangian c.args.programme.now c.args.budget c.args.root.now c.improve.new.mult)
+    (lagrangian c.args.programme.now c.args.budget c.args.root.now c.ascended-known.new.first) (c.improve.ensures.tried i few) c.ascended-known.ensures.keeps in
     λ setting limits stands.
     subst (λ (b : ℤ). IsBest setting c.args.budget c.args.nodes (node_of c.args.root.now) (answer_of b)) told
-    (search-best own c.args.root.now c.start-before.result c.explore-found.result c.args.room.tree.items c.explore-found.new.tree.items c.climbed-best.result.config c.climbed-best.result.cost c.keep.new.sets.items
-    c.useful_of-useful.result.count c.requires.room.zeros_fit c.improve.ensures.within c.requires.room.zeros_page c.requires.room.zeros_are c.useful_of-useful.ensures.flags c.requires.root
-    c.start-before.ensures.long c.start-before.ensures.exact c.requires.room.tree_empty c.explore-found.ensures.explored c.explore-found.ensures.most sets c.useful_of-useful.ensures.count
-    c.climbed-best.ensures.sound c.climbed-best.ensures.cheaper c.climbed-best.ensures.top c.improve.ensures.tried setting limits stands)
+    (search-best own c.args.root.now c.propose.new.known c.started-before.result c.explore-found.result c.args.room.tree.items c.explore-found.new.tree.items c.climbed-best.result.config c.climbed-best.result.cost c.ascended-known.new.first
+    c.set_limit.result c.useful_of-useful.result.count c.requires.room.zeros_fit kept c.requires.room.zeros_page c.requires.room.zeros_are c.useful_of-useful.ensures.flags c.requires.root
+    c.bare-from.ensures.long c.started-before.ensures.exact c.requires.room.tree_empty (same-sets c.args.programme.now c.args.budget c.args.nodes c.args.room.zeros c.useful_of-useful.result.flags c.as_slice-own_sets.result.now c.propose.new.sets.items c.args.root.now c.started-before.result c.explore-found.result c.args.room.tree.items c.explore-found.new.tree.items c.as_slice-own_sets.ensures.value c.explore-found.ensures.explored) c.explore-found.ensures.most c.useful_of-useful.ensures.count
+    c.climbed-best.ensures.sound c.climbed-best.ensures.cheaper c.climbed-best.ensures.top tried setting limits stands)

@@ -1,0 +1,51 @@
+"""Open solvers of such programmes, where they are installed: Debian's `coinor-cbc` and `glpk-utils`."""
+import re
+import shutil
+from collections.abc import Callable
+from dataclasses import dataclass
+
+from measure import run_once
+
+# Longer than this no solver is waited for.
+MOST_SECONDS = 60
+
+
+@dataclass
+class Solved:
+    """The processor's seconds of a run less those of one that only reads the file, and the objective, which is None where the
+    solver didn't show that it is least."""
+    seconds: float
+    cost: float | None
+
+
+def run(words: list[str]) -> tuple[float, str]:
+    """The processor's seconds that a command took, and what it printed."""
+    done = run_once(words)
+    return done.processor, done.output.decode(errors="replace")
+
+
+def optimal(pattern: str, text: str) -> float | None:
+    found = re.search(pattern, text, re.S)
+    return float(found.group(1)) if found else None
+
+
+def cbc(file: str, most: float = MOST_SECONDS) -> Solved:
+    reading, _ = run(["cbc", file, "quit"])
+    solve = ["ratioGap", "0", "allowableGap", "0", "seconds", str(int(most)), "solve", "quit"]
+    whole, text = run(["cbc", file, *solve])
+    cost = optimal(r"Result - Optimal solution found.*?Objective value:\s+(\S+)", text)
+    return Solved(max(0.0, whole - reading), cost)
+
+
+def glpk(file: str, most: float = MOST_SECONDS) -> Solved:
+    reading, _ = run(["glpsol", "--lp", file, "--check"])
+    out = f"{file}.glpk"
+    whole, _ = run(["glpsol", "--lp", file, "--cuts", "--tmlim", str(int(most)), "-o", out])
+    with open(out) as text:
+        cost = optimal(r"Status:\s+(?:INTEGER )?OPTIMAL.*?Objective:\s+obj = (\S+)", text.read())
+    return Solved(max(0.0, whole - reading), cost)
+
+
+def installed() -> dict[str, Callable[[str, float], Solved]]:
+    """The solvers that are here, by name."""
+    return {name: call for name, word, call in (("cbc", "cbc", cbc), ("glpk", "glpsol", glpk)) if shutil.which(word)}
