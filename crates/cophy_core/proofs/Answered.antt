@@ -1,21 +1,26 @@
 -- What is answered over a command's files is an answer to the command.
-use Rattle.std.proofs.Common.{◌≡◌, ℕ, ◌≤◌, List, [], ◌∷◌, length, Option, Some, None}
-use Rattle.adv_base.specs.declared.limits.TheConstants.{MOST_FILE_BYTES}
+use Rattle.std.proofs.Common.{◌≡◌, ℕ, ◌≤◌, List, [], ◌∷◌, ◌++◌, length, Option, Some, arith}
+use Rattle.adv_base.specs.declared.limits.TheConstants.{MOST_CERTIFICATE_BYTES, MOST_FILE_BYTES}
 use Rattle.adv_shelf.specs.Shelf.{Files}
 use Rattle.adv_base.specs.Settings.{TheSetting}
 use Rattle.report.specs.Texts.{done_text}
 use Rattle.report.specs.declared.done.Done.{Done}
 use Rattle.report.specs.declared.done.Done.TheVariants as answers
 use Rattle.report.specs.declared.done.Refusal.{Refusal}
+use Rattle.report.specs.declared.done.Role.TheVariants.{Third}
+use Rattle.workload_gen.proofs.Lengths.{workload_short}
 use Rattle.report.specs.declared.done.Refusal.TheVariants.{TooLong, Cat, Sql, Bind}
 use Rattle.cophy_core.specs.declared.stop.Stop.{Stop}
 use Rattle.cophy_core.specs.declared.stop.Stop.TheVariants.{Memory, Failed, Refused}
-use Rattle.cophy_core.specs.Answers.{RefusesOver, GivesOver, OfSetting, AnswersOver, Answers, IsBuilt}
-use Rattle.cophy_core.specs.ReadWords.{PlainCommand, Candidates, Cost, WhatIf, Explain, Advise, Check}
-use Rattle.cophy_core.specs.Files.{files_of, AreInputs, input, ReadCounts}
+use Rattle.cophy_core.specs.Answers.{RefusesOver, GivesOver, PutsOver, OfSetting, Answers}
+use Rattle.cophy_core.specs.ReadWords.{PlainCommand, Candidates, Cost, WhatIf, Explain, Advise, Check, Bench}
+use Rattle.cophy_core.specs.CommandLines.{IsInRange}
+use Rattle.cophy_core.specs.Files.{InputFile, input_file, setting_files, files_of, AreInputs, input, ReadCounts}
+use Rattle.cophy_core.specs.Inputs.{HasInputs}
 use Rattle.cophy_core.specs.Reading.{StopsReading, StopsAtFiles}
 use Rattle.cophy_core.specs.Settings.{IsSetting, IsSettingRefusal}
-use Rattle.cophy_core.specs.Replies.{IsTextOf}
+use Rattle.cophy_core.specs.Endings.{Put}
+use Rattle.cophy_core.specs.Replies.{ArePuts, IsTextOf}
 use Rattle.cophy_core.specs.Stops.{StopsAt}
 
 -- a refusal that is neither of the files nor of the setting
@@ -34,58 +39,44 @@ IsGiven (answers.Explained explained) = Unit {0}
 IsGiven (answers.Advised advice) = Unit {0}
 IsGiven (answers.Checked checked) = Unit {0}
 IsGiven (answers.NotProved why) = Unit {0}
+IsGiven (answers.Benched bench) = Unit {0}
 IsGiven done = ⊥
 
--- a built command answers so
-over : (command : PlainCommand) (files : Option Files) (done : Done) → IsBuilt command → AnswersOver command files done → Answers command files done
-over (Candidates cat load) files done built h = h
-over (Cost cat load) files done built h = h
-over (WhatIf cat load conf) files done built h = h
-over (Explain cat load conf number) files done built h = h
-over (Advise cat load budget nodes None) files done built h = h
-over (Check cat load cert) files done built h = h
-over command files done built h = absurd built
+-- the second of the files is a workload's, and within its limit
+second_file : (files : Option Files) (cat load : List ℕ) (more : List InputFile) (inputs : List (List ℕ)) → AreInputs files (setting_files cat load ++ more) inputs → length (input inputs 1) ≤ MOST_FILE_BYTES
+second_file files cat load more [] are = absurd are
+second_file files cat load more (a ∷ []) are = absurd are.1
+second_file files cat load more (a ∷ b ∷ inputs) are = are.1.0.short
 
--- the second file of a built command is within the limit of a workload
-pub second_short : (command : PlainCommand) (files : Option Files) (inputs : List (List ℕ)) → IsBuilt command → AreInputs files (files_of command) inputs → length (input inputs 1) ≤ MOST_FILE_BYTES
-second_short (Candidates cat load) files [] built are = absurd are
-second_short (Candidates cat load) files (a ∷ []) built are = absurd are.1
-second_short (Candidates cat load) files (a ∷ b ∷ more) built are = are.1.0.short
-second_short (Cost cat load) files [] built are = absurd are
-second_short (Cost cat load) files (a ∷ []) built are = absurd are.1
-second_short (Cost cat load) files (a ∷ b ∷ more) built are = are.1.0.short
-second_short (WhatIf cat load conf) files [] built are = absurd are
-second_short (WhatIf cat load conf) files (a ∷ []) built are = absurd are.1
-second_short (WhatIf cat load conf) files (a ∷ b ∷ more) built are = are.1.0.short
-second_short (Explain cat load conf number) files [] built are = absurd are
-second_short (Explain cat load conf number) files (a ∷ []) built are = absurd are.1
-second_short (Explain cat load conf number) files (a ∷ b ∷ more) built are = are.1.0.short
-second_short (Advise cat load budget nodes None) files [] built are = absurd are
-second_short (Advise cat load budget nodes None) files (a ∷ []) built are = absurd are.1
-second_short (Advise cat load budget nodes None) files (a ∷ b ∷ more) built are = are.1.0.short
-second_short (Check cat load cert) files [] built are = absurd are
-second_short (Check cat load cert) files (a ∷ []) built are = absurd are.1
-second_short (Check cat load cert) files (a ∷ b ∷ more) built are = are.1.0.short
-second_short command files inputs built are = absurd built
+-- the workload from which a command answers is within that limit
+pub second_short : (command : PlainCommand) (files : Option Files) (inputs : List (List ℕ)) → IsInRange command → HasInputs files command inputs → length (input inputs 1) ≤ MOST_FILE_BYTES
+second_short (Candidates cat load) files inputs range are = second_file files cat load [] inputs are
+second_short (Cost cat load) files inputs range are = second_file files cat load [] inputs are
+second_short (WhatIf cat load conf) files inputs range are = second_file files cat load (input_file Third conf MOST_FILE_BYTES ∷ []) inputs are
+second_short (Explain cat load conf number) files inputs range are = second_file files cat load (input_file Third conf MOST_FILE_BYTES ∷ []) inputs are
+second_short (Advise cat load budget nodes cert) files inputs range are = second_file files cat load [] inputs are
+second_short (Check cat load cert) files inputs range are = second_file files cat load (input_file Third cert MOST_CERTIFICATE_BYTES ∷ []) inputs are
+second_short (Bench seed tables statements budget) files inputs range are =
+    rw are (omega (arith, workload_short seed tables statements (omega (arith, range.tables_some)) range.tables_few range.statements_few))
 
--- the files of a built command could not be read
-pub reading_stops : (command : PlainCommand) (files : Option Files) (before after : ReadCounts) (stop : Stop) → IsBuilt command → StopsReading files (files_of command) before after stop → StopsAtFiles command files before after stop
-reading_stops command files before after Memory built h = tt
-reading_stops command files before after (Failed role) built h = h
-reading_stops command files before after (Refused (TooLong role)) built h = over command files (answers.Refused (TooLong role)) built h
-reading_stops command files before after (Refused why) built h = absurd h
+-- the files of a command could not be read
+pub reading_stops : (command : PlainCommand) (files : Option Files) (before after : ReadCounts) (stop : Stop) → StopsReading files (files_of command) before after stop → StopsAtFiles command files before after stop
+reading_stops command files before after Memory h = tt
+reading_stops command files before after (Failed role) h = h
+reading_stops command files before after (Refused (TooLong role)) h = h
+reading_stops command files before after (Refused why) h = absurd h
 
 -- the setting was refused
-pub setting_stops : (command : PlainCommand) (files : Option Files) (before after : ReadCounts) (inputs : List (List ℕ)) (stop : Stop) → IsBuilt command → AreInputs files (files_of command) inputs → StopsAt (IsSettingRefusal (input inputs 0) (input inputs 1)) stop → StopsAtFiles command files before after stop
-setting_stops command files before after inputs Memory built are h = tt
-setting_stops command files before after inputs (Failed role) built are h = absurd h
-setting_stops command files before after inputs (Refused (Cat fault)) built are h =
-    over command files (answers.Refused (Cat fault)) built (record { inputs = inputs; inputs_are = are; holds = h })
-setting_stops command files before after inputs (Refused (Sql fault)) built are h =
-    over command files (answers.Refused (Sql fault)) built (record { inputs = inputs; inputs_are = are; holds = h })
-setting_stops command files before after inputs (Refused (Bind fault)) built are h =
-    over command files (answers.Refused (Bind fault)) built (record { inputs = inputs; inputs_are = are; holds = h })
-setting_stops command files before after inputs (Refused why) built are h = absurd h
+pub setting_stops : (command : PlainCommand) (files : Option Files) (before after : ReadCounts) (inputs : List (List ℕ)) (stop : Stop) → HasInputs files command inputs → StopsAt (IsSettingRefusal (input inputs 0) (input inputs 1)) stop → StopsAtFiles command files before after stop
+setting_stops command files before after inputs Memory are h = tt
+setting_stops command files before after inputs (Failed role) are h = absurd h
+setting_stops command files before after inputs (Refused (Cat fault)) are h =
+    record { inputs = inputs; inputs_are = are; holds = h }
+setting_stops command files before after inputs (Refused (Sql fault)) are h =
+    record { inputs = inputs; inputs_are = are; holds = h }
+setting_stops command files before after inputs (Refused (Bind fault)) are h =
+    record { inputs = inputs; inputs_are = are; holds = h }
+setting_stops command files before after inputs (Refused why) are h = absurd h
 
 -- what a command refuses by itself is no refusal of the files or of the setting
 own : (command : PlainCommand) (inputs : List (List ℕ)) (setting : TheSetting) (why : Refusal) → RefusesOver command inputs setting why → IsOwn why
@@ -99,15 +90,20 @@ own (Explain cat load conf number) inputs setting (Cat fault) h = h
 own (Explain cat load conf number) inputs setting (Sql fault) h = h
 own (Explain cat load conf number) inputs setting (Bind fault) h = h
 own (Explain cat load conf number) inputs setting why h = tt
-own (Advise cat load budget nodes None) inputs setting (TooLong role) h = h
-own (Advise cat load budget nodes None) inputs setting (Cat fault) h = h
-own (Advise cat load budget nodes None) inputs setting (Sql fault) h = h
-own (Advise cat load budget nodes None) inputs setting (Bind fault) h = h
-own (Advise cat load budget nodes None) inputs setting why h = tt
+own (Advise cat load budget nodes cert) inputs setting (TooLong role) h = h
+own (Advise cat load budget nodes cert) inputs setting (Cat fault) h = h
+own (Advise cat load budget nodes cert) inputs setting (Sql fault) h = h
+own (Advise cat load budget nodes cert) inputs setting (Bind fault) h = h
+own (Advise cat load budget nodes cert) inputs setting why h = tt
+own (Bench seed tables statements budget) inputs setting (TooLong role) h = h
+own (Bench seed tables statements budget) inputs setting (Cat fault) h = h
+own (Bench seed tables statements budget) inputs setting (Sql fault) h = h
+own (Bench seed tables statements budget) inputs setting (Bind fault) h = h
+own (Bench seed tables statements budget) inputs setting why h = tt
 own command inputs setting why h = absurd h
 
 -- such a refusal is the first of the files
-refused_over : (command : PlainCommand) (files : Option Files) (why : Refusal) → IsOwn why → OfSetting files command (λ inputs setting. RefusesOver command inputs setting why) → AnswersOver command files (answers.Refused why)
+refused_over : (command : PlainCommand) (files : Option Files) (why : Refusal) → IsOwn why → OfSetting files command (λ inputs setting. RefusesOver command inputs setting why) → Answers command files (answers.Refused why)
 refused_over command files (TooLong role) is_own h = absurd is_own
 refused_over command files (Cat fault) is_own h = absurd is_own
 refused_over command files (Sql fault) is_own h = absurd is_own
@@ -115,13 +111,12 @@ refused_over command files (Bind fault) is_own h = absurd is_own
 refused_over command files why is_own h = h
 
 -- a command stopped over its setting
-pub work_stops : (command : PlainCommand) (files : Option Files) (before after : ReadCounts) (inputs : List (List ℕ)) (setting : TheSetting) (left_over : ℕ) (stop : Stop) → IsBuilt command → AreInputs files (files_of command) inputs → IsSetting (input inputs 0) (input inputs 1) setting left_over → StopsAt (RefusesOver command inputs setting) stop → StopsAtFiles command files before after stop
-work_stops command files before after inputs setting left_over Memory built are is h = tt
-work_stops command files before after inputs setting left_over (Failed role) built are is h = absurd h
-work_stops command files before after inputs setting left_over (Refused why) built are is h =
-    over command files (answers.Refused why) built
-    (refused_over command files why (own command inputs setting why h)
-    (record { inputs = inputs; setting = setting; left_over = left_over; inputs_are = are; setting_is = is; holds = h }))
+pub work_stops : (command : PlainCommand) (files : Option Files) (before after : ReadCounts) (inputs : List (List ℕ)) (setting : TheSetting) (left_over : ℕ) (stop : Stop) → HasInputs files command inputs → IsSetting (input inputs 0) (input inputs 1) setting left_over → StopsAt (RefusesOver command inputs setting) stop → StopsAtFiles command files before after stop
+work_stops command files before after inputs setting left_over Memory are is h = tt
+work_stops command files before after inputs setting left_over (Failed role) are is h = absurd h
+work_stops command files before after inputs setting left_over (Refused why) are is h =
+    refused_over command files why (own command inputs setting why h)
+    (record { inputs = inputs; setting = setting; left_over = left_over; inputs_are = are; setting_is = is; holds = h })
 
 -- what a command gives is prices, candidates, an explained plan, advice, or what a certificate proves or doesn't
 given : (command : PlainCommand) (inputs : List (List ℕ)) (setting : TheSetting) (done : Done) → GivesOver command inputs setting done → IsGiven done
@@ -133,36 +128,63 @@ given (WhatIf cat load conf) inputs setting (answers.Priced prices) h = tt
 given (WhatIf cat load conf) inputs setting done h = absurd h
 given (Explain cat load conf number) inputs setting (answers.Explained explained) h = tt
 given (Explain cat load conf number) inputs setting done h = absurd h
-given (Advise cat load budget nodes None) inputs setting (answers.Advised advice) h = tt
-given (Advise cat load budget nodes None) inputs setting done h = absurd h
+given (Advise cat load budget nodes cert) inputs setting (answers.Advised advice) h = tt
+given (Advise cat load budget nodes cert) inputs setting done h = absurd h
 given (Check cat load cert) inputs setting (answers.Checked checked) h = tt
 given (Check cat load cert) inputs setting (answers.NotProved why) h = tt
 given (Check cat load cert) inputs setting done h = absurd h
-given command inputs setting done h = absurd h
+given (Bench seed tables statements budget) inputs setting (answers.Benched bench) h = tt
+given (Bench seed tables statements budget) inputs setting done h = absurd h
 
-given_over : (command : PlainCommand) (files : Option Files) (done : Done) → IsGiven done → OfSetting files command (λ inputs setting. GivesOver command inputs setting done) → AnswersOver command files done
+given_over : (command : PlainCommand) (files : Option Files) (done : Done) → IsGiven done → OfSetting files command (λ inputs setting. GivesOver command inputs setting done) → Answers command files done
 given_over command files (answers.Priced prices) is_given h = h
 given_over command files (answers.Listed found) is_given h = h
 given_over command files (answers.Explained explained) is_given h = h
 given_over command files (answers.Advised advice) is_given h = h
 given_over command files (answers.Checked checked) is_given h = h
 given_over command files (answers.NotProved why) is_given h = h
+given_over command files (answers.Benched bench) is_given h = h
 given_over command files done is_given h = absurd is_given
 
 -- a command gave its answer over its setting
-pub work_gives : (command : PlainCommand) (files : Option Files) (inputs : List (List ℕ)) (setting : TheSetting) (left_over : ℕ) (done : Done) → IsBuilt command → AreInputs files (files_of command) inputs → IsSetting (input inputs 0) (input inputs 1) setting left_over → GivesOver command inputs setting done → Answers command files done
-work_gives command files inputs setting left_over done built are is h =
-    over command files done built
-    (given_over command files done (given command inputs setting done h)
-    (record { inputs = inputs; setting = setting; left_over = left_over; inputs_are = are; setting_is = is; holds = h }))
+pub work_gives : (command : PlainCommand) (files : Option Files) (inputs : List (List ℕ)) (setting : TheSetting) (left_over : ℕ) (done : Done) → HasInputs files command inputs → IsSetting (input inputs 0) (input inputs 1) setting left_over → GivesOver command inputs setting done → Answers command files done
+work_gives command files inputs setting left_over done are is h =
+    given_over command files done (given command inputs setting done h)
+    (record { inputs = inputs; setting = setting; left_over = left_over; inputs_are = are; setting_is = is; holds = h })
+
+-- an answer that is no advice
+abbrev IsOther : Done → Type 0
+IsOther (answers.Advised advice) = ⊥
+IsOther done = Unit {0}
+
+-- nothing is put for it
+none_put : (command : PlainCommand) (setting : TheSetting) (done : Done) (puts : List Put) → IsOther done → PutsOver command setting done puts → puts ≡ []
+none_put (Advise cat load budget nodes cert) setting (answers.Advised advice) puts other h = absurd other
+none_put (Advise cat load budget nodes cert) setting done puts other h = h
+none_put command setting done puts other h = h
+
+-- what is put for its answer is put over that setting
+pub work_puts : (command : PlainCommand) (files : Option Files) (words : List (List ℕ)) (inputs : List (List ℕ)) (setting : TheSetting) (left_over : ℕ) (done : Done) (puts : List Put) (text : List ℕ) → HasInputs files command inputs → IsSetting (input inputs 0) (input inputs 1) setting left_over → GivesOver command inputs setting done → PutsOver command setting done puts → text ≡ done_text words (Some setting) done → ArePuts command files words done puts text
+work_puts command files words inputs setting left_over (answers.Advised advice) puts text are is gives put e =
+    record {
+      inputs = inputs;
+      setting = setting;
+      left_over = left_over;
+      inputs_are = are;
+      setting_is = is;
+      holds = record { gives = gives; puts_are = put; text_is = e };
+    }
+work_puts command files words inputs setting left_over done puts text are is gives put e = none_put command setting done puts tt put
 
 -- its text is told over that setting
-pub work_told : (command : PlainCommand) (files : Option Files) (words : List (List ℕ)) (inputs : List (List ℕ)) (setting : TheSetting) (left_over : ℕ) (done : Done) (text : List ℕ) → AreInputs files (files_of command) inputs → IsSetting (input inputs 0) (input inputs 1) setting left_over → GivesOver command inputs setting done → text ≡ done_text words (Some setting) done → IsTextOf command files words done text
+pub work_told : (command : PlainCommand) (files : Option Files) (words : List (List ℕ)) (inputs : List (List ℕ)) (setting : TheSetting) (left_over : ℕ) (done : Done) (text : List ℕ) → HasInputs files command inputs → IsSetting (input inputs 0) (input inputs 1) setting left_over → GivesOver command inputs setting done → text ≡ done_text words (Some setting) done → IsTextOf command files words done text
 work_told command files words inputs setting left_over (answers.Priced prices) text are is h e =
     record { inputs = inputs; setting = setting; left_over = left_over; inputs_are = are; setting_is = is; holds = e }
 work_told command files words inputs setting left_over (answers.Listed found) text are is h e =
     record { inputs = inputs; setting = setting; left_over = left_over; inputs_are = are; setting_is = is; holds = e }
 work_told command files words inputs setting left_over (answers.Advised advice) text are is h e =
+    record { inputs = inputs; setting = setting; left_over = left_over; inputs_are = are; setting_is = is; holds = e }
+work_told command files words inputs setting left_over (answers.Benched bench) text are is h e =
     record { inputs = inputs; setting = setting; left_over = left_over; inputs_are = are; setting_is = is; holds = e }
 work_told command files words inputs setting left_over (answers.Explained explained) text are is h e = e
 work_told command files words inputs setting left_over (answers.Checked checked) text are is h e = e

@@ -4,19 +4,22 @@ use Rattle.std.proofs.Math.Path.{fun_ext}
 use Rattle.std.proofs.lemmas.List.{append-nil}
 use Rattle.adv_shelf.specs.Faults.{Rose}
 use Rattle.adv_shelf.specs.Shelf.{Files}
-use Rattle.adv_shelf.specs.Sink.{append_to}
+use Rattle.adv_shelf.specs.Sink.{append_to, AppendsPrefix}
+use Rattle.adv_shelf.specs.declared.shelf.PutFault.{PutFault}
+use Rattle.adv_shelf.specs.declared.shelf.PutFault.TheVariants as faults
 use Rattle.report.specs.Texts.{done_text}
 use Rattle.report.specs.declared.done.Done.{Done}
-use Rattle.report.specs.declared.done.Done.TheVariants.{Usage, ReadFault, WriteFault, Refused, Memory, Priced, Listed, Explained as ExplainedDone, Advised, Checked, NotProved as NotProvedDone}
+use Rattle.report.specs.declared.done.Done.TheVariants.{Usage, ReadFault, WriteFault, Refused, Memory, Priced, Listed, Explained as ExplainedDone, Advised, Checked, NotProved as NotProvedDone, Benched}
 use Rattle.report.specs.declared.done.NotProved.{NotProved}
 use Rattle.report.specs.declared.done.WordFault.{WordFault}
 use Rattle.cophy_core.specs.Answers.{Answers}
-use Rattle.cophy_core.specs.Causes.{IsOrMemory, IsSteady, UsageIsTrue, ReadFaultIsTrue, WriteFaultIsTrue, RefusalIsTrue, IsUnproved, NotProvedIsTrue, MemoryWritesNothing, IsSound, IsWritten, IsBounded}
-use Rattle.cophy_core.specs.ReadWords.{PlainCommand, Candidates, Cost, WhatIf, Explain, Advise, Check, command_of}
-use Rattle.cophy_core.specs.Endings.{Put, Outside, EndsWhole, EndsUnwritten, Ends}
+use Rattle.cophy_core.specs.Causes.{IsOrMemory, IsSteady, UsageIsTrue, ReadFaultIsTrue, WriteFaultIsTrue, RefusalIsTrue, MemoryWritesNothing, IsSound, IsWritten, IsBounded, IsUnproved, NotProvedIsTrue}
+use Rattle.cophy_core.specs.ReadWords.{PlainCommand, Candidates, Cost, WhatIf, Explain, Advise, Check, Bench, command_of}
+use Rattle.cophy_core.specs.Endings.{Put, Outside, outside, put_all, put_answer, IsPutFault, EndsUnput, Ends, EndsWhole, EndsUnwritten}
+use Rattle.cophy_core.specs.Left.{PutsFile, PutsFileTo}
 use Rattle.cophy_core.specs.Files.{ReadCounts, counts}
 use Rattle.cophy_core.specs.Reading.{StopsAtFiles}
-use Rattle.cophy_core.specs.Replies.{MayAnswer, MayAnswerWords, IsTextOf, IsTextTo, Replies, IsReply}
+use Rattle.cophy_core.specs.Replies.{MayAnswer, MayAnswerWords, ArePuts, ArePutsTo, IsTextOf, IsTextTo, Replies, IsReply}
 use Rattle.cophy_core.specs.Stops.{done_of}
 use Rattle.cophy_core.specs.declared.stop.Stop.{Stop}
 use Rattle.cophy_core.specs.declared.stop.Stop.TheVariants as stops
@@ -29,6 +32,7 @@ IsAnswer (ExplainedDone explained) = Unit {0}
 IsAnswer (Advised advice) = Unit {0}
 IsAnswer (Checked checked) = Unit {0}
 IsAnswer (NotProvedDone why) = Unit {0}
+IsAnswer (Benched bench) = Unit {0}
 IsAnswer (Refused why) = Unit {0}
 IsAnswer done = ⊥
 
@@ -39,14 +43,26 @@ is_answer command files (ExplainedDone explained) h = tt
 is_answer command files (Advised advice) h = tt
 is_answer command files (Checked checked) h = tt
 is_answer command files (NotProvedDone why) h = tt
+is_answer command files (Benched bench) h = tt
 is_answer command files (Refused why) h = tt
 is_answer (Candidates cat load) files done h = absurd h.holds
 is_answer (Cost cat load) files done h = absurd h.holds
 is_answer (WhatIf cat load conf) files done h = absurd h.holds
 is_answer (Explain cat load conf number) files done h = absurd h.holds
-is_answer (Advise cat load budget nodes None) files done h = absurd h.holds
+is_answer (Advise cat load budget nodes cert) files done h = absurd h.holds
 is_answer (Check cat load cert) files done h = absurd h.holds
-is_answer command files done h = absurd (let e = h in cc)
+is_answer (Bench seed tables statements budget) files done h = absurd h.holds
+
+-- a command for whose answer something is put puts a file
+puts_file_of : (command : PlainCommand) (files : Option Files) (words : List (List ℕ)) (reply : Done) (puts : List Put) (text : List ℕ) → ArePuts command files words reply puts text → (puts ≡ [] → ⊥) → PutsFile command
+puts_file_of (Advise cat load budget nodes (Some file)) files words reply puts text h some = tt
+puts_file_of (Advise cat load budget nodes None) files words (Advised advice) puts text h some = some h.holds.puts_are
+puts_file_of command files words (Advised advice) puts text h some = some h.holds.puts_are
+puts_file_of command files words reply puts text h some = absurd (some h)
+
+puts_file : (words : Result PlainCommand WordFault) (files : Option Files) (line : List (List ℕ)) (reply : Done) (puts : List Put) (text : List ℕ) → ArePutsTo words files line reply puts text → (puts ≡ [] → ⊥) → PutsFileTo words
+puts_file (Ok command) files line reply puts text h some = puts_file_of command files line reply puts text h some
+puts_file (Err fault) files line reply puts text h some = some h
 
 -- ## Replies
 
@@ -71,9 +87,9 @@ unproved (Candidates cat load) files why h = absurd h.holds
 unproved (Cost cat load) files why h = absurd h.holds
 unproved (WhatIf cat load conf) files why h = absurd h.holds
 unproved (Explain cat load conf number) files why h = absurd h.holds
-unproved (Advise cat load budget nodes None) files why h = absurd h.holds
+unproved (Advise cat load budget nodes cert) files why h = absurd h.holds
+unproved (Bench seed tables statements budget) files why h = absurd h.holds
 unproved (Check cat load cert) files why h = record { cat = cat; load = load; cert = cert; words_are = refl; first = h }
-unproved command files why h = absurd (let e = h in cc)
 
 not_proved_of : (words : Result PlainCommand WordFault) (files : Option Files) (before after : ReadCounts) (reply : Done) → MayAnswerWords words files before after reply → NotProvedIsTrue words files reply
 not_proved_of (Ok command) files before after (NotProvedDone why) h = unproved command files why h
@@ -87,7 +103,7 @@ sound_of command files before after Memory h = tt
 sound_of command files before after reply h = h
 
 -- a reply is never a write fault
-no_write_fault : (words : Result PlainCommand WordFault) (files : Option Files) (before after : ReadCounts) → MayAnswerWords words files before after WriteFault → ⊥
+pub no_write_fault : (words : Result PlainCommand WordFault) (files : Option Files) (before after : ReadCounts) → MayAnswerWords words files before after WriteFault → ⊥
 no_write_fault (Ok command) files before after h = is_answer command files WriteFault h
 no_write_fault (Err fault) files before after h = h
 
@@ -113,7 +129,7 @@ told_fault words files before after fault done puts text e is none told =
     ] in
     record {
       answers = subst (λ (r : Result PlainCommand WordFault). MayAnswerWords r files before after done) (sym e) may;
-      no_puts = none;
+      puts_are = subst (λ (r : Result PlainCommand WordFault). ArePutsTo r files words done puts text) (sym e) none;
       text_is = subst (λ (r : Result PlainCommand WordFault). IsTextTo r files words done text) (sym e) told;
     }
 
@@ -128,21 +144,28 @@ stop_text command files words (stops.Failed role) text e = e
 stop_text command files words (stops.Refused why) text e = e
 
 -- the answer to a command
-to_words : (words : List (List ℕ)) (command : PlainCommand) (files : Option Files) (before after : ReadCounts) (done : Done) (puts : List Put) (text : List ℕ) → command_of words ≡ Ok command → puts ≡ [] → MayAnswer command files before after done → IsTextOf command files words done text → IsReply words files before after done puts text
-to_words words command files before after done puts text e none may told = record {
+to_words : (words : List (List ℕ)) (command : PlainCommand) (files : Option Files) (before after : ReadCounts) (done : Done) (puts : List Put) (text : List ℕ) → command_of words ≡ Ok command → ArePuts command files words done puts text → MayAnswer command files before after done → IsTextOf command files words done text → IsReply words files before after done puts text
+to_words words command files before after done puts text e put may told = record {
   answers = subst (λ (r : Result PlainCommand WordFault). MayAnswerWords r files before after done) (sym e) may;
-  no_puts = none;
+  puts_are = subst (λ (r : Result PlainCommand WordFault). ArePutsTo r files words done puts text) (sym e) put;
   text_is = subst (λ (r : Result PlainCommand WordFault). IsTextTo r files words done text) (sym e) told;
 }
+
+stop_puts : (command : PlainCommand) (files : Option Files) (words : List (List ℕ)) (stop : Stop) (puts : List Put) (text : List ℕ) → puts ≡ [] → ArePuts command files words (done_of stop) puts text
+stop_puts command files words stops.Memory puts text none = none
+stop_puts command files words (stops.Failed role) puts text none = none
+stop_puts command files words (stops.Refused why) puts text none = none
 
 -- why there is no answer is told
 pub told_stop : (words : List (List ℕ)) (command : PlainCommand) (files : Option Files) (before after : ReadCounts) (stop : Stop) (done : Done) (puts : List Put) (text : List ℕ) → command_of words ≡ Ok command → StopsAtFiles command files before after stop → (done ≡ done_of stop) ⊎ (done ≡ Memory) → puts ≡ [] → text ≡ done_text words None done → IsReply words files before after done puts text
 told_stop words command files before after stop done puts text e h (inl is) none told =
-    to_words words command files before after done puts text e none
+    to_words words command files before after done puts text e
+    (subst (λ (d : Done). ArePuts command files words d puts text) (sym is) (stop_puts command files words stop puts text none))
     (subst (λ (d : Done). MayAnswer command files before after d) (sym is) (stop_answer command files before after stop h))
     (subst (λ (d : Done). IsTextOf command files words d text) (sym is) (stop_text command files words stop text (subst (λ (d : Done). text ≡ done_text words None d) is told)))
 told_stop words command files before after stop done puts text e h (inr memory) none told =
-    to_words words command files before after done puts text e none
+    to_words words command files before after done puts text e
+    (subst (λ (d : Done). ArePuts command files words d puts text) (sym memory) none)
     (subst (λ (d : Done). MayAnswer command files before after d) (sym memory) tt)
     (subst (λ (d : Done). IsTextOf command files words d text) (sym memory) (subst (λ (d : Done). text ≡ done_text words None d) memory told))
 
@@ -154,7 +177,7 @@ may_answer command files before after done h = h
 -- what a command replies
 pub told_reply : (words : List (List ℕ)) (command : PlainCommand) (files : Option Files) (before after : ReadCounts) (done : Done) (puts : List Put) (text : List ℕ) → command_of words ≡ Ok command → Replies command files words done puts text → IsReply words files before after done puts text
 told_reply words command files before after done puts text e h =
-    to_words words command files before after done puts text e h.no_puts (may_answer command files before after done h.answers) h.text_is
+    to_words words command files before after done puts text e h.puts_are (may_answer command files before after done h.answers) h.text_is
 
 -- the counts of reads are the same behind the end
 pub moved : (words : List (List ℕ)) (files : Option Files) (before : ReadCounts) (all new : ℕ) (at new_at : List ℕ → ℕ) (done : Done) (puts : List Put) (text : List ℕ) → new ≡ all → ((n : List ℕ) → new_at n ≡ at n) → IsReply words files before (counts all at) done puts text → IsReply words files before (counts new new_at) done puts text
@@ -164,71 +187,84 @@ moved words files before all new at new_at done puts text e f r =
 
 -- ## Endings
 
--- as nothing is put, the text alone is given
-abbrev EndsSo : Outside → Outside → Done → List ℕ → Done → Type 0
-EndsSo before after reply text done = EndsWhole before after reply [] text done ⊎ EndsUnwritten before after [] text done
-
-not_nil : (front rest : List Put) (put : Put) → [] ≡ front ++ put ∷ rest → ⊥
+pub not_nil : (front rest : List Put) (put : Put) → [] ≡ front ++ put ∷ rest → ⊥
 not_nil [] rest put e = cc
 not_nil (p ∷ ps) rest put e = cc
 
-ends_so : (before after : Outside) (reply : Done) (puts : List Put) (text : List ℕ) (done : Done) → puts ≡ [] → Ends before after reply puts text done → EndsSo before after reply text done
-ends_so before after reply puts text done none (inl whole) = inl (subst (λ (ps : List Put). EndsWhole before after reply ps text done) none whole)
-ends_so before after reply puts text done none (inr (inl unwritten)) = inr (subst (λ (ps : List Put). EndsUnwritten before after ps text done) none unwritten)
-ends_so before after reply puts text done none (inr (inr unput)) =
-    absurd (not_nil unput.unput.front unput.unput.rest unput.unput.put (sym none ∙ unput.unput.puts_are))
+-- nothing was to be put, so no put failed
+pub all_put : (old new : Outside) (puts : List Put) (done : Done) → puts ≡ [] → EndsUnput old new puts done → ⊥
+all_put old new puts done none unput = not_nil unput.unput.front unput.unput.rest unput.unput.put (sym none ∙ unput.unput.puts_are)
 
--- what holds of the reply, and of a write fault where a write failed, holds of the answer
-settle : (P : Done → Type 0) (old new : Outside) (reply : Done) (puts : List Put) (text : List ℕ) (done : Done) → puts ≡ [] → Ends old new reply puts text done → P reply → (Rose old.faults new.faults → P WriteFault) → P done
-settle P old new reply puts text done none e of_reply of_fault =
-    elim (ends_so old new reply puts text done none e) [
-      | inl whole ↦ subst P (sym whole.stands) of_reply
-      | inr unwritten ↦ subst P (sym unwritten.fault) (of_fault unwritten.rose)
-    ]
+by_fault : (P : Done → Type 0) (fault : PutFault) (before after : Option Files) (a b : ℕ) (put : Put) (done : Done) → done ≡ put_answer fault → IsPutFault fault before after a b put → P Memory → (Rose a b → P WriteFault) → P done
+by_fault P faults.Memory before after a b put done is h of_memory of_put = subst P (sym is) of_memory
+by_fault P faults.Failed before after a b put done is h of_memory of_put = subst P (sym is) (of_put h.1)
+
+-- what holds of the reply, of a write fault where a write or a put failed, and of want of memory, holds of the answer
+pub settle : (P : Done → Type 0) (old new : Outside) (reply : Done) (puts : List Put) (text : List ℕ) (done : Done) → Ends old new reply puts text done → P reply → (Rose old.faults new.faults → P WriteFault) → (EndsUnput old new puts done → Rose old.put_faults new.put_faults → P WriteFault) → P Memory → P done
+settle P old new reply puts text done (inl whole) of_reply of_fault of_put of_memory = subst P (sym whole.stands) of_reply
+settle P old new reply puts text done (inr (inl unwritten)) of_reply of_fault of_put of_memory = subst P (sym unwritten.fault) (of_fault unwritten.rose)
+settle P old new reply puts text done (inr (inr unput)) of_reply of_fault of_put of_memory =
+    by_fault P unput.fault (put_all old.files unput.unput.front) new.files old.put_faults new.put_faults unput.unput.put done unput.done_is unput.unput.files_are of_memory (of_put unput)
+
+-- the same of files and a count of puts that are as they were at the start
+pub from_start : (files moved : Option Files) (put_faults rest : ℕ) (written : Option (List ℕ)) (count : ℕ) (new : Outside) (reply : Done) (puts : List Put) (text : List ℕ) (done : Done) → moved ≡ files → rest ≡ put_faults → Ends (outside moved rest written count) new reply puts text done → Ends (outside files put_faults written count) new reply puts text done
+from_start files moved put_faults rest written count new reply puts text done e f h =
+    let there = subst (λ (fs : Option Files). Ends (outside fs rest written count) new reply puts text done) e h in
+    subst (λ (n : ℕ). Ends (outside files n written count) new reply puts text done) f there
 
 -- ## Clauses
 
 pub usage : (words : List (List ℕ)) (files : Option Files) (before after : ReadCounts) (old new : Outside) (reply : Done) (puts : List Put) (text : List ℕ) (done : Done) → IsReply words files before after reply puts text → Ends old new reply puts text done → UsageIsTrue (command_of words) done
 usage words files before after old new reply puts text done r e =
-    settle (UsageIsTrue (command_of words)) old new reply puts text done r.no_puts e (usage_of (command_of words) files before after reply r.answers) (λ rose. tt)
+    settle (UsageIsTrue (command_of words)) old new reply puts text done e (usage_of (command_of words) files before after reply r.answers) (λ rose. tt) (λ unput rose. tt) tt
+
+no_put_to : (words : Result PlainCommand WordFault) (files : Option Files) (line : List (List ℕ)) (fault : WordFault) (reply : Done) (puts : List Put) (text : List ℕ) → words ≡ Err fault → ArePutsTo words files line reply puts text → puts ≡ []
+no_put_to (Ok command) files line fault reply puts text e h = absurd cc
+no_put_to (Err told) files line fault reply puts text e h = h
 
 pub usage_always : (words : List (List ℕ)) (files : Option Files) (before after : ReadCounts) (old new : Outside) (reply : Done) (puts : List Put) (text : List ℕ) (done : Done) → IsReply words files before after reply puts text → Ends old new reply puts text done → (fault : WordFault) → command_of words ≡ Err fault → IsSteady old.faults new.faults → IsOrMemory (Usage fault) done
 usage_always words files before after old new reply puts text done r e fault is steady =
-    settle (IsOrMemory (Usage fault)) old new reply puts text done r.no_puts e (told_usage (command_of words) files before after fault reply is r.answers) (λ rose. absurd (steady rose))
+    settle (IsOrMemory (Usage fault)) old new reply puts text done e (told_usage (command_of words) files before after fault reply is r.answers) (λ rose. absurd (steady rose))
+    (λ unput rose. absurd (all_put old new puts done (no_put_to (command_of words) files words fault reply puts text is r.puts_are) unput)) (inr refl)
 
 pub read_fault : (words : List (List ℕ)) (files : Option Files) (before after : ReadCounts) (old new : Outside) (reply : Done) (puts : List Put) (text : List ℕ) (done : Done) → IsReply words files before after reply puts text → Ends old new reply puts text done → ReadFaultIsTrue (command_of words) files before after done
 read_fault words files before after old new reply puts text done r e =
-    settle (ReadFaultIsTrue (command_of words) files before after) old new reply puts text done r.no_puts e (read_fault_of (command_of words) files before after reply r.answers) (λ rose. tt)
+    settle (ReadFaultIsTrue (command_of words) files before after) old new reply puts text done e (read_fault_of (command_of words) files before after reply r.answers) (λ rose. tt) (λ unput rose. tt) tt
 
-unfaulted : (a b : ℕ) (words : Result PlainCommand WordFault) (files : Option Files) (before after : ReadCounts) (reply : Done) → MayAnswerWords words files before after reply → WriteFaultIsTrue a b reply
-unfaulted a b words files before after WriteFault h = absurd (no_write_fault words files before after h)
-unfaulted a b words files before after reply h = tt
+unfaulted : (old new : Outside) (words : Result PlainCommand WordFault) (files : Option Files) (before after : ReadCounts) (reply : Done) → MayAnswerWords words files before after reply → WriteFaultIsTrue words old new reply
+unfaulted old new words files before after WriteFault h = absurd (no_write_fault words files before after h)
+unfaulted old new words files before after reply h = tt
 
-pub write_fault : (words : List (List ℕ)) (files : Option Files) (before after : ReadCounts) (old new : Outside) (reply : Done) (puts : List Put) (text : List ℕ) (done : Done) → IsReply words files before after reply puts text → Ends old new reply puts text done → WriteFaultIsTrue old.faults new.faults done
+pub write_fault : (words : List (List ℕ)) (files : Option Files) (before after : ReadCounts) (old new : Outside) (reply : Done) (puts : List Put) (text : List ℕ) (done : Done) → IsReply words files before after reply puts text → Ends old new reply puts text done → WriteFaultIsTrue (command_of words) old new done
 write_fault words files before after old new reply puts text done r e =
-    settle (WriteFaultIsTrue old.faults new.faults) old new reply puts text done r.no_puts e (unfaulted old.faults new.faults (command_of words) files before after reply r.answers) (λ rose. rose)
+    settle (WriteFaultIsTrue (command_of words) old new) old new reply puts text done e (unfaulted old new (command_of words) files before after reply r.answers) (λ rose. inl rose)
+    (λ unput rose. inr (puts_file (command_of words) files words reply puts text r.puts_are (λ none. all_put old new puts done none unput), rose)) tt
 
 pub refused : (words : List (List ℕ)) (files : Option Files) (before after : ReadCounts) (old new : Outside) (reply : Done) (puts : List Put) (text : List ℕ) (done : Done) → IsReply words files before after reply puts text → Ends old new reply puts text done → RefusalIsTrue (command_of words) files done
 refused words files before after old new reply puts text done r e =
-    settle (RefusalIsTrue (command_of words) files) old new reply puts text done r.no_puts e (refusal_of (command_of words) files before after reply r.answers) (λ rose. tt)
+    settle (RefusalIsTrue (command_of words) files) old new reply puts text done e (refusal_of (command_of words) files before after reply r.answers) (λ rose. tt) (λ unput rose. tt) tt
 
 pub not_proved : (words : List (List ℕ)) (files : Option Files) (before after : ReadCounts) (old new : Outside) (reply : Done) (puts : List Put) (text : List ℕ) (done : Done) → IsReply words files before after reply puts text → Ends old new reply puts text done → NotProvedIsTrue (command_of words) files done
 not_proved words files before after old new reply puts text done r e =
-    settle (NotProvedIsTrue (command_of words) files) old new reply puts text done r.no_puts e (not_proved_of (command_of words) files before after reply r.answers) (λ rose. tt)
+    settle (NotProvedIsTrue (command_of words) files) old new reply puts text done e (not_proved_of (command_of words) files before after reply r.answers) (λ rose. tt) (λ unput rose. tt) tt
 
 -- the answer to words that are a command
-to_command : (words : Result PlainCommand WordFault) (command : PlainCommand) (files : Option Files) (before after : ReadCounts) (reply : Done) → words ≡ Ok command → MayAnswerWords words files before after reply → MayAnswer command files before after reply
+pub to_command : (words : Result PlainCommand WordFault) (command : PlainCommand) (files : Option Files) (before after : ReadCounts) (reply : Done) → words ≡ Ok command → MayAnswerWords words files before after reply → MayAnswer command files before after reply
 to_command words command files before after reply is h = subst (λ (w : Result PlainCommand WordFault). MayAnswerWords w files before after reply) is h
+
+-- what is put for it
+pub to_puts : (words : Result PlainCommand WordFault) (command : PlainCommand) (files : Option Files) (line : List (List ℕ)) (reply : Done) (puts : List Put) (text : List ℕ) → words ≡ Ok command → ArePutsTo words files line reply puts text → ArePuts command files line reply puts text
+to_puts words command files line reply puts text is h = subst (λ (w : Result PlainCommand WordFault). ArePutsTo w files line reply puts text) is h
 
 pub soundness : (words : List (List ℕ)) (files : Option Files) (before after : ReadCounts) (old new : Outside) (reply : Done) (puts : List Put) (text : List ℕ) (done : Done) → IsReply words files before after reply puts text → Ends old new reply puts text done → (command : PlainCommand) → command_of words ≡ Ok command → IsSound command files done
 soundness words files before after old new reply puts text done r e command is =
-    settle (IsSound command files) old new reply puts text done r.no_puts e (sound_of command files before after reply (to_command (command_of words) command files before after reply is r.answers)) (λ rose. tt)
+    settle (IsSound command files) old new reply puts text done e (sound_of command files before after reply (to_command (command_of words) command files before after reply is r.answers)) (λ rose. tt) (λ unput rose. tt) tt
 
-pub completeness : (words : List (List ℕ)) (files : Option Files) (before after : ReadCounts) (old new : Outside) (reply : Done) (puts : List Put) (text : List ℕ) (done : Done) → IsReply words files before after reply puts text → Ends old new reply puts text done → (command : PlainCommand) → command_of words ≡ Ok command → IsSteady before.all after.all → IsSteady old.faults new.faults → Answers command files done ⊎ (done ≡ Memory)
-completeness words files before after old new reply puts text done r e command is reads writes =
-    settle (λ d. Answers command files d ⊎ (d ≡ Memory)) old new reply puts text done r.no_puts e
+pub completeness : (words : List (List ℕ)) (files : Option Files) (before after : ReadCounts) (old new : Outside) (reply : Done) (puts : List Put) (text : List ℕ) (done : Done) → IsReply words files before after reply puts text → Ends old new reply puts text done → (command : PlainCommand) → command_of words ≡ Ok command → IsSteady before.all after.all → IsSteady old.put_faults new.put_faults → IsSteady old.faults new.faults → Answers command files done ⊎ (done ≡ Memory)
+completeness words files before after old new reply puts text done r e command is reads put writes =
+    settle (λ d. Answers command files d ⊎ (d ≡ Memory)) old new reply puts text done e
     (answered command files before after reply reads (to_command (command_of words) command files before after reply is r.answers))
-    (λ rose. absurd (writes rose))
+    (λ rose. absurd (writes rose)) (λ unput rose. absurd (put rose)) (inr refl)
 
 no_text : (words : Result PlainCommand WordFault) (files : Option Files) (line : List (List ℕ)) (text : List ℕ) → IsTextTo words files line Memory text → text ≡ []
 no_text (Ok command) files line text h = h
@@ -242,29 +278,43 @@ silent : (words : Result PlainCommand WordFault) (files : Option Files) (line : 
 silent words files line old new Memory text told written = written ∙ (ap (append_to old) (no_text words files line text told) ∙ nothing_more old)
 silent words files line old new reply text told written = tt
 
+-- where nothing was written, that is so for want of memory too
+unwritten_silent : (old new : Option (List ℕ)) (done : Done) → new ≡ old → MemoryWritesNothing old new done
+unwritten_silent old new Memory e = e
+unwritten_silent old new done e = tt
+
 pub memory : (words : List (List ℕ)) (files : Option Files) (before after : ReadCounts) (old new : Outside) (reply : Done) (puts : List Put) (text : List ℕ) (done : Done) → IsReply words files before after reply puts text → Ends old new reply puts text done → MemoryWritesNothing old.written new.written done
-memory words files before after old new reply puts text done r e =
-    let P : Done → Type 0 = MemoryWritesNothing old.written new.written in
-    elim (ends_so old new reply puts text done r.no_puts e) [
-      | inl whole ↦ subst P (sym whole.stands) (silent (command_of words) files words old.written new.written reply text r.text_is whole.written)
-      | inr unwritten ↦ subst P (sym unwritten.fault) tt
-    ]
+memory words files before after old new reply puts text done r (inl whole) =
+    subst (MemoryWritesNothing old.written new.written) (sym whole.stands) (silent (command_of words) files words old.written new.written reply text r.text_is whole.written)
+memory words files before after old new reply puts text done r (inr (inl unwritten)) = subst (MemoryWritesNothing old.written new.written) (sym unwritten.fault) tt
+memory words files before after old new reply puts text done r (inr (inr unput)) = unwritten_silent old.written new.written done unput.unwritten
 
 whole_text : (words : List (List ℕ)) (files : Option Files) (before after : ReadCounts) (old new : Option (List ℕ)) (reply : Done) (text : List ℕ) → MayAnswerWords (command_of words) files before after reply → IsTextTo (command_of words) files words reply text → new ≡ append_to old text → IsWritten words files before after old new reply
 whole_text words files before after old new WriteFault text h told written = absurd (no_write_fault (command_of words) files before after h)
 whole_text words files before after old new reply text h told written = (text, (told, written))
 
+-- nothing is a prefix of the text
+none_written : (old new : Option (List ℕ)) (text : List ℕ) → new ≡ old → AppendsPrefix old new text
+none_written old new text e = (0, e ∙ sym (nothing_more old))
+
+no_words : (words : Result PlainCommand WordFault) (files : Option Files) (line : List (List ℕ)) → IsTextTo words files line Memory []
+no_words (Ok command) files line = refl
+no_words (Err fault) files line = refl
+
+-- want of memory has no text
+memory_text : (words : List (List ℕ)) (files : Option Files) (before after : ReadCounts) (old new : Option (List ℕ)) → new ≡ old → IsWritten words files before after old new Memory
+memory_text words files before after old new e = ([], (no_words (command_of words) files words, e ∙ sym (nothing_more old)))
+
 pub text_written : (words : List (List ℕ)) (files : Option Files) (before after : ReadCounts) (old new : Outside) (reply : Done) (puts : List Put) (text : List ℕ) (done : Done) → IsReply words files before after reply puts text → Ends old new reply puts text done → IsWritten words files before after old.written new.written done
-text_written words files before after old new reply puts text done r e =
-    let P : Done → Type 0 = IsWritten words files before after old.written new.written in
-    elim (ends_so old new reply puts text done r.no_puts e) [
-      | inl whole ↦ subst P (sym whole.stands) (whole_text words files before after old.written new.written reply text r.answers r.text_is whole.written)
-      | inr unwritten ↦ subst P (sym unwritten.fault) (reply, text, (r.answers, (r.text_is, unwritten.prefix)))
-    ]
+text_written words files before after old new reply puts text done r (inl whole) =
+    subst (IsWritten words files before after old.written new.written) (sym whole.stands) (whole_text words files before after old.written new.written reply text r.answers r.text_is whole.written)
+text_written words files before after old new reply puts text done r (inr (inl unwritten)) =
+    subst (IsWritten words files before after old.written new.written) (sym unwritten.fault) (reply, text, (r.answers, (r.text_is, unwritten.prefix)))
+text_written words files before after old new reply puts text done r (inr (inr unput)) =
+    let u = unput.unput in
+    by_fault (IsWritten words files before after old.written new.written) unput.fault (put_all old.files u.front) new.files old.put_faults new.put_faults u.put done unput.done_is u.files_are
+    (memory_text words files before after old.written new.written unput.unwritten)
+    (λ rose. (reply, text, (r.answers, (r.text_is, none_written old.written new.written text unput.unwritten))))
 
 pub bound : (words : List (List ℕ)) (files : Option Files) (before after : ReadCounts) (old new : Outside) (reply : Done) (puts : List Put) (text : List ℕ) (done : Done) → IsReply words files before after reply puts text → Ends old new reply puts text done → IsBounded reply → IsBounded done
-bound words files before after old new reply puts text done r e low = settle IsBounded old new reply puts text done r.no_puts e low (λ rose. tt)
-
-pub files_stay : (words : List (List ℕ)) (files : Option Files) (before after : ReadCounts) (old new : Outside) (reply : Done) (puts : List Put) (text : List ℕ) (done : Done) → IsReply words files before after reply puts text → Ends old new reply puts text done → new.files ≡ old.files
-files_stay words files before after old new reply puts text done r e =
-    elim (ends_so old new reply puts text done r.no_puts e) [ inl whole ↦ whole.files_are | inr unwritten ↦ unwritten.files_are ]
+bound words files before after old new reply puts text done r e low = settle IsBounded old new reply puts text done e low (λ rose. tt) (λ unput rose. tt) tt

@@ -14,4 +14,6 @@ pub mod FilesRead
 pub mod Puts
 pub mod Answered
 pub mod CauseLemmas
+pub mod LeftFiles
+pub mod Headlines
 pub mod Grammar

@@ -3,7 +3,7 @@ use Rattle.std.proofs.Common.{◌≡◌, ℕ, ◌≤◌, List, Option, Some, Non
 use Rattle.std.specs.Prelude.{unwrap_or, IfSome}
 use Rattle.report.specs.declared.done.WordFault.{WordFault}
 use Rattle.cophy_core.specs.CommandLines.{IsWithin, IsCommandLine, IsInRange}
-use Rattle.cophy_core.specs.ReadWords.{PlainCommand, Advise, command_of}
+use Rattle.cophy_core.specs.ReadWords.{PlainCommand, Advise, Bench, command_of}
 use Rattle.cophy_core.proofs.Grammar.{in_grammar}
 
 nodes_within : (given : Option ℕ) (nodes : ℕ) → nodes ≡ unwrap_or given 20000 → IfSome given (IsWithin 1 1000000) → IsWithin 1 1000000 nodes
@@ -14,6 +14,14 @@ of_line : (words : List (List ℕ)) (command : PlainCommand) → IsCommandLine w
 of_line words (Advise cat load budget nodes cert) line =
     let within = nodes_within line.given nodes line.nodes_are line.chosen.range in
     record { budget_most = line.budget_within.high; some_node = within.low; nodes_most = within.high }
+of_line words (Bench seed tables statements budget) line = record {
+  seed_most = line.1.0.high;
+  tables_some = line.1.1.0.low;
+  tables_few = line.1.1.0.high;
+  statements_some = line.1.1.1.0.low;
+  statements_few = line.1.1.1.0.high;
+  budget_most = line.1.1.1.1.high;
+}
 of_line words command line = tt
 
 -- a command that was read is in range

@@ -1,42 +1,51 @@
 -- What each command answers over the files.
-use Rattle.std.specs.Prelude.{◌≡◌, ℕ, List, Option, None}
+use Rattle.std.specs.Prelude.{◌≡◌, ℕ, List, [], Option}
 use Rattle.adv_shelf.specs.Shelf.{Files}
 use Rattle.adv_base.specs.Settings.{TheSetting}
 use Rattle.report.specs.declared.done.Done.{Done}
 use Rattle.report.specs.declared.done.Done.TheVariants.{Refused}
 use Rattle.report.specs.declared.done.Refusal.{Refusal}
-use Rattle.report.specs.declared.done.Refusal.TheVariants.{TooLong, Cat, Sql, Bind, NotBuilt}
+use Rattle.report.specs.declared.done.Refusal.TheVariants.{TooLong, Cat, Sql, Bind}
 use Rattle.cophy_core.specs.commands.Advise as advise
+use Rattle.cophy_core.specs.commands.Bench as bench
 use Rattle.cophy_core.specs.commands.Candidates as candidates
 use Rattle.cophy_core.specs.commands.Check as check
 use Rattle.cophy_core.specs.commands.Cost as cost
 use Rattle.cophy_core.specs.commands.Explain as explain
 use Rattle.cophy_core.specs.commands.WhatIf as what_if
-use Rattle.cophy_core.specs.ReadWords.{PlainCommand, Candidates, Cost, WhatIf, Explain, Advise, Check}
-use Rattle.cophy_core.specs.Files.{files_of, AreInputs, input, IsTooLong}
+use Rattle.cophy_core.specs.Endings.{Put}
+use Rattle.cophy_core.specs.ReadWords.{PlainCommand, Candidates, Cost, WhatIf, Explain, Advise, Check, Bench}
+use Rattle.cophy_core.specs.Files.{files_of, input, IsTooLong}
+use Rattle.cophy_core.specs.Inputs.{HasInputs}
 use Rattle.cophy_core.specs.Settings.{IsSetting, HasCatFault, IsSqlRefusal, IsBindRefusal}
 
--- what a command refuses of the bytes of its files and their setting, beyond the setting's own refusals
+-- what a command refuses of the bytes that it answers from and their setting, beyond the setting's own refusals
 abbrev pub RefusesOver : PlainCommand → List (List ℕ) → TheSetting → Refusal → Type 0
 RefusesOver (WhatIf cat load conf) inputs setting why = what_if.Refuses (input inputs 2) setting why
 RefusesOver (Explain cat load conf number) inputs setting why = explain.Refuses number (input inputs 2) setting why
-RefusesOver (Advise cat load budget nodes None) inputs setting why = advise.Refuses setting why
+RefusesOver (Advise cat load budget nodes cert) inputs setting why = advise.Refuses setting why
+RefusesOver (Bench seed tables statements budget) inputs setting why = advise.Refuses setting why
 RefusesOver command inputs setting why = ⊥
 
--- what a command gives over the bytes of its files and their setting
+-- what a command gives over the bytes that it answers from and their setting
 abbrev pub GivesOver : PlainCommand → List (List ℕ) → TheSetting → Done → Type 0
 GivesOver (Candidates cat load) inputs setting done = candidates.Gives setting done
 GivesOver (Cost cat load) inputs setting done = cost.Gives setting done
 GivesOver (WhatIf cat load conf) inputs setting done = what_if.Gives (input inputs 2) setting done
 GivesOver (Explain cat load conf number) inputs setting done = explain.Gives number (input inputs 2) setting done
-GivesOver (Advise cat load budget nodes None) inputs setting done = advise.Gives budget nodes setting done
+GivesOver (Advise cat load budget nodes cert) inputs setting done = advise.Gives budget nodes setting done
 GivesOver (Check cat load cert) inputs setting done = check.Gives (input inputs 2) setting done
-GivesOver command inputs setting done = ⊥
+GivesOver (Bench seed tables statements budget) inputs setting done = bench.Gives budget setting done
 
--- the files of a command hold these bytes, which have P
+-- what a command puts for an answer over a setting
+abbrev pub PutsOver : PlainCommand → TheSetting → Done → List Put → Type 0
+PutsOver (Advise cat load budget nodes cert) setting done puts = advise.Puts cert setting done puts
+PutsOver command setting done puts = puts ≡ []
+
+-- a command answers from these bytes, which have P
 pub record OfFiles (files : Option Files) (command : PlainCommand) (P : List (List ℕ) → Type 0) : Type 0 where
   pub inputs : List (List ℕ)
-  pub inputs_are : AreInputs files (files_of command) inputs
+  pub inputs_are : HasInputs files command inputs
   pub holds : P inputs
 
 -- the first two of them are a setting, which has P
@@ -44,36 +53,16 @@ pub record OfSetting (files : Option Files) (command : PlainCommand) (P : List (
   pub inputs : List (List ℕ)
   pub setting : TheSetting
   pub left_over : ℕ
-  pub inputs_are : AreInputs files (files_of command) inputs
+  pub inputs_are : HasInputs files command inputs
   pub setting_is : IsSetting (input inputs 0) (input inputs 1) setting left_over
   pub holds : P inputs setting
 
 -- the first refusal in the order of work: a file that is too long, a fault of the catalogue, of the workload's text, of
 -- its names, what the command alone refuses; else what the command gives
-abbrev pub AnswersOver : PlainCommand → Option Files → Done → Type 0
-AnswersOver command files (Refused (TooLong role)) = IsTooLong files (files_of command) role
-AnswersOver command files (Refused (Cat fault)) = OfFiles files command (λ inputs. HasCatFault (input inputs 0) fault)
-AnswersOver command files (Refused (Sql fault)) = OfFiles files command (λ inputs. IsSqlRefusal (input inputs 0) (input inputs 1) fault)
-AnswersOver command files (Refused (Bind fault)) = OfFiles files command (λ inputs. IsBindRefusal (input inputs 0) (input inputs 1) fault)
-AnswersOver command files (Refused why) = OfSetting files command (λ inputs setting. RefusesOver command inputs setting why)
-AnswersOver command files done = OfSetting files command (λ inputs setting. GivesOver command inputs setting done)
-
--- what is answered to a command over the files; one that isn't built is refused
 abbrev pub Answers : PlainCommand → Option Files → Done → Type 0
-Answers (Candidates cat load) files done = AnswersOver (Candidates cat load) files done
-Answers (Cost cat load) files done = AnswersOver (Cost cat load) files done
-Answers (WhatIf cat load conf) files done = AnswersOver (WhatIf cat load conf) files done
-Answers (Explain cat load conf number) files done = AnswersOver (Explain cat load conf number) files done
-Answers (Advise cat load budget nodes None) files done = AnswersOver (Advise cat load budget nodes None) files done
-Answers (Check cat load cert) files done = AnswersOver (Check cat load cert) files done
-Answers command files done = done ≡ Refused NotBuilt
-
--- the commands that are built
-abbrev pub IsBuilt : PlainCommand → Type 0
-IsBuilt (Candidates cat load) = Unit {0}
-IsBuilt (Cost cat load) = Unit {0}
-IsBuilt (WhatIf cat load conf) = Unit {0}
-IsBuilt (Explain cat load conf number) = Unit {0}
-IsBuilt (Advise cat load budget nodes None) = Unit {0}
-IsBuilt (Check cat load cert) = Unit {0}
-IsBuilt command = ⊥
+Answers command files (Refused (TooLong role)) = IsTooLong files (files_of command) role
+Answers command files (Refused (Cat fault)) = OfFiles files command (λ inputs. HasCatFault (input inputs 0) fault)
+Answers command files (Refused (Sql fault)) = OfFiles files command (λ inputs. IsSqlRefusal (input inputs 0) (input inputs 1) fault)
+Answers command files (Refused (Bind fault)) = OfFiles files command (λ inputs. IsBindRefusal (input inputs 0) (input inputs 1) fault)
+Answers command files (Refused why) = OfSetting files command (λ inputs setting. RefusesOver command inputs setting why)
+Answers command files done = OfSetting files command (λ inputs setting. GivesOver command inputs setting done)

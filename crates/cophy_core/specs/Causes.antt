@@ -7,22 +7,25 @@ use Rattle.adv_shelf.specs.Sink.{append_to, AppendsPrefix}
 use Rattle.plan_model.specs.declared.plan.TheConstants.{MOST_COST, MOST_TOTAL}
 use Rattle.report.specs.declared.done.Advice.{Advice}
 use Rattle.report.specs.declared.done.Done.{Done}
-use Rattle.report.specs.declared.done.Done.TheVariants.{Usage, ReadFault, WriteFault, Refused, Memory, Priced, Explained as ExplainedDone, Advised, NotProved as NotProvedDone}
+use Rattle.report.specs.declared.done.Done.TheVariants.{Usage, ReadFault, WriteFault, Refused, Memory, Priced, Explained as ExplainedDone, Advised, NotProved as NotProvedDone, Benched}
 use Rattle.report.specs.declared.done.NotProved.{NotProved}
 use Rattle.report.specs.declared.done.WordFault.{WordFault}
-use Rattle.cophy_core.specs.Answers.{OfSetting, Answers}
+use Rattle.cophy_core.specs.Answers.{Answers, OfSetting}
+use Rattle.cophy_core.specs.ReadWords.{PlainCommand, command_of, Check}
+use Rattle.cophy_core.specs.Files.{files_of, ReadCounts, IsReadFault, input}
+use Rattle.cophy_core.specs.Endings.{Outside}
+use Rattle.cophy_core.specs.Left.{PutsFileTo}
 use Rattle.cophy_core.specs.commands.Check.{ProvesNothing}
-use Rattle.cophy_core.specs.ReadWords.{PlainCommand, Check, command_of}
-use Rattle.cophy_core.specs.Files.{files_of, input, ReadCounts, IsReadFault}
 use Rattle.cophy_core.specs.Replies.{MayAnswerWords, IsTextTo}
 
--- the exit status of advice: 1 where its bound isn't its cost
+-- the exit status of a search: 1 where its bound isn't its cost
+abbrev pub gap_status : ℕ → ℤ → ℕ
+gap_status cost (pos bound) = if bound == cost then 0 else 1
+gap_status cost (negsuc below) = 1
+
+-- the exit status of advice
 abbrev pub advice_status_of : Advice → ℕ
-advice_status_of advice = by_bound advice.answer.cost advice.answer.bound
-  where
-    by_bound : ℕ → ℤ → ℕ
-    by_bound cost (pos bound) = if bound == cost then 0 else 1
-    by_bound cost (negsuc below) = 1
+advice_status_of advice = gap_status advice.answer.cost advice.answer.bound
 
 -- the exit status of an answer
 abbrev pub status_of : Done → ℕ
@@ -32,6 +35,7 @@ status_of WriteFault = 4
 status_of (Refused why) = 5
 status_of (Advised advice) = advice_status_of advice
 status_of (NotProvedDone why) = 6
+status_of (Benched bench) = advice_status_of bench.advice
 status_of Memory = 7
 status_of done = 0
 
@@ -54,10 +58,11 @@ ReadFaultIsTrue words files before after (ReadFault role) =
     (command : PlainCommand) × (words ≡ Ok command) × IsReadFault files (files_of command) before after role
 ReadFaultIsTrue words files before after done = Unit {0}
 
--- a write fault comes only where the count of the sink's faults rose
-abbrev pub WriteFaultIsTrue : ℕ → ℕ → Done → Type 0
-WriteFaultIsTrue before after WriteFault = Rose before after
-WriteFaultIsTrue before after done = Unit {0}
+-- a write fault comes only where the count of the sink's faults rose, or the command puts a file and that of failed puts did
+abbrev pub WriteFaultIsTrue : Result PlainCommand WordFault → Outside → Outside → Done → Type 0
+WriteFaultIsTrue words before after WriteFault =
+    Rose before.faults after.faults ⊎ (PutsFileTo words × Rose before.put_faults after.put_faults)
+WriteFaultIsTrue words before after done = Unit {0}
 
 -- a refusal comes only where it is the first of a command's files
 abbrev pub RefusalIsTrue : Result PlainCommand WordFault → Option Files → Done → Type 0

@@ -62,7 +62,17 @@ pub record AreBudgets (budget nodes : ℕ) : Type 0 where
   pub some_node : 1 ≤ nodes
   pub nodes_most : nodes ≤ 1000000
 
+-- the numbers by which a workload is made, and the budget for it, are in their ranges
+pub record AreSizes (seed tables statements budget : ℕ) : Type 0 where
+  pub seed_most : seed ≤ 18446744073709551615
+  pub tables_some : 2 ≤ tables
+  pub tables_few : tables ≤ 20
+  pub statements_some : 1 ≤ statements
+  pub statements_few : statements ≤ 500
+  pub budget_most : budget ≤ 1000000000000
+
 -- so it is with those of a command that searches
 abbrev pub IsInRange : PlainCommand → Type 0
 IsInRange (Advise cat load budget nodes cert) = AreBudgets budget nodes
+IsInRange (Bench seed tables statements budget) = AreSizes seed tables statements budget
 IsInRange command = Unit {0}

@@ -7,7 +7,7 @@ use Rattle.report.specs.declared.done.Done.{Done}
 use Rattle.report.specs.declared.done.Done.TheVariants.{WriteFault, Memory}
 use Rattle.adv_shelf.specs.declared.shelf.PutFault.{PutFault}
 use Rattle.adv_shelf.specs.declared.shelf.PutFault.TheVariants as faults
-use Rattle.cophy_core.specs.declared.reply.FilePut.{FilePut}
+use Rattle.cophy_core.specs.declared.worked.FilePut.{FilePut}
 
 -- a file to be put
 pub record Put : Type 0 where

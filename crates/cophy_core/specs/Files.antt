@@ -1,12 +1,12 @@
 -- The files that a command reads, and what they hold.
 use Rattle.std.specs.Prelude.{◌≡◌, ℕ, ◌<◌, ◌≤◌, List, [], ◌∷◌, ◌++◌, length, map, slice_index_or, Option, None}
-use Rattle.adv_base.specs.declared.limits.TheConstants.{MOST_CERTIFICATE_BYTES, MOST_FILE_BYTES}
+use Rattle.adv_base.specs.declared.limits.TheConstants.{MOST_FILE_BYTES, MOST_CERTIFICATE_BYTES}
 use Rattle.adv_shelf.specs.Faults.{Rose}
 use Rattle.adv_shelf.specs.Shelf.{Files, HasFile, IsFile}
 use Rattle.report.specs.declared.done.Role.{Role}
 use Rattle.report.specs.declared.done.Role.TheVariants.{Catalogue, Workload, Third}
 use Rattle.cophy_core.specs.declared.files.FileUse.{FileUse}
-use Rattle.cophy_core.specs.ReadWords.{PlainCommand, Candidates, Cost, WhatIf, Explain, Advise, Check}
+use Rattle.cophy_core.specs.ReadWords.{PlainCommand, Candidates, Cost, WhatIf, Explain, Advise, Check, Bench}
 
 -- a file that a command reads: in which role, by what name, and of how many bytes at most
 pub record InputFile : Type 0 where
@@ -24,15 +24,15 @@ plain_uses uses = map (λ file. input_file file.role file.name.now file.most) us
 abbrev pub setting_files : List ℕ → List ℕ → List InputFile
 setting_files cat load = input_file Catalogue cat MOST_FILE_BYTES ∷ input_file Workload load MOST_FILE_BYTES ∷ []
 
--- the files that a command reads, in the order in which it reads them; one that isn't built reads none
+-- the files that a command reads, in the order in which it reads them; `bench` reads none
 abbrev pub files_of : PlainCommand → List InputFile
 files_of (Candidates cat load) = setting_files cat load
 files_of (Cost cat load) = setting_files cat load
 files_of (WhatIf cat load conf) = setting_files cat load ++ input_file Third conf MOST_FILE_BYTES ∷ []
 files_of (Explain cat load conf number) = setting_files cat load ++ input_file Third conf MOST_FILE_BYTES ∷ []
-files_of (Advise cat load budget nodes None) = setting_files cat load
+files_of (Advise cat load budget nodes cert) = setting_files cat load
 files_of (Check cat load cert) = setting_files cat load ++ input_file Third cert MOST_CERTIFICATE_BYTES ∷ []
-files_of command = []
+files_of (Bench seed tables statements budget) = []
 
 -- where the shelf tells its files, these bytes are the whole file, and no longer than its limit
 pub record IsInput (files : Option Files) (file : InputFile) (bytes : List ℕ) : Type 0 where

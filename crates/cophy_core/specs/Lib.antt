@@ -5,10 +5,13 @@ pub mod Confs
 pub mod Settings
 pub mod Opened
 pub mod Files
+pub mod Endings
+pub mod Inputs
 pub mod commands
 pub mod Answers
 pub mod Stops
 pub mod Reading
-pub mod Endings
 pub mod Replies
+pub mod Left
 pub mod Causes
+pub mod Headline

@@ -1,11 +1,12 @@
 -- An answer that may be given to words, and its text.
 use Rattle.std.specs.Prelude.{◌≡◌, ℕ, List, [], Option, Some, None, Result, Ok, Err}
+use Rattle.adv_base.specs.Settings.{TheSetting}
 use Rattle.adv_shelf.specs.Shelf.{Files}
 use Rattle.report.specs.Texts.{done_text}
 use Rattle.report.specs.declared.done.Done.{Done}
-use Rattle.report.specs.declared.done.Done.TheVariants.{Usage, ReadFault, Memory, Priced, Listed, Advised}
+use Rattle.report.specs.declared.done.Done.TheVariants.{Usage, ReadFault, Memory, Priced, Listed, Advised, Benched}
 use Rattle.report.specs.declared.done.WordFault.{WordFault}
-use Rattle.cophy_core.specs.Answers.{OfSetting, Answers}
+use Rattle.cophy_core.specs.Answers.{GivesOver, PutsOver, OfSetting, Answers}
 use Rattle.cophy_core.specs.ReadWords.{PlainCommand, command_of}
 use Rattle.cophy_core.specs.Endings.{Put}
 use Rattle.cophy_core.specs.Files.{files_of, ReadCounts, IsReadFault}
@@ -24,7 +25,7 @@ MayAnswerWords (Err fault) files before after (Usage told) = told ≡ fault
 MayAnswerWords (Err fault) files before after Memory = Unit {0}
 MayAnswerWords (Err fault) files before after done = ⊥
 
--- the text of an answer to a command: prices, candidates and advice are told over the setting of its files
+-- the text of an answer to a command: prices, candidates and advice are told over its setting
 abbrev pub IsTextOf : PlainCommand → Option Files → List (List ℕ) → Done → List ℕ → Type 0
 IsTextOf command files words (Priced prices) text =
     OfSetting files command (λ inputs setting. text ≡ done_text words (Some setting) (Priced prices))
@@ -32,6 +33,8 @@ IsTextOf command files words (Listed found) text =
     OfSetting files command (λ inputs setting. text ≡ done_text words (Some setting) (Listed found))
 IsTextOf command files words (Advised advice) text =
     OfSetting files command (λ inputs setting. text ≡ done_text words (Some setting) (Advised advice))
+IsTextOf command files words (Benched bench) text =
+    OfSetting files command (λ inputs setting. text ≡ done_text words (Some setting) (Benched bench))
 IsTextOf command files words done text = text ≡ done_text words None done
 
 -- the same to words
@@ -39,14 +42,32 @@ abbrev pub IsTextTo : Result PlainCommand WordFault → Option Files → List (L
 IsTextTo (Ok command) files words done text = IsTextOf command files words done text
 IsTextTo (Err fault) files words done text = text ≡ done_text words None done
 
+-- what a command gives over a setting, what it puts for that, and the text
+pub record IsGiven (command : PlainCommand) (words : List (List ℕ)) (inputs : List (List ℕ)) (setting : TheSetting) (done : Done) (puts : List Put) (text : List ℕ) : Type 0 where
+  pub gives : GivesOver command inputs setting done
+  pub puts_are : PutsOver command setting done puts
+  pub text_is : text ≡ done_text words (Some setting) done
+
+-- what is put for an answer to a command: for advice what the command puts, over one setting with the advice and its text;
+-- nothing for all other answers
+abbrev pub ArePuts : PlainCommand → Option Files → List (List ℕ) → Done → List Put → List ℕ → Type 0
+ArePuts command files words (Advised advice) puts text =
+    OfSetting files command (λ inputs setting. IsGiven command words inputs setting (Advised advice) puts text)
+ArePuts command files words done puts text = puts ≡ []
+
+-- the same to words
+abbrev pub ArePutsTo : Result PlainCommand WordFault → Option Files → List (List ℕ) → Done → List Put → List ℕ → Type 0
+ArePutsTo (Ok command) files words done puts text = ArePuts command files words done puts text
+ArePutsTo (Err fault) files words done puts text = puts ≡ []
+
 -- what a command replies over the files, with what is put and the text
 pub record Replies (command : PlainCommand) (files : Option Files) (words : List (List ℕ)) (done : Done) (puts : List Put) (text : List ℕ) : Type 0 where
   pub answers : Answers command files done
-  pub no_puts : puts ≡ []
+  pub puts_are : ArePuts command files words done puts text
   pub text_is : IsTextOf command files words done text
 
 -- an answer to the words, what is put for it, and its text
 pub record IsReply (words : List (List ℕ)) (files : Option Files) (before after : ReadCounts) (done : Done) (puts : List Put) (text : List ℕ) : Type 0 where
   pub answers : MayAnswerWords (command_of words) files before after done
-  pub no_puts : puts ≡ []
+  pub puts_are : ArePutsTo (command_of words) files words done puts text
   pub text_is : IsTextTo (command_of words) files words done text

@@ -1,4 +1,5 @@
 pub mod Advise
+pub mod Bench
 pub mod Candidates
 pub mod Check
 pub mod Cost

@@ -2,7 +2,7 @@
 ghost use Rattle.std.specs.Prelude.{◌≡◌, ◌≤◌, ℕ, List, Some, Ok, IfOk, IfErr};
 ghost use Rattle.adv_base.specs.Settings.{the_setting};
 ghost use Rattle.report.specs.Texts.{FitsSetting};
-ghost use Rattle.cophy_core.specs.Answers.{IsBuilt, RefusesOver, GivesOver};
+ghost use Rattle.cophy_core.specs.Answers.{RefusesOver, GivesOver, PutsOver};
 ghost use Rattle.cophy_core.specs.Causes.{IsBounded};
 ghost use Rattle.cophy_core.specs.CommandLines.{IsInRange};
 ghost use Rattle.cophy_core.specs.ReadWords.{texts, plain_command, command_of};
@@ -13,48 +13,68 @@ ghost use Rattle.cophy_core.specs.Replies.{IsReply, Replies};
 ghost use Rattle.cophy_core.specs.Stops.{StopsAt};
 
 use crate::commands::advise::advise;
+use crate::commands::bench::bench;
 use crate::commands::check::check;
 use crate::commands::cost::cost;
 use crate::commands::explain::explain;
 use crate::commands::list_candidates::list_candidates;
 use crate::commands::what_if::what_if;
-use crate::files::{bytes_at, read_files};
+use crate::files::{bytes_at, inputs_of};
 use crate::reply::Reply;
 use crate::setting::open;
 use crate::stop::Stop;
 use crate::words::{Command, read_words};
+use crate::worked::Worked;
 use adv_base::{Bytes, List, Setting};
 use adv_shelf::Shelf;
 use report::{Done, text};
 use std::alloc::Global;
 
-/// What a command gives over the bytes of its files and their setting.
-fn work(
+/// What a command gives over the bytes that it answers from and their setting, and the files that it puts for that.
+fn work<'a>(
     alloc: Global,
-    command: &Command<'_>,
+    command: &Command<'a>,
     inputs: &List<Bytes>,
     setting: &Setting<'_>,
-) -> Result<Done, Stop>
-    requires built { IsBuilt (plain_command command.now) }
-    requires range { IsInRange (plain_command command.now) }
-    ensures gives { IfOk result (GivesOver (plain_command command.now) inputs.now (the_setting setting.now)) }
-    ensures fits { IfOk result (FitsSetting (Some (the_setting setting.now))) }
-    ensures bound { IfOk result IsBounded }
+) -> Result<Worked<'a>, Stop>
+    requires { IsInRange (plain_command command.now) }
+    ensures gives { IfOk result (λ worked. GivesOver (plain_command command.now) inputs.now (the_setting setting.now) worked.done) }
+    ensures puts { IfOk result (λ worked. PutsOver (plain_command command.now) (the_setting setting.now) worked.done (plain_puts worked.puts)) }
+    ensures fits { IfOk result (λ worked. FitsSetting (Some (the_setting setting.now)) worked.done) }
+    ensures bound { IfOk result (λ worked. IsBounded worked.done) }
     ensures stop { IfErr result (StopsAt (RefusesOver (plain_command command.now) inputs.now (the_setting setting.now))) }
 {
     match *command {
-        Command::Cost { .. } => Ok(cost(alloc, setting)?),
-        Command::WhatIf { .. } => what_if(alloc, setting, bytes_at(inputs, 2)),
-        Command::Explain { number, .. } => explain(alloc, setting, bytes_at(inputs, 2), number),
-        Command::Candidates { .. } => Ok(list_candidates(alloc, setting)?),
+        Command::Cost { .. } => {
+            let done = cost(alloc, setting)?;
+            Ok(Worked::alone(alloc, done))
+        }
+        Command::WhatIf { .. } => {
+            let done = what_if(alloc, setting, bytes_at(inputs, 2))?;
+            Ok(Worked::alone(alloc, done))
+        }
+        Command::Explain { number, .. } => {
+            let done = explain(alloc, setting, bytes_at(inputs, 2), number)?;
+            Ok(Worked::alone(alloc, done))
+        }
+        Command::Candidates { .. } => {
+            let done = list_candidates(alloc, setting)?;
+            Ok(Worked::alone(alloc, done))
+        }
         Command::Advise {
             budget,
             nodes,
-            cert: None,
+            cert,
             ..
-        } => advise(alloc, setting, budget, nodes),
-        Command::Check { .. } => Ok(check(alloc, setting, bytes_at(inputs, 2))?),
-        Command::Advise { cert: Some(_), .. } | Command::Bench { .. } => unreachable!(),
+        } => advise(alloc, setting, budget, nodes, cert),
+        Command::Check { .. } => {
+            let done = check(alloc, setting, bytes_at(inputs, 2))?;
+            Ok(Worked::alone(alloc, done))
+        }
+        Command::Bench { budget, .. } => {
+            let done = bench(alloc, setting, budget)?;
+            Ok(Worked::alone(alloc, done))
+        }
     }
 }
 
@@ -76,14 +96,14 @@ fn answer<'a, S: Shelf>(
     ensures counts_at { (n : List ℕ) → S.read_faults_at shelf.old n ≤ S.read_faults_at shelf.new n }
     ensures puts { S.put_faults shelf.new ≡ S.put_faults shelf.old }
 {
-    let inputs = read_files(alloc, shelf, command)?;
+    let inputs = inputs_of(alloc, shelf, command)?;
     let opened = open(alloc, bytes_at(&inputs, 0), bytes_at(&inputs, 1))?;
     let setting = opened.setting();
-    let done = work(alloc, command, &inputs, &setting)?;
-    let text = text(alloc, &done, words, Some(&setting))?;
+    let worked = work(alloc, command, &inputs, &setting)?;
+    let text = text(alloc, &worked.done, words, Some(&setting))?;
     Ok(Reply {
-        done,
-        puts: List::new(alloc),
+        done: worked.done,
+        puts: worked.puts,
         text,
     })
 }

@@ -1,5 +1,6 @@
 //! What each command works out, a file a command.
 pub(crate) mod advise;
+pub(crate) mod bench;
 pub(crate) mod check;
 pub(crate) mod cost;
 pub(crate) mod explain;

@@ -2,12 +2,14 @@
 ghost use Rattle.std.specs.Prelude.{◌≡◌, ◌≤◌, ◌<◌, ◌∷◌, [], ◌++◌, ℕ, List, Some, IfOk, IfErr, OnOk, length, slice_get};
 ghost use Rattle.adv_base.specs.declared.limits.TheConstants.{MOST_CERTIFICATE_BYTES, MOST_FILE_BYTES};
 ghost use Rattle.report.specs.declared.done.Role.TheVariants.{Third};
-ghost use Rattle.cophy_core.specs.Answers.{IsBuilt};
 ghost use Rattle.cophy_core.specs.ReadWords.{plain_command};
-ghost use Rattle.cophy_core.specs.Files.{counts, input, input_file, plain_uses, files_of, IsInput, AreInputs};
+ghost use Rattle.cophy_core.specs.CommandLines.{IsInRange};
+ghost use Rattle.cophy_core.specs.Files.{counts, input, input_file, plain_uses, IsInput, AreInputs};
+ghost use Rattle.cophy_core.specs.Inputs.{HasInputs};
 ghost use Rattle.cophy_core.specs.Reading.{IsUnreadFile, StopsReading, StopsAtFiles};
 
 use crate::Command;
+use crate::made::made_inputs;
 use crate::stop::Stop;
 use adv_base::limits::{MOST_CERTIFICATE_BYTES, MOST_FILE_BYTES};
 use adv_base::{Bytes, List, NoMemory};
@@ -73,7 +75,7 @@ fn file_at<'a>(files: &[FileUse<'a>], at: usize) -> FileUse<'a>
 }
 
 /// Puts the bytes of the next file at the end.
-fn put(inputs: &mut Vec<Bytes>, bytes: Bytes) -> Result<(), NoMemory>
+pub(crate) fn put(inputs: &mut Vec<Bytes>, bytes: Bytes) -> Result<(), NoMemory>
     ensures { OnOk result (inputs.new.items ≡ inputs.old.items ++ bytes ∷ []) }
 {
     inputs.push(bytes).map_err(|_| NoMemory)
@@ -103,15 +105,15 @@ fn read_each<S: Shelf>(
     Ok(List { items: inputs })
 }
 
-/// The bytes of all files of a command, read in the order in which it names them. A command that isn't built is refused
-/// before any file is read.
-pub(crate) fn read_files<S: Shelf>(
+/// The bytes that a command answers from: those of all its files, read in the order in which it names them; for `bench`,
+/// which reads none, those that are made.
+pub(crate) fn inputs_of<S: Shelf>(
     alloc: Global,
     shelf: &mut S,
     command: &Command<'_>,
 ) -> Result<List<Bytes>, Stop>
-    ensures inputs { IfOk result (AreInputs (S.files shelf.old) (files_of (plain_command command.now))) }
-    ensures built { IfOk result (λ _. IsBuilt (plain_command command.now)) }
+    requires { IsInRange (plain_command command.now) }
+    ensures inputs { IfOk result (HasInputs (S.files shelf.old) (plain_command command.now)) }
     ensures stop { IfErr result (StopsAtFiles (plain_command command.now) (S.files shelf.old)
         (counts (S.read_faults shelf.old) (S.read_faults_at shelf.old)) (counts (S.read_faults shelf.new) (S.read_faults_at shelf.new))) }
 
@@ -123,12 +125,7 @@ pub(crate) fn read_files<S: Shelf>(
     match *command {
         Command::Candidates { cat, load }
         | Command::Cost { cat, load }
-        | Command::Advise {
-            cat,
-            load,
-            cert: None,
-            ..
-        } => {
+        | Command::Advise { cat, load, .. } => {
             let files = [
                 plain_file(Role::Catalogue, cat),
                 plain_file(Role::Workload, load),
@@ -157,9 +154,12 @@ pub(crate) fn read_files<S: Shelf>(
             ];
             read_each(alloc, shelf, &files)
         }
-        Command::Advise { cert: Some(_), .. } | Command::Bench { .. } => {
-            Err(Stop::Refused(Refusal::NotBuilt))
-        }
+        Command::Bench {
+            seed,
+            tables,
+            statements,
+            ..
+        } => Ok(made_inputs(alloc, seed, tables, statements)?),
     }
 }
 

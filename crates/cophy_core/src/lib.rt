@@ -9,6 +9,7 @@ mod answer;
 mod commands;
 mod conf;
 mod files;
+mod made;
 mod number;
 mod opened;
 mod planned;
@@ -19,6 +20,7 @@ mod stop;
 mod tally;
 mod top;
 mod words;
+mod worked;
 
 pub use commands::check::checks_have_one_answer;
 pub use conf::read_conf;

@@ -6,17 +6,11 @@ ghost use Rattle.cophy_core.specs.Causes.{IsBounded};
 ghost use Rattle.cophy_core.specs.ReadWords.{texts};
 ghost use Rattle.cophy_core.specs.Endings.{outside, plain_puts, put_all, Ends, IsUnput};
 
+use crate::worked::FilePut;
 use adv_base::{Bytes, List};
 use adv_shelf::{PutFault, Shelf, Sink, write_all};
 use report::{Done, text};
 use std::alloc::Global;
-
-/// A file to be put, with its bytes.
-#[derive(Drop)]
-pub struct FilePut<'a> {
-    pub name: &'a str,
-    pub bytes: Bytes,
-}
 
 /// An answer, the files that are put for it, and its text.
 #[derive(Drop)]

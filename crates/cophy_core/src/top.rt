@@ -1,14 +1,20 @@
 //! The call that the program makes.
-ghost use Rattle.std.specs.Prelude.{◌≡◌, ◌≤◌, ◌⊎◌, ℕ, List, Ok, Err};
+ghost use Rattle.std.specs.Prelude.{◌≡◌, ◌≢◌, ◌≤◌, ◌⊎◌, ℕ, List, Some, Ok, Err};
+ghost use Rattle.adv_shelf.specs.Shelf.{Files};
 ghost use Rattle.report.specs.declared.done.WordFault.{WordFault};
 ghost use Rattle.cophy_core.specs.Causes.{advice_status_of, status_of, IsOrMemory, IsSteady, UsageIsTrue, ReadFaultIsTrue, WriteFaultIsTrue, RefusalIsTrue, NotProvedIsTrue, MemoryWritesNothing, IsSound, IsWritten, IsBounded};
 ghost use Rattle.cophy_core.specs.Answers.{Answers};
 ghost use Rattle.cophy_core.specs.ReadWords.{texts, PlainCommand, command_of};
+ghost use Rattle.cophy_core.specs.Endings.{outside};
 ghost use Rattle.cophy_core.specs.Files.{counts};
+ghost use Rattle.cophy_core.specs.Headline.{Asked, asked_command, IsAccepted, Headline};
+ghost use Rattle.cophy_core.specs.Left.{LeavesFiles};
 
 use crate::answer::reply;
 use crate::reply::give;
 use adv_shelf::{Shelf, Sink};
+use certificate::{texts_are_one, written_certificates_fit};
+use gap_checker::{best_answers_are_proved, faults_exclude_proofs};
 use report::{Advice, Done};
 use std::alloc::Global;
 
@@ -47,17 +53,18 @@ fn status(done: &Done) -> u8
         Done::Advised(advice) => advice_status(advice),
         Done::Checked(_) => 0,
         Done::NotProved(_) => 6,
+        Done::Benched(bench) => advice_status(&bench.advice),
     }
 }
 
-/// Answers the words of a command line: reads the files that its command names, and writes the answer's text to the
-/// output. No file changes.
+/// Answers the words of a command line: reads the files that its command names, or makes what `bench` advises on, puts the
+/// certificate of advice where one is asked for, and writes the answer's text to the output. No other file changes.
 ///
 /// The first of these that fails is the answer: the words; the files, each to its end, in the order of the words; the
 /// catalogue; the workload's text; its names; what the command alone asks for; the work, and with it what a certificate fails
-/// to prove; the write. Prices and explained plans are those of least plans (System R's search, over bushy plans). A fault of
-/// reading or writing is answered only where the shelf's or the sink's count of faults rose in this call. Want of memory
-/// may come at any time, and then nothing is written.
+/// to prove; the put of the certificate; the write. Prices and explained plans are those of least plans (System R's search,
+/// over bushy plans). A fault of reading or writing is answered only where the shelf's or the sink's count of faults rose in
+/// this call. Want of memory may come at any time before the write, and then nothing is written and no file changes.
 pub fn run<S: Shelf, O: Sink>(
     alloc: Global,
     words: &[String],
@@ -71,7 +78,9 @@ pub fn run<S: Shelf, O: Sink>(
         IsSteady (O.faults out.old) (O.faults out.new) → IsOrMemory (Done.Usage fault) result.done }
     ensures read_fault { ReadFaultIsTrue (command_of (texts words.now)) (S.files shelf.old)
         (counts (S.read_faults shelf.old) (S.read_faults_at shelf.old)) (counts (S.read_faults shelf.new) (S.read_faults_at shelf.new)) result.done }
-    ensures write_fault { WriteFaultIsTrue (O.faults out.old) (O.faults out.new) result.done }
+    ensures write_fault { WriteFaultIsTrue (command_of (texts words.now))
+        (outside (S.files shelf.old) (S.put_faults shelf.old) (O.written out.old) (O.faults out.old))
+        (outside (S.files shelf.new) (S.put_faults shelf.new) (O.written out.new) (O.faults out.new)) result.done }
     ensures refused { RefusalIsTrue (command_of (texts words.now)) (S.files shelf.old) result.done }
     // A certificate is said to prove nothing only to `check`, where nothing is refused, for the first of its faults.
     ensures not_proved { NotProvedIsTrue (command_of (texts words.now)) (S.files shelf.old) result.done }
@@ -80,19 +89,34 @@ pub fn run<S: Shelf, O: Sink>(
     ensures soundness { (command : PlainCommand) → command_of (texts words.now) ≡ Ok command → IsSound command (S.files shelf.old) result.done }
     // Where no count of faults rose, a command has its answer.
     ensures completeness { (command : PlainCommand) → command_of (texts words.now) ≡ Ok command →
-        IsSteady (S.read_faults shelf.old) (S.read_faults shelf.new) → IsSteady (O.faults out.old) (O.faults out.new) →
+        IsSteady (S.read_faults shelf.old) (S.read_faults shelf.new) → IsSteady (S.put_faults shelf.old) (S.put_faults shelf.new) →
+        IsSteady (O.faults out.old) (O.faults out.new) →
         Answers command (S.files shelf.old) result.done ⊎ (result.done ≡ Done.Memory) }
     ensures text { IsWritten (texts words.now) (S.files shelf.old)
         (counts (S.read_faults shelf.old) (S.read_faults_at shelf.old)) (counts (S.read_faults shelf.new) (S.read_faults_at shelf.new))
         (O.written out.old) (O.written out.new) result.done }
     ensures bound { IsBounded result.done }
+    // What advice promises of accepted files, where no count of faults rose and there was memory.
+    ensures headline { (files : Files) (asked : Asked) → S.files shelf.old ≡ Some files →
+        command_of (texts words.now) ≡ Ok (asked_command asked) → IsAccepted files asked →
+        IsSteady (S.read_faults shelf.old) (S.read_faults shelf.new) → IsSteady (S.put_faults shelf.old) (S.put_faults shelf.new) →
+        IsSteady (O.faults out.old) (O.faults out.new) → result.done ≢ Done.Memory →
+        Headline (texts words.now) files asked (O.written out.old) result.status (S.files shelf.new) (O.written out.new) }
 
-    ensures files { S.files shelf.new ≡ S.files shelf.old }
+    // No file changes but the one that advice puts its certificate into.
+    ensures files { LeavesFiles (command_of (texts words.now))
+        (counts (S.read_faults shelf.old) (S.read_faults_at shelf.old)) (counts (S.read_faults shelf.new) (S.read_faults_at shelf.new))
+        (outside (S.files shelf.old) (S.put_faults shelf.old) (O.written out.old) (O.faults out.old))
+        (outside (S.files shelf.new) (S.put_faults shelf.new) (O.written out.new) (O.faults out.new)) result.done }
     ensures puts { S.put_faults shelf.old ≤ S.put_faults shelf.new }
     ensures reads { S.read_faults shelf.old ≤ S.read_faults shelf.new }
     ensures reads_at { (n : List ℕ) → S.read_faults_at shelf.old n ≤ S.read_faults_at shelf.new n }
     ensures writes { O.faults out.old ≤ O.faults out.new }
 {
+    written_certificates_fit();
+    texts_are_one();
+    best_answers_are_proved();
+    faults_exclude_proofs();
     let reply = reply(alloc, words, shelf);
     let done = give(shelf, out, reply);
     Outcome {

@@ -19,7 +19,7 @@ const LINES: &str = r#"4|cost CAT LOAD|statement 1 weight 1 cost 30000~total 300
 5|whatif CAT LOAD CONF|size 0~statement 1 weight 1 cost 30000~total 30000~
 5|check CAT LOAD CONF|not proved: malformed at line 1~
 0|cost CAT|usage: missing word 3~
-0|bench 1 2 5 0|refused: not built~"#;
+0|bench 1 2 5 0|tables 2~statements 5~slots 6~budget 0~candidates 11 left over 0~size 0~cost 4944003918~bound 4944003918~gap 0~nodes 1 of 20000~finished~"#;
 
 /// The parts of a line: the calls, the words and the output.
 fn parts<'a>(rt: &impl Abort, case: &'a str) -> (u64, &'a str, &'a str) {
@@ -47,7 +47,7 @@ fn assert_unchanged(rt: &impl Abort, alloc: Global, shelf: &MemShelf) {
 fn assert_run(rt: &impl Abort, alloc: Global, words: &str, call: u64, want: (u8, &str)) {
     let mut shelf = one_table(rt, alloc);
     shelf.fail_at(call).expect(rt, "memory");
-    let (status, out) = answer(rt, alloc, words, &mut shelf, 100);
+    let (status, out) = answer(rt, alloc, words, &mut shelf, 1000);
     assert_unchanged(rt, alloc, &shelf);
     let output = spread(rt, alloc, want.1);
     assert_eq!(rt; out.bytes(), output.as_slice(), "{words}, call {call}");

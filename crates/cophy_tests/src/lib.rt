@@ -6,6 +6,8 @@
 #[cfg(test)]
 mod catalogues;
 #[cfg(test)]
+mod certificates;
+#[cfg(test)]
 mod faults;
 #[cfg(test)]
 mod large;

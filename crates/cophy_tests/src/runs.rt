@@ -4,6 +4,7 @@
 //! workload in LOAD, the configuration in CONF, and the output. `~` stands for a line feed.
 use crate::catalogues::catalogue;
 use crate::scene::{answer, shelf, spread};
+use adv_shelf::MemShelf;
 use std::alloc::Global;
 use std::process::Abort;
 
@@ -113,6 +114,18 @@ const ADVICE: &str =
 3|0|advise CAT LOAD 10|T|SELECT c FROM t ORDER BY c; UPDATE t SET c = 1 -- its upkeep is 16020000||budget 10~candidates 1 left over 0~size 0~cost 110000~bound 110000~gap 0~nodes # of 20000~finished~
 1|0|advise CAT LOAD 10|EMPTY|||budget 10~candidates 0 left over 0~size 0~cost 0~bound 0~gap 0~nodes # of 20000~finished~"#;
 
+/// Advice on made workloads within no page, so that nothing can be picked. A second program, from what is said of the
+/// generator and of prices, made the same workloads, counted their slots and computed what they cost without an index; the
+/// candidates were counted by hand.
+const MADE: &str =
+    r#"1|0|bench 1 2 5 0|T|||tables 2~statements 5~slots 6~budget 0~candidates 11 left over 0~size 0~cost 4944003918~bound 4944003918~gap 0~nodes # of 20000~finished~
+1|0|bench 7 20 500 0|T|||tables 20~statements 500~slots 606~budget 0~candidates 180 left over 0~size 0~cost 568912639352~bound 568912639352~gap 0~nodes # of 20000~finished~"#;
+
+/// Command lines that advise on made workloads, and how what they print begins.
+const MADE_TWICE: &str =
+    r#"bench 7 4 20 2000|tables 4~statements 20~slots 25~budget 2000~candidates 23 left over 0~
+bench 18446744073709551615 3 8 1000000000000|tables 3~statements 8~slots 11~budget 1000000000000~"#;
+
 /// Certificates, and what each proves.
 const CHECKED: &str =
     r#"0|check CAT LOAD CONF|KNAP|-- weight 10~SELECT c FROM t ORDER BY c;~-- weight 11~SELECT d, e FROM v ORDER BY d, e;~|cophy certificate 1~budget 4~config 2~cost 954000~bound 954000~sets 0~tree 3~B 1~L 0~L 0~end~|proved cost 954000 bound 954000 budget 4~
@@ -158,14 +171,15 @@ const WORDS: &str = r#"2||TI|||usage: no command~
 2|advise c l 10 --nodes 5 --nodes 6|TI|||usage: option twice at word 7~
 2|advise c l 10 --node|TI|||usage: unknown option at word 5~
 2|bench 1 1 5 0|TI|||usage: bad number at word 3~
+2|bench 1 2 501 0|TI|||usage: bad number at word 4~
+2|bench 1 2 5|TI|||usage: missing word 5~
 3|advise none none 10|TI|||read fault: none~
-5|advise none none 10 --cert none|TI|||refused: not built~
+3|advise none none 10 --cert none|TI|||read fault: none~
 5|advise CAT LOAD 10|STAR|SELECT count(*) FROM hub, p, q, r, s WHERE k1 = p.x AND k2 = p.y AND k3 = p.z AND k4 = q.x AND k5 = q.y AND k6 = q.z AND k7 = r.x AND k8 = r.y AND k9 = r.z AND k10 = s.w AND k11 = s.x AND k12 = s.y AND k13 = s.z||refused: statement 1 has 4480 combinations~
 3|whatif none none none|TI|||read fault: none~
 2|whatif CAT LOAD|TI|||usage: missing word 4~
 2|check CAT LOAD|TI|||usage: missing word 4~
 3|check none none none|TI|||read fault: none~
-5|bench 1 2 5 0|TI|||refused: not built~
 3|cost none LOAD|TI|||read fault: none~
 3|cost CAT none|TI|||read fault: none~"#;
 
@@ -294,6 +308,33 @@ fn no_candidate_changes_no_price(rt: HostRuntime) {
 fn advice_is_best(rt: HostRuntime) {
     for line in ADVICE.lines() {
         compare_advice(&rt, rt.alloc(), line);
+    }
+}
+
+#[test]
+fn advice_on_made_workloads_is_best(rt: HostRuntime) {
+    for line in MADE.lines() {
+        compare_advice(&rt, rt.alloc(), line);
+    }
+}
+
+/// Runs a line twice over no file, and compares the two outputs and how they begin.
+fn compare_twice(rt: &impl Abort, alloc: Global, line: &str) {
+    let (words, front) = line.split_once('|').expect(rt, "words");
+    let front = spread(rt, alloc, front);
+    let mut shelf = MemShelf::new(alloc).expect(rt, "memory");
+    let (status, first) = answer(rt, alloc, words, &mut shelf, 5000);
+    let (again, second) = answer(rt, alloc, words, &mut shelf, 5000);
+    assert!(rt; status <= 1, "{words}");
+    assert_eq!(rt; again, status, "{words}");
+    assert_eq!(rt; second.bytes(), first.bytes(), "{words}");
+    assert!(rt; first.bytes().starts_with(front.as_slice()), "{words}");
+}
+
+#[test]
+fn a_seed_gives_the_same_advice_each_time(rt: HostRuntime) {
+    for line in MADE_TWICE.lines() {
+        compare_twice(&rt, rt.alloc(), line);
     }
 }
 

@@ -152,7 +152,6 @@ fn refusals(rt: HostRuntime) {
             Refusal::TooManyCombinations(3, 4480),
             "refused: statement 3 has 4480 combinations\n",
         ),
-        (Refusal::NotBuilt, "refused: not built\n"),
     ] {
         let done = Done::Refused(why);
         assert_text(&rt, rt.alloc(), &done, None, want);

@@ -16,14 +16,15 @@ use Rattle.plan_model.specs.declared.plan.TheConstants.{MOST_TOTAL}
 use Rattle.sql_reader.specs.declared.parsed.SqlFault.{SqlFault}
 use Rattle.sql_reader.specs.declared.parsed.SqlFault.TheVariants as sql
 use Rattle.report.specs.declared.done.Advice.{Advice}
+use Rattle.report.specs.declared.done.Bench.{Bench}
 use Rattle.report.specs.declared.done.Done.{Done}
-use Rattle.report.specs.declared.done.Done.TheVariants.{Usage, ReadFault, Refused, Priced, Listed, Explained as ExplainedDone, Advised, Checked as CheckedDone, NotProved as NotProvedDone}
+use Rattle.report.specs.declared.done.Done.TheVariants.{Usage, ReadFault, Refused, Priced, Listed, Explained as ExplainedDone, Advised, Checked as CheckedDone, NotProved as NotProvedDone, Benched}
 use Rattle.report.specs.declared.done.Explained.{Explained}
 use Rattle.report.specs.declared.done.NotProved.{NotProved}
 use Rattle.report.specs.declared.done.NotProved.TheVariants.{Malformed, Fault}
 use Rattle.report.specs.declared.done.Prices.{Prices}
 use Rattle.report.specs.declared.done.Refusal.{Refusal}
-use Rattle.report.specs.declared.done.Refusal.TheVariants.{TooLong, Cat, Sql, Bind, NoStatement, BadConf, TooManyCombinations, NotBuilt}
+use Rattle.report.specs.declared.done.Refusal.TheVariants.{TooLong, Cat, Sql, Bind, NoStatement, BadConf, TooManyCombinations}
 use Rattle.report.specs.declared.done.Role.{Role}
 use Rattle.report.specs.declared.done.Role.TheVariants.{Catalogue, Workload, Third}
 use Rattle.report.specs.declared.done.WordFault.{WordFault}
@@ -98,7 +99,6 @@ refusal words (NoStatement n count) = numbered (codes "no statement ") n ++ numb
 refusal words (BadConf line) = numbered (codes "configuration line ") line
 refusal words (TooManyCombinations n count) =
     numbered (codes "statement ") n ++ (numbered (codes " has ") count ++ codes " combinations")
-refusal words NotBuilt = codes "not built"
 
 abbrev pub line : List ℕ → List ℕ
 line text = text ++ 10 ∷ []
@@ -184,6 +184,16 @@ abbrev pub advised_text : Option TheSetting → Advice → List ℕ
 advised_text None advice = []
 advised_text (Some setting) advice = advice_text setting advice
 
+-- how large a made workload is
+abbrev pub sizes_text : ℕ → ℕ → ℕ → List ℕ
+sizes_text tables statements slots =
+    line (numbered (codes "tables ") tables)
+    ++ (line (numbered (codes "statements ") statements) ++ line (numbered (codes "slots ") slots))
+
+-- advice on a made workload
+abbrev pub benched_text : Option TheSetting → Bench → List ℕ
+benched_text setting bench = sizes_text bench.tables bench.statements bench.slots ++ advised_text setting bench.advice
+
 -- a bound under a budget
 unfoldable pub bound_words : ℤ → ℕ → List ℕ
 bound_words bound budget = signed (codes " bound ") bound ++ numbered (codes " budget ") budget
@@ -224,6 +234,7 @@ done_text words setting (ExplainedDone explained) = explained_text explained
 done_text words setting (Advised advice) = advised_text setting advice
 done_text words setting (CheckedDone checked) = checked_text checked
 done_text words setting (NotProvedDone why) = line (codes "not proved: " ++ not_proved why)
+done_text words setting (Benched bench) = benched_text setting bench
 done_text words setting done = []
 
 -- candidates name what the catalogue of their setting has
@@ -247,4 +258,5 @@ abbrev pub FitsSetting : Option TheSetting → Done → Type 0
 FitsSetting setting (Priced prices) = length prices.costs ≡ length (statements_in setting)
 FitsSetting setting (Listed found) = AreNamedIn setting found
 FitsSetting setting (Advised advice) = IsAdvice setting advice
+FitsSetting setting (Benched bench) = IsAdvice setting bench.advice
 FitsSetting setting done = Unit {0}

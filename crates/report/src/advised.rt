@@ -4,11 +4,11 @@ ghost use Rattle.adv_base.specs.declared.limits.TheConstants.{MOST_CANDIDATES};
 ghost use Rattle.adv_base.specs.Named.{NamesShape};
 ghost use Rattle.report.specs.Listings as lists;
 ghost use Rattle.adv_base.specs.Settings.{the_setting};
-ghost use Rattle.report.specs.Texts.{gap, line, numbered, proposal_text, worth_text, end_word, search_text, advice_text, advised_text, IsBoundedBy, IsAdvice};
+ghost use Rattle.report.specs.Texts.{gap, line, numbered, proposal_text, worth_text, end_word, search_text, advice_text, advised_text, sizes_text, benched_text, IsBoundedBy, IsAdvice};
 
-use crate::Advice;
 use crate::listed::push_line;
 use crate::usage::{push_numbered, push_signed};
+use crate::{Advice, Bench};
 use adv_base::{Catalogue, Config, IndexShape, Setting};
 use hypo_indexes::config_pages;
 use std::alloc::{AllocError, Global};
@@ -172,4 +172,33 @@ pub(crate) fn push_advised(
         None => Ok(()),
         Some(setting) => push_advice(alloc, out, setting, advice),
     }
+}
+
+/// Adds how large a made workload is.
+fn push_sizes(
+    alloc: Global,
+    out: &mut Vec<u8>,
+    tables: u32,
+    statements: u32,
+    slots: u32,
+) -> Result<(), AllocError>
+    ensures { OnOk result (out.new.items ≡ out.old.items ++ sizes_text tables statements slots) }
+{
+    push_line_of(alloc, out, b"tables ", tables as u128)?;
+    push_line_of(alloc, out, b"statements ", statements as u128)?;
+    push_line_of(alloc, out, b"slots ", slots as u128)
+}
+
+/// Adds the text of advice on a made workload, over the setting that is there.
+pub(crate) fn push_benched(
+    alloc: Global,
+    out: &mut Vec<u8>,
+    setting: Option<&Setting<'_>>,
+    bench: &Bench,
+) -> Result<(), AllocError>
+    requires { IsAdvice (option_map (λ s. the_setting s.now) setting) bench.now.advice }
+    ensures { OnOk result (out.new.items ≡ out.old.items ++ benched_text (option_map (λ s. the_setting s.now) setting.entry) bench.now) }
+{
+    push_sizes(alloc, out, bench.tables, bench.statements, bench.slots)?;
+    push_advised(alloc, out, setting, &bench.advice)
 }

@@ -46,8 +46,6 @@ pub enum Refusal {
     BadConf(u64),
     /// The statement of that number has this many combinations of interesting orders, too many for a cache of its plans.
     TooManyCombinations(u32, u64),
-    /// The command isn't built yet.
-    NotBuilt,
 }
 
 /// Why a certificate proves nothing.
@@ -89,6 +87,16 @@ pub struct Advice {
     pub answer: Answer,
 }
 
+/// Advice on a made workload, with how large that is: its tables, its statements, and the slots of all of them (tables that
+/// their blocks read, each as often as it stands there).
+#[derive(Drop)]
+pub struct Bench {
+    pub tables: u32,
+    pub statements: u32,
+    pub slots: u32,
+    pub advice: Advice,
+}
+
 /// The answer to the words of a command line.
 #[derive(Drop)]
 pub enum Done {
@@ -103,4 +111,5 @@ pub enum Done {
     Advised(Advice),
     Checked(Checked),
     NotProved(NotProved),
+    Benched(Bench),
 }

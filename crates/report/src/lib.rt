@@ -15,5 +15,5 @@ mod printed;
 mod refusal;
 mod usage;
 
-pub use done::{Advice, Done, Explained, NotProved, Prices, Refusal, Role, WordFault};
+pub use done::{Advice, Bench, Done, Explained, NotProved, Prices, Refusal, Role, WordFault};
 pub use printed::text;

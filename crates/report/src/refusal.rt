@@ -162,6 +162,5 @@ pub(crate) fn push_refusal(
         Refusal::TooManyCombinations(number, count) => {
             push_combinations(alloc, out, number, count)
         }
-        Refusal::NotBuilt => out.extend_from_slice(b"not built"),
     }
 }

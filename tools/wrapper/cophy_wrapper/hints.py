@@ -203,8 +203,6 @@ def _refused(call: Call, text: str) -> Iterator[str]:
         yield "statements count from 1; empty ones between two ; don't count"
     elif text.endswith("combinations"):
         yield "more than 4096 combinations of orders: leave out a join condition, or split the statement"
-    elif text.endswith("not built"):
-        yield "docs/FORMATS.md says what is built today"
 
 
 def _not_toml(call: Call) -> Iterator[str]:

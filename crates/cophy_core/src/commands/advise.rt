@@ -1,20 +1,24 @@
 //! `advise`: which candidates to make within a budget of pages.
-ghost use Rattle.std.specs.Prelude.{◌≡◌, ◌≤◌, replicate, IfOk, IfErr, Some};
+ghost use Rattle.std.specs.Prelude.{◌≡◌, ◌≤◌, ◌∷◌, [], length, replicate, option_map, IfOk, IfErr, Some};
 ghost use Rattle.adv_base.specs.declared.limits.TheConstants.{MOST_CANDIDATES, MOST_NODES, MOST_ROWS};
 ghost use Rattle.bip_model.specs.StandsFor.{StandsFor};
-ghost use Rattle.adv_base.specs.Settings.{the_setting};
-ghost use Rattle.report.specs.Texts.{FitsSetting};
+ghost use Rattle.adv_base.specs.Settings.{TheSetting, the_setting};
+ghost use Rattle.report.specs.Texts.{FitsSetting, IsBoundedBy};
+ghost use Rattle.certificate.specs.Answers as answers;
 ghost use Rattle.tuning.specs.Refusals.{AreFew};
 ghost use Rattle.cophy_core.specs.Causes.{IsBounded};
+ghost use Rattle.cophy_core.specs.Endings.{plain_puts};
 ghost use Rattle.cophy_core.specs.Stops.{StopsAt};
 ghost use Rattle.cophy_core.specs.commands.Advise as spec;
 
 use crate::stop::Stop;
-use adv_base::Setting;
+use crate::worked::{FilePut, Worked};
 use adv_base::limits::MOST_CANDIDATES;
-use bip_model::{Fix, Programme, State, shown_bounds};
+use adv_base::{Config, List, NoMemory, Setting};
+use bip_model::{Answer, Fix, Programme, State, shown_bounds};
 use branch_bound::{Room, search};
 use candidates::candidates;
+use certificate::{best_answers_keep_limits, standing_programmes_are_in_order, write_cert};
 use report::{Advice, Done, Refusal};
 use std::alloc::Global;
 use tuning::{TuneFault, programme};
@@ -52,34 +56,136 @@ fn programme_of(alloc: Global, setting: &Setting<'_>) -> Result<Programme, Stop>
     }
 }
 
+/// A configuration has a flag for each candidate that there may be.
+fn has_all_flags(config: &Config)
+    ensures { length config.now.on ≡ MOST_CANDIDATES }
+{
+    let _flags = config.on;
+}
+
+/// A file to be put, alone.
+fn one<'a>(alloc: Global, put: FilePut<'a>) -> Result<List<FilePut<'a>>, NoMemory>
+    ensures { IfOk result (λ puts. puts ≡ put.entry ∷ []) }
+{
+    let mut items = Vec::new(alloc);
+    match items.push(put) {
+        Ok(()) => Ok(List { items }),
+        Err(_) => Err(NoMemory),
+    }
+}
+
+/// The certificate of an answer, to be put into a file of that name.
+fn one_put<'a>(
+    alloc: Global,
+    programme: &Programme,
+    budget: u64,
+    answer: &Answer,
+    name: &'a str,
+) -> Result<List<FilePut<'a>>, NoMemory>
+    requires limits { answers.AnswerLimits programme.now budget answer.now }
+    requires order { answers.InOrder programme.now }
+    ensures { IfOk result (λ puts. (setting : TheSetting) → StandsFor setting programme.now →
+        spec.IsCertificatePut setting budget answer.now name.entry.now (plain_puts puts)) }
+{
+    let bytes = write_cert(alloc, programme, budget, answer)?;
+    let puts = one(alloc, FilePut { name, bytes })?;
+    Ok(puts)
+}
+
+/// The certificate of an answer, to be put where a file is named for it.
+fn certified<'a>(
+    alloc: Global,
+    programme: &Programme,
+    budget: u64,
+    answer: &Answer,
+    cert: Option<&'a str>,
+) -> Result<List<FilePut<'a>>, NoMemory>
+    requires limits { answers.AnswerLimits programme.now budget answer.now }
+    requires order { answers.InOrder programme.now }
+    ensures { IfOk result (λ puts. (setting : TheSetting) → StandsFor setting programme.now →
+        spec.PutsFor (option_map (λ name. name.now) cert.entry) setting budget answer.now (plain_puts puts)) }
+{
+    match cert {
+        Some(name) => one_put(alloc, programme, budget, answer, name),
+        None => Ok(List::new(alloc)),
+    }
+}
+
 /// A best set of candidates that together take at most `budget` pages, found by a search of at most so many nodes (branch
-/// and bound over CoPhy's programme), with what the workload costs under it and a bound that no set within the budget
-/// undercuts; both are the same unless the nodes were spent. Or the first refusal: a statement with too many combinations
-/// of interesting orders.
-pub(crate) fn advise(
+/// and bound over CoPhy's programme, which is the setting's), with what the workload costs under it and a bound that no set
+/// within the budget undercuts; both are the same unless the nodes were spent.
+fn best_advice(
     alloc: Global,
     setting: &Setting<'_>,
+    programme: &Programme,
     budget: u64,
     nodes: u32,
-) -> Result<Done, Stop>
+) -> Result<Advice, NoMemory>
+    requires stands { StandsFor (the_setting setting.now) programme.now }
+    requires few { AreFew setting.now.cat.now setting.now.statements.now }
     requires budget { budget ≤ MOST_ROWS }
     requires some { 1 ≤ nodes }
     requires nodes { nodes ≤ MOST_NODES }
-    ensures gives { IfOk result (spec.Gives budget nodes (the_setting setting.now)) }
-    ensures fits { IfOk result (FitsSetting (Some (the_setting setting.now))) }
-    ensures bound { IfOk result IsBounded }
-    ensures stop { IfErr result (StopsAt (spec.Refuses (the_setting setting.now))) }
+    ensures advice { IfOk result (spec.IsAdvice budget nodes (the_setting setting.now)) }
+    ensures bounded { IfOk result (λ advice. IsBoundedBy advice.answer.cost advice.answer.bound) }
 {
-    let programme = programme_of(alloc, setting)?;
     let found = candidates(alloc, setting.cat, setting.statements)?;
     let root = free_root();
-    let room = Room::new(alloc, &programme, nodes)?;
-    let answer = search(&programme, &root, budget, nodes, room);
+    let room = Room::new(alloc, programme, nodes)?;
+    let answer = search(programme, &root, budget, nodes, room);
     shown_bounds();
-    Ok(Done::Advised(Advice {
+    has_all_flags(&answer.config);
+    Ok(Advice {
         budget,
         nodes,
         left_over: found.left_over,
         answer,
-    }))
+    })
+}
+
+/// The advice on a setting. Or the first refusal: a statement with too many combinations of interesting orders.
+pub(crate) fn advice_on(
+    alloc: Global,
+    setting: &Setting<'_>,
+    budget: u64,
+    nodes: u32,
+) -> Result<Advice, Stop>
+    requires budget { budget ≤ MOST_ROWS }
+    requires some { 1 ≤ nodes }
+    requires nodes { nodes ≤ MOST_NODES }
+    ensures advice { IfOk result (spec.IsAdvice budget nodes (the_setting setting.now)) }
+    ensures bounded { IfOk result (λ advice. IsBoundedBy advice.answer.cost advice.answer.bound) }
+    ensures stop { IfErr result (StopsAt (spec.Refuses (the_setting setting.now))) }
+{
+    let programme = programme_of(alloc, setting)?;
+    let advice = best_advice(alloc, setting, &programme, budget, nodes)?;
+    Ok(advice)
+}
+
+/// The answer with that advice. Where a file is named for it, the certificate that shows it is to be put there.
+pub(crate) fn advise<'a>(
+    alloc: Global,
+    setting: &Setting<'_>,
+    budget: u64,
+    nodes: u32,
+    cert: Option<&'a str>,
+) -> Result<Worked<'a>, Stop>
+    requires budget { budget ≤ MOST_ROWS }
+    requires some { 1 ≤ nodes }
+    requires nodes { nodes ≤ MOST_NODES }
+    ensures gives { IfOk result (λ worked. spec.Gives budget nodes (the_setting setting.now) worked.done) }
+    ensures puts { IfOk result (λ worked. spec.Puts (option_map (λ name. name.now) cert.entry) (the_setting setting.now) worked.done (plain_puts worked.puts)) }
+    ensures fits { IfOk result (λ worked. FitsSetting (Some (the_setting setting.now)) worked.done) }
+    ensures bound { IfOk result (λ worked. IsBounded worked.done) }
+    ensures stop { IfErr result (StopsAt (spec.Refuses (the_setting setting.now))) }
+{
+    let programme = programme_of(alloc, setting)?;
+    let advice = best_advice(alloc, setting, &programme, budget, nodes)?;
+    best_answers_keep_limits();
+    standing_programmes_are_in_order();
+    let puts = certified(alloc, &programme, budget, &advice.answer, cert)?;
+    Ok(Worked {
+        done: Done::Advised(advice),
+        puts,
+    })
 }

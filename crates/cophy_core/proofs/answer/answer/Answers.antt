@@ -1,4 +1,4 @@
-use Rattle.std.proofs.Common.{sym, ap, subst, rules}
+use Rattle.std.proofs.Common.{sym, subst, rules}
 use Rattle.adv_base.specs.Settings.{TheSetting}
 use Rattle.adv_base.specs.Settings.{the_setting}
 use Rattle.cophy_core.specs.ReadWords.{plain_command, texts}
@@ -8,12 +8,12 @@ use Rattle.cophy_core.specs.Opened.{setting_in}
 use Rattle.cophy_core.specs.Reading.{StopsAtFiles}
 use Rattle.cophy_core.specs.Settings.{IsSetting, IsSettingRefusal}
 use Rattle.cophy_core.specs.Stops.{StopsAt}
-use Rattle.cophy_core.proofs.Answered.{second_short, setting_stops, work_stops, work_gives, work_told}
+use Rattle.cophy_core.proofs.Answered.{second_short, setting_stops, work_stops, work_gives, work_puts, work_told}
 use Rattle.cophy_core.proofs.answer.answer.Goals as goal
 
 pub open-requires : goal.open-requires
 open-requires g c =
-    rw c.bytes_at-2.ensures (second_short (plain_command c.args.command.now) _ c.in_ok-inputs.inputs c.in_ok-inputs.ensures.built c.in_ok-inputs.ensures.inputs)
+    rw c.bytes_at-2.ensures (second_short (plain_command c.args.command.now) _ c.in_ok-inputs.inputs c.requires c.in_ok-inputs.ensures.inputs)
 
 pub returns-in_err-opened-clause-stop : goal.returns-in_err-opened-clause-stop
 returns-in_err-opened-clause-stop g c =
@@ -21,24 +21,24 @@ returns-in_err-opened-clause-stop g c =
     let inputs = c.in_ok-inputs.inputs in
     let stop = c.in_err-opened.field-0.0 in
     let before = counts (g.S.Shelf.read_faults c.args.shelf.now) (g.S.Shelf.read_faults_at c.args.shelf.now) in
-    let after = counts (g.S.Shelf.read_faults c.read_files.new.shelf) (g.S.Shelf.read_faults_at c.read_files.new.shelf) in
+    let after = counts (g.S.Shelf.read_faults c.inputs_of.new.shelf) (g.S.Shelf.read_faults_at c.inputs_of.new.shelf) in
     let why : StopsAt (IsSettingRefusal (input inputs 0) (input inputs 1)) stop = rw (c.bytes_at.ensures, c.bytes_at-2.ensures) at c.in_err-opened.ensures.stop in
     let h : StopsAtFiles command (g.S.Shelf.files c.args.shelf.now) before after stop =
-    setting_stops command (g.S.Shelf.files c.args.shelf.now) before after inputs stop c.in_ok-inputs.ensures.built c.in_ok-inputs.ensures.inputs why in
+    setting_stops command (g.S.Shelf.files c.args.shelf.now) before after inputs stop c.in_ok-inputs.ensures.inputs why in
     search (rules, h)
 
-pub returns-in_err-done-clause-stop : goal.returns-in_err-done-clause-stop
-returns-in_err-done-clause-stop g c =
+pub returns-in_err-worked-clause-stop : goal.returns-in_err-worked-clause-stop
+returns-in_err-worked-clause-stop g c =
     let command = plain_command c.args.command.now in
     let inputs = c.in_ok-inputs.inputs in
-    let stop = c.in_err-done.field-0.0 in
+    let stop = c.in_err-worked.field-0.0 in
     let setting = the_setting c.setting-setting.result in
     let before = counts (g.S.Shelf.read_faults c.args.shelf.now) (g.S.Shelf.read_faults_at c.args.shelf.now) in
-    let after = counts (g.S.Shelf.read_faults c.read_files.new.shelf) (g.S.Shelf.read_faults_at c.read_files.new.shelf) in
+    let after = counts (g.S.Shelf.read_faults c.inputs_of.new.shelf) (g.S.Shelf.read_faults_at c.inputs_of.new.shelf) in
     let opened : IsSetting (input inputs 0) (input inputs 1) (setting_in c.in_ok-opened.opened) c.in_ok-opened.opened.left_over = rw (c.bytes_at.ensures, c.bytes_at-2.ensures) at c.in_ok-opened.ensures.setting in
     let is : IsSetting (input inputs 0) (input inputs 1) setting c.in_ok-opened.opened.left_over = subst (λ (s : TheSetting). IsSetting (input inputs 0) (input inputs 1) s c.in_ok-opened.opened.left_over) (sym c.setting-setting.ensures) opened in
     let h : StopsAtFiles command (g.S.Shelf.files c.args.shelf.now) before after stop =
-    work_stops command (g.S.Shelf.files c.args.shelf.now) before after inputs setting c.in_ok-opened.opened.left_over stop c.in_ok-inputs.ensures.built c.in_ok-inputs.ensures.inputs is c.in_err-done.ensures.stop in
+    work_stops command (g.S.Shelf.files c.args.shelf.now) before after inputs setting c.in_ok-opened.opened.left_over stop c.in_ok-inputs.ensures.inputs is c.in_err-worked.ensures.stop in
     search (rules, h)
 
 pub returns-clause-reply : goal.returns-clause-reply
@@ -50,7 +50,7 @@ returns-clause-reply g c =
     let opened : IsSetting (input inputs 0) (input inputs 1) (setting_in c.in_ok-opened.opened) c.in_ok-opened.opened.left_over = rw (c.bytes_at.ensures, c.bytes_at-2.ensures) at c.in_ok-opened.ensures.setting in
     let is : IsSetting (input inputs 0) (input inputs 1) setting c.in_ok-opened.opened.left_over = subst (λ (s : TheSetting). IsSetting (input inputs 0) (input inputs 1) s c.in_ok-opened.opened.left_over) (sym c.setting-setting.ensures) opened in
     record {
-      answers = work_gives command files inputs setting c.in_ok-opened.opened.left_over c.in_ok-done.done c.in_ok-inputs.ensures.built c.in_ok-inputs.ensures.inputs is c.in_ok-done.ensures.gives;
-      no_puts = ap plain_puts c.new.ensures;
-      text_is = work_told command files (texts c.args.words.now) inputs setting c.in_ok-opened.opened.left_over c.in_ok-done.done c.in_ok-text.text c.in_ok-inputs.ensures.inputs is c.in_ok-done.ensures.gives c.in_ok-text.ensures;
+      answers = work_gives command files inputs setting c.in_ok-opened.opened.left_over c.in_ok-worked.worked.done c.in_ok-inputs.ensures.inputs is c.in_ok-worked.ensures.gives;
+      puts_are = work_puts command files (texts c.args.words.now) inputs setting c.in_ok-opened.opened.left_over c.in_ok-worked.worked.done (plain_puts c.in_ok-worked.worked.puts) c.in_ok-text.text c.in_ok-inputs.ensures.inputs is c.in_ok-worked.ensures.gives c.in_ok-worked.ensures.puts c.in_ok-text.ensures;
+      text_is = work_told command files (texts c.args.words.now) inputs setting c.in_ok-opened.opened.left_over c.in_ok-worked.worked.done c.in_ok-text.text c.in_ok-inputs.ensures.inputs is c.in_ok-worked.ensures.gives c.in_ok-text.ensures;
     }

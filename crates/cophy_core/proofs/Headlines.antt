@@ -1,0 +1,270 @@
+-- From what is replied, and how that ends, to what is promised.
+use Rattle.std.proofs.Common.{◌≡◌, ◌≢◌, inl, inr, ◌⊎◌, ℕ, suc, ◌+◌, ◌-◌, ◌^◌, ◌<◌, ◌≤◌, Bool, true, false, List, [], ◌∷◌, ◌++◌, length, Option, Some, None, Ok, ℤ, pos, negsuc, refl, sym, ap, subst, ◌∙◌, eqb, arith}
+use Rattle.std.specs.Prelude.{◌<ℤ◌, ◌≤ℤ◌, ◌==◌, if◌then◌else◌, All, slice_get}
+use Rattle.std.specs.FinMap.{get, insert}
+use Rattle.std.proofs.lemmas.Bool.{eqb-true, eqb-false}
+use Rattle.std.proofs.lemmas.Int.{ints}
+use Rattle.std.proofs.lemmas.Option.{get_or_from_slice_get, slice_get_within}
+use Rattle.adv_base.specs.declared.limits.TheConstants.{MOST_CANDIDATES, MOST_CERTIFICATE_BYTES, MOST_FILE_BYTES}
+use Rattle.adv_base.specs.declared.workload.Statement.{Statement}
+use Rattle.adv_base.specs.declared.workload.block.Block.{Block}
+use Rattle.adv_base.specs.Settings.{TheSetting}
+use Rattle.adv_shelf.proofs.CallerLemmas.{told_fact, put_is_there, others_stay}
+use Rattle.adv_shelf.specs.declared.shelf.PutFault.{PutFault}
+use Rattle.adv_shelf.specs.declared.shelf.PutFault.TheVariants as faults
+use Rattle.adv_shelf.specs.Faults.{Rose}
+use Rattle.adv_shelf.specs.Shelf.{Files, HasFile, put_file}
+use Rattle.adv_shelf.specs.Sink.{append_to}
+use Rattle.bip_model.specs.declared.answer.Answer.{Answer}
+use Rattle.bip_model.specs.Best.{IsBest, HasGivenUp}
+use Rattle.certificate.specs.declared.cert.Cert.{Cert}
+use Rattle.certificate.specs.Certificates.{IsCertificate, OneCertificate, TextsFit}
+use Rattle.certificate.specs.Answers.{answer_cert}
+use Rattle.gap_checker.specs.declared.fault.Checked.{Checked as GapChecked}
+use Rattle.gap_checker.specs.Faults.{IsFault}
+use Rattle.gap_checker.specs.Laws.{BestAreProved, FaultsExcludeProofs}
+use Rattle.gap_checker.specs.Views.{IsProof}
+use Rattle.plan_model.specs.Totals.{block_of}
+use Rattle.plan_model.specs.Useful.{AreUseful}
+use Rattle.report.specs.declared.done.Advice.{Advice}
+use Rattle.report.specs.declared.done.Done.{Done}
+use Rattle.report.specs.declared.done.Done.TheVariants.{ReadFault, WriteFault, Refused, Memory, Advised, Checked, NotProved}
+use Rattle.report.specs.declared.done.NotProved.TheVariants.{Malformed, Fault}
+use Rattle.report.specs.declared.done.Refusal.{Refusal}
+use Rattle.report.specs.declared.done.Refusal.TheVariants.{TooLong, Cat, Sql, Bind, TooManyCombinations}
+use Rattle.report.specs.declared.done.Role.{Role}
+use Rattle.report.specs.declared.done.Role.TheVariants.{Catalogue, Workload, Third}
+use Rattle.tuning.specs.Refusals.{AreFew, IsFew, IsFirstBeyond}
+use Rattle.cophy_core.specs.commands.Advise.{IsAdvice, IsCertificateOf, IsCertificatePut, PutsFor}
+use Rattle.cophy_core.specs.commands.Check as check
+use Rattle.cophy_core.specs.Answers.{Answers}
+use Rattle.cophy_core.specs.Causes.{IsSteady, gap_status, status_of}
+use Rattle.cophy_core.specs.Endings.{Put, Outside, put_all, put_answer, IsPutFault, EndsWhole, Ends}
+use Rattle.cophy_core.specs.Files.{InputFile, IsInput, AreInputs, input, input_file, setting_files, files_of, IsTooLong, ReadCounts}
+use Rattle.cophy_core.specs.Headline.{Asked, asked_command, IsAccepted, IsPriced, IsSpent, IsEnd, IsCertified, Certifies, Headline}
+use Rattle.cophy_core.specs.ReadWords.{PlainCommand, Advise, Check, command_of}
+use Rattle.cophy_core.specs.Replies.{MayAnswer, ArePuts, IsReply}
+use Rattle.cophy_core.specs.Settings.{IsSetting, HasCatFault, IsSqlRefusal, IsBindRefusal}
+use Rattle.cophy_core.proofs.CauseLemmas.{to_command, to_puts}
+
+-- ## Accepted input is not refused
+
+none_left : (front rest : List InputFile) (file : InputFile) → [] ≡ front ++ file ∷ rest → ⊥
+none_left [] rest file e = cc
+none_left (f ∷ fs) rest file e = cc
+
+one_of_two : (front rest : List InputFile) (file first second : InputFile) → first ∷ second ∷ [] ≡ front ++ file ∷ rest → (file ≡ first) ⊎ (file ≡ second)
+one_of_two [] rest file first second e = inl cc
+one_of_two (f ∷ []) rest file first second e = inr cc
+one_of_two (f ∷ g ∷ more) rest file first second e = absurd (none_left more rest file cc)
+
+short : (files : Files) (role : Role) (name bytes : List ℕ) (file : InputFile) → IsInput (Some files) (input_file role name MOST_FILE_BYTES) bytes → file ≡ input_file role name MOST_FILE_BYTES → HasFile (Some files) file.name (λ b. file.most < length b) → ⊥
+short files role name bytes file is e long =
+    let there : HasFile (Some files) name (λ b. MOST_FILE_BYTES < length b) = subst (λ (f : InputFile). HasFile (Some files) f.name (λ b. f.most < length b)) e long in
+    let over : MOST_FILE_BYTES < length bytes = told_fact (Some files) files name bytes (λ b. MOST_FILE_BYTES < length b) refl is.whole there in
+    let within : length bytes ≤ MOST_FILE_BYTES = is.short in
+    absurd (omega (arith, over, within))
+
+not_long : (files : Files) (asked : Asked) (role : Role) → IsAccepted files asked → IsTooLong (Some files) (setting_files asked.cat asked.load) role → ⊥
+not_long files asked role ok h =
+    elim (one_of_two h.front h.rest h.file (input_file Catalogue asked.cat MOST_FILE_BYTES) (input_file Workload asked.load MOST_FILE_BYTES) h.uses_are) [
+      | inl first ↦ short files Catalogue asked.cat ok.cat_bytes h.file ok.cat_is first h.bad.long
+      | inr second ↦ short files Workload asked.load ok.load_bytes h.file ok.load_is second h.bad.long
+    ]
+
+-- a file has one content
+one_content : (files : Files) (file : InputFile) (a b : List ℕ) → IsInput (Some files) file a → IsInput (Some files) file b → a ≡ b
+one_content files file a b x y =
+    let there : get files file.name ≡ Some a = x.whole in
+    let here : get files file.name ≡ Some b = y.whole in
+    cc
+
+pub same_inputs : (files : Files) (asked : Asked) (inputs : List (List ℕ)) (ok : IsAccepted files asked) → AreInputs (Some files) (setting_files asked.cat asked.load) inputs → inputs ≡ ok.cat_bytes ∷ ok.load_bytes ∷ []
+same_inputs files asked [] ok are = absurd are
+same_inputs files asked (a ∷ []) ok are = absurd are.1
+same_inputs files asked (a ∷ b ∷ []) ok are =
+    let first = one_content files (input_file Catalogue asked.cat MOST_FILE_BYTES) a ok.cat_bytes are.0 ok.cat_is in
+    let second = one_content files (input_file Workload asked.load MOST_FILE_BYTES) b ok.load_bytes are.1.0 ok.load_is in
+    cc
+same_inputs files asked (a ∷ b ∷ c ∷ more) ok are = absurd are.1.1
+
+all-at : {X : Type 0} (P : X → Type 0) (xs : List X) (i : ℕ) (x : X) → All P xs → slice_get xs i ≡ Some x → P x
+all-at P xs i x all there = subst P (get_or_from_slice_get xs i x x there) (all i x (slice_get_within xs i x there))
+
+none_beyond : (setting : TheSetting) (n count : ℕ) → AreFew setting.cat setting.statements → IsFirstBeyond setting n count → ⊥
+none_beyond setting n count few h =
+    let within = all-at (λ (s : Statement). (block : Block) → block_of s.work ≡ Some block → IsFew setting.cat block) setting.statements (n - 1) h.statement few h.found h.block h.block_is count h.has in
+    let beyond = h.beyond in
+    absurd (omega (arith, within, beyond))
+
+pub not_refused : (files : Files) (asked : Asked) (why : Refusal) → IsAccepted files asked → Answers (asked_command asked) (Some files) (Refused why) → ⊥
+not_refused files asked (TooLong role) ok h = not_long files asked role ok h
+not_refused files asked (Cat fault) ok h =
+    ok.is_setting (Cat fault) (subst (λ (inputs : List (List ℕ)). HasCatFault (input inputs 0) fault) (same_inputs files asked h.inputs ok h.inputs_are) h.holds)
+not_refused files asked (Sql fault) ok h =
+    ok.is_setting (Sql fault) (subst (λ (inputs : List (List ℕ)). IsSqlRefusal (input inputs 0) (input inputs 1) fault) (same_inputs files asked h.inputs ok h.inputs_are) h.holds)
+not_refused files asked (Bind fault) ok h =
+    ok.is_setting (Bind fault) (subst (λ (inputs : List (List ℕ)). IsBindRefusal (input inputs 0) (input inputs 1) fault) (same_inputs files asked h.inputs ok h.inputs_are) h.holds)
+not_refused files asked (TooManyCombinations n count) ok h =
+    none_beyond h.setting n count
+    (ok.few h.setting h.left_over (subst (λ (inputs : List (List ℕ)). IsSetting (input inputs 0) (input inputs 1) h.setting h.left_over) (same_inputs files asked h.inputs ok h.inputs_are) h.setting_is))
+    h.holds
+not_refused files asked why ok h = absurd h.holds
+
+-- ## The answer is advice, and is told
+
+told_advice : (files : Files) (asked : Asked) (before after : ReadCounts) (reply : Done) → IsAccepted files asked → IsSteady before.all after.all → reply ≢ Memory → MayAnswer (asked_command asked) (Some files) before after reply → (advice : Advice) × (reply ≡ Advised advice)
+told_advice files asked before after (ReadFault role) ok steady some may = absurd (steady may.bad.failed.rose)
+told_advice files asked before after Memory ok steady some may = absurd (some refl)
+told_advice files asked before after (Refused why) ok steady some may = absurd (not_refused files asked why ok may)
+told_advice files asked before after (Advised advice) ok steady some may = (advice, refl)
+told_advice files asked before after reply ok steady some may = absurd may.holds
+
+no_unput : (fault : PutFault) (before after : Option Files) (a b : ℕ) (put : Put) (done : Done) → done ≡ put_answer fault → IsPutFault fault before after a b put → IsSteady a b → done ≢ Memory → ⊥
+no_unput faults.Memory before after a b put done is h steady some = some is
+no_unput faults.Failed before after a b put done is h steady some = steady h.1
+
+whole_end : (old new : Outside) (reply : Done) (puts : List Put) (text : List ℕ) (done : Done) → IsSteady old.put_faults new.put_faults → IsSteady old.faults new.faults → done ≢ Memory → Ends old new reply puts text done → EndsWhole old new reply puts text done
+whole_end old new reply puts text done put writes some (inl whole) = whole
+whole_end old new reply puts text done put writes some (inr (inl unwritten)) = absurd (writes unwritten.rose)
+whole_end old new reply puts text done put writes some (inr (inr unput)) =
+    absurd (no_unput unput.fault (put_all old.files unput.unput.front) new.files old.put_faults new.put_faults unput.unput.put done unput.done_is unput.unput.files_are put some)
+
+-- ## How the search ended
+
+spent_by : (made nodes : ℕ) → nodes ≤ made + 1 → made ≤ nodes → (test : Bool) → eqb made nodes ≡ test → (made ≡ nodes) ⊎ (made + 1 ≡ nodes)
+spent_by made nodes low high true e = inl (eqb-true made nodes e)
+spent_by made nodes low high false e = let apart = eqb-false made nodes e in inr (omega (arith, apart, low, high))
+
+spent_nodes : (made nodes : ℕ) → nodes ≤ made + 1 → made ≤ nodes → (made ≡ nodes) ⊎ (made + 1 ≡ nodes)
+spent_nodes made nodes low high = spent_by made nodes low high (eqb made nodes) refl
+
+gap_test : (cost b : ℕ) → pos b ≤ℤ pos cost → (test : Bool) → (b == cost) ≡ test → ((pos b ≡ pos cost) × (gap_status cost (pos b) ≡ 0)) ⊎ ((pos b <ℤ pos cost) × (gap_status cost (pos b) ≡ 1))
+gap_test cost b most true e = inl (ap pos (eqb-true b cost e), ap (λ (t : Bool). if t then 0 else 1) e)
+gap_test cost b most false e = let apart = eqb-false b cost e in inr (omega (arith, ints, apart, most), ap (λ (t : Bool). if t then 0 else 1) e)
+
+gap_by : (cost : ℕ) (bound : ℤ) → bound ≤ℤ pos cost → ((bound ≡ pos cost) × (gap_status cost bound ≡ 0)) ⊎ ((bound <ℤ pos cost) × (gap_status cost bound ≡ 1))
+gap_by cost (pos b) most = gap_test cost b most (b == cost) refl
+gap_by cost (negsuc n) most = inr (omega (arith, ints), refl)
+
+ended : (setting : TheSetting) (asked : Asked) (advice : Advice) (status : ℕ) → IsAdvice asked.budget asked.nodes setting advice → status ≡ gap_status advice.answer.cost advice.answer.bound → IsEnd setting asked.budget asked.nodes advice.answer status
+ended setting asked advice status is e =
+    let answer = advice.answer in
+    let best = is.best in
+    elim (gap_by answer.cost answer.bound best.bound_most) [
+      | inl closed ↦ inl (closed.0, e ∙ closed.1)
+      | inr left ↦
+          let given = best.gave_up left.0 in
+          inr (record { gap = left.0; made = spent_nodes (length answer.tree) asked.nodes given.spent best.nodes_most; useful = best.useful; fewer = given.fewer }, e ∙ left.1)
+    ]
+
+-- ## The certificate
+
+-- laws of certificates and of their checker
+pub record Laws : Type 0 where
+  pub fit : TextsFit
+  pub one : OneCertificate
+  pub proved : BestAreProved
+  pub exclude : FaultsExcludeProofs
+
+checked_is : (checked : GapChecked) (budget cost : ℕ) (bound : ℤ) → checked.budget ≡ budget → checked.cost ≡ cost → checked.bound ≡ bound → checked ≡ record { budget = budget; cost = cost; bound = bound }
+checked_is checked budget cost bound e f g =
+    let Made : ℕ → ℕ → ℤ → GapChecked = λ (b : ℕ) (c : ℕ) (d : ℤ). record { budget = b; cost = c; bound = d } in
+    ap (λ (b : ℕ). Made b checked.cost checked.bound) e ∙ (ap (λ (c : ℕ). Made budget c checked.bound) f ∙ ap (λ (d : ℤ). Made budget cost d) g)
+
+-- of a certificate that is a proof, nothing else is told
+only_proved : (laws : Laws) (setting : TheSetting) (bytes : List ℕ) (cert : Cert) (done : Done) → IsCertificate bytes cert → IsProof setting cert → check.Gives bytes setting done → done ≡ Checked (record { budget = cert.budget; cost = cert.cost; bound = cert.bound })
+only_proved laws setting bytes cert (Checked checked) is proof h =
+    let same = laws.one bytes h.cert cert h.cert_is is in
+    let told = h.checked_is in
+    ap Checked (checked_is checked cert.budget cert.cost cert.bound (told.budget_is ∙ ap (λ (c : Cert). c.budget) same) (told.cost_is ∙ ap (λ (c : Cert). c.cost) same) (told.bound_is ∙ ap (λ (c : Cert). c.bound) same))
+only_proved laws setting bytes cert (NotProved (Malformed line)) is proof h = absurd (h.none cert is)
+only_proved laws setting bytes cert (NotProved (Fault fault)) is proof h =
+    let same = laws.one bytes h.cert cert h.cert_is is in
+    let fault_is = subst (λ (c : Cert). IsFault setting c fault) same h.fault_is in
+    absurd (h.no_memory (laws.exclude setting cert fault is.limits proof fault_is))
+only_proved laws setting bytes cert done is proof h = absurd h
+
+checked_inputs : (files : Files) (cat load file : List ℕ) (a b bytes : List ℕ) (after : Option Files) → AreInputs (Some files) (setting_files cat load) (a ∷ b ∷ []) → after ≡ put_file (Some files) file bytes → file ≢ cat → file ≢ load → length bytes ≤ MOST_CERTIFICATE_BYTES → AreInputs after (files_of (Check cat load file)) (a ∷ b ∷ bytes ∷ [])
+checked_inputs files cat load file a b bytes after are e not_cat not_load few =
+    let m = insert files file bytes in
+    let cat_apart : cat ≢ file = λ x. not_cat (sym x) in
+    let load_apart : load ≢ file = λ x. not_load (sym x) in
+    subst (λ (fs : Option Files). AreInputs fs (files_of (Check cat load file)) (a ∷ b ∷ bytes ∷ [])) (sym e) (
+      record { whole = others_stay files file bytes cat cat_apart ∙ are.0.whole; short = are.0.short },
+      (
+        record { whole = others_stay files file bytes load load_apart ∙ are.1.0.whole; short = are.1.0.short },
+        (record { whole = put_is_there files file bytes; short = few }, tt),
+      ),
+    )
+
+certified : (laws : Laws) (setting : TheSetting) (files : Files) (asked : Asked) (advice : Advice) (left_over : ℕ) (a b : List ℕ) (cert : Option (List ℕ)) (puts : List Put) (after : Option Files) → AreInputs (Some files) (setting_files asked.cat asked.load) (a ∷ b ∷ []) → IsSetting a b setting left_over → IsAdvice asked.budget asked.nodes setting advice → PutsFor cert setting asked.budget advice.answer puts → after ≡ put_all (Some files) puts → Certifies cert setting files asked advice.answer after
+certified laws setting files asked advice left_over a b (Some file) puts after are is_setting is put e =
+    let answer = advice.answer in
+    let own = put.certificate_is in
+    let proof = laws.proved setting own.programme asked.budget asked.nodes answer own.stands is.flags is.best in
+    let there : after ≡ put_file (Some files) file put.bytes = e ∙ ap (put_all (Some files)) put.puts_are in
+    record {
+      bytes = put.bytes;
+      certificate_is = own;
+      files_are = there;
+      nothing_else = λ done h. only_proved laws setting put.bytes (answer_cert own.programme asked.budget answer) done own.is_text proof h;
+      accepted = λ not_cat not_load. record {
+        inputs = a ∷ b ∷ put.bytes ∷ [];
+        setting = setting;
+        left_over = left_over;
+        inputs_are = checked_inputs files asked.cat asked.load file a b put.bytes after are there not_cat not_load (laws.fit put.bytes (answer_cert own.programme asked.budget answer) own.is_text);
+        setting_is = is_setting;
+        holds = record {
+          cert = answer_cert own.programme asked.budget answer;
+          cert_is = own.is_text;
+          checked_is = record {
+            budget_is = refl;
+            cost_is = refl;
+            bound_is = refl;
+            proof = proof;
+          };
+          bounds = is.bounds;
+        };
+      };
+    }
+certified laws setting files asked advice left_over a b None puts after are is_setting is put e = e ∙ ap (put_all (Some files)) put
+
+-- ## The whole
+
+from_advice : (laws : Laws) (words : List (List ℕ)) (files : Files) (asked : Asked) (written : Option (List ℕ)) (status : ℕ) (advice : Advice) (puts : List Put) (text : List ℕ) (files_after : Option Files) (written_after : Option (List ℕ)) → IsAccepted files asked → ArePuts (asked_command asked) (Some files) words (Advised advice) puts text → status ≡ status_of (Advised advice) → files_after ≡ put_all (Some files) puts → written_after ≡ append_to written text → Headline words files asked written status files_after written_after
+from_advice laws words files asked written status advice puts text files_after written_after ok h is put wrote =
+    let same = same_inputs files asked h.inputs ok h.inputs_are in
+    let setting = h.setting in
+    let gives : IsAdvice asked.budget asked.nodes setting advice = h.holds.gives in
+    let are = subst (AreInputs (Some files) (setting_files asked.cat asked.load)) same h.inputs_are in
+    let is_setting = subst (λ (inputs : List (List ℕ)). IsSetting (input inputs 0) (input inputs 1) setting h.left_over) same h.setting_is in
+    let puts_are : PutsFor asked.cert setting asked.budget advice.answer puts =
+    subst (λ (budget : ℕ). PutsFor asked.cert setting budget advice.answer puts) gives.budget_is h.holds.puts_are in
+    record {
+      cat_bytes = ok.cat_bytes;
+      load_bytes = ok.load_bytes;
+      setting = setting;
+      left_over = h.left_over;
+      inputs_are = are;
+      setting_is = is_setting;
+      advice = advice;
+      advice_is = gives;
+      printed = wrote ∙ ap (append_to written) h.holds.text_is;
+      bounded = record { candidates = gives.best.proves.members; fits = gives.best.proves.fits; cost_is = gives.best.proves.cost_is; bound = gives.bounds.all };
+      ended = ended setting asked advice status gives is;
+      certified = certified laws setting files asked advice h.left_over ok.cat_bytes ok.load_bytes asked.cert puts files_after are is_setting gives puts_are put;
+    }
+
+pub headline : (laws : Laws) (words : List (List ℕ)) (told : Option Files) (before after : ReadCounts) (old new : Outside) (reply : Done) (puts : List Put) (text : List ℕ) (done : Done) (status : ℕ) → IsReply words told before after reply puts text → Ends old new reply puts text done → old.files ≡ told → status ≡ status_of done → (files : Files) (asked : Asked) → told ≡ Some files → command_of words ≡ Ok (asked_command asked) → IsAccepted files asked → IsSteady before.all after.all → IsSteady old.put_faults new.put_faults → IsSteady old.faults new.faults → done ≢ Memory → Headline words files asked old.written status new.files new.written
+headline laws words told before after old new reply puts text done status r e same is files asked tells asks ok reads put writes some =
+    let whole = whole_end old new reply puts text done put writes some e in
+    let some_reply : reply ≢ Memory = λ m. some (whole.stands ∙ m) in
+    let may = subst (λ (fs : Option Files). MayAnswer (asked_command asked) fs before after reply) tells (to_command (command_of words) (asked_command asked) told before after reply asks r.answers) in
+    let advice = told_advice files asked before after reply ok reads some_reply may in
+    let here = subst (λ (fs : Option Files). ArePuts (asked_command asked) fs words reply puts text) tells (to_puts (command_of words) (asked_command asked) told words reply puts text asks r.puts_are) in
+    let puts_are = subst (λ (d : Done). ArePuts (asked_command asked) (Some files) words d puts text) advice.1 here in
+    from_advice laws words files asked old.written status advice.0 puts text new.files new.written ok puts_are
+    (is ∙ ap status_of (whole.stands ∙ advice.1))
+    (whole.files_are ∙ ap (λ (fs : Option Files). put_all fs puts) (same ∙ tells))
+    whole.written
