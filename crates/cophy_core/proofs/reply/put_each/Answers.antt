@@ -1,6 +1,6 @@
 use Rattle.std.proofs.Common.{◌+◌, Option, take, drop, rules, sym, ap, subst, ◌∙◌, arith}
 use Rattle.adv_shelf.specs.Shelf.{Files, IsPutInPart, put_file}
-use Rattle.cophy_core.specs.declared.reply.FilePut.{FilePut}
+use Rattle.cophy_core.specs.declared.worked.FilePut.{FilePut}
 use Rattle.cophy_core.specs.Endings.{Put, plain_puts, put_all, IsUnput}
 use Rattle.cophy_core.proofs.Mapped.{map_more, map_parted}
 use Rattle.cophy_core.proofs.Puts.{put_all-more, put_faulted}
