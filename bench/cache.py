@@ -49,7 +49,8 @@ def unmet(graph: str, slots: int, times: dict[str, int]) -> list[str]:
 def print_line(graph: str, slots: int, times: dict[str, int], beside: float | None) -> None:
     look_up = max(1, times["cost"])
     print_row((
-        graph, slots, times["combinations"], times["templates"], f"{times['build'] / 1000:.0f}", look_up, 1_000_000_000 // look_up,
+        graph, slots, times["combinations"], times["templates"], f"{times['build'] / 1000:.0f}", look_up,
+        1_000_000_000 // look_up,
         f"{times['least'] / 1000:.1f}", "-" if beside is None else f"{beside:.0f}", f"{times['least'] / look_up:.1f}",
         "-" if beside is None else f"{1000 * beside / look_up:.0f}",
     ), WIDTHS)

@@ -31,9 +31,10 @@ def print_line(statements: int, share: int, found: list[Made]) -> None:
     seconds = [it.run.seconds for it in found]
     nodes = [it.advice.nodes for it in found]
     finished = sum(it.advice.finished for it in found)
-    print_row((statements, "all" if share >= 100 else share, f"{finished}/{len(found)}", f"{max(it.advice.gap for it in found):.4f}",
-               sum(nodes), max(nodes), f"{sum(seconds) / len(seconds):.3f}", f"{max(seconds):.3f}",
-               f"{max(it.run.peak_mib for it in found):.0f}"), WIDTHS)
+    gap = max(it.advice.gap for it in found)
+    peak = max(it.run.peak_mib for it in found)
+    print_row((statements, "all" if share >= 100 else share, f"{finished}/{len(found)}", f"{gap:.4f}", sum(nodes), max(nodes),
+               f"{sum(seconds) / len(seconds):.3f}", f"{max(seconds):.3f}", f"{peak:.0f}"), WIDTHS)
 
 
 def main() -> None:

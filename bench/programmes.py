@@ -11,8 +11,8 @@ from workloads import Workload
 TABLES = 20
 SEED = 1
 STATEMENTS = (20, 100, 500)
-HEADS = ("statements", "candidates", "parts", "templates", "grants", "programme ms", "bound us", "terms us", "carry us", "total us",
-         "improve us", "ascend us")
+HEADS = ("statements", "candidates", "parts", "templates", "grants", "programme ms", "bound us", "terms us", "carry us",
+         "total us", "improve us", "ascend us")
 WIDTHS = (10, 10, 5, 9, 6, 12, 8, 8, 8, 8, 10, 9)
 # What is hoped for at the most statements, in microseconds.
 GOALS = {"bound": 20, "carried": 5, "round": 40}
@@ -21,7 +21,8 @@ GOALS = {"bound": 20, "carried": 5, "round": 40}
 def unmet(told: dict[str, int]) -> list[str]:
     """The goals that the nanoseconds of a line don't meet. A carried bound is carried terms and their total."""
     times = {"bound": told["bound"], "carried": told["carry"] + told["total"], "round": told.get("ascend", told["improve"])}
-    return [f"a {name} takes {times[name] / 1000:.1f} us and not {most}" for name, most in GOALS.items() if times[name] > 1000 * most]
+    return [f"{name}: {times[name] / 1000:.1f} us in the place of {most}"
+            for name, most in GOALS.items() if times[name] > 1000 * most]
 
 
 def print_line(told: dict[str, int]) -> None:

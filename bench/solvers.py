@@ -1,7 +1,9 @@
 """Open solvers of such programmes, where they are installed: Debian's `coinor-cbc` and `glpk-utils`."""
+import os
 import re
 import shutil
 from collections.abc import Callable
+from contextlib import suppress
 from dataclasses import dataclass
 
 from measure import run_once
@@ -40,7 +42,12 @@ def cbc(file: str, most: float = MOST_SECONDS) -> Solved:
 def glpk(file: str, most: float = MOST_SECONDS) -> Solved:
     reading, _ = run(["glpsol", "--lp", file, "--check"])
     out = f"{file}.glpk"
+    with suppress(FileNotFoundError):
+        os.remove(out)
     whole, _ = run(["glpsol", "--lp", file, "--cuts", "--tmlim", str(int(most)), "-o", out])
+    if not os.path.exists(out):
+        # It was stopped before it wrote.
+        return Solved(max(0.0, whole - reading), None)
     with open(out) as text:
         cost = optimal(r"Status:\s+(?:INTEGER )?OPTIMAL.*?Objective:\s+obj = (\S+)", text.read())
     return Solved(max(0.0, whole - reading), cost)
