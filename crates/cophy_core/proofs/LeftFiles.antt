@@ -1,5 +1,5 @@
 -- What a reply and its ending leave of the files.
-use Rattle.std.proofs.Common.{◌≡◌, inl, inr, ℕ, List, [], ◌∷◌, ◌++◌, Option, Some, None, Result, Ok, Err, refl, sym, ap, subst, ◌∙◌}
+use Rattle.std.proofs.Common.{◌≡◌, ◌≢◌, inl, inr, ℕ, ◌<◌, List, [], ◌∷◌, ◌++◌, length, Option, Some, None, Result, Ok, Err, refl, sym, ap, subst, ◌∙◌}
 use Rattle.adv_shelf.specs.declared.shelf.PutFault.{PutFault}
 use Rattle.adv_shelf.specs.declared.shelf.PutFault.TheVariants as faults
 use Rattle.adv_shelf.specs.Shelf.{Files, IsPutInPart, put_file}
@@ -12,7 +12,7 @@ use Rattle.cophy_core.specs.ReadWords.{PlainCommand, Advise, command_of}
 use Rattle.cophy_core.specs.Endings.{Put, Outside, put_all, put_answer, IsPutFault, Ends}
 use Rattle.cophy_core.specs.Files.{ReadCounts}
 use Rattle.cophy_core.specs.Left.{OfCertificate, IsPutFor, Leaves, LeavesFiles}
-use Rattle.cophy_core.specs.Replies.{MayAnswer, MayAnswerWords, ArePuts, ArePutsTo, IsReply}
+use Rattle.cophy_core.specs.Replies.{MayAnswer, MayAnswerWords, ArePuts, ArePutsTo, IsTextOf, IsTextTo, IsReply}
 use Rattle.cophy_core.proofs.CauseLemmas.{not_nil, all_put, no_write_fault}
 
 -- the one put of a row of one
@@ -66,6 +66,11 @@ left_unput cat load budget nodes file words reads_before reads_after old new adv
     }))
 
 -- advice was to be told
+-- an answer that is advice
+abbrev IsAdvised : Done → Type 0
+IsAdvised (Advised advice) = Unit {0}
+IsAdvised done = ⊥
+
 left_put : (cat load : List ℕ) (budget nodes : ℕ) (file : List ℕ) (words : List (List ℕ)) (reads_before reads_after : ReadCounts) (old new : Outside) (advice : Advice) (puts : List Put) (text : List ℕ) (done : Done) → Answers (Advise cat load budget nodes (Some file)) old.files (Advised advice) → ArePuts (Advise cat load budget nodes (Some file)) old.files words (Advised advice) puts text → Ends old new (Advised advice) puts text done → Leaves (Advise cat load budget nodes (Some file)) reads_before reads_after old new done
 left_put cat load budget nodes file words reads_before reads_after old new advice puts text done answers h (inl whole) =
     subst (Leaves (Advise cat load budget nodes (Some file)) reads_before reads_after old new) (sym whole.stands)
@@ -75,6 +80,7 @@ left_put cat load budget nodes file words reads_before reads_after old new advic
     (inl (record {
       rose = unwritten.rose;
       told = Advised advice;
+      some = λ e. subst IsAdvised e tt;
       may = answers;
       files_are = certified cat load budget nodes file old.files words advice puts text _ h (whole_file file old.files new.files puts unwritten.files_are);
     }))
@@ -83,6 +89,12 @@ left_put cat load budget nodes file words reads_before reads_after old new advic
     left_unput cat load budget nodes file words reads_before reads_after old new advice puts u.front u.rest u.put unput.fault text done answers h u.puts_are unput.done_is unput.unwritten u.files_are
 
 -- ## Nothing is put
+
+-- want of memory has no text
+some_answer : (command : PlainCommand) (files : Option Files) (words : List (List ℕ)) (reply : Done) (text : List ℕ) → IsTextOf command files words reply text → 0 < length text → reply ≢ Memory
+some_answer command files words reply text told some e =
+    let none : text ≡ [] = subst (λ (d : Done). IsTextOf command files words d text) e told in
+    omega (arith, ap length none, some)
 
 pub files_stay : (old new : Outside) (reply : Done) (puts : List Put) (text : List ℕ) (done : Done) → puts ≡ [] → Ends old new reply puts text done → new.files ≡ old.files
 files_stay old new reply puts text done none (inl whole) = whole.files_are ∙ ap (put_all old.files) none
@@ -104,39 +116,40 @@ same_left cat load budget nodes file reads_before reads_after old new WriteFault
     absurd (no_write_fault (Ok (Advise cat load budget nodes (Some file))) old.files reads_before reads_after may)
 same_left cat load budget nodes file reads_before reads_after old new reply other may e = e
 
-left_other : (cat load : List ℕ) (budget nodes : ℕ) (file : List ℕ) (reads_before reads_after : ReadCounts) (old new : Outside) (reply : Done) (puts : List Put) (text : List ℕ) (done : Done) → IsOther reply → MayAnswer (Advise cat load budget nodes (Some file)) old.files reads_before reads_after reply → puts ≡ [] → Ends old new reply puts text done → Leaves (Advise cat load budget nodes (Some file)) reads_before reads_after old new done
-left_other cat load budget nodes file reads_before reads_after old new reply puts text done other may none (inl whole) =
+left_other : (cat load : List ℕ) (budget nodes : ℕ) (file : List ℕ) (words : List (List ℕ)) (reads_before reads_after : ReadCounts) (old new : Outside) (reply : Done) (puts : List Put) (text : List ℕ) (done : Done) → IsOther reply → MayAnswer (Advise cat load budget nodes (Some file)) old.files reads_before reads_after reply → IsTextOf (Advise cat load budget nodes (Some file)) old.files words reply text → puts ≡ [] → Ends old new reply puts text done → Leaves (Advise cat load budget nodes (Some file)) reads_before reads_after old new done
+left_other cat load budget nodes file words reads_before reads_after old new reply puts text done other may told none (inl whole) =
     subst (Leaves (Advise cat load budget nodes (Some file)) reads_before reads_after old new) (sym whole.stands)
     (same_left cat load budget nodes file reads_before reads_after old new reply other may (whole.files_are ∙ ap (put_all old.files) none))
-left_other cat load budget nodes file reads_before reads_after old new reply puts text done other may none (inr (inl unwritten)) =
+left_other cat load budget nodes file words reads_before reads_after old new reply puts text done other may told none (inr (inl unwritten)) =
     subst (Leaves (Advise cat load budget nodes (Some file)) reads_before reads_after old new) (sym unwritten.fault)
     (inl (record {
       rose = unwritten.rose;
       told = reply;
+      some = some_answer (Advise cat load budget nodes (Some file)) old.files words reply text told unwritten.some;
       may = may;
       files_are = same_for (Advise cat load budget nodes (Some file)) file old.files new.files reply other (unwritten.files_are ∙ ap (put_all old.files) none);
     }))
-left_other cat load budget nodes file reads_before reads_after old new reply puts text done other may none (inr (inr unput)) =
+left_other cat load budget nodes file words reads_before reads_after old new reply puts text done other may told none (inr (inr unput)) =
     absurd (all_put old new puts done none unput)
 
 -- ## Commands
 
-left_command : (command : PlainCommand) (words : List (List ℕ)) (reads_before reads_after : ReadCounts) (old new : Outside) (reply : Done) (puts : List Put) (text : List ℕ) (done : Done) → MayAnswer command old.files reads_before reads_after reply → ArePuts command old.files words reply puts text → Ends old new reply puts text done → Leaves command reads_before reads_after old new done
-left_command (Advise cat load budget nodes (Some file)) words reads_before reads_after old new (Advised advice) puts text done may h e =
+left_command : (command : PlainCommand) (words : List (List ℕ)) (reads_before reads_after : ReadCounts) (old new : Outside) (reply : Done) (puts : List Put) (text : List ℕ) (done : Done) → MayAnswer command old.files reads_before reads_after reply → IsTextOf command old.files words reply text → ArePuts command old.files words reply puts text → Ends old new reply puts text done → Leaves command reads_before reads_after old new done
+left_command (Advise cat load budget nodes (Some file)) words reads_before reads_after old new (Advised advice) puts text done may told h e =
     left_put cat load budget nodes file words reads_before reads_after old new advice puts text done may h e
-left_command (Advise cat load budget nodes (Some file)) words reads_before reads_after old new reply puts text done may h e =
-    left_other cat load budget nodes file reads_before reads_after old new reply puts text done tt may h e
-left_command (Advise cat load budget nodes None) words reads_before reads_after old new (Advised advice) puts text done may h e =
+left_command (Advise cat load budget nodes (Some file)) words reads_before reads_after old new reply puts text done may told h e =
+    left_other cat load budget nodes file words reads_before reads_after old new reply puts text done tt may told h e
+left_command (Advise cat load budget nodes None) words reads_before reads_after old new (Advised advice) puts text done may told h e =
     files_stay old new (Advised advice) puts text done h.holds.puts_are e
-left_command command words reads_before reads_after old new (Advised advice) puts text done may h e =
+left_command command words reads_before reads_after old new (Advised advice) puts text done may told h e =
     files_stay old new (Advised advice) puts text done h.holds.puts_are e
-left_command command words reads_before reads_after old new reply puts text done may h e = files_stay old new reply puts text done h e
+left_command command words reads_before reads_after old new reply puts text done may told h e = files_stay old new reply puts text done h e
 
-left_words : (read : Result PlainCommand WordFault) (words : List (List ℕ)) (reads_before reads_after : ReadCounts) (old new : Outside) (reply : Done) (puts : List Put) (text : List ℕ) (done : Done) → MayAnswerWords read old.files reads_before reads_after reply → ArePutsTo read old.files words reply puts text → Ends old new reply puts text done → LeavesFiles read reads_before reads_after old new done
-left_words (Ok command) words reads_before reads_after old new reply puts text done may h e =
-    left_command command words reads_before reads_after old new reply puts text done may h e
-left_words (Err fault) words reads_before reads_after old new reply puts text done may h e = files_stay old new reply puts text done h e
+left_words : (read : Result PlainCommand WordFault) (words : List (List ℕ)) (reads_before reads_after : ReadCounts) (old new : Outside) (reply : Done) (puts : List Put) (text : List ℕ) (done : Done) → MayAnswerWords read old.files reads_before reads_after reply → IsTextTo read old.files words reply text → ArePutsTo read old.files words reply puts text → Ends old new reply puts text done → LeavesFiles read reads_before reads_after old new done
+left_words (Ok command) words reads_before reads_after old new reply puts text done may told h e =
+    left_command command words reads_before reads_after old new reply puts text done may told h e
+left_words (Err fault) words reads_before reads_after old new reply puts text done may told h e = files_stay old new reply puts text done h e
 
 pub left : (words : List (List ℕ)) (reads_before reads_after : ReadCounts) (old new : Outside) (reply : Done) (puts : List Put) (text : List ℕ) (done : Done) → IsReply words old.files reads_before reads_after reply puts text → Ends old new reply puts text done → LeavesFiles (command_of words) reads_before reads_after old new done
 left words reads_before reads_after old new reply puts text done r e =
-    left_words (command_of words) words reads_before reads_after old new reply puts text done r.answers r.puts_are e
+    left_words (command_of words) words reads_before reads_after old new reply puts text done r.answers r.text_is r.puts_are e

@@ -1,5 +1,5 @@
 -- How a run ends: files are put, one after the other, and then the text is written.
-use Rattle.std.specs.Prelude.{◌≡◌, ℕ, ◌⊎◌, List, [], ◌∷◌, ◌++◌, map, Option}
+use Rattle.std.specs.Prelude.{◌≡◌, ℕ, ◌<◌, ◌⊎◌, List, [], ◌∷◌, ◌++◌, length, map, Option}
 use Rattle.adv_shelf.specs.Faults.{Rose}
 use Rattle.adv_shelf.specs.Shelf.{Files, IsPutInPart, put_file}
 use Rattle.adv_shelf.specs.Sink.{append_to, AppendsPrefix}
@@ -38,8 +38,9 @@ pub record EndsWhole (before after : Outside) (reply : Done) (puts : List Put) (
   pub files_are : after.files ≡ put_all before.files puts
   pub written : after.written ≡ append_to before.written text
 
--- all files were put, and a write failed behind a prefix of the text
+-- all files were put, and a write of the text, of which there is some, failed behind a prefix of it
 pub record EndsUnwritten (before after : Outside) (puts : List Put) (text : List ℕ) (done : Done) : Type 0 where
+  pub some : 0 < length text
   pub fault : done ≡ WriteFault
   pub rose : Rose before.faults after.faults
   pub files_are : after.files ≡ put_all before.files puts

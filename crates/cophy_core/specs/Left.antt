@@ -1,10 +1,10 @@
 -- What a run leaves of the files.
-use Rattle.std.specs.Prelude.{◌≡◌, ◌⊎◌, ℕ, List, Option, Some, Result, Ok, Err}
+use Rattle.std.specs.Prelude.{◌≡◌, ◌≢◌, ◌⊎◌, ℕ, List, Option, Some, Result, Ok, Err}
 use Rattle.adv_shelf.specs.Faults.{Rose}
 use Rattle.adv_shelf.specs.Shelf.{Files, IsPutInPart, put_file}
 use Rattle.report.specs.declared.done.Advice.{Advice}
 use Rattle.report.specs.declared.done.Done.{Done}
-use Rattle.report.specs.declared.done.Done.TheVariants.{WriteFault, Advised}
+use Rattle.report.specs.declared.done.Done.TheVariants.{WriteFault, Memory, Advised}
 use Rattle.report.specs.declared.done.WordFault.{WordFault}
 use Rattle.cophy_core.specs.commands.Advise.{IsCertificateOf}
 use Rattle.cophy_core.specs.Answers.{OfSetting, Answers}
@@ -34,10 +34,11 @@ abbrev pub IsPutFor : PlainCommand → List ℕ → Option Files → Option File
 IsPutFor command file before after (Advised advice) = OfCertificate before command advice (λ bytes. after ≡ put_file before file bytes)
 IsPutFor command file before after done = after ≡ before
 
--- the sink failed while an answer was told, for which the file was put before
+-- the sink failed while an answer was told that has a text, for which the file was put before
 pub record IsUntold (command : PlainCommand) (file : List ℕ) (reads_before reads_after : ReadCounts) (before after : Outside) : Type 0 where
   pub rose : Rose before.faults after.faults
   pub told : Done
+  pub some : told ≢ Memory
   pub may : MayAnswer command before.files reads_before reads_after told
   pub files_are : IsPutFor command file before.files after.files told
 

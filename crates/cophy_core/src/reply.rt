@@ -1,6 +1,7 @@
 //! Answers with their texts, and how they are given.
-ghost use Rattle.std.specs.Prelude.{◌≡◌, ◌≤◌, ◌⊎◌, ◌++◌, ◌∷◌, ℕ, List, [], None, IfErr, OnOk, OnErr};
+ghost use Rattle.std.specs.Prelude.{◌≡◌, ◌<◌, ◌≤◌, ◌⊎◌, ◌++◌, ◌∷◌, ℕ, List, [], None, IfErr, OnOk, OnErr, length};
 ghost use Rattle.adv_shelf.specs.Faults.{Rose};
+ghost use Rattle.adv_shelf.specs.Sink.{append_to, AppendsPrefix};
 ghost use Rattle.report.specs.Texts.{done_text, FitsSetting};
 ghost use Rattle.cophy_core.specs.Causes.{IsBounded};
 ghost use Rattle.cophy_core.specs.ReadWords.{texts};
@@ -8,7 +9,7 @@ ghost use Rattle.cophy_core.specs.Endings.{outside, plain_puts, put_all, Ends, I
 
 use crate::worked::FilePut;
 use adv_base::{Bytes, List};
-use adv_shelf::{PutFault, Shelf, Sink, write_all};
+use adv_shelf::{Failed, PutFault, Shelf, Sink, write_all};
 use report::{Done, text};
 use std::alloc::Global;
 
@@ -62,6 +63,20 @@ fn put_each<S: Shelf>(shelf: &mut S, puts: &[FilePut<'_>]) -> Result<(), PutFaul
     Ok(())
 }
 
+/// Writes a text. Where there is none the output isn't asked, and so can't fail.
+fn write_text<O: Sink>(out: &mut O, text: &[u8]) -> Result<(), Failed>
+    ensures ok { OnOk result (O.written out.new ≡ append_to (O.written out.old) text.now) }
+    ensures failed { OnErr result (Rose (O.faults out.old) (O.faults out.new)) }
+    ensures prefix { OnErr result (AppendsPrefix (O.written out.old) (O.written out.new) text.now) }
+    ensures some { OnErr result (0 < length text.now) }
+    ensures counts { O.faults out.old ≤ O.faults out.new }
+{
+    if text.len() == 0 {
+        return Ok(());
+    }
+    write_all(out, text)
+}
+
 /// Puts a reply's files and writes its text, and answers what it answers, or why that could not be done.
 pub(crate) fn give<S: Shelf, O: Sink>(shelf: &mut S, out: &mut O, reply: Reply<'_>) -> Done
     ensures ends { Ends (outside (S.files shelf.old) (S.put_faults shelf.old) (O.written out.old) (O.faults out.old))
@@ -77,7 +92,7 @@ pub(crate) fn give<S: Shelf, O: Sink>(shelf: &mut S, out: &mut O, reply: Reply<'
         Err(PutFault::Failed) => return Done::WriteFault,
         Ok(()) => {}
     }
-    match write_all(out, reply.text.as_slice()) {
+    match write_text(out, reply.text.as_slice()) {
         Ok(()) => reply.done,
         Err(_) => Done::WriteFault,
     }
