@@ -43,7 +43,7 @@ advise)
     [ "$size" -lt 30 ] || echo "pick 1 customer(city) 30 pages"
     echo "size $size"; echo "cost $((9000 - 100 * size))"; echo "bound $((8000 - 100 * size))"; echo "gap 1000"
     echo "nodes 3 of 20000"; echo finished ;;
-*) echo "refused: not built"; exit 5 ;;
+*) echo "refused: not toml"; exit 5 ;;
 esac
 """
 TWO = "budget 9\ncandidates 2 left over 0\npick 1 a(x) 3 pages\npick 2 a(y) 4 pages\nsize 7\ncost 7100\nbound 7100\ngap 0\nnodes 1 of 2\nfinished\n"
@@ -66,7 +66,7 @@ class Texts(unittest.TestCase):
 
     def test_another_text_is_no_answer(self) -> None:
         for read in (answers.read_advice, answers.read_candidates, answers.read_prices):
-            for text in ("", "refused: not built\n", "budget 5\n", "pick 1 a(x) b pages\nfinished\n"):
+            for text in ("", "refused: not toml\n", "budget 5\n", "pick 1 a(x) b pages\nfinished\n"):
                 with self.subTest(read=read.__name__, text=text):
                     self.assertRaises(answers.NoAnswer, read, text)
 
@@ -123,11 +123,11 @@ class Programs(unittest.TestCase):
         self.assertEqual((self.folder / "curve.png").read_bytes()[:4], b"\x89PNG")
 
     def test_a_refusal_of_the_program_is_told(self) -> None:
-        self.program.write_text("#!/bin/sh\necho 'refused: not built'; exit 5\n")
+        self.program.write_text("#!/bin/sh\necho 'refused: not toml'; exit 5\n")
         words = [str(TOOL), "why", "c.toml", "l.sql", "advice", "--program", str(self.program)]
         ran = subprocess.run(words, cwd=self.folder, capture_output=True, text=True, check=False, timeout=60)
         self.assertEqual((ran.returncode, ran.stdout), (1, ""))
-        self.assertIn("cophy whatif answers: refused: not built", ran.stderr)
+        self.assertIn("cophy whatif answers: refused: not toml", ran.stderr)
 
 
 @unittest.skipIf(MISSING, MISSING)
