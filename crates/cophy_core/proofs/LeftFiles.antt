@@ -1,5 +1,5 @@
 -- What a reply and its ending leave of the files.
-use Rattle.std.proofs.Common.{◌≡◌, ◌≢◌, inl, inr, ℕ, ◌<◌, List, [], ◌∷◌, ◌++◌, length, Option, Some, None, Result, Ok, Err, refl, sym, ap, subst, ◌∙◌}
+use Rattle.std.proofs.Common.{◌≡◌, ◌≢◌, inl, inr, ℕ, ◌<◌, arith, List, [], ◌∷◌, ◌++◌, length, Option, Some, None, Result, Ok, Err, refl, sym, ap, subst, ◌∙◌}
 use Rattle.adv_shelf.specs.declared.shelf.PutFault.{PutFault}
 use Rattle.adv_shelf.specs.declared.shelf.PutFault.TheVariants as faults
 use Rattle.adv_shelf.specs.Shelf.{Files, IsPutInPart, put_file}
