@@ -45,6 +45,15 @@ class Documents(unittest.TestCase):
                         if output:
                             self.assertEqual(ran.stdout, output)
 
+    def test_code_of_the_documents_stands_in_the_tests(self) -> None:
+        text = (ROOT / "docs" / "CRATES.md").read_text()
+        files = [(ROOT / it).read_text() for it in re.findall(r"`(crates/\S+\.rt)`", text)]
+        blocks = re.findall(r"^```rust\n(.*?)^```$", text, re.MULTILINE | re.DOTALL)
+        self.assertGreater(len(blocks), 4)
+        for block in blocks:
+            with self.subTest(block=block[:60]):
+                self.assertTrue(any(block in it for it in files))
+
 
 if __name__ == "__main__":
     unittest.main()
