@@ -136,14 +136,14 @@ spent_by : (made nodes : ℕ) → nodes ≤ made + 1 → made ≤ nodes → (tes
 spent_by made nodes low high true e = inl (eqb-true made nodes e)
 spent_by made nodes low high false e = let apart = eqb-false made nodes e in inr (omega (arith, apart, low, high))
 
-spent_nodes : (made nodes : ℕ) → nodes ≤ made + 1 → made ≤ nodes → (made ≡ nodes) ⊎ (made + 1 ≡ nodes)
+pub spent_nodes : (made nodes : ℕ) → nodes ≤ made + 1 → made ≤ nodes → (made ≡ nodes) ⊎ (made + 1 ≡ nodes)
 spent_nodes made nodes low high = spent_by made nodes low high (eqb made nodes) refl
 
 gap_test : (cost b : ℕ) → pos b ≤ℤ pos cost → (test : Bool) → (b == cost) ≡ test → ((pos b ≡ pos cost) × (gap_status cost (pos b) ≡ 0)) ⊎ ((pos b <ℤ pos cost) × (gap_status cost (pos b) ≡ 1))
 gap_test cost b most true e = inl (ap pos (eqb-true b cost e), ap (λ (t : Bool). if t then 0 else 1) e)
 gap_test cost b most false e = let apart = eqb-false b cost e in inr (omega (arith, ints, apart, most), ap (λ (t : Bool). if t then 0 else 1) e)
 
-gap_by : (cost : ℕ) (bound : ℤ) → bound ≤ℤ pos cost → ((bound ≡ pos cost) × (gap_status cost bound ≡ 0)) ⊎ ((bound <ℤ pos cost) × (gap_status cost bound ≡ 1))
+pub gap_by : (cost : ℕ) (bound : ℤ) → bound ≤ℤ pos cost → ((bound ≡ pos cost) × (gap_status cost bound ≡ 0)) ⊎ ((bound <ℤ pos cost) × (gap_status cost bound ≡ 1))
 gap_by cost (pos b) most = gap_test cost b most (b == cost) refl
 gap_by cost (negsuc n) most = inr (omega (arith, ints), refl)
 

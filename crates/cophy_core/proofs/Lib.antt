@@ -16,4 +16,5 @@ pub mod Answered
 pub mod CauseLemmas
 pub mod LeftFiles
 pub mod Headlines
+pub mod Gaps
 pub mod Grammar

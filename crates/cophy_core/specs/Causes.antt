@@ -1,5 +1,5 @@
 -- When each answer comes, and what it says.
-use Rattle.std.specs.Prelude.{◌≡◌, ℕ, ◌+◌, ◌*◌, ◌<◌, ◌==◌, if◌then◌else◌, ℤ, pos, negsuc, ◌⊎◌, List, All, Option, Result, Ok, Err}
+use Rattle.std.specs.Prelude.{◌≡◌, ◌≢◌, ℕ, ◌+◌, ◌-◌, ◌*◌, ◌^◌, ◌<◌, ◌==◌, if◌then◌else◌, ℤ, pos, negsuc, ◌<ℤ◌, ◌⊎◌, List, length, All, Option, Result, Ok, Err}
 use Rattle.adv_base.specs.declared.limits.TheConstants.{MOST_CANDIDATES, MOST_INDEXES, MOST_UPKEEP}
 use Rattle.adv_shelf.specs.Faults.{Rose}
 use Rattle.adv_shelf.specs.Shelf.{Files}
@@ -38,6 +38,19 @@ status_of (NotProvedDone why) = 6
 status_of (Benched bench) = advice_status_of bench.advice
 status_of Memory = 7
 status_of done = 0
+
+-- The search behind advice gave up: its bound is below its cost, its tree has as many nodes as it might have or one less, and
+-- these were fewer than a whole tree over the useful candidates has.
+pub record HasGivenUp (advice : Advice) : Type 0 where
+  pub below : advice.answer.bound <ℤ pos advice.answer.cost
+  pub spent : (length advice.answer.tree ≡ advice.nodes) ⊎ (length advice.answer.tree + 1 ≡ advice.nodes)
+  pub fewer : advice.nodes < 2 ^ (advice.answer.useful + 1) - 1
+
+-- status 1 is that of advice, and comes only where its search gave up
+abbrev pub GapIsTrue : Done → Type 0
+GapIsTrue (Advised advice) = advice_status_of advice ≡ 1 → HasGivenUp advice
+GapIsTrue (Benched bench) = advice_status_of bench.advice ≡ 1 → HasGivenUp bench.advice
+GapIsTrue done = status_of done ≢ 1
 
 -- this answer, or want of memory
 abbrev pub IsOrMemory : Done → Done → Type 0

@@ -2,7 +2,7 @@
 ghost use Rattle.std.specs.Prelude.{◌≡◌, ◌≢◌, ◌≤◌, ◌⊎◌, ℕ, List, Some, Ok, Err};
 ghost use Rattle.adv_shelf.specs.Shelf.{Files};
 ghost use Rattle.report.specs.declared.done.WordFault.{WordFault};
-ghost use Rattle.cophy_core.specs.Causes.{advice_status_of, status_of, IsOrMemory, IsSteady, UsageIsTrue, ReadFaultIsTrue, WriteFaultIsTrue, RefusalIsTrue, NotProvedIsTrue, MemoryWritesNothing, IsSound, IsWritten, IsBounded};
+ghost use Rattle.cophy_core.specs.Causes.{advice_status_of, status_of, IsOrMemory, IsSteady, UsageIsTrue, ReadFaultIsTrue, WriteFaultIsTrue, RefusalIsTrue, NotProvedIsTrue, GapIsTrue, MemoryWritesNothing, IsSound, IsWritten, IsBounded};
 ghost use Rattle.cophy_core.specs.Answers.{Answers};
 ghost use Rattle.cophy_core.specs.ReadWords.{texts, PlainCommand, command_of};
 ghost use Rattle.cophy_core.specs.Endings.{outside};
@@ -84,6 +84,8 @@ pub fn run<S: Shelf, O: Sink>(
     ensures refused { RefusalIsTrue (command_of (texts words.now)) (S.files shelf.old) result.done }
     // A certificate is said to prove nothing only to `check`, where nothing is refused, for the first of its faults.
     ensures not_proved { NotProvedIsTrue (command_of (texts words.now)) (S.files shelf.old) result.done }
+    // Status 1 comes only where the search for advice gave up: its nodes were spent, and a gap is left.
+    ensures gap { GapIsTrue result.done }
     ensures memory { MemoryWritesNothing (O.written out.old) (O.written out.new) result.done }
     // Whatever the counts did, what is answered to a command is true of the files.
     ensures soundness { (command : PlainCommand) → command_of (texts words.now) ≡ Ok command → IsSound command (S.files shelf.old) result.done }

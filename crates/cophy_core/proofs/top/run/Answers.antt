@@ -1,5 +1,6 @@
 use Rattle.std.proofs.Common.{refl}
 use Rattle.cophy_core.proofs.CauseLemmas as cause
+use Rattle.cophy_core.proofs.Gaps.{gap}
 use Rattle.cophy_core.proofs.Headlines.{Laws, headline}
 use Rattle.cophy_core.proofs.LeftFiles.{left}
 use Rattle.cophy_core.proofs.top.run.Goals as goal
@@ -25,6 +26,9 @@ returns-clause-refused g c = cause.refused _ _ _ _ _ _ _ _ _ _ c.reply-reply.ens
 
 pub returns-clause-not_proved : goal.returns-clause-not_proved
 returns-clause-not_proved g c = cause.not_proved _ _ _ _ _ _ _ _ _ _ c.reply-reply.ensures.reply c.give-done.ensures.ends
+
+pub returns-clause-gap : goal.returns-clause-gap
+returns-clause-gap g c = gap _ _ _ _ _ _ _ _ _ _ c.reply-reply.ensures.reply c.give-done.ensures.ends
 
 pub returns-clause-memory : goal.returns-clause-memory
 returns-clause-memory g c = cause.memory _ _ _ _ _ _ _ _ _ _ c.reply-reply.ensures.reply c.give-done.ensures.ends
