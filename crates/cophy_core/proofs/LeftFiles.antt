@@ -65,12 +65,12 @@ left_unput cat load budget nodes file words reads_before reads_after old new adv
       unwritten = unwritten;
     }))
 
--- advice was to be told
 -- an answer that is advice
 abbrev IsAdvised : Done → Type 0
 IsAdvised (Advised advice) = Unit {0}
 IsAdvised done = ⊥
 
+-- advice was to be told
 left_put : (cat load : List ℕ) (budget nodes : ℕ) (file : List ℕ) (words : List (List ℕ)) (reads_before reads_after : ReadCounts) (old new : Outside) (advice : Advice) (puts : List Put) (text : List ℕ) (done : Done) → Answers (Advise cat load budget nodes (Some file)) old.files (Advised advice) → ArePuts (Advise cat load budget nodes (Some file)) old.files words (Advised advice) puts text → Ends old new (Advised advice) puts text done → Leaves (Advise cat load budget nodes (Some file)) reads_before reads_after old new done
 left_put cat load budget nodes file words reads_before reads_after old new advice puts text done answers h (inl whole) =
     subst (Leaves (Advise cat load budget nodes (Some file)) reads_before reads_after old new) (sym whole.stands)

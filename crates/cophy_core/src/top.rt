@@ -63,8 +63,10 @@ fn status(done: &Done) -> u8
 /// The first of these that fails is the answer: the words; the files, each to its end, in the order of the words; the
 /// catalogue; the workload's text; its names; what the command alone asks for; the work, and with it what a certificate fails
 /// to prove; the put of the certificate; the write. Prices and explained plans are those of least plans (System R's search,
-/// over bushy plans). A fault of reading or writing is answered only where the shelf's or the sink's count of faults rose in
-/// this call. Want of memory may come at any time before the write, and then nothing is written and no file changes.
+/// over bushy plans). Advice is a set of candidates that fits, with its exact cost and a bound that no set that fits
+/// undercuts (CoPhy's programme over INUM's templates). A fault of reading or writing is answered only where the shelf's or
+/// the sink's count of faults rose in this call. Want of memory may come at any time before the write, and then nothing is
+/// written and no file changes.
 pub fn run<S: Shelf, O: Sink>(
     alloc: Global,
     words: &[String],
