@@ -64,7 +64,7 @@ class WholeWay(unittest.TestCase):
     @unittest.skipUnless(has_extension("hypopg"), "postgresql-15-hypopg isn't installed")
     def test_the_server_takes_a_pick(self) -> None:
         self.server.psql("CREATE EXTENSION IF NOT EXISTS hypopg", "shop")
-        words = ("verify", *self.files, "--program", str(COPHY), "--json")
+        words = ("verify", *self.files, "--sql", str(self.folder / "queries.sql"), "--program", str(COPHY), "--json")
         found = json.loads(self.call(*words))
         self.assertEqual(len(found["picks"]), len(self.advice.picks))
         self.assertTrue(any(it["taken_by"] for it in found["picks"]), found["picks"])
