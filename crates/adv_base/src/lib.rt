@@ -5,6 +5,20 @@
 //! (`times_part`, `binary_digits`) and the reader of dates. `specs/` has the definitions that the layers above cite:
 //! selectivity parts, rows, index sizes, upkeep, the offers of a slot, and what fits a space budget. Rows and pages are
 //! counts; costs are thousandths of a sequential page read. Reading text, planning and searching are left to others.
+//!
+//! Of a catalogue there are `Catalogue`, `Rates`, `Table`, `Column`, `Index` and `IndexShape`; of a statement
+//! `Statement`, `Work`, `Block`, `Slot`, `Pred` with its `Test`, `Edge` and `Item`. A `Config` says which candidates
+//! are chosen, a `Setting` is a catalogue with statements and candidates. `List`, `Name` and `Bytes` hold them, and
+//! `NoMemory` is want of memory.
+//!
+//! ```rust
+//! assert_eq!(rt; times_part(1000, 1000000), 1); // a thousandth of 1000 rows
+//! assert_eq!(rt; binary_digits(1000), 10);
+//! assert_eq!(rt; day_of(b"1995-01-01"), Some(9131));
+//! let mut config = Config::none();
+//! config.on[255] = true; // candidates count from 1
+//! assert!(rt; config.has(256) && !config.has(255));
+//! ```
 #![tactic(auto)]
 
 mod catalogue;

@@ -1,4 +1,18 @@
 //! Files and output: a shelf of named files and a sink of bytes, which count their faults.
+//!
+//! Anything that keeps files is a `Shelf`, and anything that takes bytes a `Sink`: `DiskShelf` and `StdSink` are the
+//! system's, `MemShelf` and `MemSink` are in memory and fail at the calls that they are told. `read_all` and
+//! `write_all` work over any. A fault is `Failed`, `PutFault` or `GetFault`.
+//!
+//! ```rust
+//! let mut shelf = MemShelf::new(alloc)?;
+//! assert_eq!(rt; shelf.put("a", b"hello"), Ok(()));
+//! let mut buf = [0; 3];
+//! assert_eq!(rt; shelf.read_at("a", 3, &mut buf), Ok(2));
+//! assert_eq!(rt; &buf[..2], b"lo".as_slice());
+//! assert_eq!(rt; shelf.read_at("b", 0, &mut buf), Err(Failed));
+//! assert_eq!(rt; read_all(alloc, &mut shelf, "a", 4).err(), Some(GetFault::TooLong));
+//! ```
 #![tactic(auto)]
 
 mod failing;

@@ -5,6 +5,17 @@
 //! setting, what it says a configuration costs, which node a `Fix` is, which tree a list of nodes tells, and what a bound
 //! on all fitting configurations rests on; `laws` has the theorems. Sizes are in pages, costs in thousandths of a
 //! sequential page read. Making a programme, bounding it and searching are left to others.
+//!
+//! A `Programme` has `Part`s, these have `SlotPart`s, and these `Grant`s. A `Fix` is a node of a search, `Multipliers`
+//! are one set of rents and a price of a page, and an `Answer` has the tree, as `Node`s.
+//!
+//! ```rust
+//! // Two statements, of weights 10 and 11: each costs 80000, with its candidate 13000 and 14000.
+//! let mut config = Config::none();
+//! assert_eq!(rt; value(&programme, &config), 1680000);
+//! config.on[1] = true;
+//! assert_eq!(rt; value(&programme, &config), 954000); // 10 * 80000 + 11 * 14000
+//! ```
 #![tactic(auto)]
 
 mod answer;

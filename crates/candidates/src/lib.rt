@@ -4,6 +4,17 @@
 //! more there were. For each slot of a statement that reads, `specs/Columns.antt` tells which of its columns are tested,
 //! joined, grouped or ordered by and needed, `specs/Proposals.antt` which key lists they make, and
 //! `specs/Candidates.antt` which of these are left out. Whether a candidate helps is left to others.
+//!
+//! `Candidates` has them, as `adv_base`'s `IndexShape`s, and that number.
+//!
+//! ```rust
+//! // `SELECT b FROM t WHERE a = 1`, where a and b are columns 0 and 1 of t, which has no index.
+//! let found = candidates(alloc, &cat, statements)?;
+//! assert_eq!(rt; found.list.len(), 2); // t(a) and t(a, b)
+//! let last = found.list.items.last().map(|shape| shape.keys.as_slice());
+//! assert_eq!(rt; last, Some([0u16, 1].as_slice()));
+//! assert_eq!(rt; found.left_over, 0);
+//! ```
 #![tactic(auto)]
 
 mod answer;

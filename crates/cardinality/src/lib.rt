@@ -3,6 +3,19 @@
 //!
 //! Selectivities are parts of 10^9, from 1 to 10^9, by a table of factors in the manner of System R's. Numbers of rows
 //! go from 1 to 10^12. The definitions that the contracts cite stand in `adv_base`.
+//!
+//! Catalogues and blocks are `adv_base`'s; `Rows` has the rows of each set of slots, at the number whose binary digit s
+//! is slot s.
+//!
+//! ```rust
+//! // `SELECT c FROM t WHERE a = 1`, where t has 1000 rows, and 10 values in a.
+//! for pred in block.preds.items.iter() {
+//!     assert_eq!(rt; part_of(&cat, &block, pred), 100000000);
+//! }
+//! assert_eq!(rt; slot_rows(&cat, &block, 0), 100);
+//! let rows = rows_table(alloc, &cat, &block)?;
+//! assert_eq!(rt; rows.of.as_slice(), [1, 100].as_slice());
+//! ```
 #![tactic(auto)]
 
 mod groups;

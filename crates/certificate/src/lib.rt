@@ -6,6 +6,19 @@
 //! `specs/Texts.antt` has the text, `specs/Limits.antt` what a certificate keeps, `specs/Certificates.antt` which bytes are
 //! a certificate's and at which line others break, `specs/Answers.antt` the certificate of an answer. Whether a certificate
 //! proves its bound is left to others.
+//!
+//! A `Cert` has `SparseSet`s of `Entry`s and a tree of `bip_model`'s `Node`s; a `CertFault` says why a text isn't read.
+//!
+//! ```rust
+//! let text =
+//!     "cophy certificate 1\nbudget 4\nconfig 2\ncost 954000\nbound 954000\nsets 0\ntree 3\nB 1\nL 0\nL 0\nend\n";
+//! let cert = read_cert(alloc, text.as_bytes())?;
+//! assert_eq!(rt; cert.config.as_slice(), [2u16].as_slice());
+//! assert_eq!(rt; (cert.cost, cert.bound), (954000, 954000));
+//! let tree = [Node::Branch(1), Node::Bounded(0), Node::Bounded(0)];
+//! assert_eq!(rt; cert.tree.as_slice(), tree.as_slice());
+//! assert_eq!(rt; read_cert(alloc, b"cophy\n").err(), Some(CertFault::Malformed(1)));
+//! ```
 #![tactic(auto)]
 
 mod cert;

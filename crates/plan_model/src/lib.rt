@@ -5,6 +5,21 @@
 //! thousandths of a sequential page read. Plans are trees in the manner of System R's and INUM's: leaves, sorts, merge
 //! and hash joins, bushy ones too; a whole plan adds a group step and a final sort. `specs/` says which plans are valid,
 //! what they cost, and what a least plan, the task of a block, and the cost of a workload are. Nothing here searches.
+//!
+//! The types are `Task` with its `TaskEdge`s, the trait `Offers`, `Plan`, `Whole` with its `GroupStep`, `Template`
+//! (what INUM keeps of a plan), and `Labels`, by which `plan_text` tells a plan.
+//!
+//! ```rust
+//! // One slot of 1000 rows, which its only offer reads whole for 30000, is to be ordered by a column.
+//! let mut whole = Whole {
+//!     body: Plan::Leaf { slot: 0, offer: 0 },
+//!     group: GroupStep::Nothing,
+//!     final_sort: true,
+//! };
+//! assert_eq!(rt; plan_cost(&task, &offers, &whole), Some(80000)); // with a sort of 5 * 1000 * 10
+//! whole.final_sort = false;
+//! assert_eq!(rt; plan_cost(&task, &offers, &whole), None); // not in the order that is asked for
+//! ```
 #![tactic(auto)]
 
 mod checked;

@@ -4,6 +4,17 @@
 //! above can want, it keeps what the cheapest plan of that set costs whose order begins so. Join trees may be bushy. What
 //! depends on the task alone, as the cuts of each set with what joining their parts costs, is found once, so that costs
 //! over many tables of offers are found fast; a plan is built at the end, from what gives each cost.
+//!
+//! `least` answers a `Found`: a plan and its cost. A `Search` answers costs alone, again and again.
+//!
+//! ```rust
+//! // `SELECT c FROM t ORDER BY c`: the table costs 30000 and a sort of it 50000, an index on c 13000.
+//! let found = least(alloc, &task, &offers)?;
+//! assert_eq!(rt; found.cost, 13000);
+//! assert_eq!(rt; plan_cost(&task, &offers, &found.plan), Some(13000));
+//! let mut search = Search::new(alloc, &task)?;
+//! assert_eq!(rt; search.cost(&offers), 13000);
+//! ```
 #![tactic(auto)]
 
 mod again;

@@ -4,6 +4,16 @@
 //! (TOML) and of workloads (SQL) take them. The same numbers give the same bytes everywhere. `specs/Draws.antt` has the
 //! generator of numbers, `specs/Tables.antt` and `specs/Statements.antt` what is written with them. Rows and pages are
 //! counts. Reading the texts is left to others.
+//!
+//! `make` answers a `Made`, which is both texts.
+//!
+//! ```rust
+//! let made = make(alloc, 1, 2, 1)?; // the seed 1, two tables, one statement
+//! let workload = "-- weight 31\nSELECT k, d FROM t1 WHERE b BETWEEN 90 AND 140;\n";
+//! assert_eq!(rt; made.workload.as_slice(), workload.as_bytes());
+//! let catalogue = "version = 1\n[[table]]\nname = \"t1\"\nrows = 775000\npages = 15500\n";
+//! assert!(rt; made.catalogue.as_slice().starts_with(catalogue.as_bytes()));
+//! ```
 #![tactic(auto)]
 
 mod draws;
