@@ -6,6 +6,21 @@
 //! its offers are priced once, and what it cost at a set's last leaf stays where none of its tables has other candidates
 //! available. No cache of plans and no programme is read. `specs/Views` has the certificate as the definitions of
 //! `bip_model` see it, `specs/Faults` what each answer says.
+//!
+//! `check` answers a `Checked`, or a `CheckFault`.
+//!
+//! ```rust
+//! // Statements of weights 10 and 11 cost 80000 each, the second 14000 with candidate 2, of 4 pages.
+//! let text =
+//!     "cophy certificate 1\nbudget 4\nconfig 2\ncost 954000\nbound 954000\nsets 0\ntree 3\nB 1\nL 0\nL 0\nend\n";
+//! let cert = read_cert(alloc, text.as_bytes())?;
+//! let proved = Checked {
+//!     budget: 4,
+//!     cost: 954000,
+//!     bound: 954000,
+//! };
+//! assert_eq!(rt; check(alloc, &setting, &cert), Ok(proved));
+//! ```
 #![tactic(auto)]
 
 mod available;

@@ -4,6 +4,16 @@
 //! proves nothing, a refusal, a fault. `text` gives the bytes that stand for it on the output: one line a fact, each ended by
 //! a line feed. Costs are in thousandths of a page read, places are byte
 //! offsets from 1, and numbers of statements, words and lines count from 1. Finding an answer is left to others.
+//!
+//! ```rust
+//! let done = Done::Checked(Checked {
+//!     budget: 4,
+//!     cost: 954000,
+//!     bound: 954000,
+//! });
+//! let printed = text(alloc, &done, &[], None)?;
+//! assert_eq!(rt; printed.as_slice(), b"proved cost 954000 bound 954000 budget 4\n".as_slice());
+//! ```
 #![tactic(auto)]
 
 mod advised;
