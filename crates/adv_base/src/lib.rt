@@ -34,8 +34,6 @@ mod memory;
 mod numbers;
 mod sets;
 mod setting;
-#[cfg(test)]
-mod tests;
 mod workload;
 
 pub use catalogue::Catalogue;

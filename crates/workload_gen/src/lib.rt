@@ -20,7 +20,5 @@ mod draws;
 mod made;
 mod statements;
 mod tables;
-#[cfg(test)]
-mod tests;
 
 pub use made::{Made, make};

@@ -1,14 +1,6 @@
 //! Whole texts, written by a second program from the description of the generator.
-use crate::draws::Draws;
-use crate::{Made, make};
 use std::test::Fail;
-
-#[test]
-fn first_draw(rt: HostRuntime) {
-    let mut draws = Draws { state: 1 };
-    assert_eq!(rt; draws.draw(1000), 774);
-    assert_eq!(rt; draws.state, 7806831264735756412);
-}
+use workload_gen::{Made, make};
 
 const ONE_CATALOGUE: &str = r#"version = 1
 [[table]]

@@ -1,4 +1,5 @@
-use crate::{
+//! Sums, days, digits, lines and small words of `adv_base`.
+use adv_base::{
     Config, List, Name, Rates, Test, Value, all_slots, binary_digits, day_of, first_line, has_slot,
     push_decimal, read_number, times_part,
 };
