@@ -1,4 +1,22 @@
-//! The statements of a workload, read by the grammar.
+//! The statements of a workload, read by the grammar: a text below 2^32 bytes goes in, and out come its statements or
+//! its first fault.
+//!
+//! `read_workload` makes a text's tokens into pieces, which is what the grammar looks at, and reads these by rules that
+//! `specs/Grammar` lists, with one piece of look ahead. Names stay spans of the text: whether a table or a column is
+//! there is left to the crate above.
+//!
+//! `Parsed` is a text with its statements. A `ParsedStatement` has a `Body`, which for a SELECT is a `ParsedSelect` of
+//! `ParsedItem`s, `Source`s, `Condition`s and `ParsedOrder`s; an `Expr` and a `NameUse` say what columns are used, a
+//! `Compare` and a `Literal` what a test compares with. A `SqlFault` says why a text is no workload. `Piece` and the
+//! types beside it are public because the rules speak of them. The other functions are laws of the grammar.
+//!
+//! ```rust
+//! let parsed = read_workload(alloc, b"-- weight 3\nSELECT c FROM t WHERE c IN (1, 2);")?;
+//! let first = &parsed.statements.as_slice()[0];
+//! assert_eq!(rt; first.weight, 3);
+//! assert_eq!(rt; first.place, 13); // counted from 1
+//! assert!(rt; matches!(read_workload(alloc, b"SELECT c FROM"), Err(SqlFault::Syntax(14)))); // at the end
+//! ```
 #![tactic(auto)]
 
 mod change;
