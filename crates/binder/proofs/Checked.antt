@@ -1,7 +1,7 @@
 -- What the conditions of a statement give.
-use Rattle.std.proofs.Common.{◌≡◌, ◌≢◌, ℕ, zero, suc, ◌+◌, ◌<◌, ◌≤◌, Bool, true, false, cond, eqb, List, [], ◌∷◌, ◌++◌, length, Option, Some, None, Result, Ok, Err, refl, sym, ap, subst, ◌∙◌, arith}
+use Rattle.std.proofs.Common.{◌≡◌, ℕ, ◌+◌, ◌<◌, ◌≤◌, Bool, true, false, cond, eqb, List, [], ◌∷◌, ◌++◌, length, Ok, refl, ap, subst, arith}
 use Rattle.std.specs.Prelude.{All}
-use Rattle.std.proofs.lemmas.Bool.{eqb-true, eqb-false}
+use Rattle.std.proofs.lemmas.Bool.{eqb-true}
 use Rattle.std.proofs.lemmas.List.{length-append}
 use Rattle.std.proofs.lemmas.List.Elements.{All-nil, All-push}
 use Rattle.adv_base.specs.declared.workload.predicate.Test.{Test}
@@ -11,13 +11,11 @@ use Rattle.sql_reader.specs.declared.parsed.Compare.{Compare}
 use Rattle.sql_reader.specs.declared.parsed.Compare.TheVariants as compares
 use Rattle.sql_reader.specs.declared.parsed.Condition.{Condition}
 use Rattle.sql_reader.specs.declared.parsed.Condition.TheVariants as conditions
-use Rattle.sql_reader.specs.declared.parsed.Literal.{Literal}
 use Rattle.sql_reader.specs.declared.parsed.NameUse.{NameUse}
-use Rattle.binder.specs.declared.column.SlotColumn.{SlotColumn}
-use Rattle.binder.specs.declared.fault.BindFault.{BindFault}
+use Rattle.binder.specs.declared.gathered.SlotColumn.{SlotColumn}
 use Rattle.binder.specs.Plain.{PlainPred, PlainEdge}
 use Rattle.binder.specs.Conditions.{PlainTests, no_tests, pred_of, edge_of, with_test, with_equality, compare_test, named_test, named_equality, literal_value, with_condition, tests_of}
-use Rattle.binder.specs.Results.{◌>>=◌, in_turn}
+use Rattle.binder.specs.Results.{◌>>=◌}
 use Rattle.binder.specs.Scopes.{Names, meaning}
 use Rattle.binder.proofs.Readings.{bind_ok, ok_is, in_turn-keeps, in_turn-counts}
 use Rattle.binder.proofs.Within.{width, IsColumn, IsColumn-meaning}

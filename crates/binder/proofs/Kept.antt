@@ -1,25 +1,24 @@
 -- Lists without bound and repeated columns.
-use Rattle.std.proofs.Common.{◌≡◌, ℕ, zero, suc, ◌+◌, ◌<◌, ◌≤◌, Bool, true, false, cond, eqb, ◌&&◌, ◌||◌, List, [], ◌∷◌, ◌++◌, length, get_or, map, fold, Option, Some, None, refl, sym, ap, subst, ◌∙◌, arith, true≢false}
-use Rattle.std.specs.Prelude.{All, AllPairs, slice_get}
+use Rattle.std.proofs.Common.{◌≡◌, ℕ, zero, suc, ◌+◌, ◌<◌, Bool, true, false, cond, ◌&&◌, ◌||◌, List, [], ◌∷◌, ◌++◌, length, get_or, map, fold, Option, Some, None, refl, sym, ap, subst, ◌∙◌, arith, true≢false}
+use Rattle.std.specs.Prelude.{All}
 use Rattle.std.specs.List.{list_any, list_all, filter_map}
-use Rattle.std.specs.Option.{ForSome}
-use Rattle.std.proofs.lemmas.List.Elements.{All-nil, All-push, All-cons, All-head, All-tail, All-get_or, All-map}
+use Rattle.std.proofs.lemmas.List.Elements.{All-nil, All-push, All-cons, All-head, All-tail, All-map}
 use Rattle.std.proofs.lemmas.List.Quantifiers.{all_pairs_push}
 use Rattle.adv_base.specs.declared.workload.parts.Item.{Item}
 use Rattle.adv_base.specs.declared.workload.parts.Item.TheVariants.{Up, Down, Made}
 use Rattle.adv_base.specs.declared.workload.predicate.Pred.{Pred}
-use Rattle.adv_base.specs.Items.{is_same_column, is_upward, is_within_slots, AreApart, AreUpward, AreWithinSlots}
+use Rattle.adv_base.specs.Items.{is_same_column, is_upward, is_within_slots, AreApart}
 use Rattle.adv_base.specs.Predicates.{is_bound as binds_column, is_bound_item}
 use Rattle.adv_base.specs.Limits.Blocks.{AreFree, ListLimits, GroupLimits}
 use Rattle.std.proofs.lemmas.Bool.Decides.{nat_tests}
-use Rattle.binder.specs.declared.column.SlotColumn.{SlotColumn}
+use Rattle.binder.specs.declared.gathered.SlotColumn.{SlotColumn}
 use Rattle.binder.specs.declared.gathered.BoundItem.{BoundItem}
 use Rattle.binder.specs.declared.gathered.BoundItem.TheVariants as bound
-use Rattle.binder.specs.Items.{item_column, is_plain, plain_column, item_mentions}
-use Rattle.binder.specs.Lists.{binds, is_bound, keep, kept_items, upward, kept_columns, distinct_group, group_list, order_list}
+use Rattle.binder.specs.Items.{item_column, is_plain, item_mentions}
+use Rattle.binder.specs.Lists.{binds, is_bound, keep, kept_items, upward, kept_columns, group_list, order_list}
 use Rattle.binder.specs.Plain.{PlainPred, plain_pred, plain_preds}
 use Rattle.binder.specs.Scopes.{Names, slot_column}
-use Rattle.binder.proofs.Within.{width, IsColumn}
+use Rattle.binder.proofs.Within.{IsColumn}
 
 or_parts : (p q : Bool) → (p || q) ≡ false → (p ≡ false) × (q ≡ false)
 or_parts true q e = absurd (true≢false e)

@@ -1,8 +1,8 @@
 -- The statements that a text means name what the catalogue has, and have at most 2000 slots.
-use Rattle.std.proofs.Common.{◌≡◌, ℕ, zero, suc, ◌+◌, ◌<◌, ◌≤◌, Bool, true, false, List, [], ◌∷◌, ◌++◌, length, get_or, map, sum, sum_by, Option, Some, None, Result, Ok, Err, refl, sym, ap, subst, ◌∙◌, arith, nat_le}
+use Rattle.std.proofs.Common.{◌≡◌, ℕ, ◌+◌, ◌<◌, ◌≤◌, true, List, [], ◌∷◌, ◌++◌, length, map, sum, sum_by, Some, Result, Ok, Err, refl, sym, ap, subst, ◌∙◌, arith, nat_le}
 use Rattle.std.specs.Prelude.{All}
 use Rattle.std.proofs.lemmas.Bool.{leb-true}
-use Rattle.std.proofs.lemmas.List.Elements.{All-nil, All-cons, All-push, All-head, All-tail, All-weaker}
+use Rattle.std.proofs.lemmas.List.Elements.{All-nil, All-cons, All-push, All-weaker}
 use Rattle.std.proofs.lemmas.List.Sums.{sum_by-append, sum-map}
 use Rattle.adv_base.specs.declared.limits.TheConstants.{MOST_SLOTS_IN_ALL}
 use Rattle.adv_base.specs.declared.catalogue.Catalogue.{Catalogue}
@@ -25,7 +25,7 @@ use Rattle.sql_reader.specs.declared.parsed.NameUse.{NameUse}
 use Rattle.sql_reader.specs.declared.parsed.ParsedSelect.{ParsedSelect}
 use Rattle.sql_reader.specs.declared.parsed.ParsedStatement.{ParsedStatement}
 use Rattle.sql_reader.specs.declared.parsed.Source.{Source}
-use Rattle.binder.specs.declared.column.SlotColumn.{SlotColumn}
+use Rattle.binder.specs.declared.gathered.SlotColumn.{SlotColumn}
 use Rattle.binder.specs.declared.gathered.BoundItem.{BoundItem}
 use Rattle.binder.specs.declared.scope.Visible.{Visible}
 use Rattle.binder.specs.declared.fault.BindFault.{BindFault}
@@ -36,19 +36,19 @@ use Rattle.binder.specs.Blocks.{PlainClauses, clauses_of, joined_clauses, clause
 use Rattle.binder.specs.Conditions.{PlainTests, tests_of}
 use Rattle.binder.specs.Items.{columns_of}
 use Rattle.binder.specs.Joins.{is_joined}
-use Rattle.binder.specs.Lists.{aggregates, group_list}
+use Rattle.binder.specs.Lists.{aggregates}
 use Rattle.binder.specs.Needed.{slots_from}
 use Rattle.binder.specs.Plain.{PlainBlock, PlainWork, PlainStatement, Select, Update, Delete, Insert, plain_block, plain_work, plain_statement, plain_statements}
-use Rattle.binder.specs.Results.{◌>>=◌, or_fault, where_holds, both}
+use Rattle.binder.specs.Results.{◌>>=◌, where_holds, both}
 use Rattle.binder.specs.Scopes.{Names}
 use Rattle.binder.specs.Sources.{table_meant, visible, sources_of}
 use Rattle.binder.specs.Statements.{first_table, update_of, without_names, insert_of, work_of, PlainBound, slot_count, counted_work, with_statement, bound_of, statements_of}
 use Rattle.binder.proofs.Readings.{bind_ok, or_fault_ok, where_ok, ok_is, in_turn-keeps, each-All}
-use Rattle.binder.proofs.Within.{width, IsColumn, column_of-within}
-use Rattle.binder.proofs.Checked.{IsPred, IsEdge, AreTests, AreTests-tests}
+use Rattle.binder.proofs.Within.{column_of-within}
+use Rattle.binder.proofs.Checked.{IsPred, IsEdge, AreTests-tests}
 use Rattle.binder.proofs.Kept.{IsItem, group_list-from, kept_columns-are, order_list-are}
-use Rattle.binder.proofs.Limited.{GivenClauses, given_clauses, All-unmap}
-use Rattle.binder.proofs.Named.{IsSource, table_meant-is, sources-are, same_width, block-named}
+use Rattle.binder.proofs.Limited.{given_clauses, All-unmap}
+use Rattle.binder.proofs.Named.{IsSource, table_meant-is, sources-are, block-named}
 
 -- a block over sources whose parts name what these have
 pub record IsNamed (cat : Catalogue) (b : PlainBlock) : Type 0 where

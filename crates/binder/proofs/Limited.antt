@@ -1,30 +1,26 @@
 -- The blocks that statements mean keep the limits of blocks.
-use Rattle.std.proofs.Common.{◌≡◌, ℕ, zero, suc, ◌+◌, ◌-◌, ◌^◌, ◌<◌, ◌≤◌, Bool, true, false, List, [], ◌∷◌, ◌++◌, length, get_or, map, Option, Some, None, Result, Ok, Err, refl, sym, ap, subst, ◌∙◌, arith}
+use Rattle.std.proofs.Common.{◌≡◌, ℕ, suc, ◌+◌, ◌-◌, ◌^◌, ◌<◌, ◌≤◌, Bool, true, List, [], ◌∷◌, length, map, None, Ok, refl, sym, ap, subst, ◌∙◌, arith}
 use Rattle.std.specs.Prelude.{All}
-use Rattle.std.specs.Option.{ForSome}
 use Rattle.std.proofs.lemmas.List.{length-map}
 use Rattle.std.proofs.lemmas.List.Elements.{All-nil, All-cons, All-head, All-tail, All-weaker}
 use Rattle.adv_base.specs.declared.catalogue.Catalogue.{Catalogue}
 use Rattle.adv_base.specs.declared.workload.parts.Edge.{Edge}
-use Rattle.adv_base.specs.declared.workload.parts.Item.{Item}
 use Rattle.adv_base.specs.declared.workload.predicate.Pred.{Pred}
-use Rattle.adv_base.specs.Limits.Blocks.{BlockLimits, GroupLimits, ListLimits, AreFree, ends}
+use Rattle.adv_base.specs.Limits.Blocks.{BlockLimits, GroupLimits, AreFree, ends}
 use Rattle.adv_base.specs.Sets.{IsConnected}
 use Rattle.sql_reader.specs.declared.parsed.Condition.{Condition}
 use Rattle.sql_reader.specs.declared.parsed.ParsedSelect.{ParsedSelect}
-use Rattle.binder.specs.declared.column.SlotColumn.{SlotColumn}
+use Rattle.binder.specs.declared.gathered.SlotColumn.{SlotColumn}
 use Rattle.binder.specs.declared.gathered.BoundItem.{BoundItem}
-use Rattle.binder.specs.declared.gathered.SortKeys.{SortKeys}
 use Rattle.binder.specs.declared.scope.Visible.{Visible}
-use Rattle.binder.specs.declared.fault.BindFault.{BindFault}
 use Rattle.binder.specs.Blocks.{PlainClauses, sort_keys_of, clauses_of}
 use Rattle.binder.specs.Conditions.{PlainTests, tests_of}
 use Rattle.binder.specs.Items.{columns_of, items_of}
 use Rattle.binder.specs.Joins.{is_joined}
 use Rattle.binder.specs.Lists.{kept_columns, upward, group_list, order_list}
-use Rattle.binder.specs.Needed.{slot_of, slots_from}
+use Rattle.binder.specs.Needed.{slots_from}
 use Rattle.binder.specs.Orders.{SelectList, mentions_from, orders_from}
-use Rattle.binder.specs.Plain.{PlainPred, PlainEdge, plain_pred, plain_edge, plain_preds, plain_edges}
+use Rattle.binder.specs.Plain.{PlainPred, plain_pred, plain_edge, plain_preds, plain_edges}
 use Rattle.binder.specs.Results.{◌>>=◌}
 use Rattle.binder.specs.Scopes.{Names}
 use Rattle.binder.proofs.Readings.{bind_ok, ok_is}

@@ -1,12 +1,12 @@
 -- Columns that are marked, one after the other.
-use Rattle.std.proofs.Common.{◌≡◌, ℕ, suc, ◌+◌, ◌<◌, ◌≤◌, Bool, true, false, cond, eqb, not, ◌&&◌, ◌||◌, List, [], ◌∷◌, ◌++◌, length, get_or, take, drop, map, fold, Option, Some, None, refl, sym, ap, subst, ◌∙◌, arith, add-one, true≢false}
+use Rattle.std.proofs.Common.{◌≡◌, ℕ, ◌+◌, ◌<◌, Bool, true, false, cond, eqb, not, ◌&&◌, ◌||◌, List, [], ◌∷◌, ◌++◌, length, get_or, take, drop, map, fold, Option, Some, None, refl, sym, ap, ◌∙◌, arith, add-one, true≢false}
 use Rattle.std.specs.List.{list_any, range_with_len}
 use Rattle.std.specs.Prelude.{filter}
 use Rattle.std.specs.Option.{option_map_or}
 use Rattle.std.proofs.Math.Seq.{drop-cons}
 use Rattle.std.proofs.lemmas.Bool.{eqb-true}
 use Rattle.std.proofs.lemmas.Bool.Decides.{nat_tests}
-use Rattle.std.proofs.lemmas.List.{take_more, map_push, drop_all}
+use Rattle.std.proofs.lemmas.List.{take_more, map_push}
 use Rattle.std.proofs.lemmas.List.Folds.{list_any-append}
 use Rattle.std.proofs.lemmas.List.Elements.{filter-append}
 use Rattle.std.proofs.lemmas.List.FromFn.{map-range_with_len_more}
@@ -15,8 +15,8 @@ use Rattle.adv_base.specs.declared.workload.parts.Item.TheVariants.{Up, Down, Ma
 use Rattle.adv_base.specs.declared.workload.predicate.Pred.{Pred}
 use Rattle.adv_base.specs.Items.{is_same_column}
 use Rattle.adv_base.specs.Predicates.{is_equality}
-use Rattle.binder.specs.declared.column.SlotColumn.{SlotColumn}
-use Rattle.binder.specs.Lists.{binds, is_bound, keep, kept_items, upward}
+use Rattle.binder.specs.declared.gathered.SlotColumn.{SlotColumn}
+use Rattle.binder.specs.Lists.{binds, is_bound, keep, upward}
 use Rattle.binder.specs.Marks.{is_marked, Marks, BoundMarks, is_marked_item, KeepsMarks}
 use Rattle.binder.specs.Orders.{column_of_item}
 use Rattle.binder.specs.Plain.{PlainPred, plain_pred, plain_preds}

@@ -1,7 +1,7 @@
 -- The tables and columns of the statements that a text means exist in the catalogue.
-use Rattle.std.proofs.Common.{◌≡◌, ℕ, zero, suc, ◌+◌, ◌<◌, ◌≤◌, Bool, true, false, ◌||◌, List, [], ◌∷◌, ◌++◌, length, get_or, map, Option, Some, None, Result, Ok, Err, refl, sym, ap, subst, ◌∙◌, arith}
-use Rattle.std.specs.Prelude.{All, slice_get, option_map, option_and_then, filter, nat_lt}
-use Rattle.std.specs.Option.{ForSome, option_map_or}
+use Rattle.std.proofs.Common.{◌≡◌, ℕ, zero, suc, ◌+◌, ◌<◌, Bool, true, ◌||◌, List, [], ◌∷◌, ◌++◌, length, Option, Some, None, Ok, refl, ap, subst, ◌∙◌, arith}
+use Rattle.std.specs.Prelude.{All, slice_get, option_and_then, nat_lt}
+use Rattle.std.specs.Option.{option_map_or}
 use Rattle.std.specs.List.{list_any, range_with_len}
 use Rattle.std.proofs.lemmas.Bool.Decides.{nat_tests}
 use Rattle.std.proofs.lemmas.List.Elements.{All-nil, All-cons, All-push, All-head, All-tail, All-weaker, All-filter, All-from_get_or}
@@ -14,26 +14,25 @@ use Rattle.adv_base.specs.declared.workload.parts.Item.TheVariants.{Up, Down, Ma
 use Rattle.adv_base.specs.declared.workload.parts.Slot.{Slot}
 use Rattle.adv_base.specs.declared.workload.predicate.Pred.{Pred}
 use Rattle.adv_base.specs.Lookups.{column_count, slot_columns, table_at}
-use Rattle.adv_base.specs.Named.{NamesSlot, NamesPred, NamesEdge, names_item, NamesItems, NamesBlock}
+use Rattle.adv_base.specs.Named.{NamesSlot, NamesPred, NamesEdge, names_item, NamesBlock}
 use Rattle.sql_tokens.specs.declared.token.Span.{Span}
 use Rattle.sql_reader.specs.declared.parsed.Source.{Source}
 use Rattle.binder.specs.Items.{takes_whole}
-use Rattle.binder.specs.declared.column.SlotColumn.{SlotColumn}
+use Rattle.binder.specs.declared.gathered.SlotColumn.{SlotColumn}
 use Rattle.binder.specs.declared.gathered.BoundItem.{BoundItem}
 use Rattle.binder.specs.declared.scope.Visible.{Visible}
-use Rattle.binder.specs.declared.fault.BindFault.{BindFault}
 use Rattle.binder.specs.declared.fault.BindFault.TheVariants.{NoTable, TwoAliases, TooManySlots}
 use Rattle.binder.specs.Names.{word_in, place}
 use Rattle.binder.specs.Lookups.{table_number}
 use Rattle.binder.specs.Needed.{is_at, needed_columns, slot_of, slots_from}
-use Rattle.binder.specs.Plain.{PlainPred, PlainEdge, plain_pred, plain_edge, plain_preds, plain_edges}
+use Rattle.binder.specs.Plain.{plain_pred, plain_edge, plain_preds, plain_edges}
 use Rattle.binder.specs.Results.{◌>>=◌, where_holds}
-use Rattle.binder.specs.Scopes.{Names, slot_column}
+use Rattle.binder.specs.Scopes.{Names}
 use Rattle.binder.specs.Sources.{table_meant, visible, is_taken, put_source, with_source, sources_of}
 use Rattle.std.specs.Prelude.{unwrap_or, not}
-use Rattle.binder.proofs.Readings.{bind_ok, or_fault_ok, where_ok, ok_is, in_turn-keeps}
+use Rattle.binder.proofs.Readings.{bind_ok, or_fault_ok, where_ok, in_turn-keeps}
 use Rattle.binder.proofs.Columns.{table_number-within}
-use Rattle.binder.proofs.Within.{width, IsColumn}
+use Rattle.binder.proofs.Within.{width}
 use Rattle.binder.proofs.Checked.{IsPred, IsEdge}
 use Rattle.binder.proofs.Kept.{IsItem}
 use Rattle.binder.proofs.Limited.{All-unmap}

@@ -1,11 +1,11 @@
 -- The slots that have a column of a name, found from a slot on.
-use Rattle.std.proofs.Common.{◌≡◌, ℕ, suc, ◌+◌, ◌<◌, ◌≤◌, List, [], ◌∷◌, length, drop, get_or, Option, Some, None, refl, sym, ap, ◌∙◌, arith, add-one}
+use Rattle.std.proofs.Common.{◌≡◌, ℕ, ◌+◌, ◌<◌, ◌≤◌, List, [], length, drop, get_or, refl, add-one}
 use Rattle.std.proofs.Math.Seq.{drop-cons}
 use Rattle.std.proofs.lemmas.List.{drop_all}
 use Rattle.adv_base.specs.declared.catalogue.Catalogue.{Catalogue}
 use Rattle.binder.specs.declared.scope.Visible.{Visible}
 use Rattle.binder.specs.Lookups.{column_of}
-use Rattle.binder.specs.Scopes.{owner, owners, slot_column}
+use Rattle.binder.specs.Scopes.{owner, owners}
 
 pub owners-at : (cat : Catalogue) (i : ℕ) (sources : List Visible) (word : List ℕ) (v : Visible) → i < length sources → v ≡ get_or sources i v
     → owners cat i (drop i sources) word ≡ owner i (column_of cat.tables v.table word) (owners cat (i + 1) (drop (i + 1) sources) word)

@@ -1,18 +1,13 @@
 -- What was read keeps what binding asks.
-use Rattle.std.proofs.Common.{◌≡◌, ℕ, zero, suc, ◌^◌, ◌<◌, ◌≤◌, Bool, true, false, ◌&&◌, List, [], ◌∷◌, length, refl, sym, ap, subst, ◌∙◌, true≢false, leb, ltb}
-use Rattle.std.specs.Prelude.{All, nat_le, nat_lt}
+use Rattle.std.proofs.Common.{◌≡◌, ℕ, ◌^◌, ◌≤◌, Bool, true, false, ◌&&◌, List, [], ◌∷◌, length, refl, sym, ap, ◌∙◌, true≢false}
+use Rattle.std.specs.Prelude.{All, nat_le}
 use Rattle.std.specs.List.{list_all}
 use Rattle.std.proofs.lemmas.Bool.{leb-true, ltb-true}
 use Rattle.std.proofs.lemmas.List.Elements.{All-nil, All-cons}
-use Rattle.sql_tokens.specs.declared.token.Span.{Span}
 use Rattle.sql_reader.specs.declared.parsed.Body.{Body}
-use Rattle.sql_reader.specs.declared.parsed.Body.TheVariants as bodies
 use Rattle.sql_reader.specs.declared.parsed.Condition.{Condition}
-use Rattle.sql_reader.specs.declared.parsed.Condition.TheVariants.{OneOf}
-use Rattle.sql_reader.specs.declared.parsed.NameUse.{NameUse}
 use Rattle.sql_reader.specs.declared.parsed.ParsedSelect.{ParsedSelect}
 use Rattle.sql_reader.specs.declared.parsed.ParsedStatement.{ParsedStatement}
-use Rattle.sql_reader.specs.declared.parsed.Source.{Source}
 use Rattle.sql_reader.specs.Valid.{span_in, names_in, name_in, condition_in, conditions_in, are_few, items_in, sources_in, source_in, order_in, order_item_in, select_in, rows_in, body_in, statement_in, statements_in}
 use Rattle.binder.specs.Limits.{ConditionLimits, ConditionsLimits, SelectLimits, BodyLimits, StatementLimits}
 

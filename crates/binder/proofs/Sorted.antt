@@ -1,25 +1,21 @@
 -- What ORDER BY stands for are columns of the sources.
-use Rattle.std.proofs.Common.{◌≡◌, ℕ, zero, suc, ◌+◌, ◌<◌, Bool, true, false, List, [], ◌∷◌, ◌++◌, length, Option, Some, None, Result, Ok, Err, refl, sym, ap, subst, ◌∙◌, arith}
-use Rattle.std.specs.Prelude.{All, slice_get, option_and_then}
+use Rattle.std.proofs.Common.{◌≡◌, ℕ, zero, suc, ◌+◌, Bool, true, false, List, [], ◌∷◌, ◌++◌, length, Option, Some, None, Ok, refl, ap, subst}
+use Rattle.std.specs.Prelude.{All, slice_get}
 use Rattle.std.proofs.lemmas.List.Elements.{All-nil, All-push, All-get_or}
 use Rattle.std.proofs.lemmas.Option.{option_and_then_some, slice_get_within, get_or_from_slice_get}
-use Rattle.adv_base.specs.declared.workload.parts.Item.{Item}
-use Rattle.sql_reader.specs.declared.parsed.Expr.{Expr}
 use Rattle.sql_reader.specs.declared.parsed.NameUse.{NameUse}
 use Rattle.sql_reader.specs.declared.parsed.ParsedItem.{ParsedItem}
 use Rattle.sql_reader.specs.declared.parsed.ParsedOrder.{ParsedOrder}
-use Rattle.binder.specs.declared.column.SlotColumn.{SlotColumn}
+use Rattle.binder.specs.declared.gathered.SlotColumn.{SlotColumn}
 use Rattle.binder.specs.declared.gathered.BoundItem.{BoundItem}
 use Rattle.binder.specs.declared.gathered.BoundItem.TheVariants as bound
 use Rattle.binder.specs.declared.gathered.SortKey.{SortKey}
 use Rattle.binder.specs.declared.gathered.SortKeys.{SortKeys}
-use Rattle.binder.specs.declared.column.Term.{Term}
-use Rattle.binder.specs.declared.column.Term.TheVariants as terms
-use Rattle.binder.specs.declared.fault.BindFault.{BindFault}
+use Rattle.binder.specs.declared.gathered.Term.{Term}
+use Rattle.binder.specs.declared.gathered.Term.TheVariants as terms
 use Rattle.sql_reader.specs.declared.parsed.ParsedItem.TheVariants as parsed
 use Rattle.binder.specs.Items.{column_at, item_column, item_of, items_of, columns_of}
-use Rattle.binder.specs.Orders.{SelectList, alias_meant, alias_or_column, term_of, with_mention, mentions_from, term_column, ordinal_column, sorted_by_name, sorted_by_made, sorted_as, sorted_by, directed, order_item, with_order, orders_from}
-use Rattle.binder.specs.Results.{◌>>=◌, each}
+use Rattle.binder.specs.Orders.{SelectList, alias_meant, alias_or_column, term_of, with_mention, mentions_from, term_column, ordinal_column, sorted_by_name, sorted_as, sorted_by, order_item, with_order, orders_from}
 use Rattle.binder.specs.Scopes.{Names, source_meant, meaning}
 use Rattle.binder.proofs.Readings.{bind_ok, ok_is, in_turn-keeps, each-All}
 use Rattle.binder.proofs.Within.{IsColumn, IsColumn-meaning}

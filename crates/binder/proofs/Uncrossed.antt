@@ -1,9 +1,9 @@
 -- Where two slots have different labels behind the edges, some cut is crossed by no edge.
-use Rattle.std.proofs.Common.{◌≡◌, ◌≢◌, ℕ, zero, suc, ◌+◌, ◌-◌, ◌*◌, ◌/◌, ◌%◌, ◌^◌, ◌<◌, ◌≤◌, Bool, true, false, not, eqb, ◌&&◌, ◌||◌, cond, min, List, [], ◌∷◌, length, get_or, map, fold, refl, sym, ap, subst, ◌∙◌, arith, inl, inr, ◌⊎◌, true≢false}
+use Rattle.std.proofs.Common.{◌≡◌, ◌≢◌, ℕ, zero, suc, ◌+◌, ◌-◌, ◌*◌, ◌/◌, ◌%◌, ◌^◌, ◌<◌, ◌≤◌, Bool, true, false, not, eqb, ◌&&◌, ◌||◌, cond, min, List, [], ◌∷◌, length, get_or, map, fold, refl, sym, ap, ◌∙◌, arith, inl, inr, true≢false}
 use Rattle.std.specs.Prelude.{bit_and, All}
 use Rattle.std.specs.List.{list_any, list_all, range_with_len}
 use Rattle.std.specs.Int.{bit_at}
-use Rattle.std.proofs.lemmas.Bool.{eqb-true, cases_lt}
+use Rattle.std.proofs.lemmas.Bool.{cases_lt}
 use Rattle.std.proofs.lemmas.Bool.Decides.{nat_tests}
 use Rattle.std.proofs.lemmas.Nat.Bits.{bit_at_lowest, bit_at-suc, bit_at-zero, bit_at_and, same_from_bits}
 use Rattle.std.proofs.lemmas.List.{get_or-map, length-map}
@@ -11,11 +11,11 @@ use Rattle.std.proofs.lemmas.List.FromFn.{length-range_with_len}
 use Rattle.std.proofs.lemmas.List.Elements.{All-nil, All-cons, All-head, All-tail, All-weaker}
 use Rattle.adv_base.specs.declared.workload.parts.Edge.{Edge}
 use Rattle.adv_base.specs.Limits.Blocks.{ends}
-use Rattle.adv_base.specs.Sets.{all_slots, has_slot, is_crossing, IsConnected}
+use Rattle.adv_base.specs.Sets.{has_slot, is_crossing, IsConnected}
 use Rattle.binder.specs.inner.Labels.{renamed, relabelled, labels_of, have_one_label}
 use Rattle.binder.specs.Plain.{plain_edge}
 use Rattle.binder.proofs.Cuts.{double}
-use Rattle.binder.proofs.Connected.{has_slot-one, has_slot-zero, connected}
+use Rattle.binder.proofs.Connected.{has_slot-one, has_slot-zero}
 
 -- the slots below n that pass a test, as a set
 set_of : ℕ → (ℕ → Bool) → ℕ

@@ -1,6 +1,6 @@
 -- What names mean exists.
-use Rattle.std.proofs.Common.{◌≡◌, ℕ, zero, suc, ◌+◌, ◌<◌, ◌≤◌, Bool, true, false, List, [], ◌∷◌, ◌++◌, length, Option, Some, None, Result, Ok, Err, refl, sym, ap, subst, ◌∙◌, arith}
-use Rattle.std.specs.Prelude.{All, slice_get, option_map, option_and_then}
+use Rattle.std.proofs.Common.{◌≡◌, ℕ, suc, ◌+◌, ◌<◌, List, [], ◌∷◌, length, Option, Some, None, Ok, refl, sym, ap, subst, ◌∙◌, arith}
+use Rattle.std.specs.Prelude.{slice_get, option_map}
 use Rattle.std.specs.Option.{option_map_or}
 use Rattle.std.proofs.lemmas.Option.{option_and_then_some, slice_get_within}
 use Rattle.adv_base.specs.declared.catalogue.Catalogue.{Catalogue}
@@ -8,15 +8,14 @@ use Rattle.adv_base.specs.declared.catalogue.table.Table.{Table}
 use Rattle.adv_base.specs.Lookups.{column_count}
 use Rattle.sql_tokens.specs.declared.token.Span.{Span}
 use Rattle.sql_reader.specs.declared.parsed.NameUse.{NameUse}
-use Rattle.binder.specs.declared.column.SlotColumn.{SlotColumn}
+use Rattle.binder.specs.declared.gathered.SlotColumn.{SlotColumn}
 use Rattle.binder.specs.declared.scope.Visible.{Visible}
-use Rattle.binder.specs.declared.fault.BindFault.{BindFault}
 use Rattle.binder.specs.declared.fault.BindFault.TheVariants.{NoColumn}
 use Rattle.binder.specs.Names.{word_in, place}
 use Rattle.binder.specs.Lookups.{column_number, column_of}
-use Rattle.binder.specs.Results.{◌>>=◌, or_fault}
-use Rattle.binder.specs.Scopes.{Names, slot_column, source_number, source_meant, column_in, owner, owners, the_one, qualified, unqualified, by_qualifier, meaning}
-use Rattle.binder.proofs.Readings.{bind_ok, or_fault_ok, ok_is}
+use Rattle.binder.specs.Results.{or_fault}
+use Rattle.binder.specs.Scopes.{Names, slot_column, source_meant, column_in, owner, owners, the_one, qualified, unqualified, by_qualifier, meaning}
+use Rattle.binder.proofs.Readings.{bind_ok, or_fault_ok}
 use Rattle.binder.proofs.Columns.{column_number-within}
 
 -- how many columns the source of a number has

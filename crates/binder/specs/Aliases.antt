@@ -1,5 +1,5 @@
 -- The aliases of a select list, in an index.
-use Rattle.std.specs.Prelude.{◌≡◌, ℕ, Bool, if◌then◌else◌, List, Some}
+use Rattle.std.specs.Prelude.{◌≡◌, ℕ, if◌then◌else◌, List, Some}
 use Rattle.sql_reader.specs.declared.parsed.ParsedItem.{ParsedItem}
 use Rattle.binder.specs.declared.index.NameIndex.{NameIndex}
 use Rattle.binder.specs.Index.{find_in}

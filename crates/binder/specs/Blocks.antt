@@ -1,17 +1,14 @@
 -- The blocks of statements.
-use Rattle.std.specs.Prelude.{ℕ, Bool, true, false, List, [], ◌∷◌, ◌++◌, length, map, Option, Some, None, Result, Ok, Err}
+use Rattle.std.specs.Prelude.{ℕ, true, false, List, [], ◌∷◌, ◌++◌, length, None, Result, Ok}
 use Rattle.std.specs.List.{flat_map}
 use Rattle.adv_base.specs.declared.catalogue.Catalogue.{Catalogue}
-use Rattle.adv_base.specs.declared.workload.parts.Item.{Item}
-use Rattle.sql_tokens.specs.declared.token.Span.{Span}
 use Rattle.sql_reader.specs.declared.parsed.Condition.{Condition}
 use Rattle.sql_reader.specs.declared.parsed.NameUse.{NameUse}
 use Rattle.sql_reader.specs.declared.parsed.ParsedSelect.{ParsedSelect}
 use Rattle.sql_reader.specs.declared.parsed.Source.{Source}
-use Rattle.binder.specs.declared.column.SlotColumn.{SlotColumn}
+use Rattle.binder.specs.declared.gathered.SlotColumn.{SlotColumn}
 use Rattle.binder.specs.declared.gathered.BoundItem.{BoundItem}
 use Rattle.binder.specs.declared.gathered.SortKeys.{SortKeys}
-use Rattle.binder.specs.declared.scope.Visible.{Visible}
 use Rattle.binder.specs.declared.fault.BindFault.{BindFault}
 use Rattle.binder.specs.declared.fault.BindFault.TheVariants.{NoColumn, Unjoined}
 use Rattle.binder.specs.Names.{word_in, place}
@@ -21,9 +18,9 @@ use Rattle.binder.specs.Items.{columns_of, items_of, item_mentions}
 use Rattle.binder.specs.Joins.{is_joined}
 use Rattle.binder.specs.Lists.{aggregates, group_list, order_list}
 use Rattle.binder.specs.Needed.{slots_from}
-use Rattle.binder.specs.Orders.{SelectList, mentions_from, orders_from}
+use Rattle.binder.specs.Orders.{mentions_from, orders_from}
 use Rattle.binder.specs.Plain.{PlainBlock}
-use Rattle.binder.specs.Results.{◌>>=◌, or_fault, where_holds, each, both}
+use Rattle.binder.specs.Results.{◌>>=◌, or_fault, where_holds, each}
 use Rattle.binder.specs.Scopes.{Names}
 use Rattle.binder.specs.Sources.{table_meant, sources_of, visible}
 

@@ -1,5 +1,5 @@
 -- The conditions of ON and WHERE: tests of one slot, and equijoins of two.
-use Rattle.std.specs.Prelude.{ℕ, ◌==◌, if◌then◌else◌, List, [], ◌∷◌, ◌++◌, Result, Ok}
+use Rattle.std.specs.Prelude.{◌==◌, if◌then◌else◌, List, [], ◌∷◌, ◌++◌, Result, Ok}
 use Rattle.std.specs.Option.{option_map_or}
 use Rattle.std.specs.Prelude.{slice_get, option_and_then}
 use Rattle.adv_base.specs.declared.catalogue.column.Kind.{Kind}
@@ -13,7 +13,7 @@ use Rattle.sql_reader.specs.declared.parsed.Condition.{Condition}
 use Rattle.sql_reader.specs.declared.parsed.Condition.TheVariants as conditions
 use Rattle.sql_reader.specs.declared.parsed.Literal.{Literal}
 use Rattle.sql_reader.specs.declared.parsed.NameUse.{NameUse}
-use Rattle.binder.specs.declared.column.SlotColumn.{SlotColumn}
+use Rattle.binder.specs.declared.gathered.SlotColumn.{SlotColumn}
 use Rattle.binder.specs.declared.fault.BindFault.{BindFault}
 use Rattle.binder.specs.Plain.{PlainPred, PlainEdge}
 use Rattle.binder.specs.Results.{◌>>=◌, in_turn}

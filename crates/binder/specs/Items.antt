@@ -1,12 +1,11 @@
 -- The items of a select list.
-use Rattle.std.specs.Prelude.{ℕ, ◌==◌, Bool, true, false, List, [], ◌∷◌, Option, Some, None, slice_get, option_and_then, Result, Ok}
-use Rattle.std.specs.List.{list_any, list_all, flat_map, filter_map, position_from}
+use Rattle.std.specs.Prelude.{ℕ, ◌==◌, Bool, true, false, List, [], Option, Some, None, slice_get, option_and_then, Result, Ok}
+use Rattle.std.specs.List.{position_from}
 use Rattle.sql_tokens.specs.declared.token.Span.{Span}
-use Rattle.sql_reader.specs.declared.parsed.Expr.{Expr}
 use Rattle.sql_reader.specs.declared.parsed.NameUse.{NameUse}
 use Rattle.sql_reader.specs.declared.parsed.ParsedItem.{ParsedItem}
 use Rattle.sql_reader.specs.declared.parsed.ParsedItem.TheVariants as parsed
-use Rattle.binder.specs.declared.column.SlotColumn.{SlotColumn}
+use Rattle.binder.specs.declared.gathered.SlotColumn.{SlotColumn}
 use Rattle.binder.specs.declared.gathered.BoundItem.{BoundItem}
 use Rattle.binder.specs.declared.gathered.BoundItem.TheVariants.{Star, SlotStar, Made}
 use Rattle.binder.specs.declared.fault.BindFault.{BindFault}

@@ -1,8 +1,7 @@
 -- Tables and columns by their names.
-use Rattle.std.specs.Prelude.{◌≡◌, ℕ, Bool, List, length, Option, slice_get, option_and_then}
+use Rattle.std.specs.Prelude.{◌≡◌, ℕ, Bool, List, Option, slice_get, option_and_then}
 use Rattle.std.specs.Str.{bytes_eq}
 use Rattle.std.specs.List.{position_from}
-use Rattle.adv_base.specs.declared.catalogue.Catalogue.{Catalogue}
 use Rattle.adv_base.specs.declared.catalogue.table.Table.{Table}
 use Rattle.adv_base.specs.declared.catalogue.column.Column.{Column}
 use Rattle.binder.specs.declared.index.NameIndex.{NameIndex}

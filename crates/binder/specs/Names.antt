@@ -1,7 +1,6 @@
 -- Names in a text, and how they are compared.
-use Rattle.std.specs.Prelude.{ℕ, ◌+◌, ◌-◌, ◌==◌, min, nat_le, Bool, ◌&&◌, if◌then◌else◌, List, [], length, map, slice_index, slice_range}
+use Rattle.std.specs.Prelude.{ℕ, ◌+◌, ◌-◌, ◌==◌, min, nat_le, ◌&&◌, if◌then◌else◌, List, [], length, map, slice_index, slice_range}
 use Rattle.std.specs.Char.{to_ascii_lowercase}
-use Rattle.std.specs.Str.{bytes_eq}
 use Rattle.sql_tokens.specs.declared.token.Span.{Span}
 
 -- the bytes of a span; none where it doesn't lie in the text

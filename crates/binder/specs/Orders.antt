@@ -1,25 +1,21 @@
 -- HAVING, ORDER BY and the lists by which a block groups and orders.
-use Rattle.std.specs.Prelude.{ℕ, zero, suc, ◌+◌, Bool, true, false, ◌&&◌, ◌||◌, not, if◌then◌else◌, List, [], ◌∷◌, ◌++◌, length, map, fold, Option, Some, None, slice_get, is_some, Result, Ok}
-use Rattle.std.specs.List.{list_any, list_all, filter_map}
+use Rattle.std.specs.Prelude.{ℕ, zero, suc, ◌+◌, Bool, true, false, List, [], ◌∷◌, ◌++◌, length, Option, Some, None, slice_get, Result, Ok}
 use Rattle.adv_base.specs.declared.workload.parts.Item.{Item}
 use Rattle.adv_base.specs.declared.workload.parts.Item.TheVariants.{Up, Down, Made}
-use Rattle.adv_base.specs.Items.{is_same_column}
-use Rattle.adv_base.specs.Predicates.{is_equality}
 use Rattle.sql_tokens.specs.declared.token.Span.{Span}
 use Rattle.sql_reader.specs.declared.parsed.Expr.{Expr}
 use Rattle.sql_reader.specs.declared.parsed.NameUse.{NameUse}
 use Rattle.sql_reader.specs.declared.parsed.ParsedItem.{ParsedItem}
 use Rattle.sql_reader.specs.declared.parsed.ParsedOrder.{ParsedOrder}
-use Rattle.binder.specs.declared.column.SlotColumn.{SlotColumn}
+use Rattle.binder.specs.declared.gathered.SlotColumn.{SlotColumn}
 use Rattle.binder.specs.declared.gathered.BoundItem.{BoundItem}
 use Rattle.binder.specs.declared.gathered.SortKey.{SortKey}
 use Rattle.binder.specs.declared.gathered.SortKeys.{SortKeys}
-use Rattle.binder.specs.declared.column.Term.{Term}
-use Rattle.binder.specs.declared.column.Term.TheVariants as terms
+use Rattle.binder.specs.declared.gathered.Term.{Term}
+use Rattle.binder.specs.declared.gathered.Term.TheVariants as terms
 use Rattle.binder.specs.declared.fault.BindFault.{BindFault}
 use Rattle.binder.specs.Names.{word_in}
-use Rattle.binder.specs.Items.{aliased, item_column, column_at, is_plain, has_aggregate}
-use Rattle.binder.specs.Plain.{PlainPred}
+use Rattle.binder.specs.Items.{aliased, column_at}
 use Rattle.binder.specs.Results.{◌>>=◌, in_turn}
 use Rattle.binder.specs.Scopes.{Names, slot_column, meaning}
 

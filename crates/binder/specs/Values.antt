@@ -1,7 +1,5 @@
 -- The values that columns are compared with.
-use Rattle.std.specs.Prelude.{ℕ, ℤ, List, Option, Some, None, slice_get, option_and_then}
-use Rattle.std.specs.Option.{option_map_or}
-use Rattle.adv_base.specs.declared.catalogue.Catalogue.{Catalogue}
+use Rattle.std.specs.Prelude.{ℕ, ℤ, List, Option, Some, None}
 use Rattle.adv_base.specs.declared.catalogue.column.Kind.{Kind}
 use Rattle.adv_base.specs.declared.catalogue.column.Kind.TheVariants as kinds
 use Rattle.adv_base.specs.declared.workload.predicate.Value.{Value}

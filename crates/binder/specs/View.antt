@@ -2,7 +2,7 @@
 use Rattle.binder.specs.declared.gathered.Bound.{Bound}
 use Rattle.binder.specs.declared.gathered.Clauses.{Clauses}
 use Rattle.binder.specs.declared.scope.Scope.{Scope}
-use Rattle.binder.specs.declared.select_list.SelectList.{SelectList as IndexedList}
+use Rattle.binder.specs.declared.scope.SelectList.{SelectList as IndexedList}
 use Rattle.binder.specs.declared.gathered.Tests.{Tests}
 use Rattle.binder.specs.Blocks.{PlainClauses}
 use Rattle.binder.specs.Conditions.{PlainTests}

@@ -1,5 +1,5 @@
 //! Statements that change rows.
-ghost use Rattle.std.specs.Prelude.{◌≡◌, ◌<◌, ◌≤◌, length, IfOk, Ok, All};
+ghost use Rattle.std.specs.Prelude.{◌≡◌, ◌<◌, length, IfOk, Ok};
 ghost use Rattle.adv_base.specs.Limits.Works.{ChangeLimits};
 ghost use Rattle.binder.specs.Blocks as blocks;
 ghost use Rattle.binder.specs.Conditions.{tests_of};
@@ -12,11 +12,10 @@ ghost use Rattle.binder.specs.Results.{Gives};
 ghost use Rattle.binder.specs.Statements as meant;
 ghost use Rattle.binder.specs.View.{names_of, plain_tests};
 
-use crate::column::SlotColumn;
 use crate::conditions::tests;
 use crate::directory::Directory;
 use crate::fault::BindFault;
-use crate::gathered::Tests;
+use crate::gathered::{SlotColumn, Tests};
 use crate::items::columns;
 use crate::names::{place, word};
 use crate::needed::slots;

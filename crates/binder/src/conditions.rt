@@ -1,5 +1,5 @@
 //! The conditions of ON and WHERE.
-ghost use Rattle.std.specs.Prelude.{◌≡◌, [], length, IfOk, All};
+ghost use Rattle.std.specs.Prelude.{◌≡◌, IfOk, All};
 ghost use Rattle.adv_base.specs.declared.workload.predicate.Test.TheVariants as kinds_of_test;
 ghost use Rattle.adv_base.specs.Limits.Tests.{TestLimits};
 ghost use Rattle.binder.specs.Limits.{ConditionLimits};
@@ -7,9 +7,8 @@ ghost use Rattle.binder.specs.Conditions as where_clause;
 ghost use Rattle.binder.specs.Results.{Gives};
 ghost use Rattle.binder.specs.View.{names_of, plain_tests};
 
-use crate::column::SlotColumn;
 use crate::fault::BindFault;
-use crate::gathered::Tests;
+use crate::gathered::{SlotColumn, Tests};
 use crate::meaning::meaning;
 use crate::scope::Scope;
 use crate::values::literal_value;

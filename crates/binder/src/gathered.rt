@@ -1,7 +1,20 @@
 //! What is gathered of a statement and of all statements, with names turned into numbers.
 
-use crate::column::SlotColumn;
 use adv_base::{Edge, Item, List, Pred, Statement};
+
+/// A column of a slot, both by number.
+#[derive(Clone, Copy, Debug, PartialEq, Eq, Hash)]
+pub struct SlotColumn {
+    pub slot: u8,
+    pub column: u16,
+}
+
+/// What a name in HAVING or ORDER BY stands for: a column, or the select item of this number, counted from 0.
+#[derive(Clone, Copy, Debug)]
+pub enum Term {
+    Alias(usize),
+    Column(SlotColumn),
+}
 
 /// What an item of a select list stands for: all columns of all slots, all columns of one, or an expression over
 /// columns, which are in written order. `plain` says that it is exactly a column, `aggregate` that it calls an aggregate.

@@ -1,5 +1,5 @@
 //! Numbers looked up by name.
-ghost use Rattle.std.specs.Prelude.{◌≡◌, ◌==◌, ℕ, List, IfOk, OnOk, None, Some, bytes_eq, if◌then◌else◌};
+ghost use Rattle.std.specs.Prelude.{◌≡◌, ℕ, List, OnOk, None, Some, bytes_eq, if◌then◌else◌};
 ghost use Rattle.binder.specs.Names as spelling;
 ghost use Rattle.binder.specs.Index.{find_in};
 

@@ -5,9 +5,8 @@ ghost use Rattle.binder.specs.Items as select_items;
 ghost use Rattle.binder.specs.Results.{Gives};
 ghost use Rattle.binder.specs.View.{names_of};
 
-use crate::column::SlotColumn;
 use crate::fault::BindFault;
-use crate::gathered::BoundItem;
+use crate::gathered::{BoundItem, SlotColumn};
 use crate::meaning::{meaning, source};
 use crate::scope::Scope;
 use adv_base::List;

@@ -2,7 +2,6 @@
 #![tactic(auto)]
 
 mod changes;
-mod column;
 mod conditions;
 mod directory;
 mod fault;
@@ -18,7 +17,6 @@ mod needed;
 mod orders;
 mod scope;
 mod select;
-mod select_list;
 mod sources;
 mod statements;
 mod values;

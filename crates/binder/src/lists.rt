@@ -1,6 +1,6 @@
 //! The lists by which a block groups and orders.
 ghost use Rattle.std.specs.Prelude.{◌≡◌, ◌||◌, ◌∷◌, ◌++◌, [], not, if◌then◌else◌, map, IfOk};
-ghost use Rattle.binder.specs.declared.column.SlotColumn.{SlotColumn};
+ghost use Rattle.binder.specs.declared.gathered.SlotColumn.{SlotColumn};
 ghost use Rattle.binder.specs.Scopes.{is_same};
 ghost use Rattle.std.specs.List.{list_any, list_all, filter_map};
 ghost use Rattle.binder.specs.Marks.{is_marked, Marks, KeepsMarks, BoundMarks};
@@ -9,8 +9,7 @@ ghost use Rattle.binder.specs.Lists as lists;
 ghost use Rattle.binder.specs.Orders as order_by;
 ghost use Rattle.binder.specs.Plain.{plain_pred, plain_preds};
 
-use crate::column::SlotColumn;
-use crate::gathered::BoundItem;
+use crate::gathered::{BoundItem, SlotColumn};
 use adv_base::{Item, List, Pred};
 use indexmap::IndexSet;
 use sql_reader::ParsedOrder;

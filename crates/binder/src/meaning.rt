@@ -1,12 +1,12 @@
 //! What names mean among the sources of a statement.
-ghost use Rattle.std.specs.Prelude.{◌≡◌, ◌<◌, ◌+◌, ◌∷◌, [], length, drop, IfOk, IfSome, MatchOption};
+ghost use Rattle.std.specs.Prelude.{◌≡◌, ◌<◌, ◌+◌, ◌∷◌, [], length, drop, IfSome, MatchOption};
 ghost use Rattle.binder.specs.Names as spelling;
 ghost use Rattle.binder.specs.Results.{Gives};
 ghost use Rattle.binder.specs.Scopes as scopes;
 ghost use Rattle.binder.specs.View.{names_of};
 
-use crate::column::SlotColumn;
 use crate::fault::BindFault;
+use crate::gathered::SlotColumn;
 use crate::names::{is_same_name, name_bytes, place, word};
 use crate::scope::{Scope, Visible};
 use sql_reader::NameUse;

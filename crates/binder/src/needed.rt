@@ -1,12 +1,11 @@
 //! The columns that a statement mentions.
-ghost use Rattle.std.specs.Prelude.{◌≡◌, ◌<◌, ◌||◌, ◌∷◌, ◌++◌, [], ℕ, false, if◌then◌else◌, length, IfOk, slice_index_or, filter};
-ghost use Rattle.std.specs.List.{list_any, range_with_len};
+ghost use Rattle.std.specs.Prelude.{◌≡◌, ◌<◌, ◌||◌, ◌∷◌, ◌++◌, [], ℕ, false, if◌then◌else◌, length, IfOk, slice_index_or};
+ghost use Rattle.std.specs.List.{list_any};
 ghost use Rattle.adv_base.specs.Lookups as lookups;
 ghost use Rattle.binder.specs.Items as select_items;
 ghost use Rattle.binder.specs.Needed as needs;
 
-use crate::column::SlotColumn;
-use crate::gathered::BoundItem;
+use crate::gathered::{BoundItem, SlotColumn};
 use crate::scope::Visible;
 use adv_base::{Catalogue, List, Name, Slot};
 use std::alloc::{AllocError, Global};

@@ -5,15 +5,13 @@ ghost use Rattle.binder.specs.Orders as order_by;
 ghost use Rattle.binder.specs.Results.{Gives};
 ghost use Rattle.binder.specs.View.{names_of, list_of};
 
-use crate::column::{SlotColumn, Term};
 use crate::fault::BindFault;
-use crate::gathered::{BoundItem, SortKey, SortKeys};
+use crate::gathered::{BoundItem, SlotColumn, SortKey, SortKeys, Term};
 use crate::index::NameIndex;
 use crate::items::column_at;
 use crate::meaning::meaning;
 use crate::names::{name_bytes, word};
-use crate::scope::Scope;
-use crate::select_list::SelectList;
+use crate::scope::{Scope, SelectList};
 use adv_base::{Item, List};
 use sql_reader::{Expr, NameUse, ParsedItem, ParsedOrder};
 use std::alloc::{AllocError, Global};

@@ -6,7 +6,7 @@ ghost use Rattle.binder.specs.Conditions as where_clause;
 ghost use Rattle.binder.specs.Values as literals;
 ghost use Rattle.binder.specs.View.{names_of};
 
-use crate::column::SlotColumn;
+use crate::gathered::SlotColumn;
 use crate::names::text_bytes;
 use crate::scope::Scope;
 use adv_base::{Column, Kind, Table, Value, day_of};

@@ -1,5 +1,3 @@
-use Rattle.std.proofs.Common.{◌≡◌, ap, sym, ◌∙◌}
-use Rattle.binder.specs.Lookups.{IndexesColumns}
 use Rattle.binder.proofs.Columns.{IndexesEach-none, IndexesEach-more}
 use Rattle.binder.proofs.directory.index_each.Goals as goal
 

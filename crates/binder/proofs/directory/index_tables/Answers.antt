@@ -1,4 +1,4 @@
-use Rattle.std.proofs.Common.{◌≡◌, ℕ, List, ap, sym, ◌∙◌, arith, length}
+use Rattle.std.proofs.Common.{ap, sym, ◌∙◌, arith, length}
 use Rattle.adv_base.specs.declared.catalogue.table.Table.{Table}
 use Rattle.binder.specs.Index.{find_in}
 use Rattle.binder.specs.Lookups.{goes_by}

@@ -1,6 +1,5 @@
-use Rattle.std.proofs.Common.{◌≡◌, ℕ, ◌+◌, ◌<◌, ◌≤◌, min, true, nat_le, refl, arith, rules, tests}
+use Rattle.std.proofs.Common.{◌≡◌, ℕ, ◌+◌, ◌≤◌, min, true, nat_le, arith, rules, tests}
 use Rattle.std.proofs.lemmas.Bool.{and_parts}
-use Rattle.sql_tokens.specs.declared.token.Span.{Span}
 use Rattle.binder.proofs.law.unclipped_places.Goals as goal
 
 is_below : (a b : ℕ) → nat_le a b ≡ true → a ≤ b

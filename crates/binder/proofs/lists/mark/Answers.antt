@@ -1,5 +1,5 @@
 use Rattle.std.proofs.Common.{not, refl, ap, ◌∙◌}
-use Rattle.binder.specs.contracts.column.SlotColumnPartialEq.TheImpl.{eq-value}
+use Rattle.binder.specs.contracts.gathered.SlotColumnPartialEq.TheImpl.{eq-value}
 use Rattle.binder.proofs.Marked.{marked-by, marked-after}
 use Rattle.binder.proofs.lists.mark.Goals as goal
 

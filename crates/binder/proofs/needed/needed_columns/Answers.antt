@@ -1,5 +1,5 @@
-use Rattle.std.proofs.Common.{◌≡◌, ◌<◌, ◌||◌, ℕ, Bool, cond, List, [], ◌∷◌, ◌++◌, length, get_or, filter, false, sym, ap, ◌∙◌, arith}
-use Rattle.std.specs.List.{list_any, range_with_len}
+use Rattle.std.proofs.Common.{◌<◌, ◌||◌, ℕ, Bool, cond, List, [], ◌∷◌, ◌++◌, length, false, sym, ap, ◌∙◌, arith}
+use Rattle.std.specs.List.{list_any}
 use Rattle.std.proofs.lemmas.List.{get_or_read}
 use Rattle.binder.specs.Needed.{is_at}
 use Rattle.binder.proofs.Marked.{filter-column}

@@ -1,4 +1,4 @@
-use Rattle.std.proofs.Common.{◌≡◌, refl}
+use Rattle.std.proofs.Common.{refl}
 use Rattle.binder.specs.Lists.{aggregates}
 use Rattle.binder.specs.Blocks.{clause_mentions}
 use Rattle.binder.specs.View.{names_of, plain_clauses}

@@ -1,6 +1,4 @@
-use Rattle.std.proofs.Common.{◌≡◌, ◌<◌, length, get_or, List, refl, arith, ap, sym, subst}
-use Rattle.std.specs.Prelude.{All}
-use Rattle.adv_base.specs.declared.workload.parts.Edge.{Edge}
+use Rattle.std.proofs.Common.{◌≡◌, length, refl}
 use Rattle.binder.specs.View.{names_of, plain_clauses}
 use Rattle.binder.proofs.Limited.{clause-edges}
 use Rattle.binder.proofs.select.joined_clauses.Goals as goal

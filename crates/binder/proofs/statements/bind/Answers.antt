@@ -1,7 +1,6 @@
-use Rattle.std.proofs.Common.{◌≡◌, ◌≤◌, ℕ, List, Ok, Result, length, sym, subst, ap, ◌∙◌}
+use Rattle.std.proofs.Common.{◌≡◌, ◌≤◌, ℕ, List, Ok, length, sym, subst, ap, ◌∙◌}
 use Rattle.adv_base.specs.declared.catalogue.Catalogue.{Catalogue}
 use Rattle.sql_reader.specs.declared.parsed.ParsedStatement.{ParsedStatement}
-use Rattle.binder.specs.Plain.{plain_statements}
 use Rattle.binder.specs.Statements.{bound_of}
 use Rattle.binder.specs.View.{plain_bound}
 use Rattle.std.specs.Prelude.{All}

@@ -1,6 +1,4 @@
-use Rattle.std.proofs.Common.{◌≡◌, Some, None, ℕ, Option, sym, ◌∙◌, arith, ◌<◌, length}
-use Rattle.binder.specs.Lookups.{column_of}
-use Rattle.binder.specs.Index.{find_in}
+use Rattle.std.proofs.Common.{sym, ◌∙◌, arith, ◌<◌, length}
 use Rattle.binder.proofs.Columns.{column_of-small, IndexesEach-at}
 use Rattle.binder.proofs.directory.Directory.column.Goals as goal
 

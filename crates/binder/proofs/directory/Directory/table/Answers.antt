@@ -1,5 +1,4 @@
-use Rattle.std.proofs.Common.{◌≡◌, Some, sym, ◌∙◌, arith, ◌<◌, length}
-use Rattle.binder.specs.Lookups.{table_number}
+use Rattle.std.proofs.Common.{sym, ◌∙◌, arith}
 use Rattle.binder.proofs.Columns.{table_number-within}
 use Rattle.binder.proofs.directory.Directory.table.Goals as goal
 

@@ -1,8 +1,5 @@
-use Rattle.std.proofs.Common.{refl, ◌≡◌, ℕ, Bool, cond, Some, List, ◌∙◌}
-use Rattle.std.specs.Str.{bytes_eq}
+use Rattle.std.proofs.Common.{refl, ℕ}
 use Rattle.std.specs.Global.{Vec}
-use Rattle.std.specs.Map.{lookup}
-use Rattle.binder.specs.Index.{find_in}
 use Rattle.binder.proofs.Entries.{found-put}
 use Rattle.binder.proofs.index.NameIndex.put.Goals as goal
 
