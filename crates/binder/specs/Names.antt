@@ -1,5 +1,5 @@
 -- Names in a text, and how they are compared.
-use Rattle.std.specs.Prelude.{ℕ, ◌+◌, ◌-◌, ◌==◌, min, nat_le, ◌&&◌, if◌then◌else◌, List, [], length, map, slice_index, slice_range}
+use Rattle.std.specs.Prelude.{ℕ, ◌+◌, ◌-◌, ◌==◌, nat_le, ◌&&◌, if◌then◌else◌, List, [], length, map, slice_index, slice_range}
 use Rattle.std.specs.Char.{to_ascii_lowercase}
 use Rattle.sql_tokens.specs.declared.token.Span.{Span}
 
@@ -27,6 +27,6 @@ folded name = map to_ascii_lowercase name
 abbrev pub word_in : List ℕ → Span → List ℕ
 word_in text span = folded (name_in text span)
 
--- The place of a span, counted from 1. A text is far shorter than 2^64 bytes, so that is its first byte's offset and one.
+-- the place of a span's first byte, counted from 1
 abbrev pub place : Span → ℕ
-place span = min (span.from + 1) 18446744073709551615
+place span = span.from + 1

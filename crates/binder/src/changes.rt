@@ -1,10 +1,11 @@
 //! Statements that change rows.
-ghost use Rattle.std.specs.Prelude.{◌≡◌, ◌<◌, length, IfOk, Ok};
+ghost use Rattle.std.specs.Prelude.{◌≡◌, ◌<◌, length, IfOk, Ok, All};
 ghost use Rattle.adv_base.specs.Limits.Works.{ChangeLimits};
 ghost use Rattle.binder.specs.Blocks as blocks;
 ghost use Rattle.binder.specs.Conditions.{tests_of};
 ghost use Rattle.binder.specs.Items.{columns_of};
-ghost use Rattle.binder.specs.Limits.{ConditionsLimits};
+ghost use Rattle.binder.specs.Limits.{ConditionsLimits, IsShort, NameLimits, SourceLimits};
+ghost use Rattle.binder.specs.Names.{place};
 ghost use Rattle.binder.specs.Plain as plain;
 ghost use Rattle.binder.specs.Plain.{plain_block};
 ghost use Rattle.binder.specs.Results as readings;
@@ -17,7 +18,7 @@ use crate::directory::Directory;
 use crate::fault::BindFault;
 use crate::gathered::{SlotColumn, Tests};
 use crate::items::columns;
-use crate::names::{place, word};
+use crate::names::word;
 use crate::needed::slots;
 use crate::scope::Scope;
 use crate::sources::{table_meant, visible};
@@ -33,6 +34,7 @@ fn one_source<'a>(
     text: &'a [u8],
     source: Source,
 ) -> Result<Scope<'a>, BindFault>
+    requires { SourceLimits source }
     ensures exact { Gives names_of result (blocks.one_source directory.now.cat.now text.now source) }
     ensures one { IfOk result (λ scope. length scope.sources ≡ 1) }
 {
@@ -55,12 +57,13 @@ fn written_column(
     table: u16,
     name: NameUse,
 ) -> Result<u16, BindFault>
+    requires { NameLimits name }
     ensures { Gives (λ c. c) result (blocks.written_column directory.now.cat.now text.now table name) }
 {
     let word = word(alloc, text, name.name)?;
     match directory.column(table, word.as_slice()) {
         Some(column) => Ok(column),
-        None => Err(BindFault::NoColumn(place(name.name))),
+        None => Err(BindFault::NoColumn(name.name.place())),
     }
 }
 
@@ -72,6 +75,7 @@ fn written_columns(
     table: u16,
     names: &[NameUse],
 ) -> Result<List<u16>, BindFault>
+    requires { All NameLimits names.now }
     ensures { Gives (λ x. x) result (blocks.written_columns directory.now.cat.now text.now table names.now) }
 {
     let mut items = Vec::new(alloc);
@@ -135,7 +139,8 @@ pub fn delete_block(
     source: Source,
     conditions: &[Condition],
 ) -> Result<Block, BindFault>
-    requires { ConditionsLimits conditions.now }
+    requires source { SourceLimits source }
+    requires conditions { ConditionsLimits conditions.now }
     ensures exact { Gives plain_block result (blocks.delete_of directory.now.cat.now text.now source conditions.now) }
     ensures limits { IfOk result ChangeLimits }
 {
@@ -177,7 +182,9 @@ fn set_clause(
     names: &[NameUse],
     uses: &[NameUse],
 ) -> Result<(List<u16>, List<SlotColumn>), BindFault>
-    requires { length scope.now.sources ≡ 1 }
+    requires one { length scope.now.sources ≡ 1 }
+    requires names { All NameLimits names.now }
+    requires uses { All NameLimits uses.now }
     ensures { let seen = names_of scope.now in
         Gives (λ x. x) result (readings.both (blocks.written_columns seen.cat seen.text (meant.first_table seen.sources) names.now) (columns_of seen uses.now)) }
 {
@@ -203,7 +210,10 @@ pub fn update_work(
     uses: &[NameUse],
     conditions: &[Condition],
 ) -> Result<(Block, List<u16>), BindFault>
-    requires { ConditionsLimits conditions.now }
+    requires source { SourceLimits source }
+    requires names { All NameLimits names.now }
+    requires uses { All NameLimits uses.now }
+    requires conditions { ConditionsLimits conditions.now }
     ensures exact { Gives (λ x. plain.Update (plain_block x.0) x.1) result (meant.update_of directory.now.cat.now text.now source names.now uses.now conditions.now) }
     ensures limits { IfOk result (λ x. ChangeLimits x.0) }
 {
@@ -213,11 +223,15 @@ pub fn update_work(
     Ok((block, set))
 }
 
-/// The first of the tokens of a name.
-fn first_span(name: NameUse) -> Span
-    ensures { result ≡ meant.first_span name }
+/// Where the first of the tokens of a name stands.
+fn first_place(name: NameUse) -> u64
+    requires { NameLimits name }
+    ensures { result ≡ place (meant.first_span name) }
 {
-    name.qualifier.unwrap_or(name.name)
+    match name.qualifier {
+        Some(span) => span.place(),
+        None => name.name.place(),
+    }
 }
 
 /// The table and the rows of an INSERT. No name has a meaning in VALUES.
@@ -231,12 +245,15 @@ pub fn insert_table(
     uses: &[NameUse],
     rows: u64,
 ) -> Result<u16, BindFault>
+    requires table { IsShort table }
+    requires names { All NameLimits names.now }
+    requires uses { All NameLimits uses.now }
     ensures { Gives (λ t. plain.Insert t rows) result (meant.insert_of directory.now.cat.now text.now table names.now uses.now rows) }
 {
     let number = table_meant(alloc, directory, text, table)?;
     let _listed = written_columns(alloc, directory, text, number, names)?;
     match uses.first() {
-        Some(name) => Err(BindFault::NoColumn(place(first_span(*name)))),
+        Some(name) => Err(BindFault::NoColumn(first_place(*name))),
         None => Ok(number),
     }
 }

@@ -2,7 +2,7 @@
 ghost use Rattle.std.specs.Prelude.{◌≡◌, IfOk, All};
 ghost use Rattle.adv_base.specs.declared.workload.predicate.Test.TheVariants as kinds_of_test;
 ghost use Rattle.adv_base.specs.Limits.Tests.{TestLimits};
-ghost use Rattle.binder.specs.Limits.{ConditionLimits};
+ghost use Rattle.binder.specs.Limits.{ConditionLimits, NameLimits};
 ghost use Rattle.binder.specs.Conditions as where_clause;
 ghost use Rattle.binder.specs.Results.{Gives};
 ghost use Rattle.binder.specs.View.{names_of, plain_tests};
@@ -85,7 +85,8 @@ fn named_test(
     name: NameUse,
     test: Test,
 ) -> Result<Tests, BindFault>
-    requires { TestLimits test }
+    requires name { NameLimits name }
+    requires test { TestLimits test }
     ensures { Gives plain_tests result (where_clause.named_test (names_of scope.now) (plain_tests so_far) name (λ _. test)) }
 {
     let c = meaning(alloc, scope, name)?;
@@ -101,6 +102,7 @@ fn compared(
     compare: Compare,
     literal: Literal,
 ) -> Result<Tests, BindFault>
+    requires { NameLimits name }
     ensures { let names = names_of scope.now in
         Gives plain_tests result (where_clause.named_test names (plain_tests so_far) name (λ c. where_clause.compare_test compare (where_clause.literal_value names c literal))) }
 {
@@ -118,6 +120,7 @@ fn between(
     low: Literal,
     high: Literal,
 ) -> Result<Tests, BindFault>
+    requires { NameLimits name }
     ensures { let names = names_of scope.now in
         Gives plain_tests result (where_clause.named_test names (plain_tests so_far) name (λ c. kinds_of_test.Between (where_clause.literal_value names c low) (where_clause.literal_value names c high))) }
 {
@@ -135,6 +138,8 @@ fn tied(
     left: NameUse,
     right: NameUse,
 ) -> Result<Tests, BindFault>
+    requires left { NameLimits left }
+    requires right { NameLimits right }
     ensures { Gives plain_tests result (where_clause.named_equality (names_of scope.now) (plain_tests so_far) left right) }
 {
     let c = meaning(alloc, scope, left)?;

@@ -1,7 +1,8 @@
 //! The items of a select list.
-ghost use Rattle.std.specs.Prelude.{◌≡◌, IfOk};
+ghost use Rattle.std.specs.Prelude.{◌≡◌, IfOk, All};
 ghost use Rattle.std.specs.List.{flat_map};
 ghost use Rattle.binder.specs.Items as select_items;
+ghost use Rattle.binder.specs.Limits.{NameLimits, ItemLimits};
 ghost use Rattle.binder.specs.Results.{Gives};
 ghost use Rattle.binder.specs.View.{names_of};
 
@@ -19,6 +20,7 @@ pub fn columns(
     scope: &Scope<'_>,
     uses: &[NameUse],
 ) -> Result<List<SlotColumn>, BindFault>
+    requires { All NameLimits uses.now }
     ensures { Gives (λ x. x) result (select_items.columns_of (names_of scope.now) uses.now) }
 {
     let mut items = Vec::new(alloc);
@@ -32,6 +34,7 @@ pub fn columns(
 /// What an item stands for.
 #[tactic(auto, unfolding(crate::specs::Items::item_of))]
 fn item(alloc: Global, scope: &Scope<'_>, written: &ParsedItem) -> Result<BoundItem, BindFault>
+    requires { ItemLimits written.now }
     ensures { Gives (λ x. x) result (select_items.item_of (names_of scope.now) written.now) }
 {
     match written {
@@ -54,6 +57,7 @@ pub fn items(
     scope: &Scope<'_>,
     written: &[ParsedItem],
 ) -> Result<List<BoundItem>, BindFault>
+    requires { All ItemLimits written.now }
     ensures { Gives (λ x. x) result (select_items.items_of (names_of scope.now) written.now) }
 {
     let mut items = Vec::new(alloc);

@@ -9,7 +9,6 @@ mod gathered;
 mod index;
 mod items;
 mod joins;
-mod law;
 mod lists;
 mod meaning;
 mod names;
@@ -22,5 +21,4 @@ mod statements;
 mod values;
 
 pub use fault::BindFault;
-pub use law::unclipped_places;
 pub use statements::bind;

@@ -1,13 +1,14 @@
 //! What names mean among the sources of a statement.
 ghost use Rattle.std.specs.Prelude.{◌≡◌, ◌<◌, ◌+◌, ◌∷◌, [], length, drop, IfSome, MatchOption};
 ghost use Rattle.binder.specs.Names as spelling;
+ghost use Rattle.binder.specs.Limits.{IsShort, NameLimits};
 ghost use Rattle.binder.specs.Results.{Gives};
 ghost use Rattle.binder.specs.Scopes as scopes;
 ghost use Rattle.binder.specs.View.{names_of};
 
 use crate::fault::BindFault;
 use crate::gathered::SlotColumn;
-use crate::names::{is_same_name, name_bytes, place, word};
+use crate::names::{is_same_name, name_bytes, word};
 use crate::scope::{Scope, Visible};
 use sql_reader::NameUse;
 use sql_tokens::Span;
@@ -28,11 +29,12 @@ fn find_source(sources: &[Visible], name: &[u8]) -> Option<usize>
 
 /// The source that a name stands for.
 pub fn source(scope: &Scope<'_>, span: Span) -> Result<u8, BindFault>
+    requires { IsShort span }
     ensures { Gives (λ s. s) result (scopes.source_meant (names_of scope.now) span) }
 {
     match find_source(scope.sources.as_slice(), name_bytes(scope.text, span)) {
         Some(s) => Ok(s as u8),
-        None => Err(BindFault::NoColumn(place(span))),
+        None => Err(BindFault::NoColumn(span.place())),
     }
 }
 
@@ -68,14 +70,15 @@ fn owner_from(scope: &Scope<'_>, from: usize, word: &[u8]) -> Option<SlotColumn>
 /// The column of a name that stands alone.
 #[tactic(auto, unfolding(crate::specs::Scopes::unqualified))]
 fn unqualified(alloc: Global, scope: &Scope<'_>, name: Span) -> Result<SlotColumn, BindFault>
+    requires { IsShort name }
     ensures { Gives (λ c. c) result (scopes.unqualified (names_of scope.now) name) }
 {
     let word = word(alloc, scope.text, name)?;
     let Some(first) = owner_from(scope, 0, word.as_slice()) else {
-        return Err(BindFault::NoColumn(place(name)));
+        return Err(BindFault::NoColumn(name.place()));
     };
     match owner_from(scope, first.slot as usize + 1, word.as_slice()) {
-        Some(_) => Err(BindFault::Ambiguous(place(name))),
+        Some(_) => Err(BindFault::Ambiguous(name.place())),
         None => Ok(first),
     }
 }
@@ -88,18 +91,21 @@ fn qualified(
     qualifier: Span,
     name: Span,
 ) -> Result<SlotColumn, BindFault>
+    requires qualifier_short { IsShort qualifier }
+    requires name_short { IsShort name }
     ensures { Gives (λ c. c) result (scopes.qualified (names_of scope.now) qualifier name) }
 {
     let slot = source(scope, qualifier)?;
     let word = word(alloc, scope.text, name)?;
     match column_of_slot(scope, slot, word.as_slice()) {
         Some(column) => Ok(SlotColumn { slot, column }),
-        None => Err(BindFault::NoColumn(place(name))),
+        None => Err(BindFault::NoColumn(name.place())),
     }
 }
 
 /// The column that a name means.
 pub fn meaning(alloc: Global, scope: &Scope<'_>, name: NameUse) -> Result<SlotColumn, BindFault>
+    requires { NameLimits name }
     ensures { Gives (λ c. c) result (scopes.meaning (names_of scope.now) name) }
 {
     match name.qualifier {

@@ -63,10 +63,3 @@ pub fn is_same_name(a: &[u8], b: &[u8]) -> bool
 {
     a.eq_ignore_ascii_case(b)
 }
-
-/// The place of a span's first byte, counted from 1.
-pub fn place(span: Span) -> u64
-    ensures { result ≡ spelling.place span }
-{
-    span.from.saturating_add(1)
-}

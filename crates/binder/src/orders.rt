@@ -1,6 +1,7 @@
 //! HAVING and ORDER BY.
-ghost use Rattle.std.specs.Prelude.{◌≡◌, ◌<◌, ◌^◌, ◌+◌, length, IfOk};
+ghost use Rattle.std.specs.Prelude.{◌≡◌, ◌<◌, ◌^◌, ◌+◌, length, IfOk, IfSome, All};
 ghost use Rattle.binder.specs.Aliases.{IndexesAliases, PutsAlias};
+ghost use Rattle.binder.specs.Limits.{NameLimits, OrderLimits};
 ghost use Rattle.binder.specs.Orders as order_by;
 ghost use Rattle.binder.specs.Results.{Gives};
 ghost use Rattle.binder.specs.View.{names_of, list_of};
@@ -85,6 +86,7 @@ fn alias_meant(
 /// What a name in HAVING or ORDER BY stands for.
 #[tactic(auto, unfolding(crate::specs::Orders::term_of))]
 fn term(alloc: Global, list: &SelectList<'_>, name: NameUse) -> Result<Term, BindFault>
+    requires { NameLimits name }
     ensures { Gives (λ x. x) result (order_by.term_of (names_of list.now.scope.now) (list_of list.now) name) }
 {
     match alias_meant(alloc, list, name)? {
@@ -110,6 +112,7 @@ pub fn mentions(
     mut so_far: List<SlotColumn>,
     uses: &[NameUse],
 ) -> Result<List<SlotColumn>, BindFault>
+    requires { All NameLimits uses.now }
     ensures { Gives (λ x. x) result (order_by.mentions_from (names_of list.now.scope.now) (list_of list.now) so_far uses.now) }
 {
     for name in uses {
@@ -146,6 +149,7 @@ fn sorted_by_name(
     mentions: List<SlotColumn>,
     name: Option<NameUse>,
 ) -> Result<SortKey, BindFault>
+    requires { IfSome name NameLimits }
     ensures { Gives (λ x. x) result (order_by.sorted_by_name (names_of list.now.scope.now) (list_of list.now) mentions name) }
 {
     let Some(name) = name else {
@@ -168,6 +172,7 @@ fn sorted_by(
     so_far: List<SlotColumn>,
     expr: &Expr,
 ) -> Result<SortKey, BindFault>
+    requires { All NameLimits expr.now.uses }
     ensures { Gives (λ x. x) result (order_by.sorted_by (names_of list.now.scope.now) (list_of list.now) so_far expr.now) }
 {
     if let Some(number) = expr.ordinal {
@@ -213,7 +218,8 @@ fn with_order(
     so_far: SortKeys,
     order: &ParsedOrder,
 ) -> Result<SortKeys, BindFault>
-    requires { length so_far.items + 1 < 2 ^ 32 }
+    requires few { length so_far.items + 1 < 2 ^ 32 }
+    requires limits { OrderLimits order.now }
     ensures exact { Gives (λ x. x) result (order_by.with_order (names_of list.now.scope.now) (list_of list.now) so_far order.now) }
     ensures count { IfOk result (λ x. length x.items ≡ length so_far.items + 1) }
 {
@@ -237,7 +243,8 @@ pub fn orders(
     mentions: List<SlotColumn>,
     orders: &[ParsedOrder],
 ) -> Result<SortKeys, BindFault>
-    requires { length orders.now < 2 ^ 32 }
+    requires few { length orders.now < 2 ^ 32 }
+    requires limits { All OrderLimits orders.now }
     ensures { Gives (λ x. x) result (order_by.orders_from (names_of list.now.scope.now) (list_of list.now) mentions orders.now) }
 {
     let mut so_far = SortKeys {

@@ -1,12 +1,14 @@
 //! The sources of a statement.
-ghost use Rattle.std.specs.Prelude.{◌≡◌, ◌<◌, ◌≤◌, ◌+◌, length, IfOk};
+ghost use Rattle.std.specs.Prelude.{◌≡◌, ◌<◌, ◌≤◌, ◌+◌, length, IfOk, All, unwrap_or};
 ghost use Rattle.adv_base.specs.declared.limits.TheConstants.{MOST_SLOTS};
+ghost use Rattle.binder.specs.Limits.{IsShort, SourceLimits};
+ghost use Rattle.binder.specs.Names.{place};
 ghost use Rattle.binder.specs.Results.{Gives};
 ghost use Rattle.binder.specs.Sources as from_clause;
 
 use crate::directory::Directory;
 use crate::fault::BindFault;
-use crate::names::{is_same_name, name_bytes, place, word};
+use crate::names::{is_same_name, name_bytes, word};
 use crate::scope::Visible;
 use adv_base::limits::MOST_SLOTS;
 use adv_base::{List, Name};
@@ -21,13 +23,14 @@ pub fn table_meant(
     text: &[u8],
     span: Span,
 ) -> Result<u16, BindFault>
+    requires { IsShort span }
     ensures exact { Gives (λ t. t) result (from_clause.table_meant directory.now.cat.now text.now span) }
     ensures within { IfOk result (λ t. t < length directory.now.cat.now.tables) }
 {
     let word = word(alloc, text, span)?;
     match directory.table(word.as_slice()) {
         Some(table) => Ok(table),
-        None => Err(BindFault::NoTable(place(span))),
+        None => Err(BindFault::NoTable(span.place())),
     }
 }
 
@@ -77,6 +80,17 @@ fn is_taken(sources: &[Visible], name: &[u8]) -> bool
         .any(|v| is_same_name(v.name.as_slice(), name))
 }
 
+/// Where the name stands by which a source goes.
+fn visible_place(source: Source) -> u64
+    requires { SourceLimits source }
+    ensures { result ≡ place (unwrap_or source.alias source.table) }
+{
+    match source.alias {
+        Some(span) => span.place(),
+        None => source.table.place(),
+    }
+}
+
 /// A source behind the earlier ones.
 #[tactic(auto, unfolding(crate::specs::Sources::with_source))]
 fn with_source(
@@ -86,17 +100,18 @@ fn with_source(
     mut sources: List<Visible>,
     source: Source,
 ) -> Result<List<Visible>, BindFault>
+    requires { SourceLimits source }
     ensures exact { Gives (λ x. x) result (from_clause.with_source directory.now.cat.now text.now sources source) }
     ensures few { IfOk result (λ x. length x ≤ MOST_SLOTS) }
     ensures count { IfOk result (λ x. length x ≡ length sources + 1) }
 {
     if sources.len() >= MOST_SLOTS {
-        return Err(BindFault::TooManySlots(place(source.table)));
+        return Err(BindFault::TooManySlots(source.table.place()));
     }
     let table = table_meant(alloc, directory, text, source.table)?;
     let new = visible(alloc, directory, text, source.alias, table)?;
     if is_taken(sources.as_slice(), new.name.as_slice()) {
-        return Err(BindFault::TwoAliases(place(source.alias.unwrap_or(source.table))));
+        return Err(BindFault::TwoAliases(visible_place(source)));
     }
     sources.items.push(new)?;
     Ok(sources)
@@ -109,6 +124,7 @@ pub fn sources(
     text: &[u8],
     written: &[Source],
 ) -> Result<List<Visible>, BindFault>
+    requires { All SourceLimits written.now }
     ensures exact { Gives (λ x. x) result (from_clause.sources_of directory.now.cat.now text.now written.now) }
     ensures few { IfOk result (λ x. length x ≤ MOST_SLOTS) }
     ensures count { IfOk result (λ x. length x ≡ length written.now) }

@@ -34,4 +34,4 @@ returns-clause-most c =
 pub statements-requires : goal.statements-requires
 statements-requires c =
     let parsed = c.args.parsed.now in
-    subst (All StatementLimits) (sym c.as_slice.ensures) (read-limits (length parsed.text.now) parsed.statements parsed.within)
+    subst (All StatementLimits) (sym c.as_slice.ensures) (read-limits (length parsed.text.now) parsed.short parsed.statements parsed.within)
