@@ -63,22 +63,22 @@ pub record SelectLimits (select : ParsedSelect) : Type 0 where
   pub order : All OrderLimits select.order
 
 -- an INSERT has 1 to 2^32 - 1 rows
-pub record InsertLimits (table : Span) (columns uses : List NameUse) (rows : ℕ) : Type 0 where
-  pub table : IsShort table
-  pub columns : All NameLimits columns
-  pub uses : All NameLimits uses
+pub record InsertLimits (into : Span) (listed used : List NameUse) (rows : ℕ) : Type 0 where
+  pub table : IsShort into
+  pub columns : All NameLimits listed
+  pub uses : All NameLimits used
   pub rows_least : 1 ≤ rows
   pub rows_most : rows < 2 ^ 32
 
-pub record UpdateLimits (source : Source) (columns uses : List NameUse) (conditions : List Condition) : Type 0 where
-  pub source : SourceLimits source
-  pub columns : All NameLimits columns
-  pub uses : All NameLimits uses
-  pub conditions : ConditionsLimits conditions
+pub record UpdateLimits (over : Source) (set used : List NameUse) (tests : List Condition) : Type 0 where
+  pub source : SourceLimits over
+  pub columns : All NameLimits set
+  pub uses : All NameLimits used
+  pub conditions : ConditionsLimits tests
 
-pub record DeleteLimits (source : Source) (conditions : List Condition) : Type 0 where
-  pub source : SourceLimits source
-  pub conditions : ConditionsLimits conditions
+pub record DeleteLimits (over : Source) (tests : List Condition) : Type 0 where
+  pub source : SourceLimits over
+  pub conditions : ConditionsLimits tests
 
 pub record BodyLimits (body : Body) : Type 0 where
   pub selects : (select : ParsedSelect) → body ≡ Select select → SelectLimits select

@@ -139,8 +139,8 @@ pub fn delete_block(
     source: Source,
     conditions: &[Condition],
 ) -> Result<Block, BindFault>
-    requires source { SourceLimits source }
-    requires conditions { ConditionsLimits conditions.now }
+    requires source_short { SourceLimits source }
+    requires limits { ConditionsLimits conditions.now }
     ensures exact { Gives plain_block result (blocks.delete_of directory.now.cat.now text.now source conditions.now) }
     ensures limits { IfOk result ChangeLimits }
 {
@@ -183,8 +183,8 @@ fn set_clause(
     uses: &[NameUse],
 ) -> Result<(List<u16>, List<SlotColumn>), BindFault>
     requires one { length scope.now.sources ≡ 1 }
-    requires names { All NameLimits names.now }
-    requires uses { All NameLimits uses.now }
+    requires names_short { All NameLimits names.now }
+    requires uses_short { All NameLimits uses.now }
     ensures { let seen = names_of scope.now in
         Gives (λ x. x) result (readings.both (blocks.written_columns seen.cat seen.text (meant.first_table seen.sources) names.now) (columns_of seen uses.now)) }
 {
@@ -210,10 +210,10 @@ pub fn update_work(
     uses: &[NameUse],
     conditions: &[Condition],
 ) -> Result<(Block, List<u16>), BindFault>
-    requires source { SourceLimits source }
-    requires names { All NameLimits names.now }
-    requires uses { All NameLimits uses.now }
-    requires conditions { ConditionsLimits conditions.now }
+    requires source_short { SourceLimits source }
+    requires names_short { All NameLimits names.now }
+    requires uses_short { All NameLimits uses.now }
+    requires limits { ConditionsLimits conditions.now }
     ensures exact { Gives (λ x. plain.Update (plain_block x.0) x.1) result (meant.update_of directory.now.cat.now text.now source names.now uses.now conditions.now) }
     ensures limits { IfOk result (λ x. ChangeLimits x.0) }
 {
@@ -245,9 +245,9 @@ pub fn insert_table(
     uses: &[NameUse],
     rows: u64,
 ) -> Result<u16, BindFault>
-    requires table { IsShort table }
-    requires names { All NameLimits names.now }
-    requires uses { All NameLimits uses.now }
+    requires table_short { IsShort table }
+    requires names_short { All NameLimits names.now }
+    requires uses_short { All NameLimits uses.now }
     ensures { Gives (λ t. plain.Insert t rows) result (meant.insert_of directory.now.cat.now text.now table names.now uses.now rows) }
 {
     let number = table_meant(alloc, directory, text, table)?;

@@ -85,8 +85,8 @@ fn named_test(
     name: NameUse,
     test: Test,
 ) -> Result<Tests, BindFault>
-    requires name { NameLimits name }
-    requires test { TestLimits test }
+    requires name_short { NameLimits name }
+    requires limits { TestLimits test }
     ensures { Gives plain_tests result (where_clause.named_test (names_of scope.now) (plain_tests so_far) name (λ _. test)) }
 {
     let c = meaning(alloc, scope, name)?;
@@ -138,8 +138,8 @@ fn tied(
     left: NameUse,
     right: NameUse,
 ) -> Result<Tests, BindFault>
-    requires left { NameLimits left }
-    requires right { NameLimits right }
+    requires left_short { NameLimits left }
+    requires right_short { NameLimits right }
     ensures { Gives plain_tests result (where_clause.named_equality (names_of scope.now) (plain_tests so_far) left right) }
 {
     let c = meaning(alloc, scope, left)?;

@@ -3,14 +3,14 @@
 use adv_base::{Edge, Item, List, Pred, Statement};
 
 /// A column of a slot, both by number.
-#[derive(Clone, Copy, Debug, PartialEq, Eq, Hash)]
+#[derive(Clone, Copy, PartialEq, Eq, Hash)]
 pub struct SlotColumn {
     pub slot: u8,
     pub column: u16,
 }
 
 /// What a name in HAVING or ORDER BY stands for: a column, or the select item of this number, counted from 0.
-#[derive(Clone, Copy, Debug)]
+#[derive(Clone, Copy)]
 pub enum Term {
     Alias(usize),
     Column(SlotColumn),
@@ -18,7 +18,7 @@ pub enum Term {
 
 /// What an item of a select list stands for: all columns of all slots, all columns of one, or an expression over
 /// columns, which are in written order. `plain` says that it is exactly a column, `aggregate` that it calls an aggregate.
-#[derive(Debug, Drop)]
+#[derive(Drop)]
 pub enum BoundItem {
     Star,
     SlotStar(u8),
@@ -30,7 +30,7 @@ pub enum BoundItem {
 }
 
 /// Predicates and join edges in written order, and the columns that they mention.
-#[derive(Debug, Drop)]
+#[derive(Drop)]
 pub struct Tests {
     pub preds: List<Pred>,
     pub edges: List<Edge>,
@@ -38,14 +38,14 @@ pub struct Tests {
 }
 
 /// The column for which an ORDER BY item stands, where it does, and the columns that were mentioned by then.
-#[derive(Debug, Drop)]
+#[derive(Drop)]
 pub struct SortKey {
     pub column: Option<SlotColumn>,
     pub mentions: List<SlotColumn>,
 }
 
 /// The items of ORDER BY, and the columns that HAVING and they mention.
-#[derive(Debug, Drop)]
+#[derive(Drop)]
 pub struct SortKeys {
     pub items: List<Item>,
     pub mentions: List<SlotColumn>,
@@ -53,7 +53,7 @@ pub struct SortKeys {
 
 /// The select items, the conditions, the columns of GROUP BY and the items of ORDER BY, which come with the columns that
 /// HAVING and they mention.
-#[derive(Debug, Drop)]
+#[derive(Drop)]
 pub struct Clauses {
     pub items: List<BoundItem>,
     pub tests: Tests,
@@ -62,7 +62,7 @@ pub struct Clauses {
 }
 
 /// The statements so far, and how many slots they have in all.
-#[derive(Debug, Drop)]
+#[derive(Drop)]
 pub struct Bound {
     pub slots: u64,
     pub statements: List<Statement>,

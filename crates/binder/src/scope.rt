@@ -10,7 +10,7 @@ use adv_base::{List, Name};
 use sql_reader::ParsedItem;
 
 /// A source of a statement: the name by which it goes and its table's number.
-#[derive(Debug, Drop)]
+#[derive(Drop)]
 pub struct Visible {
     pub name: Name,
     pub table: u16,
