@@ -4,7 +4,7 @@ use crate::ascending::knapsack::Value;
 use crate::ascending::scratch::Ascent;
 
 /// How an ascent goes: it has at most so many rounds; a step is at first so many parts of 1024 of what is missing to the
-/// target; and so many rounds without a gain halve the steps.
+/// target, at most 65535; and more than so many rounds without a gain halve the steps.
 #[derive(Clone, Copy, Debug)]
 pub struct Pace {
     pub rounds: u32,
@@ -14,11 +14,13 @@ pub struct Pace {
 
 /// The longest step.
 const MOST_STEP: i128 = 35_184_372_088_832;
+/// The most parts of 1024 of what is missing that a step may be.
+const MOST_PACE: u32 = 65535;
 /// Steps aren't halved below this.
 const LEAST_STEP: i64 = 4;
 
 /// How far an ascent has come: the best value, the value at the last gain that counted, the rounds since then, the present
-/// step, and how many rounds had no direction.
+/// step as a part of what is missing, the length of the one that is to be made next, and how many rounds had no direction.
 #[derive(Clone, Copy)]
 struct Walk {
     best: i128,
@@ -26,6 +28,7 @@ struct Walk {
     mark: i128,
     idle: u32,
     step: i64,
+    ahead: Option<i64>,
     still: u32,
 }
 
@@ -40,7 +43,8 @@ fn step_length(gap: i128, step: i64, squares: i64) -> i64 {
 impl Ascent {
     /// One round towards a target, in parts of 65536; whether another is worth it.
     fn round(&mut self, target: i128, patience: u32, walk: &mut Walk) -> bool {
-        let now = self.evaluate();
+        let now = self.evaluate(walk.ahead);
+        walk.ahead = None;
         self.book.follow();
         if now.value > walk.best {
             walk.best = now.value;
@@ -66,7 +70,7 @@ impl Ascent {
             return walk.still < 2;
         }
         walk.still = 0;
-        self.advance(step_length(target.wrapping_sub(now.value), walk.step, squares));
+        walk.ahead = Some(step_length(target.wrapping_sub(now.value), walk.step, squares));
         true
     }
 
@@ -81,7 +85,7 @@ impl Ascent {
     /// The rounds of an ascent from the rents towards a target, in parts of 65536. Afterwards the rents are the best ones, or
     /// their average where it is nearly as good and no worse than `least`.
     pub(crate) fn climb(&mut self, target: i128, least: i128, pace: Pace) -> Value {
-        let first = self.evaluate();
+        let first = self.evaluate(None);
         self.book.average = self.book.taken;
         self.begin();
         self.keep();
@@ -90,7 +94,8 @@ impl Ascent {
             page: first.page,
             mark: first.value,
             idle: 0,
-            step: (pace.step & 0xffff) as i64,
+            step: pace.step.min(MOST_PACE) as i64,
+            ahead: None,
             still: 0,
         };
         for _round in 0..pace.rounds {
@@ -104,7 +109,7 @@ impl Ascent {
     /// Goes to the average of the rents where it is nearly as good as the best, and else to the best.
     fn finish(&mut self, target: i128, least: i128, walk: &Walk) -> Value {
         self.go_to_average();
-        let average = self.evaluate();
+        let average = self.evaluate(None);
         let missing = target.wrapping_sub(walk.best).max(0);
         let enough = walk.best.wrapping_sub(missing.checked_div(20).unwrap_or(0));
         if average.value >= enough && average.value >= least {

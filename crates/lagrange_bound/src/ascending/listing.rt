@@ -4,7 +4,7 @@ use crate::ascending::lists::{
     Cell, Counts, Frame, Head, Lists, MOST_LOOKED_AT, NO_CELL, NO_PRICE, NO_RENT, NONE, Offer,
     Rent, looked_at,
 };
-use crate::ascending::places::{at, put};
+use crate::ascending::places::{at, inverse, put};
 use crate::ascending::scratch::Ascent;
 use crate::ascending::sheet::Sheet;
 use crate::pricing::part_grants;
@@ -158,6 +158,8 @@ impl Ascent {
         }
         let head = Head {
             weight: part.weight as i64,
+            inverse: inverse(part.weight as u64),
+            slots: part.slots.len() as u32,
             cells: cells as u32,
             templates: (frames & 0x7fff_ffff) as u32,
             rents: (rents & 0x7fff_ffff) as u32,

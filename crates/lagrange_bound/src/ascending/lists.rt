@@ -14,11 +14,13 @@ pub(crate) const NO_CELL: u8 = 255;
 
 pub(crate) const NO_RENT: u32 = u32::MAX;
 
-/// The part of a statement: its weight, how many cells, templates and rents it has, and what it costs by templates that no
-/// offer serves.
+/// The part of a statement: its weight, the weight's inverse in parts of 2^63, how many slots, cells, templates and rents it
+/// has, and what it costs by templates that no offer serves.
 #[derive(Clone, Copy)]
 pub(crate) struct Head {
     pub weight: i64,
+    pub inverse: u64,
+    pub slots: u32,
     pub cells: u32,
     pub templates: u32,
     pub rents: u32,
@@ -58,6 +60,8 @@ pub(crate) struct Rent {
 /// Nothing of each.
 pub(crate) const NO_HEAD: Head = Head {
     weight: 1,
+    inverse: 0,
+    slots: 0,
     cells: 0,
     templates: 0,
     rents: 0,

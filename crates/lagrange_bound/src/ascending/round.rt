@@ -2,10 +2,11 @@
 
 use crate::ascending::knapsack::{Book, Value};
 use crate::ascending::lists::{
-    Cell, EMPTY, FREE, Frame, Head, Lists, NO_FRAME, NO_HEAD, NO_OFFER, NO_RENT, Offer, Rent,
+    Cell, FREE, Frame, Head, Lists, NO_FRAME, NO_HEAD, NO_RENT, Offer, Rent,
 };
-use crate::ascending::places::at;
+use crate::ascending::places::{at, run};
 use crate::ascending::scratch::Ascent;
+use crate::ascending::step::move_rents;
 
 /// What the cells of a part cost, and by which rents; the last cell costs nothing.
 #[derive(Clone, Copy)]
@@ -29,8 +30,7 @@ fn price_of(cell: &Cell, offers: &[Offer], rents: &[Rent], first: usize) -> Offe
         price: cell.base,
         rent: NO_RENT,
     };
-    for i in 0..cell.offers as usize {
-        let offer = at(offers, first.wrapping_add(i), NO_OFFER);
+    for offer in run(offers, first, cell.offers as usize) {
         let rent = at(rents, offer.rent as usize, FREE);
         let price = offer.price.wrapping_add(rent.parts >> 10);
         if price < best.price {
@@ -54,9 +54,11 @@ fn price_cells(
     let cells = lists.cells.as_slice();
     let offers = lists.offers.as_slice();
     let mut next = place.offer;
-    for k in 0..head.cells as usize {
-        let cell = at(cells, place.cell.wrapping_add(k), EMPTY);
-        let best = price_of(&cell, offers, rents, next);
+    for (k, cell) in run(cells, place.cell, head.cells as usize)
+        .iter()
+        .enumerate()
+    {
+        let best = price_of(cell, offers, rents, next);
         prices.price[k & 255] = best.price;
         prices.rent[k & 255] = best.rent;
         next = next.wrapping_add(cell.offers as usize);
@@ -65,18 +67,20 @@ fn price_cells(
 }
 
 /// What a template costs.
-fn frame_cost(frame: &Frame, prices: &Prices) -> i64 {
-    let mut cost = frame.internal;
-    for cell in frame.cells.iter() {
-        cost = cost.wrapping_add(prices.price[*cell as usize]);
+fn frame_cost(frame: &Frame, slots: u32, prices: &Prices) -> i64 {
+    let first = prices.price[frame.cells[0] as usize];
+    let second = prices.price[frame.cells[1] as usize];
+    let mut cost = frame.internal.wrapping_add(first).wrapping_add(second);
+    for s in 2..slots {
+        cost = cost.wrapping_add(prices.price[frame.cells[(s & 7) as usize] as usize]);
     }
     cost
 }
 
 /// Marks the rents that a template uses.
-fn mark(frame: &Frame, prices: &Prices, rents: &mut [Rent]) {
-    for cell in frame.cells.iter() {
-        let number = prices.rent[*cell as usize] as usize;
+fn mark(frame: &Frame, slots: u32, prices: &Prices, rents: &mut [Rent]) {
+    for s in 0..slots {
+        let number = prices.rent[frame.cells[(s & 7) as usize] as usize] as usize;
         if number < rents.len() {
             rents[number].used = true;
         }
@@ -93,32 +97,28 @@ fn part_cost(
 ) -> i64 {
     let frames = lists.frames.as_slice();
     let mut best = head.plain;
-    let mut chosen = usize::MAX;
-    for k in 0..head.templates as usize {
-        let number = place.frame.wrapping_add(k);
-        let cost = frame_cost(&at(frames, number, NO_FRAME), prices);
+    let mut chosen = &NO_FRAME;
+    for frame in run(frames, place.frame, head.templates as usize) {
+        let cost = frame_cost(frame, head.slots, prices);
         if cost < best {
             best = cost;
-            chosen = number;
+            chosen = frame;
         }
     }
-    mark(&at(frames, chosen, NO_FRAME), prices, rents);
+    mark(chosen, head.slots, prices, rents);
     best
 }
 
 /// Counts what the rents of a part bring in.
 fn earn(rents: &[Rent], head: &Head, first: usize, book: &mut Book) {
-    for k in 0..head.rents as usize {
-        let rent = at(rents, first.wrapping_add(k), FREE);
-        let sum = (rent.parts >> 10).wrapping_mul(head.weight);
-        let a = rent.candidate as usize;
-        book.sums[a] = book.sums[a].saturating_add(sum);
+    for rent in run(rents, first, head.rents as usize) {
+        book.earn(rent, head.weight);
     }
 }
 
 impl Ascent {
-    /// The value of the rents, with the choices of plans and candidates that it rests on.
-    pub(crate) fn evaluate(&mut self) -> Value {
+    /// The value of the rents after a step, if there is one, with the choices of plans and candidates that it rests on.
+    pub(crate) fn evaluate(&mut self, step: Option<i64>) -> Value {
         let mut prices = Prices {
             price: [0; 256],
             rent: [NO_RENT; 256],
@@ -134,9 +134,15 @@ impl Ascent {
         for i in 0..self.lists.counts.heads {
             let head = at(self.lists.heads.as_slice(), i, NO_HEAD);
             let rents = self.rents.as_mut_slice();
+            match step {
+                Some(step) => {
+                    let averages = self.average.as_mut_slice();
+                    move_rents(&head, place.rent, step, rents, averages, &mut self.book);
+                }
+                None => earn(rents, &head, place.rent, &mut self.book),
+            }
             let next = price_cells(&self.lists, rents, &head, &place, &mut prices);
             let cost = part_cost(&self.lists, rents, &head, &place, &prices);
-            earn(rents, &head, place.rent, &mut self.book);
             plans = plans.wrapping_add((head.weight as i128).wrapping_mul(cost as i128));
             place = Place {
                 cell: place.cell.wrapping_add(head.cells as usize),
