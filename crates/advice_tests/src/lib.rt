@@ -1,0 +1,22 @@
+//! Tests of the public calls of `candidates`, `hypo_indexes`, `access_paths`, `tuning` and `gap_checker`, apart from them, so
+//! that they aren't proved twice: what is said of catalogues and workloads that are written down.
+#![tactic(auto)]
+
+#[cfg(test)]
+mod checks;
+#[cfg(test)]
+mod opened;
+#[cfg(test)]
+mod planned;
+#[cfg(test)]
+mod prices;
+#[cfg(test)]
+mod printed;
+#[cfg(test)]
+mod programmes;
+#[cfg(test)]
+mod proposals;
+#[cfg(test)]
+mod texts;
+#[cfg(test)]
+mod upkeep;

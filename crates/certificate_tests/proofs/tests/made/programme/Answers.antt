@@ -1,5 +1,0 @@
-use Rattle.certificate_tests.proofs.Made.{programme-limits}
-use Rattle.certificate_tests.proofs.tests.made.programme.Goals as goal
-
-pub invariant_of-result : goal.invariant_of-result
-invariant_of-result g c = record { limits = programme-limits _ _ _ c.sizes.ensures c.upkeep.ensures c.requires.few }

@@ -1,0 +1,172 @@
+//! Bounds that are worked out by hand, and those of small programmes at all nodes against a plain program.
+ghost use Rattle.std.specs.Prelude.{◌≡◌, ◌<◌, ◌≤◌, length};
+ghost use Rattle.bip_model.specs.Views.{AreMultipliers};
+
+use crate::made::{knapsack, mixed};
+use crate::plain::Priced;
+use bip_model::{Fix, Multipliers, Programme, State};
+use lagrange_bound::{Terms, bound, carry, improve, rent, terms, total};
+use std::alloc::Global;
+use std::process::Abort;
+
+/// The node that says so much of the first four candidates; the others are free.
+fn node(states: [State; 4]) -> Fix {
+    let mut fix = Fix {
+        state: [State::Free; 256],
+    };
+    fix.state[0] = states[0];
+    fix.state[1] = states[1];
+    fix.state[2] = states[2];
+    fix.state[3] = states[3];
+    fix
+}
+
+/// The node at which each candidate is free.
+pub(crate) fn free() -> Fix {
+    node([State::Free; 4])
+}
+
+/// The node at which the first candidate is in.
+fn first_in() -> Fix {
+    node([State::In, State::Free, State::Free, State::Free])
+}
+
+/// What a digit in base 3 stands for.
+fn state(number: u32, place: u32) -> State
+    requires { 0 < place }
+{
+    match number / place % 3 {
+        0 => State::Free,
+        1 => State::In,
+        _ => State::Out,
+    }
+}
+
+/// The node of a number below 81, which has in base 3 a digit for each of the first four candidates.
+pub(crate) fn numbered_node(number: u32) -> Fix {
+    node([
+        state(number, 1),
+        state(number, 3),
+        state(number, 9),
+        state(number, 27),
+    ])
+}
+
+/// The multipliers that are all 0.
+pub(crate) fn zero(rt: &impl Abort, alloc: Global, programme: &Programme) -> Multipliers
+    ensures { AreMultipliers programme.now result }
+{
+    Multipliers::zero(alloc, programme).expect(rt, "memory")
+}
+
+/// Terms of which nothing is known yet.
+fn no_terms(rt: &impl Abort, alloc: Global, programme: &Programme) -> Terms
+    ensures { length result.least ≡ length programme.now.parts }
+{
+    Terms::new(alloc, programme).expect(rt, "memory")
+}
+
+/// At the root the first costs 10 * 13000 + 11 * 14000; with the first in, the second no more fits beside it. A page at 2^17
+/// thousandths makes the rents 3 * 2^17 / 10 and 4 * 2^17 / 11, and takes 4 * 2^17 for the budget.
+#[test]
+fn knapsack_by_hand(rt: HostRuntime) {
+    let programme = knapsack(&rt, rt.alloc());
+    let mut multipliers = zero(&rt, rt.alloc(), &programme);
+    assert_eq!(rt; bound(&programme, 4, &free(), &multipliers), 284000);
+    assert_eq!(rt; bound(&programme, 4, &first_in(), &multipliers), 1010000);
+    rent(&programme, 8589934592, &mut multipliers);
+    assert_eq!(rt; multipliers.lambda.as_slice(), [39321u64, 47662].as_slice());
+    assert_eq!(rt; bound(&programme, 4, &free(), &multipliers), 677204);
+}
+
+/// `bound` and the plain program agree at each node.
+fn agree_within(rt: &impl Abort, programme: &Programme, budget: u64, multipliers: &Multipliers)
+    requires budget { budget ≤ 1000 }
+    requires multipliers { AreMultipliers programme.now multipliers.now }
+{
+    for number in 0..81 {
+        let fix = numbered_node(number);
+        let plain = Priced {
+            programme,
+            budget,
+            fix: &fix,
+            multipliers,
+        };
+        let value = bound(programme, budget, &fix, multipliers);
+        assert_eq!(rt; value, plain.value(), "node {number} within {budget}");
+    }
+}
+
+/// They agree within budgets that no, some and all candidates fit.
+fn agree(rt: &impl Abort, programme: &Programme, multipliers: &Multipliers)
+    requires { AreMultipliers programme.now multipliers.now }
+{
+    agree_within(rt, programme, 1, multipliers);
+    agree_within(rt, programme, 6, multipliers);
+    agree_within(rt, programme, 18, multipliers);
+}
+
+/// They agree for rents with their own price of a page and with a third of it.
+fn agree_at_price(rt: &impl Abort, alloc: Global, programme: &Programme, price: u64) {
+    let mut multipliers = zero(rt, alloc, programme);
+    rent(programme, price, &mut multipliers);
+    agree(rt, programme, &multipliers);
+    multipliers.mu = (price / 3) as u128;
+    agree(rt, programme, &multipliers);
+}
+
+/// They agree for the multipliers that are 0, and at prices of a page that are small, middling and great.
+fn agree_on(rt: &impl Abort, alloc: Global, programme: &Programme) {
+    agree(rt, programme, &zero(rt, alloc, programme));
+    agree_at_price(rt, alloc, programme, 1048577);
+    agree_at_price(rt, alloc, programme, 8589934592);
+    agree_at_price(rt, alloc, programme, 549755813888);
+}
+
+#[test]
+fn bounds_of_the_knapsack_are_those_of_a_plain_program(rt: HostRuntime) {
+    agree_on(&rt, rt.alloc(), &knapsack(&rt, rt.alloc()));
+}
+
+#[test]
+fn bounds_of_a_join_and_writes_are_those_of_a_plain_program(rt: HostRuntime) {
+    agree_on(&rt, rt.alloc(), &mixed(&rt, rt.alloc()));
+}
+
+/// With the first candidate in, the second fits no more, and its part is priced anew.
+#[test]
+fn terms_are_carried(rt: HostRuntime) {
+    let programme = knapsack(&rt, rt.alloc());
+    let multipliers = zero(&rt, rt.alloc(), &programme);
+    let mut above = no_terms(&rt, rt.alloc(), &programme);
+    let mut below = no_terms(&rt, rt.alloc(), &programme);
+    let root = free();
+    let inside = first_in();
+    terms(&programme, 4, &root, &multipliers, &mut above);
+    assert_eq!(rt; above.least.as_slice(), [13000u128, 14000].as_slice());
+    assert_eq!(rt; total(&programme, 4, &root, &multipliers, &above), 284000);
+    carry(
+        &programme,
+        4,
+        &root,
+        &inside,
+        &multipliers,
+        &above,
+        &mut below,
+    );
+    assert_eq!(rt; below.least.as_slice(), [13000u128, 80000].as_slice());
+    assert_eq!(rt;
+        total(&programme, 4, &inside, &multipliers, &below),
+        1010000
+    );
+}
+
+/// The 35th price is 2^33.
+#[test]
+fn multipliers_improve(rt: HostRuntime) {
+    let programme = knapsack(&rt, rt.alloc());
+    let mut multipliers = zero(&rt, rt.alloc(), &programme);
+    let mut spare = zero(&rt, rt.alloc(), &programme);
+    improve(&programme, 4, &free(), &mut multipliers, &mut spare, 35);
+    assert!(rt; bound(&programme, 4, &free(), &multipliers) >= 677204);
+}

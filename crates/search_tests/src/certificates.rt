@@ -1,0 +1,174 @@
+//! Certificates that are read, and texts that no certificate has, each with the line at which it breaks, counted by hand.
+mod made;
+mod written;
+
+use bip_model::Node;
+use certificate::{CertFault, read_cert};
+use std::alloc::Global;
+use std::process::Abort;
+
+/// A certificate of the knapsack of two indexes, in eleven lines.
+pub const CERTK: &str =
+    "cophy certificate 1\nbudget 4\nconfig 2\ncost 954000\nbound 954000\nsets 0\ntree 3\nB 1\nL 0\nL 0\nend\n";
+
+/// What may stand in place of each byte of that certificate: at `d` any digit, at `n` any but 0, at `s` a minus too,
+/// elsewhere nothing else.
+const CLASSES: &str =
+    "...................\n.......d\n.......n\n.....nddddd\n......sddddd\n......\n......\n..n\n...\n...\n...\n";
+
+/// What comes before the lines of two sets.
+const TWO_SETS: &str = "cophy certificate 1\nbudget 0\nconfig\ncost 0\nbound -1\nsets 2\n";
+
+/// The line, from 1, in which the byte of an offset stands.
+fn line_of(text: &[u8], offset: usize) -> u64 {
+    text.iter()
+        .take(offset)
+        .filter(|byte| **byte == b'\n')
+        .count() as u64
+        + 1
+}
+
+#[test]
+fn a_certificate_is_read(rt: HostRuntime) {
+    let cert = read_cert(rt.alloc(), CERTK.as_bytes()).expect(&rt, "a certificate");
+    assert_eq!(rt; cert.budget, 4);
+    assert_eq!(rt; cert.config.as_slice(), [2u16].as_slice());
+    assert_eq!(rt; cert.cost, 954000);
+    assert_eq!(rt; cert.bound, 954000);
+    assert_eq!(rt; cert.sets.len(), 0);
+    let tree = [Node::Branch(1), Node::Bounded(0), Node::Bounded(0)];
+    assert_eq!(rt; cert.tree.as_slice(), tree.as_slice());
+}
+
+#[test]
+fn prefixes_break_at_their_last_line(rt: HostRuntime) {
+    let text = CERTK.as_bytes();
+    assert_eq!(rt; text.len(), 93);
+    for len in 0..93 {
+        let want = line_of(text, len);
+        let read = read_cert(rt.alloc(), &text[..len]);
+        assert!(rt;
+            matches!(read, Err(CertFault::Malformed(line)) if line == want),
+            "{len}"
+        );
+    }
+}
+
+fn may_stand(class: u8, byte: u8) -> bool {
+    match class {
+        b'd' => byte.is_ascii_digit(),
+        b'n' => byte != b'0' && byte.is_ascii_digit(),
+        b's' => byte == b'-' || (byte != b'0' && byte.is_ascii_digit()),
+        _ => false,
+    }
+}
+
+/// A text with another byte at a place.
+fn changed(rt: &impl Abort, alloc: Global, text: &[u8], place: usize, byte: u8) -> Vec<u8> {
+    let mut bytes = Vec::from_slice(alloc, text).expect(rt, "memory");
+    if place < bytes.len() {
+        bytes[place] = byte;
+    }
+    bytes
+}
+
+#[test]
+fn every_other_byte_breaks_or_says_something_else(rt: HostRuntime) {
+    let alloc = rt.alloc();
+    let text = CERTK.as_bytes();
+    let classes = CLASSES.as_bytes();
+    assert_eq!(rt; text.len(), 93);
+    assert_eq!(rt; classes.len(), 93);
+    for place in 0..93 {
+        for number in 0..256usize {
+            let byte = number as u8;
+            if byte != text[place] {
+                let other = changed(&rt, alloc, text, place, byte);
+                let read = read_cert(alloc, other.as_slice()).is_ok();
+                assert_eq!(rt; read, may_stand(classes[place], byte), "{place} {byte}");
+            }
+        }
+    }
+}
+
+/// What stands in the certificate, what stands there instead, and the line at which none goes on.
+const CHANGED: [(&str, &str, u64); 23] = [
+    ("end\n", "end\n\n", 12),
+    ("end\n", "end\nx", 12),
+    ("certificate 1", "certificate 2", 1),
+    ("budget 4", "budget 04", 2),
+    ("budget 4", "budget  4", 2),
+    ("budget 4", "budget 1000000000001", 2),
+    ("config 2", "config 2 2", 3),
+    ("config 2", "config 2 1", 3),
+    ("config 2", "config 0", 3),
+    ("config 2", "config 257", 3),
+    ("config 2", "config 2 ", 3),
+    (
+        "cost 954000",
+        "cost 170141183460469231731687303715884105728",
+        4,
+    ),
+    ("bound 954000", "bound -0", 5),
+    (
+        "bound 954000",
+        "bound -170141183460469231731687303715884105728",
+        5,
+    ),
+    ("sets 0", "sets 17", 6),
+    // An even count of nodes, then trees of too few and of too many lines.
+    ("tree 3", "tree 4", 7),
+    ("tree 3", "tree 1000001", 7),
+    ("tree 3", "tree 5", 10),
+    ("tree 3", "tree 1", 8),
+    ("B 1\n", "X\n", 8),
+    ("B 1\nL 0", "B 1\nB 2", 9),
+    ("B 1", "B 257", 8),
+    ("L 0\nend", "L 1\nend", 10),
+];
+
+#[test]
+fn changed_lines_break(rt: HostRuntime) {
+    for (old, new, want) in CHANGED {
+        let text = CERTK
+            .replacen(rt.alloc(), old, new, 1)
+            .expect(&rt, "memory");
+        let read = read_cert(rt.alloc(), text.as_bytes());
+        assert!(rt;
+            matches!(read, Err(CertFault::Malformed(line)) if line == want),
+            "{new}"
+        );
+    }
+}
+
+#[test]
+fn sets_break(rt: HostRuntime) {
+    // The lines behind those of the head, and the line at which none goes on.
+    for (lines, want) in [
+        ("set 100000000000000000001 0\n", 7),
+        ("set 0 1500001\n", 7),
+        ("set 0 1\n1 1 1 5\nset 0 1500000\n", 9),
+        // No entry is behind the last one.
+        ("set 0 2\n1000 8 256 1\n", 8),
+        ("set 0 3\n1000 8 255 1\n", 8),
+        ("set 0 2\n1 1 2 5\n1 1 2 5\n", 9),
+        ("set 0 2\n1 2 1 5\n1 1 256 5\n", 9),
+        ("set 0 1\n1 1 1 0\n", 8),
+        ("set 0 1\n1 9 1 1\n", 8),
+        ("set 0 1\n1001 1 1 1\n", 8),
+        ("set 0 1\n1 1 1 1000000000000000001\n", 8),
+        ("set 0 1\n1 1 1 1\n1 1 2 1\n", 9),
+        ("set 0 0\ntree 1\n", 8),
+        ("set 0 0\nset 0 0\nset 0 0\n", 9),
+        ("set 0 0\nset 7 2\n1 1 256 5\n1 2 1 5\ntree 1\nL 3\n", 12),
+        // Nothing breaks; the text ends.
+        ("set 0 0\nset 7 2\n1 1 256 5\n1 2 1 5\ntree 1\nL 2\n", 13),
+    ] {
+        let text = format!(in rt.alloc(); "{TWO_SETS}{lines}").expect(&rt, "memory");
+        let read = read_cert(rt.alloc(), text.as_bytes());
+        assert!(rt;
+            matches!(read, Err(CertFault::Malformed(line)) if line == want),
+            "{lines}"
+        );
+    }
+}
