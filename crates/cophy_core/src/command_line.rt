@@ -1,7 +1,7 @@
-//! The words of the command line.
+//! The command line.
 ghost use Rattle.std.specs.Prelude.{◌≡◌, ◌≤◌, ◌<◌, ◌↔◌, IfOk};
-ghost use Rattle.cophy_core.specs.CommandLines.{IsCommandLine};
-ghost use Rattle.cophy_core.specs.ReadWords.{PlainCommand, GivesBy, plain_command, plain_options, no_options, texts, word_at as read_word, number_at as read_number, end_at as read_end, nodes_option as read_nodes, cert_option as read_cert, option_at as read_option, options_from, cost_of, what_if_of, explain_of, candidates_of, advise_of, check_of, bench_of, named_command, command_of};
+ghost use Rattle.cophy_core.specs.Spellings.{IsCommandLine};
+ghost use Rattle.cophy_core.specs.CommandLine.{PlainCommand, GivesBy, plain_command, plain_options, no_options, texts, word_at as read_word, number_at as read_number, end_at as read_end, nodes_option as read_nodes, cert_option as read_cert, option_at as read_option, options_from, cost_row, what_if_row, explain_row, candidates_row, advise_row, check_row, bench_row, read_row, named_command, command_of};
 
 use crate::number::number_of;
 use report::WordFault;
@@ -72,7 +72,7 @@ struct Options<'a> {
 }
 
 /// The word of a number, from 1.
-#[tactic(auto, unfolding(crate::specs::ReadWords::word_at))]
+#[tactic(auto, unfolding(crate::specs::CommandLine::word_at))]
 fn word_at<'a>(words: &'a [String], number: u32) -> Result<&'a str, WordFault>
     requires { 1 ≤ number }
     ensures { GivesBy (λ word. word.now) result (read_word (texts words.now) number) }
@@ -84,7 +84,7 @@ fn word_at<'a>(words: &'a [String], number: u32) -> Result<&'a str, WordFault>
 }
 
 /// The number that a word is.
-#[tactic(auto, unfolding(crate::specs::ReadWords::number_at))]
+#[tactic(auto, unfolding(crate::specs::CommandLine::number_at))]
 fn number_at(words: &[String], number: u32, least: u64, most: u64) -> Result<u64, WordFault>
     requires { 1 ≤ number }
     ensures exact { result ≡ read_number (texts words.now) number least most }
@@ -98,7 +98,7 @@ fn number_at(words: &[String], number: u32, least: u64, most: u64) -> Result<u64
 }
 
 /// Says that no word stands behind the one of a number.
-#[tactic(auto, unfolding(crate::specs::ReadWords::end_at))]
+#[tactic(auto, unfolding(crate::specs::CommandLine::end_at))]
 fn end_at(words: &[String], number: u32) -> Result<(), WordFault>
     requires { number < 100 }
     ensures { result ≡ read_end (texts words.now) number }
@@ -149,7 +149,7 @@ fn cert_option<'a>(
 }
 
 /// The option at the word of a number.
-#[tactic(auto, unfolding(crate::specs::ReadWords::option_at))]
+#[tactic(auto, unfolding(crate::specs::CommandLine::option_at))]
 fn option_at<'a>(
     words: &'a [String],
     number: u32,
@@ -194,7 +194,7 @@ fn read_options<'a>(words: &'a [String]) -> Result<Options<'a>, WordFault>
 }
 
 fn cost<'a>(words: &'a [String]) -> Result<Command<'a>, WordFault>
-    ensures { GivesBy plain_command result (cost_of (texts words.now)) }
+    ensures { GivesBy plain_command result (read_row (texts words.now) cost_row) }
 {
     let cat = word_at(words, 2)?;
     let load = word_at(words, 3)?;
@@ -203,7 +203,7 @@ fn cost<'a>(words: &'a [String]) -> Result<Command<'a>, WordFault>
 }
 
 fn what_if<'a>(words: &'a [String]) -> Result<Command<'a>, WordFault>
-    ensures { GivesBy plain_command result (what_if_of (texts words.now)) }
+    ensures { GivesBy plain_command result (read_row (texts words.now) what_if_row) }
 {
     let cat = word_at(words, 2)?;
     let load = word_at(words, 3)?;
@@ -213,7 +213,7 @@ fn what_if<'a>(words: &'a [String]) -> Result<Command<'a>, WordFault>
 }
 
 fn explain<'a>(words: &'a [String]) -> Result<Command<'a>, WordFault>
-    ensures { GivesBy plain_command result (explain_of (texts words.now)) }
+    ensures { GivesBy plain_command result (read_row (texts words.now) explain_row) }
 {
     let cat = word_at(words, 2)?;
     let load = word_at(words, 3)?;
@@ -229,7 +229,7 @@ fn explain<'a>(words: &'a [String]) -> Result<Command<'a>, WordFault>
 }
 
 fn candidates<'a>(words: &'a [String]) -> Result<Command<'a>, WordFault>
-    ensures { GivesBy plain_command result (candidates_of (texts words.now)) }
+    ensures { GivesBy plain_command result (read_row (texts words.now) candidates_row) }
 {
     let cat = word_at(words, 2)?;
     let load = word_at(words, 3)?;
@@ -238,7 +238,7 @@ fn candidates<'a>(words: &'a [String]) -> Result<Command<'a>, WordFault>
 }
 
 fn advise<'a>(words: &'a [String]) -> Result<Command<'a>, WordFault>
-    ensures { GivesBy plain_command result (advise_of (texts words.now)) }
+    ensures { GivesBy plain_command result (read_row (texts words.now) advise_row) }
 {
     let cat = word_at(words, 2)?;
     let load = word_at(words, 3)?;
@@ -254,7 +254,7 @@ fn advise<'a>(words: &'a [String]) -> Result<Command<'a>, WordFault>
 }
 
 fn check<'a>(words: &'a [String]) -> Result<Command<'a>, WordFault>
-    ensures { GivesBy plain_command result (check_of (texts words.now)) }
+    ensures { GivesBy plain_command result (read_row (texts words.now) check_row) }
 {
     let cat = word_at(words, 2)?;
     let load = word_at(words, 3)?;
@@ -264,7 +264,7 @@ fn check<'a>(words: &'a [String]) -> Result<Command<'a>, WordFault>
 }
 
 fn bench<'a>(words: &'a [String]) -> Result<Command<'a>, WordFault>
-    ensures { GivesBy plain_command result (bench_of (texts words.now)) }
+    ensures { GivesBy plain_command result (read_row (texts words.now) bench_row) }
 {
     let seed = number_at(words, 2, 0, u64::MAX)?;
     let tables = number_at(words, 3, 2, 20)? as u32;
@@ -280,7 +280,7 @@ fn bench<'a>(words: &'a [String]) -> Result<Command<'a>, WordFault>
 }
 
 /// The command of a name, with the rest of the words.
-#[tactic(auto, unfolding(crate::specs::ReadWords::named_command))]
+#[tactic(auto, unfolding(crate::specs::CommandLine::named_command))]
 fn named<'a>(name: &str, words: &'a [String]) -> Result<Command<'a>, WordFault>
     ensures { GivesBy plain_command result (named_command name.now (texts words.now)) }
 {
@@ -309,7 +309,7 @@ fn named<'a>(name: &str, words: &'a [String]) -> Result<Command<'a>, WordFault>
 }
 
 /// The command that the words are, or the first fault from the left. Takes no memory.
-#[tactic(auto, unfolding(crate::specs::ReadWords::command_of))]
+#[tactic(auto, unfolding(crate::specs::CommandLine::command_of))]
 pub fn read_words<'a>(words: &'a [String]) -> Result<Command<'a>, WordFault>
     ensures reads { GivesBy plain_command result (command_of (texts words.now)) }
     ensures grammar { (command : PlainCommand) → (command_of (texts words.now) ≡ Ok command) ↔ IsCommandLine (texts words.now) command }
