@@ -13,8 +13,8 @@ use Rattle.report.specs.declared.done.Refusal.TheVariants.{TooLong, Cat, Sql, Bi
 use Rattle.cophy_core.specs.declared.stop.Stop.{Stop}
 use Rattle.cophy_core.specs.declared.stop.Stop.TheVariants.{Memory, Failed, Refused}
 use Rattle.cophy_core.specs.Answers.{RefusesOver, GivesOver, PutsOver, OfSetting, Answers}
-use Rattle.cophy_core.specs.ReadWords.{PlainCommand, Candidates, Cost, WhatIf, Explain, Advise, Check, Bench}
-use Rattle.cophy_core.specs.CommandLines.{IsInRange}
+use Rattle.cophy_core.specs.CommandLine.{PlainCommand, Candidates, Cost, WhatIf, Explain, Advise, Check, Bench}
+use Rattle.cophy_core.specs.Spellings.{IsInRange}
 use Rattle.cophy_core.specs.Files.{InputFile, input_file, setting_files, files_of, AreInputs, input, ReadCounts}
 use Rattle.cophy_core.specs.Inputs.{HasInputs}
 use Rattle.cophy_core.specs.Reading.{StopsReading, StopsAtFiles}

@@ -12,7 +12,7 @@ use Rattle.cophy_core.specs.Answers.{Answers}
 use Rattle.cophy_core.specs.Causes.{advice_status_of, gap_status, HasGivenUp, GapIsTrue}
 use Rattle.cophy_core.specs.Endings.{Put, Outside, Ends}
 use Rattle.cophy_core.specs.Files.{ReadCounts}
-use Rattle.cophy_core.specs.ReadWords.{PlainCommand, Advise, Bench, command_of}
+use Rattle.cophy_core.specs.CommandLine.{PlainCommand, Advise, Bench, command_of}
 use Rattle.cophy_core.specs.Replies.{MayAnswerWords, IsReply}
 use Rattle.cophy_core.proofs.CauseLemmas.{settle}
 use Rattle.cophy_core.proofs.Headlines.{spent_nodes, gap_by}

@@ -8,8 +8,8 @@ use Rattle.report.specs.declared.done.WordFault.{WordFault}
 use Rattle.report.specs.declared.done.WordFault.TheVariants.{BadNumber, Extra, Missing, Twice, UnknownOption, UnknownCommand}
 use Rattle.std.proofs.lemmas.Bool.Decides.{nat_tests}
 use Rattle.cophy_core.specs.Numbers.{number_within}
-use Rattle.cophy_core.specs.ReadWords.{PlainCommand, Cost, WhatIf, Explain, Candidates, Advise, Check, Bench, PlainOptions, no_options, ◌>>=◌, word_or_missing, number_or_bad, word_at, number_at, end_at, nodes_option, cert_option, option_of, cost_of, what_if_of, explain_of, candidates_of, advise_of, check_of, bench_of, named_command, command_of, options_from, option_at}
-use Rattle.cophy_core.specs.CommandLines.{IsWithin, Choice, Nodes, Cert, words_of, Choose, IsCommandLine}
+use Rattle.cophy_core.specs.CommandLine.{PlainCommand, Cost, WhatIf, Explain, Candidates, Advise, Check, Bench, PlainOptions, no_options, ◌>>=◌, word_or_missing, number_or_bad, word_at, number_at, end_at, nodes_option, cert_option, option_of, cost_row, what_if_row, explain_row, candidates_row, advise_row, check_row, bench_row, read_row, named_command, command_of, options_from, option_at}
+use Rattle.cophy_core.specs.Spellings.{IsWithin, Choice, Nodes, Cert, words_of, Choose, IsCommandLine}
 use Rattle.cophy_core.proofs.NumberLaws.{number_is, number_found}
 use Rattle.cophy_core.proofs.Options.{options_from-end, options_from-next}
 
@@ -175,7 +175,7 @@ three_files make w (a ∷ b ∷ []) c e = absurd (not_ok _ c e)
 three_files make w (a ∷ b ∷ d ∷ []) c e = (a, b, d, (refl, ends (w ∷ a ∷ b ∷ d ∷ []) 4 (make a b d) c refl e))
 three_files make w (a ∷ b ∷ d ∷ x ∷ more) c e = absurd (ends_not (w ∷ a ∷ b ∷ d ∷ x ∷ more) 4 (make a b d) c (omega arith) e)
 
-pub explain_back : (w : List ℕ) (ws : List (List ℕ)) (c : PlainCommand) → w ≡ codes "explain" → explain_of (w ∷ ws) ≡ Ok c → IsCommandLine (w ∷ ws) c
+pub explain_back : (w : List ℕ) (ws : List (List ℕ)) (c : PlainCommand) → w ≡ codes "explain" → read_row (w ∷ ws) explain_row ≡ Ok c → IsCommandLine (w ∷ ws) c
 unfolding word_at number_at
 explain_back w [] c n e = absurd (not_ok _ c e)
 explain_back w (a ∷ []) c n e = absurd (not_ok _ c e)
@@ -192,7 +192,7 @@ explain_back w (a ∷ b ∷ d ∷ m ∷ x ∷ more) c n e =
     absurd (ends_not (w ∷ a ∷ b ∷ d ∷ m ∷ x ∷ more) 5 (Explain a b d read.0) c (omega arith) read.1.1)
 
 -- numbers behind a name
-pub bench_back : (w : List ℕ) (ws : List (List ℕ)) (c : PlainCommand) → w ≡ codes "bench" → bench_of (w ∷ ws) ≡ Ok c → IsCommandLine (w ∷ ws) c
+pub bench_back : (w : List ℕ) (ws : List (List ℕ)) (c : PlainCommand) → w ≡ codes "bench" → read_row (w ∷ ws) bench_row ≡ Ok c → IsCommandLine (w ∷ ws) c
 unfolding word_at number_at
 bench_back w [] c n e = absurd (not_ok _ c e)
 bench_back w (s ∷ ws) c n e =
@@ -391,7 +391,7 @@ options_back w a b d (p ∷ v ∷ q ∷ u ∷ x ∷ more) last e =
     let second = picked_choice words 7 one.0 two.0 q u refl (step words 7 one.0 two.0 q refl two.1.0) in
     absurd (no_third words 9 first.0 second.0 one.0 two.0 three.0 x first.1.1 second.1.1 (step words 9 two.0 three.0 x refl three.1.0))
 
-search_back : (w : List ℕ) (ws : List (List ℕ)) (c : PlainCommand) → w ≡ codes "advise" → advise_of (w ∷ ws) ≡ Ok c → IsCommandLine (w ∷ ws) c
+search_back : (w : List ℕ) (ws : List (List ℕ)) (c : PlainCommand) → w ≡ codes "advise" → read_row (w ∷ ws) advise_row ≡ Ok c → IsCommandLine (w ∷ ws) c
 unfolding word_at number_at
 search_back w [] c n e = absurd (not_ok _ c e)
 search_back w (a ∷ []) c n e = absurd (not_ok _ c e)
@@ -417,19 +417,19 @@ pub in_grammar : (words : List (List ℕ)) (command : PlainCommand) → command_
 unfolding command_of named_command
 in_grammar [] c e = absurd (not_ok _ c e)
 in_grammar (w ∷ ws) c e =
-    elim (pick (bytes_eq w (codes "cost")) (cost_of (w ∷ ws)) _ c e) [
+    elim (pick (bytes_eq w (codes "cost")) (read_row (w ∷ ws) cost_row) _ c e) [
       | inl h ↦ let r = two_files Cost w ws c h.1 in subst (IsCommandLine (w ∷ ws)) r.2.1 (let line : w ∷ ws ≡ codes "cost" ∷ r.0 ∷ r.1 ∷ [] = cc (named w (codes "cost") h.0, r.2.0) in line)
-      | inr e2 ↦ elim (pick (bytes_eq w (codes "whatif")) (what_if_of (w ∷ ws)) _ c e2) [
+      | inr e2 ↦ elim (pick (bytes_eq w (codes "whatif")) (read_row (w ∷ ws) what_if_row) _ c e2) [
         | inl h ↦ let r = three_files WhatIf w ws c h.1 in subst (IsCommandLine (w ∷ ws)) r.3.1 (let line : w ∷ ws ≡ codes "whatif" ∷ r.0 ∷ r.1 ∷ r.2 ∷ [] = cc (named w (codes "whatif") h.0, r.3.0) in line)
-        | inr e3 ↦ elim (pick (bytes_eq w (codes "explain")) (explain_of (w ∷ ws)) _ c e3) [
+        | inr e3 ↦ elim (pick (bytes_eq w (codes "explain")) (read_row (w ∷ ws) explain_row) _ c e3) [
           | inl h ↦ explain_back w ws c (named w (codes "explain") h.0) h.1
-          | inr e4 ↦ elim (pick (bytes_eq w (codes "candidates")) (candidates_of (w ∷ ws)) _ c e4) [
+          | inr e4 ↦ elim (pick (bytes_eq w (codes "candidates")) (read_row (w ∷ ws) candidates_row) _ c e4) [
             | inl h ↦ let r = two_files Candidates w ws c h.1 in subst (IsCommandLine (w ∷ ws)) r.2.1 (let line : w ∷ ws ≡ codes "candidates" ∷ r.0 ∷ r.1 ∷ [] = cc (named w (codes "candidates") h.0, r.2.0) in line)
-            | inr e5 ↦ elim (pick (bytes_eq w (codes "advise")) (advise_of (w ∷ ws)) _ c e5) [
+            | inr e5 ↦ elim (pick (bytes_eq w (codes "advise")) (read_row (w ∷ ws) advise_row) _ c e5) [
               | inl h ↦ search_back w ws c (named w (codes "advise") h.0) h.1
-              | inr e6 ↦ elim (pick (bytes_eq w (codes "check")) (check_of (w ∷ ws)) _ c e6) [
+              | inr e6 ↦ elim (pick (bytes_eq w (codes "check")) (read_row (w ∷ ws) check_row) _ c e6) [
                 | inl h ↦ let r = three_files Check w ws c h.1 in subst (IsCommandLine (w ∷ ws)) r.3.1 (let line : w ∷ ws ≡ codes "check" ∷ r.0 ∷ r.1 ∷ r.2 ∷ [] = cc (named w (codes "check") h.0, r.3.0) in line)
-                | inr e7 ↦ elim (pick (bytes_eq w (codes "bench")) (bench_of (w ∷ ws)) _ c e7) [
+                | inr e7 ↦ elim (pick (bytes_eq w (codes "bench")) (read_row (w ∷ ws) bench_row) _ c e7) [
                   | inl h ↦ bench_back w ws c (named w (codes "bench") h.0) h.1
                   | inr none ↦ absurd (not_ok (UnknownCommand 1) c none)
                 ]

@@ -42,7 +42,7 @@ use Rattle.cophy_core.specs.Causes.{IsSteady, gap_status, status_of}
 use Rattle.cophy_core.specs.Endings.{Put, Outside, put_all, put_answer, IsPutFault, EndsWhole, Ends}
 use Rattle.cophy_core.specs.Files.{InputFile, IsInput, AreInputs, input, input_file, setting_files, files_of, IsTooLong, ReadCounts}
 use Rattle.cophy_core.specs.Headline.{Asked, asked_command, IsAccepted, IsPriced, IsSpent, IsEnd, IsCertified, Certifies, Headline}
-use Rattle.cophy_core.specs.ReadWords.{PlainCommand, Advise, Check, command_of}
+use Rattle.cophy_core.specs.CommandLine.{PlainCommand, Advise, Check, command_of}
 use Rattle.cophy_core.specs.Replies.{MayAnswer, ArePuts, IsReply}
 use Rattle.cophy_core.specs.Settings.{IsSetting, HasCatFault, IsSqlRefusal, IsBindRefusal}
 use Rattle.cophy_core.proofs.CauseLemmas.{to_command, to_puts}

@@ -8,7 +8,7 @@ use Rattle.report.specs.declared.done.Done.{Done}
 use Rattle.report.specs.declared.done.Done.TheVariants.{WriteFault, Memory, Advised}
 use Rattle.report.specs.declared.done.WordFault.{WordFault}
 use Rattle.cophy_core.specs.Answers.{Answers}
-use Rattle.cophy_core.specs.ReadWords.{PlainCommand, Advise, command_of}
+use Rattle.cophy_core.specs.CommandLine.{PlainCommand, Advise, command_of}
 use Rattle.cophy_core.specs.Endings.{Put, Outside, put_all, put_answer, IsPutFault, Ends}
 use Rattle.cophy_core.specs.Files.{ReadCounts}
 use Rattle.cophy_core.specs.Left.{OfCertificate, IsPutFor, Leaves, LeavesFiles}

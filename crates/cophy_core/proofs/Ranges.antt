@@ -1,9 +1,8 @@
 -- The numbers of commands are in their ranges.
-use Rattle.std.proofs.Common.{◌≡◌, ℕ, ◌≤◌, List, Option, Some, None, Result, Ok, sym, subst, arith}
+use Rattle.std.proofs.Common.{◌≡◌, ℕ, List, Option, Some, None, Ok, sym, subst, arith}
 use Rattle.std.specs.Prelude.{unwrap_or, IfSome}
-use Rattle.report.specs.declared.done.WordFault.{WordFault}
-use Rattle.cophy_core.specs.CommandLines.{IsWithin, IsCommandLine, IsInRange}
-use Rattle.cophy_core.specs.ReadWords.{PlainCommand, Advise, Bench, command_of}
+use Rattle.cophy_core.specs.Spellings.{IsWithin, IsCommandLine, IsInRange}
+use Rattle.cophy_core.specs.CommandLine.{PlainCommand, Advise, Bench, command_of}
 use Rattle.cophy_core.proofs.Grammar.{in_grammar}
 
 nodes_within : (given : Option ℕ) (nodes : ℕ) → nodes ≡ unwrap_or given 20000 → IfSome given (IsWithin 1 1000000) → IsWithin 1 1000000 nodes

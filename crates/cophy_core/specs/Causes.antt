@@ -11,7 +11,7 @@ use Rattle.report.specs.declared.done.Done.TheVariants.{Usage, ReadFault, WriteF
 use Rattle.report.specs.declared.done.NotProved.{NotProved}
 use Rattle.report.specs.declared.done.WordFault.{WordFault}
 use Rattle.cophy_core.specs.Answers.{Answers, OfSetting}
-use Rattle.cophy_core.specs.ReadWords.{PlainCommand, command_of, Check}
+use Rattle.cophy_core.specs.CommandLine.{PlainCommand, command_of, Check}
 use Rattle.cophy_core.specs.Files.{files_of, ReadCounts, IsReadFault, input}
 use Rattle.cophy_core.specs.Endings.{Outside}
 use Rattle.cophy_core.specs.Left.{PutsFileTo}

@@ -6,7 +6,7 @@ use Rattle.adv_shelf.specs.Shelf.{Files, HasFile, IsFile}
 use Rattle.report.specs.declared.done.Role.{Role}
 use Rattle.report.specs.declared.done.Role.TheVariants.{Catalogue, Workload, Third}
 use Rattle.cophy_core.specs.declared.files.FileUse.{FileUse}
-use Rattle.cophy_core.specs.ReadWords.{PlainCommand, Candidates, Cost, WhatIf, Explain, Advise, Check, Bench}
+use Rattle.cophy_core.specs.CommandLine.{PlainCommand, Candidates, Cost, WhatIf, Explain, Advise, Check, Bench}
 
 -- a file that a command reads: in which role, by what name, and of how many bytes at most
 pub record InputFile : Type 0 where

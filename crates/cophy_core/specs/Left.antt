@@ -8,7 +8,7 @@ use Rattle.report.specs.declared.done.Done.TheVariants.{WriteFault, Memory, Advi
 use Rattle.report.specs.declared.done.WordFault.{WordFault}
 use Rattle.cophy_core.specs.commands.Advise.{IsCertificateOf}
 use Rattle.cophy_core.specs.Answers.{OfSetting, Answers}
-use Rattle.cophy_core.specs.ReadWords.{PlainCommand, Advise}
+use Rattle.cophy_core.specs.CommandLine.{PlainCommand, Advise}
 use Rattle.cophy_core.specs.Endings.{Outside}
 use Rattle.cophy_core.specs.Files.{ReadCounts}
 use Rattle.cophy_core.specs.Replies.{MayAnswer}

@@ -1,6 +1,6 @@
 pub mod Numbers
-pub mod ReadWords
-pub mod CommandLines
+pub mod CommandLine
+pub mod Spellings
 pub mod Confs
 pub mod Settings
 pub mod Opened

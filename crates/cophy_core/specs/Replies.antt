@@ -7,7 +7,7 @@ use Rattle.report.specs.declared.done.Done.{Done}
 use Rattle.report.specs.declared.done.Done.TheVariants.{Usage, ReadFault, Memory, Priced, Listed, Advised, Benched}
 use Rattle.report.specs.declared.done.WordFault.{WordFault}
 use Rattle.cophy_core.specs.Answers.{GivesOver, PutsOver, OfSetting, Answers}
-use Rattle.cophy_core.specs.ReadWords.{PlainCommand, command_of}
+use Rattle.cophy_core.specs.CommandLine.{PlainCommand, command_of}
 use Rattle.cophy_core.specs.Endings.{Put}
 use Rattle.cophy_core.specs.Files.{files_of, ReadCounts, IsReadFault}
 

@@ -2,8 +2,8 @@
 ghost use Rattle.std.specs.Prelude.{◌≡◌, ◌≤◌, ◌<◌, ◌∷◌, [], ◌++◌, ℕ, List, Some, IfOk, IfErr, OnOk, length, slice_get};
 ghost use Rattle.adv_base.specs.declared.limits.TheConstants.{MOST_CERTIFICATE_BYTES, MOST_FILE_BYTES};
 ghost use Rattle.report.specs.declared.done.Role.TheVariants.{Third};
-ghost use Rattle.cophy_core.specs.ReadWords.{plain_command};
-ghost use Rattle.cophy_core.specs.CommandLines.{IsInRange};
+ghost use Rattle.cophy_core.specs.CommandLine.{plain_command};
+ghost use Rattle.cophy_core.specs.Spellings.{IsInRange};
 ghost use Rattle.cophy_core.specs.Files.{counts, input, input_file, plain_uses, IsInput, AreInputs};
 ghost use Rattle.cophy_core.specs.Inputs.{HasInputs};
 ghost use Rattle.cophy_core.specs.Reading.{IsUnreadFile, StopsReading, StopsAtFiles};

@@ -18,6 +18,7 @@
 #![tactic(auto)]
 
 mod answer;
+mod command_line;
 mod commands;
 mod conf;
 mod files;
@@ -31,10 +32,9 @@ mod statements;
 mod stop;
 mod tally;
 mod top;
-mod words;
 mod worked;
 
+pub use command_line::{Command, DEFAULT_NODES, read_words};
 pub use commands::check::checks_have_one_answer;
 pub use conf::read_conf;
 pub use top::{Outcome, run};
-pub use words::{Command, DEFAULT_NODES, read_words};

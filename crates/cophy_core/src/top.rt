@@ -4,7 +4,7 @@ ghost use Rattle.adv_shelf.specs.Shelf.{Files};
 ghost use Rattle.report.specs.declared.done.WordFault.{WordFault};
 ghost use Rattle.cophy_core.specs.Causes.{advice_status_of, status_of, IsOrMemory, IsSteady, UsageIsTrue, ReadFaultIsTrue, WriteFaultIsTrue, RefusalIsTrue, NotProvedIsTrue, GapIsTrue, MemoryWritesNothing, IsSound, IsWritten, IsBounded};
 ghost use Rattle.cophy_core.specs.Answers.{Answers};
-ghost use Rattle.cophy_core.specs.ReadWords.{texts, PlainCommand, command_of};
+ghost use Rattle.cophy_core.specs.CommandLine.{texts, PlainCommand, command_of};
 ghost use Rattle.cophy_core.specs.Endings.{outside};
 ghost use Rattle.cophy_core.specs.Files.{counts};
 ghost use Rattle.cophy_core.specs.Headline.{Asked, asked_command, IsAccepted, Headline};

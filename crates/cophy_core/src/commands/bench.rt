@@ -9,9 +9,9 @@ ghost use Rattle.cophy_core.specs.Stops.{StopsAt};
 ghost use Rattle.cophy_core.specs.commands.Advise as advice;
 ghost use Rattle.cophy_core.specs.commands.Bench as spec;
 
+use crate::command_line::DEFAULT_NODES;
 use crate::commands::advise::advice_on;
 use crate::stop::Stop;
-use crate::words::DEFAULT_NODES;
 use adv_base::{Catalogue, Setting, Work};
 use report::{Bench, Done};
 use std::alloc::Global;

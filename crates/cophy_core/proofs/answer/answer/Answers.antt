@@ -1,7 +1,7 @@
 use Rattle.std.proofs.Common.{sym, subst, rules}
 use Rattle.adv_base.specs.Settings.{TheSetting}
 use Rattle.adv_base.specs.Settings.{the_setting}
-use Rattle.cophy_core.specs.ReadWords.{plain_command, texts}
+use Rattle.cophy_core.specs.CommandLine.{plain_command, texts}
 use Rattle.cophy_core.specs.Files.{input, counts}
 use Rattle.cophy_core.specs.Endings.{plain_puts}
 use Rattle.cophy_core.specs.Opened.{setting_in}

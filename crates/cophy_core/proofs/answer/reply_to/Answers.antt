@@ -1,5 +1,5 @@
 use Rattle.cophy_core.specs.Endings.{plain_puts}
-use Rattle.cophy_core.specs.ReadWords.{plain_command, texts}
+use Rattle.cophy_core.specs.CommandLine.{plain_command, texts}
 use Rattle.cophy_core.proofs.CauseLemmas.{told_reply, told_stop}
 use Rattle.cophy_core.proofs.Ranges.{in_range}
 use Rattle.cophy_core.proofs.answer.reply_to.Goals as goal

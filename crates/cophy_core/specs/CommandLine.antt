@@ -1,12 +1,12 @@
--- The command that the words of a command line are, read from left to right, or the first fault.
-use Rattle.std.specs.Prelude.{◌≡◌, ℕ, zero, suc, ◌+◌, ◌-◌, nat_eq, nat_lt, if◌then◌else◌, List, length, map, codes, bytes_eq, is_some, slice_get, unwrap_or, Option, Some, None, option_map, Result, Ok, Err, String, string_bytes}
+-- The command that the words of a command line are, read from left to right by the table of commands, or the first fault.
+use Rattle.std.specs.Prelude.{◌≡◌, ℕ, zero, suc, ◌+◌, ◌-◌, nat_eq, nat_lt, if◌then◌else◌, List, [], ◌∷◌, length, map, codes, bytes_eq, is_some, slice_get, unwrap_or, Option, Some, None, option_map, Result, Ok, Err, String, string_bytes}
 use Rattle.std.specs.List.{starts_with}
 use Rattle.std.specs.declared.alloc.Global.{Global}
 use Rattle.report.specs.declared.done.WordFault.{WordFault}
 use Rattle.report.specs.declared.done.WordFault.TheVariants.{NoCommand, UnknownCommand, Missing, Extra, UnknownOption, Twice, BadNumber}
-use Rattle.cophy_core.specs.declared.words.Command.{Command}
-use Rattle.cophy_core.specs.declared.words.Command.TheVariants as code
-use Rattle.cophy_core.specs.declared.words.Options.{Options}
+use Rattle.cophy_core.specs.declared.command_line.Command.{Command}
+use Rattle.cophy_core.specs.declared.command_line.Command.TheVariants as code
+use Rattle.cophy_core.specs.declared.command_line.Options.{Options}
 use Rattle.cophy_core.specs.Numbers.{number_within}
 
 -- a command with its words as bytes
@@ -101,73 +101,82 @@ options_from words (suc turns) number given =
     if nat_lt (length words) number then Ok given
     else (option_at words number given >>= options_from words turns (number + 2))
 
-abbrev pub cost_of : List (List ℕ) → Result PlainCommand WordFault
-cost_of words = do
-  cat ← word_at words 2
-  load ← word_at words 3
-  _ ← end_at words 3
-  Ok (Cost cat load)
+-- ## The table of commands
 
-abbrev pub what_if_of : List (List ℕ) → Result PlainCommand WordFault
-what_if_of words = do
-  cat ← word_at words 2
-  load ← word_at words 3
-  conf ← word_at words 4
-  _ ← end_at words 4
-  Ok (WhatIf cat load conf)
+-- what a word has to be: the name of a file, or the decimal digits of a number in a range
+pub data WordKind : Type 0 where
+  File : WordKind
+  Number : (least most : ℕ) → WordKind
 
-abbrev pub explain_of : List (List ℕ) → Result PlainCommand WordFault
-explain_of words = do
-  cat ← word_at words 2
-  load ← word_at words 3
-  conf ← word_at words 4
-  number ← number_at words 5 1 1000
-  _ ← end_at words 5
-  Ok (Explain cat load conf number)
+-- what takes words of these kinds and gives an X
+abbrev pub Takes : List WordKind → Type 0 → Type 0
+Takes [] X = X
+Takes (File ∷ kinds) X = List ℕ → Takes kinds X
+Takes (Number least most ∷ kinds) X = ℕ → Takes kinds X
 
-abbrev pub candidates_of : List (List ℕ) → Result PlainCommand WordFault
-candidates_of words = do
-  cat ← word_at words 2
-  load ← word_at words 3
-  _ ← end_at words 3
-  Ok (Candidates cat load)
+-- a command: its name, the kinds of the plain words behind it, and what is asked for by these; or also by the options of a search
+pub data Row : Type 0 where
+  Plain : (name : List ℕ) (kinds : List WordKind) → Takes kinds PlainCommand → Row
+  Search : (name : List ℕ) (kinds : List WordKind) → Takes kinds (PlainOptions → PlainCommand) → Row
 
-abbrev pub advise_of : List (List ℕ) → Result PlainCommand WordFault
-advise_of words = do
-  cat ← word_at words 2
-  load ← word_at words 3
-  budget ← number_at words 4 0 1000000000000
-  options ← options_from words 3 5 no_options
-  Ok (Advise cat load budget (unwrap_or options.nodes 20000) options.cert)
+-- a number of a statement, and a space budget in pages
+abbrev pub statement : WordKind
+statement = Number 1 1000
 
-abbrev pub check_of : List (List ℕ) → Result PlainCommand WordFault
-check_of words = do
-  cat ← word_at words 2
-  load ← word_at words 3
-  cert ← word_at words 4
-  _ ← end_at words 4
-  Ok (Check cat load cert)
+abbrev pub pages : WordKind
+pages = Number 0 1000000000000
 
-abbrev pub bench_of : List (List ℕ) → Result PlainCommand WordFault
-bench_of words = do
-  seed ← number_at words 2 0 18446744073709551615
-  tables ← number_at words 3 2 20
-  statements ← number_at words 4 1 500
-  budget ← number_at words 5 0 1000000000000
-  _ ← end_at words 5
-  Ok (Bench seed tables statements budget)
+abbrev pub cost_row : Row
+cost_row = Plain (codes "cost") (File ∷ File ∷ []) Cost
+
+abbrev pub what_if_row : Row
+what_if_row = Plain (codes "whatif") (File ∷ File ∷ File ∷ []) WhatIf
+
+abbrev pub explain_row : Row
+explain_row = Plain (codes "explain") (File ∷ File ∷ File ∷ statement ∷ []) Explain
+
+abbrev pub candidates_row : Row
+candidates_row = Plain (codes "candidates") (File ∷ File ∷ []) Candidates
+
+abbrev pub advise_row : Row
+advise_row = Search (codes "advise") (File ∷ File ∷ pages ∷ []) (λ cat load budget options. Advise cat load budget (unwrap_or options.nodes 20000) options.cert)
+
+abbrev pub check_row : Row
+check_row = Plain (codes "check") (File ∷ File ∷ File ∷ []) Check
+
+abbrev pub bench_row : Row
+bench_row = Plain (codes "bench") (Number 0 18446744073709551615 ∷ Number 2 20 ∷ Number 1 500 ∷ pages ∷ []) Bench
+
+abbrev pub commands : List Row
+commands = cost_row ∷ what_if_row ∷ explain_row ∷ candidates_row ∷ advise_row ∷ check_row ∷ bench_row ∷ []
+
+-- ## Reading by the table
+
+-- the plain words from that number on, and what goes on with what is asked for
+abbrev pub read_plain : {X Y : Type 0} → List (List ℕ) → ℕ → (kinds : List WordKind) → Takes kinds X → (X → Result Y WordFault) → Result Y WordFault
+read_plain words number [] asked go = go asked
+read_plain words number (File ∷ kinds) asked go = word_at words number >>= λ name. read_plain words (suc number) kinds (asked name) go
+read_plain words number (Number least most ∷ kinds) asked go = number_at words number least most >>= λ n. read_plain words (suc number) kinds (asked n) go
+
+-- the words behind the name of a row; nothing stands behind the last plain word, or options do
+abbrev pub read_row : List (List ℕ) → Row → Result PlainCommand WordFault
+read_row words (Plain name kinds asked) =
+    read_plain words 2 kinds asked (λ command. end_at words (length kinds + 1) >>= λ _. Ok command)
+read_row words (Search name kinds asked) =
+    read_plain words 2 kinds asked (λ command. options_from words 3 (length kinds + 2) no_options >>= λ options. Ok (command options))
+
+abbrev pub name_of : Row → List ℕ
+name_of (Plain name kinds asked) = name
+name_of (Search name kinds asked) = name
+
+-- the first row of that name
+abbrev pub read_named : List ℕ → List (List ℕ) → List Row → Result PlainCommand WordFault
+read_named name words [] = Err (UnknownCommand 1)
+read_named name words (row ∷ rows) = if bytes_eq name (name_of row) then read_row words row else read_named name words rows
 
 -- the rest of the words, by the name of the command
 unfoldable pub named_command : List ℕ → List (List ℕ) → Result PlainCommand WordFault
-named_command name words =
-    if bytes_eq name (codes "cost") then cost_of words
-    else (if bytes_eq name (codes "whatif") then what_if_of words
-    else (if bytes_eq name (codes "explain") then explain_of words
-    else (if bytes_eq name (codes "candidates") then candidates_of words
-    else (if bytes_eq name (codes "advise") then advise_of words
-    else (if bytes_eq name (codes "check") then check_of words
-    else (if bytes_eq name (codes "bench") then bench_of words
-    else Err (UnknownCommand 1)))))))
+named_command name words = read_named name words commands
 
 abbrev pub command_named : List (List ℕ) → Option (List ℕ) → Result PlainCommand WordFault
 command_named words None = Err NoCommand

@@ -1,6 +1,6 @@
 -- The command lines, one form a command. A number stands as its decimal digits.
 use Rattle.std.specs.Prelude.{◌≡◌, ℕ, ◌≤◌, List, [], ◌∷◌, codes, decimal, option_to_list, unwrap_or, Option, IfSome}
-use Rattle.cophy_core.specs.ReadWords.{PlainCommand, Cost, WhatIf, Explain, Candidates, Advise, Check, Bench}
+use Rattle.cophy_core.specs.CommandLine.{PlainCommand, Cost, WhatIf, Explain, Candidates, Advise, Check, Bench}
 
 pub record IsWithin (least most n : ℕ) : Type 0 where
   pub low : least ≤ n

@@ -1,7 +1,7 @@
-//! The words of the command line.
+//! The command line.
 ghost use Rattle.std.specs.Prelude.{◌≡◌, ◌≤◌, ◌<◌, ◌↔◌, IfOk};
-ghost use Rattle.cophy_core.specs.CommandLines.{IsCommandLine};
-ghost use Rattle.cophy_core.specs.ReadWords.{PlainCommand, GivesBy, plain_command, plain_options, no_options, texts, word_at as read_word, number_at as read_number, end_at as read_end, nodes_option as read_nodes, cert_option as read_cert, option_at as read_option, options_from, cost_of, what_if_of, explain_of, candidates_of, advise_of, check_of, bench_of, named_command, command_of};
+ghost use Rattle.cophy_core.specs.Spellings.{IsCommandLine};
+ghost use Rattle.cophy_core.specs.CommandLine as spec;
 
 use crate::number::number_of;
 use report::WordFault;
@@ -72,10 +72,10 @@ struct Options<'a> {
 }
 
 /// The word of a number, from 1.
-#[tactic(auto, unfolding(crate::specs::ReadWords::word_at))]
+#[tactic(auto, unfolding(crate::specs::CommandLine::word_at))]
 fn word_at<'a>(words: &'a [String], number: u32) -> Result<&'a str, WordFault>
     requires { 1 ≤ number }
-    ensures { GivesBy (λ word. word.now) result (read_word (texts words.now) number) }
+    ensures { spec.GivesBy (λ word. word.now) result (spec.word_at (spec.texts words.now) number) }
 {
     match words.get(number as usize - 1) {
         Some(word) => Ok(word.as_str()),
@@ -84,10 +84,10 @@ fn word_at<'a>(words: &'a [String], number: u32) -> Result<&'a str, WordFault>
 }
 
 /// The number that a word is.
-#[tactic(auto, unfolding(crate::specs::ReadWords::number_at))]
+#[tactic(auto, unfolding(crate::specs::CommandLine::number_at))]
 fn number_at(words: &[String], number: u32, least: u64, most: u64) -> Result<u64, WordFault>
     requires { 1 ≤ number }
-    ensures exact { result ≡ read_number (texts words.now) number least most }
+    ensures exact { result ≡ spec.number_at (spec.texts words.now) number least most }
     ensures range { IfOk result (λ n. n ≤ most) }
 {
     let word = word_at(words, number)?;
@@ -98,10 +98,10 @@ fn number_at(words: &[String], number: u32, least: u64, most: u64) -> Result<u64
 }
 
 /// Says that no word stands behind the one of a number.
-#[tactic(auto, unfolding(crate::specs::ReadWords::end_at))]
+#[tactic(auto, unfolding(crate::specs::CommandLine::end_at))]
 fn end_at(words: &[String], number: u32) -> Result<(), WordFault>
     requires { number < 100 }
-    ensures { result ≡ read_end (texts words.now) number }
+    ensures { result ≡ spec.end_at (spec.texts words.now) number }
 {
     if (number as usize) < words.len() {
         Err(WordFault::Extra(number + 1))
@@ -117,7 +117,7 @@ fn nodes_option<'a>(
     given: Options<'a>,
 ) -> Result<Options<'a>, WordFault>
     requires { number < 100 }
-    ensures { GivesBy plain_options result (read_nodes (texts words.now) number (plain_options given.entry)) }
+    ensures { spec.GivesBy spec.plain_options result (spec.nodes_option (spec.texts words.now) number (spec.plain_options given.entry)) }
 {
     if given.nodes.is_some() {
         return Err(WordFault::Twice(number));
@@ -136,7 +136,7 @@ fn cert_option<'a>(
     given: Options<'a>,
 ) -> Result<Options<'a>, WordFault>
     requires { number < 100 }
-    ensures { GivesBy plain_options result (read_cert (texts words.now) number (plain_options given.entry)) }
+    ensures { spec.GivesBy spec.plain_options result (spec.cert_option (spec.texts words.now) number (spec.plain_options given.entry)) }
 {
     if given.cert.is_some() {
         return Err(WordFault::Twice(number));
@@ -149,7 +149,7 @@ fn cert_option<'a>(
 }
 
 /// The option at the word of a number.
-#[tactic(auto, unfolding(crate::specs::ReadWords::option_at))]
+#[tactic(auto, unfolding(crate::specs::CommandLine::option_at))]
 fn option_at<'a>(
     words: &'a [String],
     number: u32,
@@ -157,7 +157,7 @@ fn option_at<'a>(
 ) -> Result<Options<'a>, WordFault>
     requires some { 1 ≤ number }
     requires few { number < 100 }
-    ensures { GivesBy plain_options result (read_option (texts words.now) number (plain_options given.entry)) }
+    ensures { spec.GivesBy spec.plain_options result (spec.option_at (spec.texts words.now) number (spec.plain_options given.entry)) }
 {
     let word = word_at(words, number)?;
     if word == "--nodes" {
@@ -174,7 +174,7 @@ fn option_at<'a>(
 
 /// The options behind the plain words of a search.
 fn read_options<'a>(words: &'a [String]) -> Result<Options<'a>, WordFault>
-    ensures { GivesBy plain_options result (options_from (texts words.now) 3 5 no_options) }
+    ensures { spec.GivesBy spec.plain_options result (spec.options_from (spec.texts words.now) 3 5 spec.no_options) }
 {
     let mut given = Options {
         nodes: None,
@@ -194,7 +194,7 @@ fn read_options<'a>(words: &'a [String]) -> Result<Options<'a>, WordFault>
 }
 
 fn cost<'a>(words: &'a [String]) -> Result<Command<'a>, WordFault>
-    ensures { GivesBy plain_command result (cost_of (texts words.now)) }
+    ensures { spec.GivesBy spec.plain_command result (spec.read_row (spec.texts words.now) spec.cost_row) }
 {
     let cat = word_at(words, 2)?;
     let load = word_at(words, 3)?;
@@ -203,7 +203,7 @@ fn cost<'a>(words: &'a [String]) -> Result<Command<'a>, WordFault>
 }
 
 fn what_if<'a>(words: &'a [String]) -> Result<Command<'a>, WordFault>
-    ensures { GivesBy plain_command result (what_if_of (texts words.now)) }
+    ensures { spec.GivesBy spec.plain_command result (spec.read_row (spec.texts words.now) spec.what_if_row) }
 {
     let cat = word_at(words, 2)?;
     let load = word_at(words, 3)?;
@@ -213,7 +213,7 @@ fn what_if<'a>(words: &'a [String]) -> Result<Command<'a>, WordFault>
 }
 
 fn explain<'a>(words: &'a [String]) -> Result<Command<'a>, WordFault>
-    ensures { GivesBy plain_command result (explain_of (texts words.now)) }
+    ensures { spec.GivesBy spec.plain_command result (spec.read_row (spec.texts words.now) spec.explain_row) }
 {
     let cat = word_at(words, 2)?;
     let load = word_at(words, 3)?;
@@ -229,7 +229,7 @@ fn explain<'a>(words: &'a [String]) -> Result<Command<'a>, WordFault>
 }
 
 fn candidates<'a>(words: &'a [String]) -> Result<Command<'a>, WordFault>
-    ensures { GivesBy plain_command result (candidates_of (texts words.now)) }
+    ensures { spec.GivesBy spec.plain_command result (spec.read_row (spec.texts words.now) spec.candidates_row) }
 {
     let cat = word_at(words, 2)?;
     let load = word_at(words, 3)?;
@@ -238,7 +238,7 @@ fn candidates<'a>(words: &'a [String]) -> Result<Command<'a>, WordFault>
 }
 
 fn advise<'a>(words: &'a [String]) -> Result<Command<'a>, WordFault>
-    ensures { GivesBy plain_command result (advise_of (texts words.now)) }
+    ensures { spec.GivesBy spec.plain_command result (spec.read_row (spec.texts words.now) spec.advise_row) }
 {
     let cat = word_at(words, 2)?;
     let load = word_at(words, 3)?;
@@ -254,7 +254,7 @@ fn advise<'a>(words: &'a [String]) -> Result<Command<'a>, WordFault>
 }
 
 fn check<'a>(words: &'a [String]) -> Result<Command<'a>, WordFault>
-    ensures { GivesBy plain_command result (check_of (texts words.now)) }
+    ensures { spec.GivesBy spec.plain_command result (spec.read_row (spec.texts words.now) spec.check_row) }
 {
     let cat = word_at(words, 2)?;
     let load = word_at(words, 3)?;
@@ -264,7 +264,7 @@ fn check<'a>(words: &'a [String]) -> Result<Command<'a>, WordFault>
 }
 
 fn bench<'a>(words: &'a [String]) -> Result<Command<'a>, WordFault>
-    ensures { GivesBy plain_command result (bench_of (texts words.now)) }
+    ensures { spec.GivesBy spec.plain_command result (spec.read_row (spec.texts words.now) spec.bench_row) }
 {
     let seed = number_at(words, 2, 0, u64::MAX)?;
     let tables = number_at(words, 3, 2, 20)? as u32;
@@ -280,9 +280,9 @@ fn bench<'a>(words: &'a [String]) -> Result<Command<'a>, WordFault>
 }
 
 /// The command of a name, with the rest of the words.
-#[tactic(auto, unfolding(crate::specs::ReadWords::named_command))]
+#[tactic(auto, unfolding(crate::specs::CommandLine::named_command))]
 fn named<'a>(name: &str, words: &'a [String]) -> Result<Command<'a>, WordFault>
-    ensures { GivesBy plain_command result (named_command name.now (texts words.now)) }
+    ensures { spec.GivesBy spec.plain_command result (spec.named_command name.now (spec.texts words.now)) }
 {
     if name == "cost" {
         return cost(words);
@@ -309,10 +309,10 @@ fn named<'a>(name: &str, words: &'a [String]) -> Result<Command<'a>, WordFault>
 }
 
 /// The command that the words are, or the first fault from the left. Takes no memory.
-#[tactic(auto, unfolding(crate::specs::ReadWords::command_of))]
+#[tactic(auto, unfolding(crate::specs::CommandLine::command_of))]
 pub fn read_words<'a>(words: &'a [String]) -> Result<Command<'a>, WordFault>
-    ensures reads { GivesBy plain_command result (command_of (texts words.now)) }
-    ensures grammar { (command : PlainCommand) → (command_of (texts words.now) ≡ Ok command) ↔ IsCommandLine (texts words.now) command }
+    ensures reads { spec.GivesBy spec.plain_command result (spec.command_of (spec.texts words.now)) }
+    ensures grammar { (command : spec.PlainCommand) → (spec.command_of (spec.texts words.now) ≡ Ok command) ↔ IsCommandLine (spec.texts words.now) command }
 {
     match words.first() {
         Some(name) => named(name.as_str(), words),

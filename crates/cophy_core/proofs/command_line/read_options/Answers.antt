@@ -1,8 +1,8 @@
 use Rattle.std.proofs.Common.{◌≡◌, suc, ◌+◌, ◌-◌, ◌*◌, ◌<◌, ◌≤◌, length, sym, ap, ◌∙◌, arith}
 use Rattle.std.proofs.lemmas.List.{length-map}
-use Rattle.cophy_core.specs.ReadWords.{◌>>=◌, texts, plain_options, options_from}
+use Rattle.cophy_core.specs.CommandLine.{◌>>=◌, texts, plain_options, options_from}
 use Rattle.cophy_core.proofs.Options.{options_from-end, options_from-next}
-use Rattle.cophy_core.proofs.words.read_options.Goals as goal
+use Rattle.cophy_core.proofs.command_line.read_options.Goals as goal
 
 pub returns-then-words-number : goal.returns-then-words-number
 returns-then-words-number c =

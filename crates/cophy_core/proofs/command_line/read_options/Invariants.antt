@@ -1,6 +1,6 @@
 use Rattle.std.proofs.Common.{◌≡◌, ◌+◌, ◌-◌, ◌*◌}
-use Rattle.cophy_core.specs.ReadWords.{texts, plain_options, no_options, options_from}
-use Rattle.cophy_core.proofs.words.read_options.Given as goal
+use Rattle.cophy_core.specs.CommandLine.{texts, plain_options, no_options, options_from}
+use Rattle.cophy_core.proofs.command_line.read_options.Given as goal
 
 -- the options that are left give, behind those so far, what all give
 abbrev pub invariant-options : goal.invariant-options
