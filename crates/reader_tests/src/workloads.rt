@@ -542,7 +542,7 @@ fn long_texts_end(rt: HostRuntime) {
     assert_eq!(rt; answer(&rt, rt.alloc(), items.as_slice()).as_str(), "ok 1");
 
     let mut statements = Vec::new(rt.alloc());
-    repeat(&mut statements, b"DELETE FROM t;", 1000).expect(&rt, "memory");
+    repeat(&rt, &mut statements, b"DELETE FROM t;", 1000);
     assert_eq!(rt;
         answer(&rt, rt.alloc(), statements.as_slice()).as_str(),
         "ok 1000"
@@ -553,7 +553,7 @@ fn long_texts_end(rt: HostRuntime) {
         "syntax 14001"
     );
     let mut more = Vec::new(rt.alloc());
-    repeat(&mut more, b"DELETE FROM t;", 1000).expect(&rt, "memory");
+    repeat(&rt, &mut more, b"DELETE FROM t;", 1000);
     repeat(&rt, &mut more, b"DELETE ,", 1);
     assert_eq!(rt;
         answer(&rt, rt.alloc(), more.as_slice()).as_str(),
