@@ -1,11 +1,13 @@
 //! Branch and bound.
-ghost use Rattle.std.specs.Prelude.{◌≡◌, ◌≤◌, ◌≤ℤ◌, length};
-ghost use Rattle.adv_base.specs.declared.limits.TheConstants.{MOST_CANDIDATES, MOST_NODES, MOST_ROWS};
+ghost use Rattle.std.specs.Prelude.{◌≡◌, ◌<◌, ◌≤◌, ◌≤ℤ◌, [], All, length};
+ghost use Rattle.std.specs.Vec.{vec_capacity};
+ghost use Rattle.adv_base.specs.declared.limits.TheConstants.{MOST_CANDIDATES, MOST_NODES, MOST_ROWS, MOST_SETS};
 ghost use Rattle.branch_bound.specs.Answers.{IsBestForEach};
 ghost use Rattle.branch_bound.specs.Rooms.{IsRoomFor};
 ghost use Rattle.branch_bound.specs.Sides as sides;
 ghost use Rattle.bip_model.specs.Views.{AreMultipliers};
 ghost use Rattle.lagrange_bound.specs.Bounds as bounds;
+ghost use Rattle.lagrange_bound.specs.Ledgers.{HasRoom};
 ghost use Rattle.branch_bound.specs.inner.Climbs as climbs;
 ghost use Rattle.branch_bound.specs.inner.Proposals as proposals;
 ghost use Rattle.branch_bound.specs.inner.Runs as runs;
@@ -15,26 +17,33 @@ use crate::explore::explore;
 use crate::fixing::inside;
 use crate::found::Found;
 use crate::frame::Frame;
+use crate::guide::Guide;
 use crate::hands::Hands;
-use crate::incumbent::{cheaper, greedy, rounded, shares_of};
+use crate::incumbent::{greedy, shares_of};
 use crate::opening::open_all;
-use crate::plan::{keep, propose};
+use crate::plan::{Step, better, keep, propose};
 use crate::room::{Room, set_limit};
 use crate::task::Task;
 use crate::useful::useful_of;
 use adv_base::limits::MOST_CANDIDATES;
 use adv_base::{Config, List};
-use bip_model::{Answer, Fix, Multipliers, Programme, value};
-use lagrange_bound::{Pace, ascend, improve};
+use bip_model::{Answer, Fix, Multipliers, Node, Programme, value};
+use lagrange_bound::{Ledger, Pace, ascend, improve};
 
 /// The rounds in which the multipliers of the root are improved: each tries the rent multipliers of one price of a page.
 const ROUNDS: u32 = 41;
 
-/// How the multipliers of the root are made.
-const ROOT: Pace = Pace {
-    rounds: 1500,
+/// How the multipliers of the root are made for a first configuration, and after it.
+const FIRST: Pace = Pace {
+    rounds: 400,
     step: 512,
-    patience: 40,
+    patience: 30,
+};
+
+const SECOND: Pace = Pace {
+    rounds: 1000,
+    step: 512,
+    patience: 30,
 };
 
 /// What each candidate saves alone beside those of a configuration, in thousandths of a page read.
@@ -82,55 +91,121 @@ fn started(known: &Costed) -> Found
     }
 }
 
-/// Improves the multipliers of the root towards a cost that falls on the way, and answers the cheapest configuration.
-fn ascended(
-    programme: &Programme,
-    budget: u64,
-    root: &Fix,
-    useful: &[bool; MOST_CANDIDATES],
-    from: Costed,
-    first: &mut Multipliers,
-    hands: &mut Hands,
-) -> Costed
-    requires budget { budget ≤ MOST_ROWS }
-    requires from { climbs.IsSoundHere programme.now budget root.now from }
-    requires first { AreMultipliers programme.now first.old }
-    requires hands { proposals.AreHands programme.now hands.old }
-    ensures sound { climbs.IsSoundHere programme.now budget root.now result }
-    ensures first { AreMultipliers programme.now first.new }
-    ensures hands { proposals.AreHands programme.now hands.new }
-    ensures keeps { bounds.lagrangian programme.now budget root.now first.old ≤ℤ bounds.lagrangian programme.now budget root.now first.new }
+/// Raises the multipliers of the root towards a cost.
+fn raised(task: &Task<'_>, cost: u128, first: &mut Multipliers, hands: &mut Hands, pace: Pace)
+    requires first { AreMultipliers task.now.programme.now first.old }
+    requires hands { proposals.AreHands task.now.programme.now hands.old }
+    ensures first { AreMultipliers task.now.programme.now first.new }
+    ensures hands { proposals.AreHands task.now.programme.now hands.new }
+    ensures keeps { bounds.lagrangian task.now.programme.now task.now.budget task.now.root.now first.old ≤ℤ bounds.lagrangian task.now.programme.now task.now.budget task.now.root.now first.new }
 {
-    let known = greedy(programme, budget, root, useful, from);
     ascend(
-        programme,
-        budget,
-        root,
-        known.cost,
+        task.programme,
+        task.budget,
+        task.root,
+        cost,
         first,
         &mut hands.spare,
         &mut hands.ascent,
-        ROOT,
+        pace,
     );
-    let shares = shares_of(&hands.ascent);
-    let guess = rounded(programme, budget, root, &shares, from);
-    let guess = greedy(programme, budget, root, useful, guess);
-    let known = cheaper(programme, budget, root, known, guess);
-    let known = climb(programme, budget, root, known);
-    ascend(
-        programme,
-        budget,
-        root,
-        known.cost,
-        first,
-        &mut hands.spare,
-        &mut hands.ascent,
-        ROOT,
+}
+
+/// Raises the multipliers of the root towards a cost that falls on the way, and answers the cheapest configuration.
+fn ascended(task: &Task<'_>, first: &mut Multipliers, hands: &mut Hands) -> Costed
+    requires first { AreMultipliers task.now.programme.now first.old }
+    requires hands { proposals.AreHands task.now.programme.now hands.old }
+    ensures sound { climbs.IsSoundHere task.now.programme.now task.now.budget task.now.root.now result }
+    ensures first { AreMultipliers task.now.programme.now first.new }
+    ensures hands { proposals.AreHands task.now.programme.now hands.new }
+    ensures keeps { bounds.lagrangian task.now.programme.now task.now.budget task.now.root.now first.old ≤ℤ bounds.lagrangian task.now.programme.now task.now.budget task.now.root.now first.new }
+{
+    let known = greedy(
+        task.programme,
+        task.budget,
+        task.root,
+        task.useful,
+        task.bare,
     );
+    raised(task, known.cost, first, hands, FIRST);
+    let known = better(task, known, &shares_of(&hands.ascent));
+    let known = climb(task.programme, task.budget, task.root, known);
+    raised(task, known.cost, first, hands, SECOND);
     known
 }
 
-/// Explores the tree, and climbs from the cheapest configuration in it.
+/// Makes the sets of a search and the plan of its top, and answers the cheapest configuration met on the way.
+fn proposed(
+    task: &Task<'_>,
+    first: Multipliers,
+    hands: &mut Hands,
+    sets: &mut Vec<Multipliers>,
+    plan: &mut Vec<Step>,
+) -> Costed
+    requires first { AreMultipliers task.now.programme.now first }
+    requires hands { proposals.AreHands task.now.programme.now hands.old }
+    requires some { 1 ≤ task.now.most }
+    requires empty { sets.old.items ≡ [] }
+    requires room { MOST_SETS ≤ vec_capacity sets.old }
+    ensures known { climbs.IsSoundHere task.now.programme.now task.now.budget task.now.root.now result }
+    ensures sets { proposals.AreRaised task.now.programme.now task.now.budget task.now.root.now task.now.most sets.new.items }
+{
+    let mut first = first;
+    improve(
+        task.programme,
+        task.budget,
+        task.root,
+        &mut first,
+        &mut hands.spare,
+        ROUNDS,
+    );
+    let mut known = ascended(task, &mut first, hands);
+    keep(sets, first);
+    propose(task, &mut known, hands, sets, plan);
+    known
+}
+
+/// Explores the tree below the root.
+fn explored(
+    task: &Task<'_>,
+    nodes: u32,
+    zeros: &Multipliers,
+    sets: &[Multipliers],
+    plan: &[Step],
+    known: &Costed,
+    tree: &mut Vec<Node>,
+    ledgers: &mut [Ledger],
+    guides: &mut [Guide],
+) -> Found
+    requires some_node { 1 ≤ nodes }
+    requires nodes { nodes ≤ MOST_NODES }
+    requires zeros { AreMultipliers task.now.programme.now zeros.now }
+    requires sets { All (AreMultipliers task.now.programme.now) sets.now }
+    requires few { length sets.now ≤ MOST_SETS }
+    requires empty { tree.old.items ≡ [] }
+    requires room { nodes ≤ vec_capacity tree.old }
+    requires ledgers { All (HasRoom task.now.programme.now) ledgers.old }
+    requires enough { MOST_SETS < length ledgers.old }
+    ensures explored { runs.IsExplored (runs.rules_for task.now nodes zeros.now sets.now) task.now.root.now (runs.started known.now) tree.old.items result tree.new.items }
+    ensures most { result.made ≤ nodes }
+{
+    open_all(task.programme, zeros, sets, ledgers);
+    let gains = gains_of(task.programme, &task.bare.config);
+    let frame = Frame {
+        programme: task.programme,
+        budget: task.budget,
+        nodes,
+        zeros,
+        sets,
+        useful: task.useful,
+        gains: &gains,
+        plan,
+    };
+    let before = started(known);
+    explore(&frame, task.root, before, 0, tree, &mut 0, ledgers, guides)
+}
+
+/// Climbs from the cheapest configuration in the tree.
 fn climbed(programme: &Programme, budget: u64, root: &Fix, found: &Found) -> Costed
     requires { climbs.IsSound programme.now budget root.now found.now.config found.now.cost }
     ensures sound { climbs.IsSoundHere programme.now budget root.now result }
@@ -158,63 +233,33 @@ pub fn search(programme: &Programme, root: &Fix, budget: u64, nodes: u32, room: 
     let Room {
         mut tree,
         zeros,
-        mut first,
+        first,
         mut sets,
         mut hands,
         mut plan,
         mut ledgers,
     } = room;
-    improve(
-        programme,
-        budget,
-        root,
-        &mut first,
-        &mut hands.spare,
-        ROUNDS,
-    );
     let useful = useful_of(programme, budget);
-    let from = bare(programme, budget, root);
-    let gains = gains_of(programme, &from.config);
-    let mut known = ascended(
+    let task = Task {
         programme,
         budget,
+        useful: &useful.flags,
         root,
-        &useful.flags,
-        from,
-        &mut first,
-        &mut hands,
-    );
-    keep(&mut sets, first);
-    {
-        let task = Task {
-            programme,
-            budget,
-            useful: &useful.flags,
-            root,
-            bare: from,
-            most: set_limit(programme),
-        };
-        propose(&task, &mut known, &mut hands, &mut sets, &mut plan);
-    }
-    let before = started(&known);
-    let found = {
-        let own_sets = sets.as_slice();
-        let steps = plan.as_slice();
-        let kept = ledgers.as_mut_slice();
-        open_all(programme, &zeros, own_sets, kept);
-        let frame = Frame {
-            programme,
-            budget,
-            nodes,
-            zeros: &zeros,
-            sets: own_sets,
-            useful: &useful.flags,
-            gains: &gains,
-            plan: steps,
-        };
-        let guides = hands.guides.as_mut_slice();
-        explore(&frame, root, before, 0, &mut tree, &mut 0, kept, guides)
+        bare: bare(programme, budget, root),
+        most: set_limit(programme),
     };
+    let known = proposed(&task, first, &mut hands, &mut sets, &mut plan);
+    let found = explored(
+        &task,
+        nodes,
+        &zeros,
+        sets.as_slice(),
+        plan.as_slice(),
+        &known,
+        &mut tree,
+        ledgers.as_mut_slice(),
+        hands.guides.as_mut_slice(),
+    );
     let best = climbed(programme, budget, root, &found);
     let bound = least_bound(best.cost, found.low);
     Answer {

@@ -33,6 +33,9 @@ const NO_OFFER: Offer = Offer {
     next: NO_PRICE,
 };
 
+/// Rows to begin with.
+const NO_ROWS: Rows = [[NO_OFFER; MOST_ORDERS]; MOST_SLOTS];
+
 /// An offer beside a price of a candidate.
 fn lowered(offer: Offer, price: u64, number: u16) -> Offer {
     if price < offer.least {
@@ -131,14 +134,14 @@ fn part_without(part: &Part, rows: &Rows, number: u16) -> u128 {
     best
 }
 
-/// Which of so many candidates are meant, a bit for each.
-type Marks = [u64; 4];
+/// Which candidates are meant, a bit for each.
+pub(crate) type Marks = [u64; 4];
 
 /// No candidate.
 const NO_MARKS: Marks = [0; 4];
 
-/// What is kept of a part: where its rents begin, its least cost, which candidate its least
-/// template takes at each slot, and how much more the part would cost without it, where these are known.
+/// What is kept of a part: where its rents begin, its least cost, which candidate its least template takes at each slot, and
+/// how much more the part would cost without it, where these are known.
 #[derive(Clone, Copy)]
 struct PartGuide {
     at: usize,
@@ -157,6 +160,31 @@ const NO_PART: PartGuide = PartGuide {
     loss: [0; MOST_SLOTS],
 };
 
+/// How many costs of a part are remembered.
+const MOST_KNOWN: usize = 8;
+
+/// What a part costs where some of its candidates may be used, which a number stands for; it may stand for others too.
+#[derive(Clone, Copy)]
+struct Known {
+    key: u64,
+    least: u128,
+}
+
+/// What is remembered of a part.
+type Memory = [Known; MOST_KNOWN];
+
+/// Nothing is remembered.
+const NO_MEMORY: Memory = [Known { key: 0, least: 0 }; MOST_KNOWN];
+
+/// A number above 0 that stands for the candidates that are marked in both.
+fn key_of(one: &Marks, other: &Marks) -> u64 {
+    let mut key = (one[0] & other[0]).wrapping_mul(0x9e37_79b9_7f4a_7c15);
+    key = (key ^ (key >> 29) ^ (one[1] & other[1])).wrapping_mul(0xbf58_476d_1ce4_e5b9);
+    key = (key ^ (key >> 31) ^ (one[2] & other[2])).wrapping_mul(0x94d0_49bb_1331_11eb);
+    key = (key ^ (key >> 30) ^ (one[3] & other[3])).wrapping_mul(0x9e37_79b9_7f4a_7c15);
+    key | 1
+}
+
 /// How many grants a part has.
 fn grants_of(part: &Part) -> usize {
     let mut count: usize = 0;
@@ -166,17 +194,39 @@ fn grants_of(part: &Part) -> usize {
     count
 }
 
+/// Some candidates, as a configuration and as marks.
+#[derive(Clone, Copy)]
+pub(crate) struct Usable {
+    pub config: Config,
+    pub marks: Marks,
+}
+
+/// The candidates of a configuration.
+pub(crate) fn usable_of(config: Config) -> Usable {
+    let mut marks = NO_MARKS;
+    for index in 0..MOST_CANDIDATES {
+        if config.on[index] {
+            marked(&mut marks, index);
+        }
+    }
+    Usable { config, marks }
+}
+
 /// What is kept under a set of multipliers: the candidates that may be used where the guide stands, its parts and of which
-/// candidates each has grants, the weighted
-/// sum of their costs, what the rents of each candidate bring in, and how much more all parts would cost without each.
+/// candidates each has grants, the weighted sum of their costs, how much more all parts would cost without each candidate, what
+/// each costs beyond its rents and what its rents bring in beyond its cost, in parts of 65536, and its share in the relaxation.
+/// `rows` is room for one part's offers, and `memories` has some earlier costs of each part.
 #[derive(Drop)]
 pub(crate) struct Guide {
-    config: Config,
+    here: Usable,
+    rows: Vec<Rows>,
     parts: Vec<PartGuide>,
     marks: Vec<Marks>,
+    memories: Vec<Memory>,
     plans: u128,
-    earned: [u128; MOST_CANDIDATES],
     losses: [u128; MOST_CANDIDATES],
+    costs: [Pair; MOST_CANDIDATES],
+    shares: [u64; MOST_CANDIDATES],
 }
 
 /// What is meant of both sides of a branch.
@@ -185,6 +235,12 @@ pub(crate) struct Pair {
     pub inside: u128,
     pub outside: u128,
 }
+
+/// Nothing on either side.
+const NO_PAIR: Pair = Pair {
+    inside: 0,
+    outside: 0,
+};
 
 /// The mark of a candidate, by its index.
 fn marked(marks: &mut Marks, index: usize) {
@@ -201,15 +257,14 @@ fn meet(one: &Marks, other: &Marks) -> bool {
         || one[3] & other[3] != 0
 }
 
-/// The candidates that one of two configurations has alone.
-fn difference(from: &Config, to: &Config) -> Marks {
-    let mut marks = NO_MARKS;
-    for index in 0..MOST_CANDIDATES {
-        if from.on[index] != to.on[index] {
-            marked(&mut marks, index);
-        }
-    }
-    marks
+/// The candidates that are marked in one of two alone.
+fn difference(one: &Marks, other: &Marks) -> Marks {
+    [
+        one[0] ^ other[0],
+        one[1] ^ other[1],
+        one[2] ^ other[2],
+        one[3] ^ other[3],
+    ]
 }
 
 /// Puts the offers of the slots of a part into rows.
@@ -233,154 +288,210 @@ fn least_template(part: &Part, rows: &Rows, least: u128) -> usize {
     0
 }
 
-/// A part's guide where the candidates of a configuration may be used, without its losses.
-fn guided(
-    part: &Part,
-    old: &PartGuide,
-    config: &Config,
-    rents: &[u64],
-    rows: &mut Rows,
-) -> PartGuide {
-    write_rows(part, config, rents, old.at, rows);
-    PartGuide {
-        at: old.at,
-        least: part_without(part, rows, 0),
-        is_full: false,
-        by: [0; MOST_SLOTS],
-        loss: [0; MOST_SLOTS],
-    }
-}
-
-/// The same with its losses.
-fn filled(
-    part: &Part,
-    old: &PartGuide,
-    config: &Config,
-    rents: &[u64],
-    rows: &mut Rows,
-) -> PartGuide {
-    let mut next = guided(part, old, config, rents, rows);
-    next.is_full = true;
-    let place = least_template(part, rows, next.least);
+/// Finds which candidates the least template of a part takes, and what the part would cost more without each.
+fn fill_part(part: &Part, rows: &Rows, own: &mut PartGuide) {
+    own.is_full = true;
+    own.by = [0; MOST_SLOTS];
+    let place = least_template(part, rows, own.least);
     if place < part.templates.len() {
         let template = &part.templates.as_slice()[place];
         for s in 0..part.slots.len().min(MOST_SLOTS) {
             let number = rows[s][template.needs[s] as usize].by;
             if number > 0 {
-                next.by[s] = number;
-                next.loss[s] = part_without(part, rows, number).saturating_sub(next.least);
+                own.by[s] = number;
+                own.loss[s] = part_without(part, rows, number).saturating_sub(own.least);
             }
         }
-    }
-    next
-}
-
-/// The weighted loss at a slot of a part.
-fn weighted(part: &Part, guide: &PartGuide, s: usize) -> u128 {
-    if s < MOST_SLOTS {
-        guide.loss[s].saturating_mul(part.weight as u128)
-    } else {
-        0
     }
 }
 
 /// Whether the candidate of a slot stands at an earlier slot too.
-fn is_repeated(guide: &PartGuide, s: usize) -> bool {
+fn is_repeated(by: &[u16; MOST_SLOTS], s: usize) -> bool {
     for earlier in 0..s.min(MOST_SLOTS) {
-        if s < MOST_SLOTS && guide.by[earlier] == guide.by[s] {
+        if s < MOST_SLOTS && by[earlier] == by[s] {
             return true;
         }
     }
     false
 }
 
+/// A sum with a number more, or less.
+fn counted(sum: u128, number: u128, more: bool) -> u128 {
+    if more {
+        sum.wrapping_add(number)
+    } else {
+        sum.wrapping_sub(number)
+    }
+}
+
+/// Adds the losses of a part, or takes them off.
+fn count_losses(part: &Part, own: &PartGuide, more: bool, losses: &mut [u128; MOST_CANDIDATES]) {
+    for s in 0..part.slots.len().min(MOST_SLOTS) {
+        let index = own.by[s] as usize;
+        if 0 < index && index <= MOST_CANDIDATES && !is_repeated(&own.by, s) {
+            let loss = own.loss[s].saturating_mul(part.weight as u128);
+            losses[index - 1] = counted(losses[index - 1], loss, more);
+        }
+    }
+}
+
+/// Adds the rents of a part's grants, which begin at a place, to what each candidate brings in, and marks the candidates.
+fn earn(part: &Part, rents: &[u64], at: usize, earned: &mut [u128; MOST_CANDIDATES]) -> Marks {
+    let mut marks = NO_MARKS;
+    let mut place = at;
+    for slot in part.slots.as_slice() {
+        for grant in slot.grants.as_slice() {
+            let index = grant.candidate as usize;
+            if 0 < index && index <= MOST_CANDIDATES {
+                marked(&mut marks, index - 1);
+                let rent = (rent_at(rents, place) as u128).saturating_mul(part.weight as u128);
+                earned[index - 1] = earned[index - 1].saturating_add(rent);
+            }
+            place = place.saturating_add(1);
+        }
+    }
+    marks
+}
+
+/// What a candidate costs beyond what its rents bring in, and that beyond its cost, in parts of 65536.
+fn cost_pair(programme: &Programme, page: u128, earned: u128, index: usize) -> Pair {
+    let sizes = programme.sizes.as_slice();
+    let upkeep = programme.upkeep.as_slice();
+    if index >= sizes.len() || index >= upkeep.len() {
+        return NO_PAIR;
+    }
+    let pages = (sizes[index] as u128).saturating_mul(page);
+    let cost = upkeep[index].saturating_mul(65536).saturating_add(pages);
+    let brought = earned.saturating_mul(65536);
+    Pair {
+        inside: cost.saturating_sub(brought),
+        outside: brought.saturating_sub(cost),
+    }
+}
+
+/// Appends to a list where there is room.
+fn put<T: Drop>(list: &mut Vec<T>, item: T) {
+    match list.push(item) {
+        Ok(()) => {}
+        Err(_) => {}
+    }
+}
+
 impl Guide {
-    /// A guide that stands nowhere: 320 bytes for each part.
+    /// A guide that stands nowhere: 464 bytes for each part, and 64 thousand.
     pub(crate) fn new(alloc: Global, programme: &Programme) -> Result<Guide, NoMemory> {
         Ok(Guide {
-            config: Config::none(),
-            parts: vec![in alloc; NO_PART; programme.parts.len()]?,
-            marks: vec![in alloc; NO_MARKS; programme.parts.len()]?,
+            here: usable_of(Config::none()),
+            rows: Vec::with_capacity(alloc, 1)?,
+            parts: Vec::with_capacity(alloc, programme.parts.len())?,
+            marks: Vec::with_capacity(alloc, programme.parts.len())?,
+            memories: Vec::with_capacity(alloc, programme.parts.len())?,
             plans: 0,
-            earned: [0; MOST_CANDIDATES],
             losses: [0; MOST_CANDIDATES],
+            costs: [NO_PAIR; MOST_CANDIDATES],
+            shares: [0; MOST_CANDIDATES],
         })
     }
 
-    /// Adds a part's losses, or takes them off.
-    fn count(&mut self, part: &Part, own: &PartGuide, more: bool) {
-        let cost = own.least.wrapping_mul(part.weight as u128);
-        self.plans = if more {
-            self.plans.wrapping_add(cost)
-        } else {
-            self.plans.wrapping_sub(cost)
-        };
-        for s in 0..MOST_SLOTS {
-            let index = own.by[s] as usize;
-            if 0 < index && index <= MOST_CANDIDATES && !is_repeated(own, s) {
-                let loss = weighted(part, own, s);
-                let old = self.losses[index - 1];
-                self.losses[index - 1] = if more {
-                    old.wrapping_add(loss)
-                } else {
-                    old.wrapping_sub(loss)
-                };
-            }
+    /// What a part costs where some candidates may be used, found anew or remembered.
+    fn least_of(&mut self, part: &Part, place: usize, to: &Usable, rents: &[u64]) -> u128 {
+        if place >= self.parts.len()
+            || place >= self.marks.len()
+            || place >= self.memories.len()
+            || self.rows.len() == 0
+        {
+            return 0;
         }
+        let key = key_of(&self.marks[place], &to.marks);
+        let spot = (key >> 61) as usize & 7;
+        let known = self.memories[place][spot];
+        if known.key == key {
+            return known.least;
+        }
+        let at = self.parts[place].at;
+        write_rows(part, &to.config, rents, at, &mut self.rows[0]);
+        let least = part_without(part, &self.rows[0], 0);
+        self.memories[place][spot] = Known { key, least };
+        least
     }
 
-    /// Marks the candidates of a part's grants, and adds their rents.
-    fn mark(&mut self, part: &Part, rents: &[u64], at: usize) -> Marks {
-        let mut marks = NO_MARKS;
-        let mut place = at;
-        for slot in part.slots.as_slice() {
-            for grant in slot.grants.as_slice() {
-                let index = grant.candidate as usize;
-                if 0 < index && index <= MOST_CANDIDATES {
-                    marked(&mut marks, index - 1);
-                    let rent = (rent_at(rents, place) as u128).saturating_mul(part.weight as u128);
-                    self.earned[index - 1] = self.earned[index - 1].saturating_add(rent);
-                }
-                place = place.saturating_add(1);
-            }
-        }
-        marks
-    }
-
-    /// Puts a part's guide in place of another.
-    fn replace(&mut self, part: &Part, place: usize, old: &PartGuide, next: &PartGuide) {
-        self.count(part, old, false);
-        self.count(part, next, true);
+    /// Prices a part, whose cost isn't counted, where some candidates may be used.
+    fn price(&mut self, part: &Part, place: usize, to: &Usable, rents: &[u64]) {
+        let least = self.least_of(part, place, to, rents);
         if place < self.parts.len() {
-            self.parts[place] = *next;
+            self.parts[place].least = least;
+            self.parts[place].is_full = false;
+            let cost = least.wrapping_mul(part.weight as u128);
+            self.plans = self.plans.wrapping_add(cost);
         }
     }
 
-    /// Opens the guide of a part, whose rents begin at a place.
-    fn open_part(&mut self, part: &Part, place: usize, rents: &[u64], at: usize, rows: &mut Rows) {
-        let marks = self.mark(part, rents, at);
-        if place < self.marks.len() {
-            self.marks[place] = marks;
+    /// Takes the cost and the losses of a part off the sums.
+    fn forget(&mut self, part: &Part, place: usize) {
+        if place >= self.parts.len() {
+            return;
         }
-        let mut old = NO_PART;
-        old.at = at;
-        let next = guided(part, &old, &self.config, rents, rows);
-        self.replace(part, place, &NO_PART, &next);
+        let cost = self.parts[place].least.wrapping_mul(part.weight as u128);
+        self.plans = self.plans.wrapping_sub(cost);
+        if self.parts[place].is_full {
+            count_losses(part, &self.parts[place], false, &mut self.losses);
+        }
     }
 
-    /// Lets the guide stand where no candidate may be used, under multipliers.
-    pub(crate) fn open(&mut self, programme: &Programme, own: &Multipliers) {
+    /// Finds the losses of a part where they aren't known.
+    fn fill_in(&mut self, part: &Part, place: usize, rents: &[u64]) {
+        if place >= self.parts.len() || self.rows.len() == 0 || self.parts[place].is_full {
+            return;
+        }
+        let at = self.parts[place].at;
+        write_rows(part, &self.here.config, rents, at, &mut self.rows[0]);
+        fill_part(part, &self.rows[0], &mut self.parts[place]);
+        count_losses(part, &self.parts[place], true, &mut self.losses);
+    }
+
+    /// Adds a part, whose rents begin at a place and that has grants of the marked candidates.
+    fn add_part(&mut self, at: usize, marks: Marks) {
+        let own = PartGuide { at, ..NO_PART };
+        put(&mut self.parts, own);
+        put(&mut self.marks, marks);
+        put(&mut self.memories, NO_MEMORY);
+    }
+
+    /// Lets go of all parts.
+    fn clear(&mut self) {
+        self.parts.clear();
+        self.marks.clear();
+        self.memories.clear();
+        if self.rows.len() == 0 {
+            put(&mut self.rows, NO_ROWS);
+        }
+    }
+
+    /// Lets the guide stand where no candidate may be used, under multipliers, with shares of the relaxation.
+    pub(crate) fn open(
+        &mut self,
+        programme: &Programme,
+        own: &Multipliers,
+        shares: &[u64; MOST_CANDIDATES],
+    ) {
         let parts = programme.parts.as_slice();
         let rents = own.lambda.as_slice();
-        self.config = Config::none();
+        let none = usable_of(Config::none());
+        self.here = none;
+        self.clear();
         self.plans = 0;
-        self.earned = [0; MOST_CANDIDATES];
         self.losses = [0; MOST_CANDIDATES];
-        let mut rows = [[NO_OFFER; MOST_ORDERS]; MOST_SLOTS];
+        self.shares = *shares;
+        let mut earned = [0; MOST_CANDIDATES];
         let mut at: usize = 0;
         for place in 0..parts.len() {
-            self.open_part(&parts[place], place, rents, at, &mut rows);
+            let marks = earn(&parts[place], rents, at, &mut earned);
+            self.add_part(at, marks);
+            self.price(&parts[place], place, &none, rents);
             at = at.saturating_add(grants_of(&parts[place]));
+        }
+        for index in 0..MOST_CANDIDATES {
+            self.costs[index] = cost_pair(programme, own.mu, earned[index], index);
         }
     }
 
@@ -389,81 +500,47 @@ impl Guide {
         place < self.marks.len() && meet(&self.marks[place], changed)
     }
 
-    /// What is kept of the part of a place.
-    fn part_at(&self, place: usize) -> PartGuide {
-        if place < self.parts.len() {
-            self.parts[place]
-        } else {
-            NO_PART
-        }
-    }
-
-    /// Carries the guide to where the candidates of a configuration may be used.
-    pub(crate) fn carry(&mut self, programme: &Programme, own: &Multipliers, config: &Config) {
-        let changed = difference(&self.config, config);
+    /// Carries the guide to where some candidates may be used.
+    pub(crate) fn carry(&mut self, programme: &Programme, own: &Multipliers, to: &Usable) {
+        let changed = difference(&self.here.marks, &to.marks);
         if !meet(&changed, &changed) {
             return;
         }
         let parts = programme.parts.as_slice();
         let rents = own.lambda.as_slice();
-        let mut rows = [[NO_OFFER; MOST_ORDERS]; MOST_SLOTS];
         for place in 0..parts.len() {
             if self.touches(place, &changed) {
-                let old = self.part_at(place);
-                let next = guided(&parts[place], &old, config, rents, &mut rows);
-                self.replace(&parts[place], place, &old, &next);
+                self.forget(&parts[place], place);
+                self.price(&parts[place], place, to, rents);
             }
         }
-        self.config = *config;
-    }
-
-    /// Whether the losses of a part aren't known.
-    fn lacks(&self, place: usize) -> bool {
-        place < self.parts.len() && !self.parts[place].is_full
+        self.here = *to;
     }
 
     /// Fills in the losses that aren't known.
     pub(crate) fn fill(&mut self, programme: &Programme, own: &Multipliers) {
         let parts = programme.parts.as_slice();
         let rents = own.lambda.as_slice();
-        let mut rows = [[NO_OFFER; MOST_ORDERS]; MOST_SLOTS];
         for place in 0..parts.len() {
-            if self.lacks(place) {
-                let old = self.part_at(place);
-                let next = filled(&parts[place], &old, &self.config, rents, &mut rows);
-                self.replace(&parts[place], place, &old, &next);
-            }
+            self.fill_in(&parts[place], place, rents);
         }
     }
 
-    /// What a candidate costs beyond its rents, and what its rents bring in beyond its cost.
-    fn costs(&self, programme: &Programme, own: &Multipliers, index: usize) -> Pair {
-        let sizes = programme.sizes.as_slice();
-        let upkeep = programme.upkeep.as_slice();
-        if index >= MOST_CANDIDATES || index >= sizes.len() || index >= upkeep.len() {
-            return Pair {
-                inside: 0,
-                outside: 0,
-            };
-        }
-        let pages = (sizes[index] as u128).saturating_mul(own.mu);
-        let cost = upkeep[index].saturating_mul(65536).saturating_add(pages);
-        let brought = self.earned[index].saturating_mul(65536);
-        Pair {
-            inside: cost.saturating_sub(brought),
-            outside: brought.saturating_sub(cost),
+    /// The share of a candidate in the relaxation after the ascent of the multipliers, in parts of 65536.
+    pub(crate) fn share(&self, index: usize) -> u64 {
+        if index < MOST_CANDIDATES {
+            self.shares[index]
+        } else {
+            0
         }
     }
 
     /// What the Lagrangian value would gain at least where a candidate went in, and where it went out.
-    pub(crate) fn gains(&self, programme: &Programme, own: &Multipliers, index: usize) -> Pair {
+    pub(crate) fn gains(&self, index: usize) -> Pair {
         if index >= MOST_CANDIDATES {
-            return Pair {
-                inside: 0,
-                outside: 0,
-            };
+            return NO_PAIR;
         }
-        let costs = self.costs(programme, own, index);
+        let costs = self.costs[index];
         Pair {
             inside: costs.inside / 65536,
             outside: self.losses[index].saturating_add(costs.outside / 65536),
@@ -484,12 +561,11 @@ impl Guide {
             .saturating_mul(65536);
         let mut less = own.mu.saturating_mul(budget as u128);
         for index in 0..programme.sizes.len().min(MOST_CANDIDATES) {
-            let costs = self.costs(programme, own, index);
             if is_in(fix.state[index]) {
-                more = more.saturating_add(costs.inside);
-                less = less.saturating_add(costs.outside);
-            } else if self.config.on[index] {
-                less = less.saturating_add(costs.outside);
+                more = more.saturating_add(self.costs[index].inside);
+                less = less.saturating_add(self.costs[index].outside);
+            } else if self.here.config.on[index] {
+                less = less.saturating_add(self.costs[index].outside);
             }
         }
         rounded_up(more, less)
@@ -502,6 +578,11 @@ fn rounded_up(more: u128, less: u128) -> i128 {
     let whole = parts / 65536;
     let rest = if parts % 65536 > 0 { 1 } else { 0 };
     (whole + rest) as i128
+}
+
+/// How near a share in parts of 65536 is to a half.
+pub(crate) fn brokenness(share: u64) -> u64 {
+    share.min(65536u64.saturating_sub(share))
 }
 
 /// How much a branch on a candidate promises, where its sides gain so much, and so much is wanted: most where a side closes,

@@ -4,7 +4,19 @@
 //! that fits, what it costs, and a tree of Lagrangian bounds below which no configuration that fits goes. The tree is
 //! explored depth first, the side that takes a candidate in before the side that leaves it out, under zeros and up to 16
 //! sets of multipliers: the first bounds the root best, others are made for subtrees. All memory is taken before the search,
-//! in its room.
+//! in its room. Costs and bounds are in thousandths of a sequential page read, sizes in pages.
+//!
+//! The programme, the `Fix` that is the root and the `Answer` are `bip_model`'s; the `Room` has the memory of one search.
+//!
+//! ```rust
+//! // Statements of weights 10 and 11, which cost 80000 each, and 13000 and 14000 with candidates 1 and 2, of 3 and 4
+//! // pages; 7 is the upkeep of what exists.
+//! let root = Fix { state: [State::Free; 256] };
+//! let room = Room::new(alloc, &programme, 20000)?;
+//! let answer = search(&programme, &root, 6, 20000, room);
+//! assert_eq!(rt; answer.cost, 954007); // 10 * 80000 + 11 * 14000 + 7
+//! assert_eq!(rt; answer.bound, 954007);
+//! ```
 #![tactic(auto)]
 
 mod best;

@@ -147,10 +147,10 @@ fn proposed(
         return MOST_CANDIDATES;
     }
     let gap = gap_to(cost, best.value);
-    let config = usable(frame.programme, frame.budget, fix);
+    let here = usable(frame.programme, frame.budget, fix);
     let own = &frame.sets[best.set];
     let guide = &mut guides[best.set];
-    pick(frame.programme, frame.useful, fix, &config, own, guide, gap)
+    pick(frame.programme, frame.useful, fix, &here, own, guide, gap)
 }
 
 /// A candidate to branch on, where two more nodes are left.

@@ -9,7 +9,7 @@ ghost use Rattle.branch_bound.specs.inner.Proposals as proposals;
 
 use crate::climb::Costed;
 use crate::fixing::{fixed, is_free, is_in};
-use crate::guide::{Guide, promise};
+use crate::guide::{Guide, Usable, brokenness, promise, usable_of};
 use crate::hands::Hands;
 use crate::incumbent::{cheaper, greedy, rounded, shares_of};
 use crate::task::Task;
@@ -32,6 +32,19 @@ const SUBTREE: Pace = Pace {
     step: 256,
     patience: 12,
 };
+
+/// How both sides of a branch are tried.
+const SIDE: Pace = Pace {
+    rounds: 50,
+    step: 256,
+    patience: 12,
+};
+/// The most candidates whose sides are tried at a node.
+const MOST_TRIED: u32 = 12;
+/// So many sets are made before sides are tried.
+const TRIED_FROM: usize = 9;
+/// The least brokenness of a candidate whose sides are tried.
+const LEAST_BROKEN: u64 = 1000;
 
 /// A node of a plan: the set that gives it the highest value, by its place, and that value, whether something cheaper may be
 /// below, and where it has a branch the candidate's index, else 256, and the places of both sides.
@@ -78,7 +91,7 @@ fn used_pages(sizes: &[u64], fix: &Fix) -> u64 {
 }
 
 /// The candidates that may be used at a node.
-pub(crate) fn usable(programme: &Programme, budget: u64, fix: &Fix) -> Config {
+pub(crate) fn usable(programme: &Programme, budget: u64, fix: &Fix) -> Usable {
     let sizes = programme.sizes.as_slice();
     let used = used_pages(sizes, fix);
     let mut config = Config::none();
@@ -87,7 +100,7 @@ pub(crate) fn usable(programme: &Programme, budget: u64, fix: &Fix) -> Config {
         let fits = used.saturating_add(sizes[index]) <= budget;
         config.on[index] = is_in(state) || (is_free(state) && fits);
     }
-    config
+    usable_of(config)
 }
 
 /// The value of a node under a set, to which its guide is carried.
@@ -97,9 +110,9 @@ fn value_at(
     own: &Multipliers,
     guide: &mut Guide,
     fix: &Fix,
-    config: &Config,
+    here: &Usable,
 ) -> i128 {
-    guide.carry(programme, own, config);
+    guide.carry(programme, own, here);
     guide.value(programme, budget, fix, own)
 }
 
@@ -113,14 +126,14 @@ pub(crate) fn best_set(
     fix: &Fix,
     hint: usize,
 ) -> Best {
-    let config = usable(programme, budget, fix);
+    let here = usable(programme, budget, fix);
     let mut best = Best {
         set: hint,
         value: i128::MIN,
     };
     if hint < sets.len() && hint < guides.len() {
         let guide = &mut guides[hint];
-        best.value = value_at(programme, budget, &sets[hint], guide, fix, &config);
+        best.value = value_at(programme, budget, &sets[hint], guide, fix, &here);
     }
     for set in 0..sets.len().min(guides.len()) {
         if reached(best.value, cost) {
@@ -128,7 +141,7 @@ pub(crate) fn best_set(
         }
         if set != hint {
             let guide = &mut guides[set];
-            let value = value_at(programme, budget, &sets[set], guide, fix, &config);
+            let value = value_at(programme, budget, &sets[set], guide, fix, &here);
             if value > best.value {
                 best = Best { set, value };
             }
@@ -154,19 +167,18 @@ pub(crate) fn pick(
     programme: &Programme,
     useful: &[bool; MOST_CANDIDATES],
     fix: &Fix,
-    config: &Config,
+    here: &Usable,
     own: &Multipliers,
     guide: &mut Guide,
     gap: u128,
 ) -> usize {
-    guide.carry(programme, own, config);
+    guide.carry(programme, own, here);
     guide.fill(programme, own);
     let mut best = MOST_CANDIDATES;
     let mut most = 0;
     for index in 0..MOST_CANDIDATES {
-        if is_free(fix.state[index]) && config.on[index] && useful[index] {
-            let gains = guide.gains(programme, own, index);
-            let value = promise(gains, gap);
+        if is_free(fix.state[index]) && here.config.on[index] && useful[index] {
+            let value = promise(guide.gains(index), gap);
             if best == MOST_CANDIDATES || value > most {
                 best = index;
                 most = value;
@@ -188,13 +200,13 @@ fn choice_at(
     if best.set >= sets.len() || best.set >= guides.len() {
         return MOST_CANDIDATES;
     }
-    let config = usable(task.programme, task.budget, fix);
+    let here = usable(task.programme, task.budget, fix);
     let gap = gap_to(cost, best.value);
     pick(
         task.programme,
         task.useful,
         fix,
-        &config,
+        &here,
         &sets[best.set],
         &mut guides[best.set],
         gap,
@@ -311,9 +323,15 @@ fn copied(task: &Task<'_>, sets: &[Multipliers], set: usize, own: &mut Multiplie
 }
 
 /// Opens the guide of the set of a place.
-fn open_guide(task: &Task<'_>, guides: &mut [Guide], set: usize, own: &Multipliers) {
+fn open_guide(
+    task: &Task<'_>,
+    guides: &mut [Guide],
+    set: usize,
+    own: &Multipliers,
+    shares: &[u64; MOST_CANDIDATES],
+) {
     if set < guides.len() {
-        guides[set].open(task.programme, own);
+        guides[set].open(task.programme, own, shares);
     }
 }
 
@@ -330,7 +348,7 @@ fn keep_back(task: &Task<'_>, others: &mut Vec<Multipliers>, own: Multipliers)
 }
 
 /// The cheaper of the configuration that is known and of one that is rounded from shares.
-fn better(task: &Task<'_>, known: Costed, shares: &[u64; MOST_CANDIDATES]) -> Costed
+pub(crate) fn better(task: &Task<'_>, known: Costed, shares: &[u64; MOST_CANDIDATES]) -> Costed
     requires { climbs.IsSoundHere task.now.programme.now task.now.budget task.now.root.now known }
     ensures { climbs.IsSoundHere task.now.programme.now task.now.budget task.now.root.now result }
 {
@@ -373,13 +391,14 @@ fn added(
         &mut hands.ascent,
         SUBTREE,
     );
-    *known = better(task, *known, &shares_of(&hands.ascent));
+    let shares = shares_of(&hands.ascent);
+    *known = better(task, *known, &shares);
     if value <= best.value {
         keep_back(task, &mut hands.others, own);
         return leaf(fix, best, true);
     }
     let set = sets.len();
-    open_guide(task, hands.guides.as_mut_slice(), set, &own);
+    open_guide(task, hands.guides.as_mut_slice(), set, &own, &shares);
     keep(sets, own);
     leaf(fix, Best { set, value }, !reached(value, known.cost))
 }
@@ -427,6 +446,152 @@ fn grown(
     }
 }
 
+/// The shares of the candidates that are open and useful at a node, under the set that gives it the highest value; 0 for others.
+fn open_shares(task: &Task<'_>, fix: &Fix, best: Best, guides: &[Guide]) -> [u64; MOST_CANDIDATES] {
+    let mut shares = [0; MOST_CANDIDATES];
+    if best.set >= guides.len() {
+        return shares;
+    }
+    let here = usable(task.programme, task.budget, fix);
+    for index in 0..MOST_CANDIDATES {
+        if is_free(fix.state[index]) && here.config.on[index] && task.useful[index] {
+            shares[index] = guides[best.set].share(index);
+        }
+    }
+    shares
+}
+
+/// The candidate of the most broken share; 256 where none is broken.
+fn most_broken(shares: &[u64; MOST_CANDIDATES]) -> usize {
+    let mut place = MOST_CANDIDATES;
+    let mut most = LEAST_BROKEN;
+    for index in 0..MOST_CANDIDATES {
+        if brokenness(shares[index]) > most {
+            most = brokenness(shares[index]);
+            place = index;
+        }
+    }
+    place
+}
+
+/// What a short ascent at a node gains beyond a value, at most what is missing to a cost.
+fn gain_at(
+    task: &Task<'_>,
+    fix: &Fix,
+    best: Best,
+    cost: u128,
+    own: &mut Multipliers,
+    hands: &mut Hands,
+    sets: &[Multipliers],
+) -> u128
+    requires own { AreMultipliers task.now.programme.now own.old }
+    requires hands { proposals.AreHands task.now.programme.now hands.old }
+    requires sets { All (AreMultipliers task.now.programme.now) sets.now }
+    ensures own { AreMultipliers task.now.programme.now own.new }
+    ensures hands { proposals.AreHands task.now.programme.now hands.new }
+{
+    copied(task, sets, best.set, own);
+    let value = ascend(
+        task.programme,
+        task.budget,
+        fix,
+        cost,
+        own,
+        &mut hands.spare,
+        &mut hands.ascent,
+        SIDE,
+    );
+    gap_to(cost, best.value).saturating_sub(gap_to(cost, value))
+}
+
+/// How much a branch promises by short ascents on both sides; 0 where that isn't more than so much.
+fn tried_promise(
+    task: &Task<'_>,
+    step: &Step,
+    index: usize,
+    most: u128,
+    cost: u128,
+    own: &mut Multipliers,
+    hands: &mut Hands,
+    sets: &[Multipliers],
+) -> u128
+    requires index { index < MOST_CANDIDATES }
+    requires own { AreMultipliers task.now.programme.now own.old }
+    requires hands { proposals.AreHands task.now.programme.now hands.old }
+    requires sets { All (AreMultipliers task.now.programme.now) sets.now }
+    ensures own { AreMultipliers task.now.programme.now own.new }
+    ensures hands { proposals.AreHands task.now.programme.now hands.new }
+{
+    let gap = gap_to(cost, step.best.value);
+    let little = gap / 100 + 1;
+    let without = fixed(&step.fix, index, State::Out);
+    let outside = gain_at(task, &without, step.best, cost, own, hands, sets).saturating_add(little);
+    if outside.saturating_mul(gap.saturating_add(little)) <= most {
+        return 0;
+    }
+    let within = fixed(&step.fix, index, State::In);
+    let inside = gain_at(task, &within, step.best, cost, own, hands, sets).saturating_add(little);
+    outside.saturating_mul(inside)
+}
+
+/// The candidate whose branch promises most by short ascents on both sides, of the most broken ones; `index` where none is
+/// broken.
+fn tried_choice(
+    task: &Task<'_>,
+    step: &Step,
+    index: usize,
+    cost: u128,
+    other: Multipliers,
+    hands: &mut Hands,
+    sets: &[Multipliers],
+) -> usize
+    requires other { AreMultipliers task.now.programme.now other }
+    requires hands { proposals.AreHands task.now.programme.now hands.old }
+    requires sets { All (AreMultipliers task.now.programme.now) sets.now }
+    ensures hands { proposals.AreHands task.now.programme.now hands.new }
+{
+    let mut own = other;
+    let mut shares = open_shares(task, &step.fix, step.best, hands.guides.as_slice());
+    let mut chosen = index;
+    let mut most = 0;
+    for round in 0..MOST_TRIED {
+        let place = most_broken(&shares);
+        if place < MOST_CANDIDATES {
+            shares[place] = 0;
+            let value = tried_promise(task, step, place, most, cost, &mut own, hands, sets);
+            if value > most {
+                most = value;
+                chosen = place;
+            }
+        }
+    }
+    keep_back(task, &mut hands.others, own);
+    chosen
+}
+
+/// The candidate to branch on at a node of the plan; 256 for none.
+fn branch_choice(
+    task: &Task<'_>,
+    step: &Step,
+    cost: u128,
+    hands: &mut Hands,
+    sets: &[Multipliers],
+) -> usize
+    requires hands { proposals.AreHands task.now.programme.now hands.old }
+    requires sets { All (AreMultipliers task.now.programme.now) sets.now }
+    ensures hands { proposals.AreHands task.now.programme.now hands.new }
+{
+    let guides = hands.guides.as_mut_slice();
+    let index = choice_at(task, cost, sets, guides, &step.fix, step.best);
+    if sets.len() < TRIED_FROM {
+        return index;
+    }
+    match hands.others.pop() {
+        None => index,
+        Some(other) => tried_choice(task, step, index, cost, other, hands, sets),
+    }
+}
+
 /// Appends a node where there is room.
 fn append(plan: &mut Vec<Step>, step: Step)
     ensures { vec_len plan.old ≤ vec_len plan.new }
@@ -458,15 +623,8 @@ fn branch(
 {
     let here = plan[place];
     plan[place].is_open = false;
+    let index = branch_choice(task, &here, known.cost, hands, sets.as_slice());
     let guides = hands.guides.as_mut_slice();
-    let index = choice_at(
-        task,
-        known.cost,
-        sets.as_slice(),
-        guides,
-        &here.fix,
-        here.best,
-    );
     if index >= MOST_CANDIDATES {
         return;
     }
@@ -513,8 +671,9 @@ pub(crate) fn propose(
     ensures known { climbs.IsSoundHere task.now.programme.now task.now.budget task.now.root.now known.new }
     ensures sets { proposals.AreMore task.now.programme.now task.now.most sets.old.items sets.new.items }
 {
+    let shares = shares_of(&hands.ascent);
     let guides = hands.guides.as_mut_slice();
-    open_guide(task, guides, 0, &sets[0]);
+    open_guide(task, guides, 0, &sets[0], &shares);
     let best = best_of(task, known.cost, sets.as_slice(), guides, task.root, 0);
     let is_open = !reached(best.value, known.cost);
     append(plan, leaf(task.root, best, is_open));

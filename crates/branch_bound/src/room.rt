@@ -17,10 +17,12 @@ use bip_model::{Multipliers, Node, Programme, grant_count};
 use lagrange_bound::{Ascent, Ledger};
 use std::alloc::Global;
 
-/// All the memory that a search takes: a tree of so many nodes, at 4 bytes each; multipliers with a number of 8 bytes for each
-/// grant of the programme, which are zeros, one more that is worked on, and the sets of an answer, as many as `set_limit`
-/// says, so that these are at most 1500000 numbers or one set; for each set a guide of 320 bytes for each part, and 17 ledgers of
-/// 32 bytes for each part; what an ascent takes; and half a megabyte for the plan.
+/// All the memory that a search takes, in bytes: 4 for each node of its budget; 8 for each grant of the programme in each set of
+/// multipliers, of which there are zeros, one that is worked on and as many as `set_limit` says, so that these are at most
+/// 1500000 numbers or one set; 464 for each part and 64 thousand in each of as many guides; 32 for each part and five thousand
+/// in each of 17 ledgers; for an ascent 42 for each grant, 32 for each part, and 16 for each template, for each order of each
+/// slot and for each price of a grant below what exists; and half a million for the plan. With a million nodes, 1000 parts of
+/// 4096 templates, and 512000 grants of 9 prices each, that is 195 million.
 #[derive(Drop)]
 pub struct Room {
     pub(crate) tree: Vec<Node>,

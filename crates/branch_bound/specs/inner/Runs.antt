@@ -15,6 +15,7 @@ use Rattle.branch_bound.specs.declared.found.Found.{Found}
 use Rattle.branch_bound.specs.declared.frame.Frame.{Frame}
 use Rattle.branch_bound.specs.declared.node.Fate.{Fate}
 use Rattle.branch_bound.specs.declared.node.Fate.TheVariants.{Closed, Forced, Branch}
+use Rattle.branch_bound.specs.declared.task.Task.{Task}
 use Rattle.branch_bound.specs.Sides.{is_free_state, fixed, inside, total}
 
 -- what stays the same in a search
@@ -35,6 +36,17 @@ rules_of frame =
       zeros = frame.zeros.now;
       sets = frame.sets.now;
       useful = frame.useful.now;
+    }
+
+abbrev pub rules_for : Task → ℕ → Multipliers → List Multipliers → Rules
+rules_for task nodes zeros sets =
+    record {
+      programme = task.programme.now;
+      budget = task.budget;
+      nodes = nodes;
+      zeros = zeros;
+      sets = sets;
+      useful = task.useful.now;
     }
 
 -- the set of a number: 0 is that of zeros

@@ -1,24 +1,18 @@
-use Rattle.std.proofs.Common.{◌≡◌, ◌∙◌, ◌<◌, Bool, ℕ, List, [], ◌∷◌, ◌++◌, length, min, take, ℤ, to_z, of_z, ap, subst, arith, rules}
-use Rattle.std.specs.Prelude.{◌≤ℤ◌}
-use Rattle.std.proofs.lemmas.Int.{ints}
+use Rattle.std.proofs.Common.{◌≡◌, Bool, ℕ, List, ℤ, to_z, of_z, refl, subst, rules}
 use mir.Syntax.{w128}
 use Rattle.bip_model.specs.declared.answer.Answer.{Answer}
 use Rattle.bip_model.specs.declared.answer.Node.{Node}
 use Rattle.bip_model.specs.declared.fix.Fix.{Fix}
 use Rattle.bip_model.specs.declared.multipliers.Multipliers.{Multipliers}
 use Rattle.bip_model.specs.declared.programme.Programme.{Programme}
-use Rattle.branch_bound.specs.declared.found.Found.{Found}
 use Rattle.bip_model.specs.Best.{IsBest}
 use Rattle.bip_model.specs.Views.{node_of}
-use Rattle.branch_bound.specs.inner.Runs.{Rules, IsExplored, least_bound}
+use Rattle.branch_bound.specs.declared.climb.Costed.{Costed}
+use Rattle.branch_bound.specs.declared.found.Found.{Found}
+use Rattle.branch_bound.specs.inner.Runs.{Rules, IsExplored, least_bound, started}
 use Rattle.branch_bound.proofs.Sound.{explored-sound}
 use Rattle.branch_bound.proofs.Linking.{AreKept, search-best}
-use Rattle.lagrange_bound.specs.Bounds.{lagrangian}
-use Rattle.lagrange_bound.specs.Rents.{rent_multipliers, tried_price}
 use Rattle.branch_bound.proofs.best.search.Goals as goal
-
-at-most-both : (a b c : ℤ) → a ≤ℤ b → b ≤ℤ c → a ≤ℤ c
-at-most-both a b c one two = omega (arith, ints, one, two)
 
 -- the rules of a search under some sets
 rules_with : Programme → ℕ → ℕ → Multipliers → List Bool → List Multipliers → Rules
@@ -39,11 +33,11 @@ climbed-best-requires c =
       budget = c.args.budget;
       nodes = c.args.nodes;
       zeros = c.args.room.zeros;
-      sets = c.propose.new.sets.items;
+      sets = c.proposed-known.new.sets.items;
       useful = c.useful_of-useful.result.flags;
     } in
-    explored-sound own c.args.root.now c.propose.new.known c.started-before.result c.explore-found.result c.args.room.tree.items c.explore-found.new.tree.items c.requires.root c.propose.ensures.known
-    c.started-before.ensures.exact (same-sets c.args.programme.now c.args.budget c.args.nodes c.args.room.zeros c.useful_of-useful.result.flags c.as_slice-own_sets.result.now c.propose.new.sets.items c.args.root.now c.started-before.result c.explore-found.result c.args.room.tree.items c.explore-found.new.tree.items c.as_slice-own_sets.ensures.value c.explore-found.ensures.explored)
+    explored-sound own c.args.root.now c.proposed-known.result (started c.proposed-known.result) c.explored-found.result c.args.room.tree.items c.explored-found.new.tree.items c.requires.root c.proposed-known.ensures.known
+    refl (same-sets c.args.programme.now c.args.budget c.args.nodes c.args.room.zeros c.useful_of-useful.result.flags c.as_slice.result.now c.proposed-known.new.sets.items c.args.root.now (started c.proposed-known.result) c.explored-found.result c.args.room.tree.items c.explored-found.new.tree.items c.as_slice.ensures.value c.explored-found.ensures.explored)
 
 pub returns : goal.returns
 unfolding rules_with
@@ -54,7 +48,7 @@ returns c =
       budget = c.args.budget;
       nodes = c.args.nodes;
       zeros = c.args.room.zeros;
-      sets = c.propose.new.sets.items;
+      sets = c.proposed-known.new.sets.items;
       useful = c.useful_of-useful.result.flags;
     } in
     let answer_of : ℤ → Answer = λ b.
@@ -62,26 +56,23 @@ returns c =
       config = c.climbed-best.result.config;
       cost = c.climbed-best.result.cost;
       bound = b;
-      sets = c.propose.new.sets.items;
-      tree = c.explore-found.new.tree.items;
+      sets = c.proposed-known.new.sets.items;
+      tree = c.explored-found.new.tree.items;
       useful = c.useful_of-useful.result.count;
     } in
-    let told : least_bound c.climbed-best.result.cost c.explore-found.result.low ≡ to_z w128 (of_z w128 c.least_bound-bound.result) = search (rules, c.least_bound-bound.ensures) in
-    let start : c.keep.new.sets.items ≡ c.ascended-known.new.first ∷ [] = c.keep.ensures.items ∙ ap (λ (front : List Multipliers). front ++ c.ascended-known.new.first ∷ []) c.requires.room.sets_empty in
-    let kept : AreKept own c.ascended-known.new.first c.set_limit.result =
+    let told : least_bound c.climbed-best.result.cost c.explored-found.result.low ≡ to_z w128 (of_z w128 c.least_bound-bound.result) = search (rules, c.least_bound-bound.ensures) in
+    let raised = c.proposed-known.ensures.sets in
+    let kept : AreKept own raised.first c.set_limit.result =
     record {
-      front = c.propose.ensures.sets.first ∙ ap (take 1) start;
-      some = c.propose.ensures.sets.proposed.some;
-      few = c.propose.ensures.sets.proposed.few;
-      fit = c.propose.ensures.sets.proposed.fit;
+      front = raised.front;
+      some = raised.proposed.some;
+      few = raised.proposed.few;
+      fit = raised.proposed.fit;
       limit = c.set_limit.ensures;
     } in
-    let tried : (i : ℕ) → i < min 41 41 → lagrangian c.args.programme.now c.args.budget c.args.root.now (rent_multipliers c.args.programme.now (tried_price i)) ≤ℤ lagrangian c.args.programme.now c.args.budget c.args.root.now c.ascended-known.new.first = λ i few.
-    at-most-both (lagrangian c.args.programme.now c.args.budget c.args.root.now (rent_multipliers c.args.programme.now (tried_price i))) (lagrangian c.args.programme.now c.args.budget c.args.root.now c.improve.new.mult)
-    (lagrangian c.args.programme.now c.args.budget c.args.root.now c.ascended-known.new.first) (c.improve.ensures.tried i few) c.ascended-known.ensures.keeps in
     λ setting limits stands.
     subst (λ (b : ℤ). IsBest setting c.args.budget c.args.nodes (node_of c.args.root.now) (answer_of b)) told
-    (search-best own c.args.root.now c.propose.new.known c.started-before.result c.explore-found.result c.args.room.tree.items c.explore-found.new.tree.items c.climbed-best.result.config c.climbed-best.result.cost c.ascended-known.new.first
+    (search-best own c.args.root.now c.proposed-known.result (started c.proposed-known.result) c.explored-found.result c.args.room.tree.items c.explored-found.new.tree.items c.climbed-best.result.config c.climbed-best.result.cost raised.first
     c.set_limit.result c.useful_of-useful.result.count c.requires.room.zeros_fit kept c.requires.room.zeros_page c.requires.room.zeros_are c.useful_of-useful.ensures.flags c.requires.root
-    c.bare-from.ensures.long c.started-before.ensures.exact c.requires.room.tree_empty (same-sets c.args.programme.now c.args.budget c.args.nodes c.args.room.zeros c.useful_of-useful.result.flags c.as_slice-own_sets.result.now c.propose.new.sets.items c.args.root.now c.started-before.result c.explore-found.result c.args.room.tree.items c.explore-found.new.tree.items c.as_slice-own_sets.ensures.value c.explore-found.ensures.explored) c.explore-found.ensures.most c.useful_of-useful.ensures.count
-    c.climbed-best.ensures.sound c.climbed-best.ensures.cheaper c.climbed-best.ensures.top tried setting limits stands)
+    c.bare.ensures.long refl c.requires.room.tree_empty (same-sets c.args.programme.now c.args.budget c.args.nodes c.args.room.zeros c.useful_of-useful.result.flags c.as_slice.result.now c.proposed-known.new.sets.items c.args.root.now (started c.proposed-known.result) c.explored-found.result c.args.room.tree.items c.explored-found.new.tree.items c.as_slice.ensures.value c.explored-found.ensures.explored) c.explored-found.ensures.most c.useful_of-useful.ensures.count
+    c.climbed-best.ensures.sound c.climbed-best.ensures.cheaper c.climbed-best.ensures.top raised.tried setting limits stands)
