@@ -158,10 +158,25 @@ kind = "date"
 width = 4
 "#;
 
-/// Adds pieces to a text.
-fn push(rt: &impl Abort, text: &mut String, pieces: &[&str]) {
-    for piece in pieces {
-        text.push_str(*piece).expect(rt, "memory");
+/// What a line of a kind stands for, where `@` is its name and `#` what follows the name.
+fn template_of(kind: &str) -> Option<&'static str> {
+    match kind {
+        "t" => Some("[[table]]\nname = \"@\"\nrows = 1000\npages = 20\n"),
+        "c" => Some("[[table.column]]\nname = \"@\"\nkind = \"int\"\nwidth = 4\ndistinct = 1000\n"),
+        "d" => { Some("[[table.column]]\nname = \"@\"\nkind = \"int\"\nwidth = 4\ndistinct = #\n") }
+        "i" => Some("[[table.index]]\nname = \"@\"\nkeys = [#]\n"),
+        _ => None,
+    }
+}
+
+/// Adds a template's text.
+fn fill(rt: &impl Abort, text: &mut String, template: &str, name: &str, more: &str) {
+    for letter in template.chars() {
+        match letter {
+            '@' => text.push_str(name).expect(rt, "memory"),
+            '#' => text.push_str(more).expect(rt, "memory"),
+            _ => text.push(letter).expect(rt, "memory"),
+        }
     }
 }
 
@@ -169,46 +184,10 @@ fn push(rt: &impl Abort, text: &mut String, pieces: &[&str]) {
 fn push_line(rt: &impl Abort, text: &mut String, line: &str) {
     let (kind, rest) = line.split_once(' ').unwrap_or(("", ""));
     let (name, more) = rest.split_once(' ').unwrap_or((rest, ""));
-    match kind {
-        "t" => push(
-            rt,
-            text,
-            &[
-                "[[table]]\nname = \"",
-                name,
-                "\"\nrows = 1000\npages = 20\n",
-            ],
-        ),
-        "c" => push_column(rt, text, name, "1000"),
-        "d" => push_column(rt, text, name, more),
-        "i" => push(
-            rt,
-            text,
-            &[
-                "[[table.index]]\nname = \"",
-                name,
-                "\"\nkeys = [",
-                more,
-                "]\n",
-            ],
-        ),
-        _ => push(rt, text, &[line, "\n"]),
+    match template_of(kind) {
+        Some(template) => fill(rt, text, template, name, more),
+        None => fill(rt, text, "#\n", "", line),
     }
-}
-
-/// Adds the text of a column of whole numbers with so many values.
-fn push_column(rt: &impl Abort, text: &mut String, name: &str, values: &str) {
-    push(
-        rt,
-        text,
-        &[
-            "[[table.column]]\nname = \"",
-            name,
-            "\"\nkind = \"int\"\nwidth = 4\ndistinct = ",
-            values,
-            "\n",
-        ],
-    )
 }
 
 /// The text of the catalogue of a name; behind `=`, the name is the text, in which `~` stands for a line feed.

@@ -1,15 +1,20 @@
 //! Reads and writes that fail, over files in memory and over the system's.
 use crate::catalogues::catalogue;
-use crate::scene::{answer, shelf, split, spread};
-use adv_shelf::{DiskShelf, MemShelf, MemSink, Shelf};
+use crate::files::Files;
+use crate::scene::{answer, assert_told, split, spread};
+use adv_shelf::{DiskShelf, MemSink, Shelf};
 use cophy_core::run;
 use std::alloc::Global;
 use std::path::AsPath;
 use std::process::Abort;
 use std::{env, fs, process};
 
-/// A workload of one statement.
-const ONE: &str = "SELECT c FROM t";
+/// The catalogue of one table, a workload of one statement and an empty configuration.
+const ONE_TABLE: Files<'static> = Files {
+    cat: "T",
+    load: "SELECT c FROM t",
+    conf: "",
+};
 
 /// How many calls read files, a command line, and what it prints where nothing fails; `~` stands for a line feed.
 const LINES: &str = r#"4|cost CAT LOAD|statement 1 weight 1 cost 30000~total 30000~
@@ -29,29 +34,20 @@ fn parts<'a>(rt: &impl Abort, case: &'a str) -> (u64, &'a str, &'a str) {
     (calls, words, output)
 }
 
-/// The catalogue of one table, a workload of one statement and an empty configuration.
-fn one_table(rt: &impl Abort, alloc: Global) -> MemShelf {
-    let cat = catalogue(rt, alloc, "T");
-    shelf(rt, alloc, cat.as_slice(), ONE.as_bytes(), b"")
-}
-
-/// The files are as they were.
-fn assert_unchanged(rt: &impl Abort, alloc: Global, shelf: &MemShelf) {
-    let cat = catalogue(rt, alloc, "T");
-    assert_eq!(rt; shelf.file("CAT"), Some(cat.as_slice()));
-    assert_eq!(rt; shelf.file("LOAD"), Some(ONE.as_bytes()));
-    assert_eq!(rt; shelf.file("CONF"), Some(b"".as_slice()));
-}
-
 /// A run whose call of a number fails prints the output, and ends with the status.
 fn assert_run(rt: &impl Abort, alloc: Global, words: &str, call: u64, want: (u8, &str)) {
-    let mut shelf = one_table(rt, alloc);
+    let mut shelf = ONE_TABLE.shelf(rt, alloc);
     shelf.fail_at(call).expect(rt, "memory");
     let (status, out) = answer(rt, alloc, words, &mut shelf, 1000);
-    assert_unchanged(rt, alloc, &shelf);
+    ONE_TABLE.assert_kept(rt, alloc, &shelf);
     let output = spread(rt, alloc, want.1);
-    assert_eq!(rt; out.bytes(), output.as_slice(), "{words}, call {call}");
-    assert!(rt; want.0 == 0 || status == want.0, "{words}, call {call}");
+    let wanted = if want.0 == 0 { status } else { want.0 };
+    assert_told(
+        rt,
+        (status, out.bytes()),
+        (wanted, output.as_slice()),
+        words,
+    );
 }
 
 /// Lets the call of each number fail, until a run meets no failure. Where a read fails its file is named; an empty file is
@@ -73,12 +69,12 @@ fn a_failed_read_is_told_with_the_name_of_its_file(rt: HostRuntime) {
 
 /// A run with room for so many bytes of its output writes those, and ends with status 4 where there are more.
 fn assert_room(rt: &impl Abort, alloc: Global, words: &str, text: &[u8], room: usize) {
-    let mut shelf = one_table(rt, alloc);
+    let mut shelf = ONE_TABLE.shelf(rt, alloc);
     let (status, out) = answer(rt, alloc, words, &mut shelf, room);
-    assert_unchanged(rt, alloc, &shelf);
+    ONE_TABLE.assert_kept(rt, alloc, &shelf);
     assert_eq!(rt; status == 4, room < text.len(), "{words}, room {room}");
-    assert_eq!(rt; out.bytes().len(), room, "{words}");
-    assert!(rt; text.starts_with(out.bytes()), "{words}, room {room}");
+    let front = text.get(..room).expect(rt, "a front");
+    assert_told(rt, (status, out.bytes()), (status, front), words);
 }
 
 /// Gives the output less and less room than its text needs, and then all of it.
@@ -111,10 +107,11 @@ fn assert_disk<S: Shelf>(
         .expect(rt, "memory");
     let mut out = MemSink::with_capacity(alloc, 1000).expect(rt, "memory");
     let outcome = run(alloc, words.as_slice(), shelf, &mut out);
-    assert_eq!(rt; outcome.status, want.0, "{cat}");
-    if let Some(output) = want.1 {
-        assert_eq!(rt; out.bytes(), output.as_bytes());
-    }
+    let output = match want.1 {
+        Some(output) => output.as_bytes(),
+        None => out.bytes(),
+    };
+    assert_told(rt, (outcome.status, out.bytes()), (want.0, output), cat);
 }
 
 #[test]

@@ -1,6 +1,6 @@
 //! Files at their limits: each ends with its answer.
 use crate::catalogues::catalogue;
-use crate::scene::{answer, shelf, spread};
+use crate::scene::{answer, assert_told, shelf, spread};
 use std::alloc::Global;
 use std::process::Abort;
 
@@ -30,8 +30,7 @@ fn assert_cost(rt: &impl Abort, alloc: Global, cat: &[u8], load: &[u8], want: (u
     let mut shelf = shelf(rt, alloc, cat, load, b"");
     let (status, out) = answer(rt, alloc, "cost CAT LOAD", &mut shelf, 50000);
     let output = spread(rt, alloc, text);
-    assert_eq!(rt; out.bytes(), output.as_slice());
-    assert_eq!(rt; status, wanted, "{text}");
+    assert_told(rt, (status, out.bytes()), (wanted, output.as_slice()), text);
 }
 
 /// Workloads at the limit: a front, a piece as often as it fits, an end, the status and the output. The piece of `/*` is
@@ -105,8 +104,12 @@ fn assert_check(rt: &impl Abort, alloc: Global, len: usize, want: (u8, &str)) {
     let mut shelf = shelf(rt, alloc, cat.as_slice(), b"", cert.as_slice());
     let (status, out) = answer(rt, alloc, "check CAT LOAD CONF", &mut shelf, 1000);
     let output = spread(rt, alloc, want.1);
-    assert_eq!(rt; out.bytes(), output.as_slice());
-    assert_eq!(rt; status, want.0);
+    assert_told(
+        rt,
+        (status, out.bytes()),
+        (want.0, output.as_slice()),
+        want.1,
+    );
 }
 
 #[test]

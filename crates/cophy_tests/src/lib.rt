@@ -10,6 +10,8 @@ mod certificates;
 #[cfg(test)]
 mod faults;
 #[cfg(test)]
+mod files;
+#[cfg(test)]
 mod large;
 #[cfg(test)]
 mod runs;

@@ -2,8 +2,8 @@
 //!
 //! A line of a table is the exit status, the words, the name of the catalogue in CAT or, behind `=`, its text, the
 //! workload in LOAD, the configuration in CONF, and the output. `~` stands for a line feed.
-use crate::catalogues::catalogue;
-use crate::scene::{answer, shelf, spread};
+use crate::files::Files;
+use crate::scene::{answer, assert_told, spread};
 use adv_shelf::MemShelf;
 use std::alloc::Global;
 use std::process::Abort;
@@ -184,13 +184,11 @@ const WORDS: &str = r#"2||TI|||usage: no command~
 3|cost CAT none|TI|||read fault: none~"#;
 
 /// A line of a table.
-#[derive(Clone, Copy, Debug)]
+#[derive(Clone, Copy)]
 struct Case<'a> {
     status: &'a str,
     words: &'a str,
-    cat: &'a str,
-    load: &'a str,
-    conf: &'a str,
+    files: Files<'a>,
     output: &'a str,
 }
 
@@ -204,29 +202,24 @@ fn case_of<'a>(rt: &impl Abort, line: &'a str) -> Case<'a> {
     Case {
         status,
         words,
-        cat,
-        load,
-        conf,
+        files: Files { cat, load, conf },
         output,
     }
 }
 
-/// Runs a case and compares the output and the status.
-fn compare_case(rt: &impl Abort, alloc: Global, case: &Case<'_>) {
-    let cat = catalogue(rt, alloc, case.cat);
-    let load = spread(rt, alloc, case.load);
-    let conf = spread(rt, alloc, case.conf);
-    let mut shelf = shelf(rt, alloc, cat.as_slice(), load.as_slice(), conf.as_slice());
+/// Runs the case of a line and compares the output and the status.
+fn compare_case(rt: &impl Abort, alloc: Global, case: &Case<'_>, line: &str) {
+    let mut shelf = case.files.shelf(rt, alloc);
     let (status, out) = answer(rt, alloc, case.words, &mut shelf, 1000);
     let output = spread(rt, alloc, case.output);
-    assert_eq!(rt; out.bytes(), output.as_slice(), "{case:?}");
-    assert_eq!(rt; case.status.parse::<u8>(), Ok(status), "{case:?}");
+    let wanted = case.status.parse::<u8>().expect(rt, "a status");
+    assert_told(rt, (status, out.bytes()), (wanted, output.as_slice()), line);
 }
 
 /// Runs a line.
 fn compare(rt: &impl Abort, alloc: Global, line: &str) {
     let case = case_of(rt, line);
-    compare_case(rt, alloc, &case);
+    compare_case(rt, alloc, &case, line);
 }
 
 /// Runs a line of `cost` as one of `whatif` under the empty configuration, whose size of 0 stands before the same prices.
@@ -235,11 +228,14 @@ fn compare_unconfigured(rt: &impl Abort, alloc: Global, line: &str) {
     let output = format!(in alloc; "size 0~{}", case.output).expect(rt, "memory");
     let unconfigured = Case {
         words: "whatif CAT LOAD CONF",
-        conf: "",
+        files: Files {
+            conf: "",
+            ..case.files
+        },
         output: output.as_str(),
         ..case
     };
-    compare_case(rt, alloc, &unconfigured);
+    compare_case(rt, alloc, &unconfigured, line);
 }
 
 /// Whether an output is the wanted one with an odd number of at most `most` in the place of `#`.
@@ -261,13 +257,11 @@ fn compare_advice(rt: &impl Abort, alloc: Global, line: &str) {
     let (most, rest) = line.split_once('|').expect(rt, "a number");
     let most = most.parse::<u64>().expect(rt, "a number");
     let case = case_of(rt, rest);
-    let cat = catalogue(rt, alloc, case.cat);
-    let load = spread(rt, alloc, case.load);
-    let mut shelf = shelf(rt, alloc, cat.as_slice(), load.as_slice(), b"");
+    let mut shelf = case.files.shelf(rt, alloc);
     let (status, out) = answer(rt, alloc, case.words, &mut shelf, 1000);
-    assert_eq!(rt; case.status.parse::<u8>(), Ok(status), "{line}");
-    let found = has_nodes(rt, alloc, out.bytes(), case.output, most);
-    assert!(rt; found, "{line}");
+    let wanted = case.status.parse::<u8>().expect(rt, "a status");
+    let holds = status == wanted && has_nodes(rt, alloc, out.bytes(), case.output, most);
+    assert!(rt; holds, "{line}");
 }
 
 /// Walks a table.
@@ -325,10 +319,9 @@ fn compare_twice(rt: &impl Abort, alloc: Global, line: &str) {
     let mut shelf = MemShelf::new(alloc).expect(rt, "memory");
     let (status, first) = answer(rt, alloc, words, &mut shelf, 5000);
     let (again, second) = answer(rt, alloc, words, &mut shelf, 5000);
-    assert!(rt; status <= 1, "{words}");
-    assert_eq!(rt; again, status, "{words}");
-    assert_eq!(rt; second.bytes(), first.bytes(), "{words}");
-    assert!(rt; first.bytes().starts_with(front.as_slice()), "{words}");
+    assert_told(rt, (again, second.bytes()), (status, first.bytes()), words);
+    let holds = status <= 1 && first.bytes().starts_with(front.as_slice());
+    assert!(rt; holds, "{words}");
 }
 
 #[test]
@@ -342,18 +335,17 @@ fn a_seed_gives_the_same_advice_each_time(rt: HostRuntime) {
 #[test]
 fn one_node_is_not_enough(rt: HostRuntime) {
     let alloc = rt.alloc();
-    let cat = catalogue(&rt, alloc, "KNAP");
-    let load = spread(
-        &rt,
-        alloc,
-        "-- weight 10~SELECT c FROM t ORDER BY c;~-- weight 11~SELECT d, e FROM v ORDER BY d, e;~",
-    );
-    let mut shelf = shelf(&rt, alloc, cat.as_slice(), load.as_slice(), b"");
+    let files = Files {
+        cat: "KNAP",
+        load: "-- weight 10~SELECT c FROM t ORDER BY c;~-- weight 11~SELECT d, e FROM v ORDER BY d, e;~",
+        conf: "",
+    };
+    let mut shelf = files.shelf(&rt, alloc);
     let words = "advise CAT LOAD 4 --nodes 1";
     let (status, out) = answer(&rt, alloc, words, &mut shelf, 1000);
     let end = spread(&rt, alloc, "nodes 1 of 1~stopped~");
-    assert_eq!(rt; status, 1);
-    assert!(rt; out.bytes().ends_with(end.as_slice()));
+    let holds = status == 1 && out.bytes().ends_with(end.as_slice());
+    assert!(rt; holds);
 }
 
 #[test]

@@ -1,4 +1,4 @@
-//! Files in memory and what a run makes of them.
+//! Files in memory, what a run makes of them, and what is asserted of it.
 use adv_shelf::{MemShelf, MemSink, Shelf};
 use cophy_core::run;
 use std::alloc::Global;
@@ -53,4 +53,15 @@ pub(crate) fn answer(
     let words = split(rt, alloc, line);
     let outcome = run(alloc, words.as_slice(), shelf, &mut out);
     (outcome.status, out)
+}
+
+/// A status and an output are the wanted ones.
+pub(crate) fn assert_told(rt: &impl Abort, found: (u8, &[u8]), want: (u8, &[u8]), about: &str) {
+    assert_eq!(rt; found.0, want.0, "{about}");
+    assert_eq!(rt; found.1, want.1, "{about}");
+}
+
+/// A shelf has these bytes in the file of a name, or no such file.
+pub(crate) fn assert_file(rt: &impl Abort, shelf: &MemShelf, name: &str, want: Option<&[u8]>) {
+    assert_eq!(rt; shelf.file(name), want, "{name}");
 }

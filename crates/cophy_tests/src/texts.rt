@@ -29,21 +29,6 @@ fn assert_text(
     assert_eq!(rt; printed.as_slice(), want.as_bytes(), "{want}");
 }
 
-/// The parts of a path: the table's number, the part, the number of the column or index, the key, and the number of the
-/// element.
-type Parts = (u32, KeyPart, u32, KeyField, u32);
-
-fn path_of(parts: Parts) -> KeyPath {
-    let (table, part, item, field, at) = parts;
-    KeyPath {
-        table,
-        part,
-        item,
-        field,
-        at,
-    }
-}
-
 #[test]
 fn faults_of_words_and_files(rt: HostRuntime) {
     for (fault, want) in [
@@ -79,204 +64,215 @@ fn faults_of_words_and_files(rt: HostRuntime) {
     assert_text(&rt, rt.alloc(), &Done::Memory, None, "");
 }
 
+/// What is refused with its numbers, `|`, and the text behind `refused: `.
+const REFUSALS: &str = "Catalogue 0 0|too long shop.toml
+Workload 0 0|too long load.sql
+Third 0 0|too long none.conf
+BadByte 8 0|bad byte at 8
+OpenText 8 0|open text at 8
+Syntax 14 0|syntax at 14
+Unsupported 29 0|unsupported at 29
+BadWeight 1 0|bad weight at 1
+TooManyStatements 17001 0|more than 1000 statements at 17001
+NoTable 15 0|no table at 15
+NoColumn 10 0|no column at 10
+Ambiguous 8 0|ambiguous at 8
+TwoAliases 18 0|alias twice at 18
+TooManySlots 62 0|more than 8 slots at 62
+Unjoined 1 0|unjoined at 1
+TooManySlotsInAll 23001 0|more than 2000 slots at 23001
+NoStatement 2 1|no statement 2 of 1
+BadConf 10 0|configuration line 10
+TooManyCombinations 3 4480|statement 3 has 4480 combinations";
+
+/// The faults of a catalogue, a path, `|`, and the text behind `refused: `. A path is the number of a table, a part, the
+/// number of the column or index, a key, and the number of the element.
+const CATALOGUE_FAULTS: &str = "NotToml 2 Index 1 Keys 2|not toml
+Missing 2 Index 1 Keys 2|missing table[2].index[1].keys[2]
+WrongKind 2 Index 1 Keys 2|wrong kind table[2].index[1].keys[2]
+OutOfRange 2 Index 1 Keys 2|out of range table[2].index[1].keys[2]
+TwoNames 2 Index 1 Keys 2|name twice table[2].index[1].keys[2]
+UnknownName 2 Index 1 Keys 2|unknown name table[2].index[1].keys[2]
+Missing 0 Whole 0 Version 0|missing version
+Missing 0 Rates 0 Itself 0|missing rates
+Missing 0 Rates 0 SeqPage 0|missing rates.seq_page
+Missing 0 Rates 0 RandPage 0|missing rates.rand_page
+Missing 0 Rates 0 RowCpu 0|missing rates.row_cpu
+Missing 0 Rates 0 SortCpu 0|missing rates.sort_cpu
+Missing 0 Rates 0 MergeCpu 0|missing rates.merge_cpu
+Missing 0 Rates 0 HashCpu 0|missing rates.hash_cpu
+Missing 0 Rates 0 GroupCpu 0|missing rates.group_cpu
+Missing 0 Table 0 Itself 0|missing table
+Missing 2 Table 0 Itself 0|missing table[2]
+Missing 2 Table 0 Name 0|missing table[2].name
+Missing 2 Table 0 Rows 0|missing table[2].rows
+Missing 2 Table 0 Pages 0|missing table[2].pages
+Missing 2 Table 0 Columns 0|missing table[2].column
+Missing 2 Column 1 Itself 0|missing table[2].column[1]
+Missing 2 Column 1 Kind 0|missing table[2].column[1].kind
+Missing 2 Column 1 Width 0|missing table[2].column[1].width
+Missing 2 Column 1 Distinct 0|missing table[2].column[1].distinct
+Missing 2 Column 1 Low 0|missing table[2].column[1].low
+Missing 2 Column 1 High 0|missing table[2].column[1].high
+Missing 2 Table 0 Indexes 0|missing table[2].index
+Missing 2 Index 1 Itself 0|missing table[2].index[1]
+Missing 2 Index 1 Keys 0|missing table[2].index[1].keys
+Missing 2 Index 1 Unique 0|missing table[2].index[1].unique
+Missing 2 Index 1 Clustered 0|missing table[2].index[1].clustered
+Missing 200 Index 1000 Keys 8|missing table[200].index[1000].keys[8]";
+
+/// The next word of a line, and what follows it.
+fn next_word<'a>(rt: &impl Abort, line: &'a str) -> (&'a str, &'a str) {
+    line.split_once(' ').expect(rt, "a word")
+}
+
+/// The next word of a line as a number, and what follows it.
+fn next_number<'a>(rt: &impl Abort, line: &'a str) -> (u32, &'a str) {
+    let (word, rest) = next_word(rt, line);
+    (word.parse::<u32>().expect(rt, "a number"), rest)
+}
+
+/// The fault of a workload's text of a name, at a place.
+fn sql_fault(name: &str, place: u64) -> Option<SqlFault> {
+    match name {
+        "BadByte" => Some(SqlFault::BadByte(place)),
+        "OpenText" => Some(SqlFault::OpenText(place)),
+        "Syntax" => Some(SqlFault::Syntax(place)),
+        "Unsupported" => Some(SqlFault::Unsupported(place)),
+        "BadWeight" => Some(SqlFault::BadWeight(place)),
+        "TooManyStatements" => Some(SqlFault::TooManyStatements(place)),
+        _ => None,
+    }
+}
+
+/// The fault of a workload's names of a name, at a place.
+fn bind_fault(name: &str, place: u64) -> Option<BindFault> {
+    match name {
+        "NoTable" => Some(BindFault::NoTable(place)),
+        "NoColumn" => Some(BindFault::NoColumn(place)),
+        "Ambiguous" => Some(BindFault::Ambiguous(place)),
+        "TwoAliases" => Some(BindFault::TwoAliases(place)),
+        "TooManySlots" => Some(BindFault::TooManySlots(place)),
+        "Unjoined" => Some(BindFault::Unjoined(place)),
+        "TooManySlotsInAll" => Some(BindFault::TooManySlotsInAll(place)),
+        _ => None,
+    }
+}
+
+/// The refusal of a name with its numbers.
+fn refusal_of(rt: &impl Abort, name: &str, first: u32, second: u32) -> Refusal {
+    if let Some(fault) = sql_fault(name, first as u64) {
+        return Refusal::Sql(fault);
+    }
+    if let Some(fault) = bind_fault(name, first as u64) {
+        return Refusal::Bind(fault);
+    }
+    let own = match name {
+        "Catalogue" => Some(Refusal::TooLong(Role::Catalogue)),
+        "Workload" => Some(Refusal::TooLong(Role::Workload)),
+        "Third" => Some(Refusal::TooLong(Role::Third)),
+        "NoStatement" => Some(Refusal::NoStatement(first, second)),
+        "BadConf" => Some(Refusal::BadConf(first as u64)),
+        "TooManyCombinations" => Some(Refusal::TooManyCombinations(first, second as u64)),
+        _ => None,
+    };
+    own.expect(rt, "a refusal")
+}
+
+/// The part of a catalogue of a name.
+fn part_of(name: &str) -> Option<KeyPart> {
+    match name {
+        "Whole" => Some(KeyPart::Whole),
+        "Rates" => Some(KeyPart::Rates),
+        "Table" => Some(KeyPart::Table),
+        "Column" => Some(KeyPart::Column),
+        "Index" => Some(KeyPart::Index),
+        _ => None,
+    }
+}
+
+/// The key of a name.
+fn field_of(name: &str) -> Option<KeyField> {
+    match name {
+        "Itself" => Some(KeyField::Itself),
+        "Version" => Some(KeyField::Version),
+        "SeqPage" => Some(KeyField::SeqPage),
+        "RandPage" => Some(KeyField::RandPage),
+        "RowCpu" => Some(KeyField::RowCpu),
+        "SortCpu" => Some(KeyField::SortCpu),
+        "MergeCpu" => Some(KeyField::MergeCpu),
+        "HashCpu" => Some(KeyField::HashCpu),
+        "GroupCpu" => Some(KeyField::GroupCpu),
+        "Name" => Some(KeyField::Name),
+        "Rows" => Some(KeyField::Rows),
+        "Pages" => Some(KeyField::Pages),
+        "Columns" => Some(KeyField::Columns),
+        "Indexes" => Some(KeyField::Indexes),
+        "Kind" => Some(KeyField::Kind),
+        "Width" => Some(KeyField::Width),
+        "Distinct" => Some(KeyField::Distinct),
+        "Low" => Some(KeyField::Low),
+        "High" => Some(KeyField::High),
+        "Keys" => Some(KeyField::Keys),
+        "Unique" => Some(KeyField::Unique),
+        "Clustered" => Some(KeyField::Clustered),
+        _ => None,
+    }
+}
+
+/// The path that words say.
+fn path_of(rt: &impl Abort, words: &str) -> KeyPath {
+    let (table, rest) = next_number(rt, words);
+    let (part, rest) = next_word(rt, rest);
+    let (item, rest) = next_number(rt, rest);
+    let (field, at) = next_word(rt, rest);
+    KeyPath {
+        table,
+        part: part_of(part).expect(rt, "a part"),
+        item,
+        field: field_of(field).expect(rt, "a key"),
+        at: at.parse::<u32>().expect(rt, "a number"),
+    }
+}
+
+/// The fault of a catalogue of a name, at a path.
+fn catalogue_fault(name: &str, path: KeyPath) -> Option<CatFault> {
+    match name {
+        "NotToml" => Some(CatFault::NotToml),
+        "Missing" => Some(CatFault::Missing(path)),
+        "WrongKind" => Some(CatFault::WrongKind(path)),
+        "OutOfRange" => Some(CatFault::OutOfRange(path)),
+        "TwoNames" => Some(CatFault::TwoNames(path)),
+        "UnknownName" => Some(CatFault::UnknownName(path)),
+        _ => None,
+    }
+}
+
+/// The text of a refusal.
+fn assert_refusal(rt: &impl Abort, alloc: Global, refusal: Refusal, want: &str) {
+    let want = format!(in alloc; "refused: {want}\n").expect(rt, "memory");
+    assert_text(rt, alloc, &Done::Refused(refusal), None, want.as_str());
+}
+
 #[test]
 fn refusals(rt: HostRuntime) {
-    for (why, want) in [
-        (
-            Refusal::TooLong(Role::Catalogue),
-            "refused: too long shop.toml\n",
-        ),
-        (
-            Refusal::TooLong(Role::Workload),
-            "refused: too long load.sql\n",
-        ),
-        (
-            Refusal::TooLong(Role::Third),
-            "refused: too long none.conf\n",
-        ),
-        (
-            Refusal::Sql(SqlFault::BadByte(8)),
-            "refused: bad byte at 8\n",
-        ),
-        (
-            Refusal::Sql(SqlFault::OpenText(8)),
-            "refused: open text at 8\n",
-        ),
-        (
-            Refusal::Sql(SqlFault::Syntax(14)),
-            "refused: syntax at 14\n",
-        ),
-        (
-            Refusal::Sql(SqlFault::Unsupported(29)),
-            "refused: unsupported at 29\n",
-        ),
-        (
-            Refusal::Sql(SqlFault::BadWeight(1)),
-            "refused: bad weight at 1\n",
-        ),
-        (
-            Refusal::Sql(SqlFault::TooManyStatements(17001)),
-            "refused: more than 1000 statements at 17001\n",
-        ),
-        (
-            Refusal::Bind(BindFault::NoTable(15)),
-            "refused: no table at 15\n",
-        ),
-        (
-            Refusal::Bind(BindFault::NoColumn(10)),
-            "refused: no column at 10\n",
-        ),
-        (
-            Refusal::Bind(BindFault::Ambiguous(8)),
-            "refused: ambiguous at 8\n",
-        ),
-        (
-            Refusal::Bind(BindFault::TwoAliases(18)),
-            "refused: alias twice at 18\n",
-        ),
-        (
-            Refusal::Bind(BindFault::TooManySlots(62)),
-            "refused: more than 8 slots at 62\n",
-        ),
-        (
-            Refusal::Bind(BindFault::Unjoined(1)),
-            "refused: unjoined at 1\n",
-        ),
-        (
-            Refusal::Bind(BindFault::TooManySlotsInAll(23001)),
-            "refused: more than 2000 slots at 23001\n",
-        ),
-        (Refusal::NoStatement(2, 1), "refused: no statement 2 of 1\n"),
-        (Refusal::BadConf(10), "refused: configuration line 10\n"),
-        (
-            Refusal::TooManyCombinations(3, 4480),
-            "refused: statement 3 has 4480 combinations\n",
-        ),
-    ] {
-        let done = Done::Refused(why);
-        assert_text(&rt, rt.alloc(), &done, None, want);
+    for line in REFUSALS.lines() {
+        let (why, want) = line.split_once('|').expect(&rt, "a bar");
+        let (name, numbers) = next_word(&rt, why);
+        let (first, second) = next_number(&rt, numbers);
+        let second = second.parse::<u32>().expect(&rt, "a number");
+        let refusal = refusal_of(&rt, name, first, second);
+        assert_refusal(&rt, rt.alloc(), refusal, want);
     }
 }
 
 #[test]
 fn refusals_of_a_catalogue(rt: HostRuntime) {
-    let alloc = rt.alloc();
-    let path = path_of((2, KeyPart::Index, 1, KeyField::Keys, 2));
-    for (fault, want) in [
-        (CatFault::NotToml, "refused: not toml\n"),
-        (
-            CatFault::Missing(path),
-            "refused: missing table[2].index[1].keys[2]\n",
-        ),
-        (
-            CatFault::WrongKind(path),
-            "refused: wrong kind table[2].index[1].keys[2]\n",
-        ),
-        (
-            CatFault::OutOfRange(path),
-            "refused: out of range table[2].index[1].keys[2]\n",
-        ),
-        (
-            CatFault::TwoNames(path),
-            "refused: name twice table[2].index[1].keys[2]\n",
-        ),
-        (
-            CatFault::UnknownName(path),
-            "refused: unknown name table[2].index[1].keys[2]\n",
-        ),
-    ] {
-        let done = Done::Refused(Refusal::Cat(fault));
-        assert_text(&rt, rt.alloc(), &done, None, want);
-    }
-    for (parts, path) in [
-        ((0, KeyPart::Whole, 0, KeyField::Version, 0), "version"),
-        ((0, KeyPart::Rates, 0, KeyField::Itself, 0), "rates"),
-        (
-            (0, KeyPart::Rates, 0, KeyField::SeqPage, 0),
-            "rates.seq_page",
-        ),
-        (
-            (0, KeyPart::Rates, 0, KeyField::RandPage, 0),
-            "rates.rand_page",
-        ),
-        ((0, KeyPart::Rates, 0, KeyField::RowCpu, 0), "rates.row_cpu"),
-        (
-            (0, KeyPart::Rates, 0, KeyField::SortCpu, 0),
-            "rates.sort_cpu",
-        ),
-        (
-            (0, KeyPart::Rates, 0, KeyField::MergeCpu, 0),
-            "rates.merge_cpu",
-        ),
-        (
-            (0, KeyPart::Rates, 0, KeyField::HashCpu, 0),
-            "rates.hash_cpu",
-        ),
-        (
-            (0, KeyPart::Rates, 0, KeyField::GroupCpu, 0),
-            "rates.group_cpu",
-        ),
-        ((0, KeyPart::Table, 0, KeyField::Itself, 0), "table"),
-        ((2, KeyPart::Table, 0, KeyField::Itself, 0), "table[2]"),
-        ((2, KeyPart::Table, 0, KeyField::Name, 0), "table[2].name"),
-        ((2, KeyPart::Table, 0, KeyField::Rows, 0), "table[2].rows"),
-        ((2, KeyPart::Table, 0, KeyField::Pages, 0), "table[2].pages"),
-        (
-            (2, KeyPart::Table, 0, KeyField::Columns, 0),
-            "table[2].column",
-        ),
-        (
-            (2, KeyPart::Column, 1, KeyField::Itself, 0),
-            "table[2].column[1]",
-        ),
-        (
-            (2, KeyPart::Column, 1, KeyField::Kind, 0),
-            "table[2].column[1].kind",
-        ),
-        (
-            (2, KeyPart::Column, 1, KeyField::Width, 0),
-            "table[2].column[1].width",
-        ),
-        (
-            (2, KeyPart::Column, 1, KeyField::Distinct, 0),
-            "table[2].column[1].distinct",
-        ),
-        (
-            (2, KeyPart::Column, 1, KeyField::Low, 0),
-            "table[2].column[1].low",
-        ),
-        (
-            (2, KeyPart::Column, 1, KeyField::High, 0),
-            "table[2].column[1].high",
-        ),
-        (
-            (2, KeyPart::Table, 0, KeyField::Indexes, 0),
-            "table[2].index",
-        ),
-        (
-            (2, KeyPart::Index, 1, KeyField::Itself, 0),
-            "table[2].index[1]",
-        ),
-        (
-            (2, KeyPart::Index, 1, KeyField::Keys, 0),
-            "table[2].index[1].keys",
-        ),
-        (
-            (2, KeyPart::Index, 1, KeyField::Unique, 0),
-            "table[2].index[1].unique",
-        ),
-        (
-            (2, KeyPart::Index, 1, KeyField::Clustered, 0),
-            "table[2].index[1].clustered",
-        ),
-        (
-            (200, KeyPart::Index, 1000, KeyField::Keys, 8),
-            "table[200].index[1000].keys[8]",
-        ),
-    ] {
-        let done = Done::Refused(Refusal::Cat(CatFault::Missing(path_of(parts))));
-        let want = format!(in rt.alloc(); "refused: missing {path}\n").expect(&rt, "memory");
-        assert_text(&rt, rt.alloc(), &done, None, want.as_str());
+    for line in CATALOGUE_FAULTS.lines() {
+        let (why, want) = line.split_once('|').expect(&rt, "a bar");
+        let (name, path) = next_word(&rt, why);
+        let fault = catalogue_fault(name, path_of(&rt, path)).expect(&rt, "a fault");
+        assert_refusal(&rt, rt.alloc(), Refusal::Cat(fault), want);
     }
 }
 
