@@ -1,4 +1,4 @@
-use Rattle.search_tests.proofs.Made.{programme-limits}
+use Rattle.search_tests.proofs.Programmes.{programme-limits}
 use Rattle.search_tests.proofs.certificates.made.programme.Goals as goal
 
 pub invariant_of-result : goal.invariant_of-result
