@@ -6,6 +6,7 @@ ghost use Rattle.adv_base.specs.Items.{AreApart, is_up_of as is_up};
 ghost use Rattle.adv_base.specs.declared.limits.TheConstants.{MOST_PRICE};
 ghost use Rattle.adv_base.specs.OfferTables.{OfferLimits};
 
+use adv_base::limits::MOST_PRICE;
 use adv_base::{Item, List};
 use plan_model::Offers;
 use std::alloc::{AllocError, Global};
@@ -122,18 +123,18 @@ pub fn heaps(rt: &impl Abort, alloc: Global, prices: &[u32]) -> Table {
 }
 
 /// The same with an index on each of the first slots, at its price and of its columns.
-pub fn indexed(rt: &impl Abort, alloc: Global, prices: &[u32], indexes: &[(u32, &[u16])]) -> Table {
+pub fn indexed(rt: &impl Abort, alloc: Global, prices: &[u32], indexes: &[(u64, &[u16])]) -> Table {
     let mut slots = Vec::new(alloc);
     let mut slot: u8 = 0;
     for heap in prices {
-        let whole: (u32, &[u16]) = (*heap, &[]);
+        let whole: (u64, &[u16]) = (*heap as u64, &[]);
         let (price, columns) = match indexes.get(slot as usize) {
             None => whole,
             Some(index) => *index,
         };
-        let first = (price as u64, columns);
-        let second: (u64, &[u16]) = (*heap as u64, &[]);
-        let reads = Reads::new(alloc, slot, *heap, first, second).expect(rt, "memory");
+        assert!(rt; price <= MOST_PRICE);
+        let first = (price, columns);
+        let reads = Reads::new(alloc, slot, *heap, first, whole).expect(rt, "memory");
         slots.push(reads).expect(rt, "memory");
         slot = slot.wrapping_add(1);
     }
