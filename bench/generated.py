@@ -4,7 +4,7 @@ memory, and how they grow."""
 from dataclasses import dataclass
 from tempfile import TemporaryDirectory
 
-from measure import Run, arguments, need_program, need_status_0, print_row, run_once
+from measure import Run, arguments, need_answer, need_program, print_row, run_once
 from workloads import Advice, Workload, advice_of, budget_of, candidate_pages
 
 TABLES = 20
@@ -23,7 +23,7 @@ class Made:
 
 def made(program: str, workload: Workload, budget: int) -> Made:
     run = run_once([program, "bench", *workload.words, str(budget)])
-    need_status_0(run, f"bench {workload} {budget}")
+    need_answer(run, f"bench {workload} {budget}")
     return Made(run, advice_of(run))
 
 

@@ -69,5 +69,11 @@ def need_status_0(run, what):
         sys.exit(f"{what}: status {run.status}, {run.output[:200].decode(errors='replace').strip()!r}")
 
 
+def need_answer(run, what):
+    """The same where an advice that was stopped counts too, with status 1."""
+    if run.status != 1:
+        need_status_0(run, what)
+
+
 def print_row(cells, widths):
     print("  ".join(f"{cell!s:>{width}}" for cell, width in zip(cells, widths)), flush=True)
