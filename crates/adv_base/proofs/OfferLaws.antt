@@ -1,64 +1,16 @@
 -- Laws of access paths and offers.
-use Rattle.std.proofs.Common.{◌≡◌, ◌∙◌, ℕ, ◌+◌, ◌==◌, Bool, true, false, List, [], ◌∷◌, ◌++◌, length, map, refl, sym, ap, arith}
-use Rattle.std.specs.Prelude.{filter, slice_get, Option, Some, None, if◌then◌else◌}
-use Rattle.std.specs.List.{enumerate_from}
-use Rattle.std.proofs.lemmas.List.{map-append, length-map}
+use Rattle.std.proofs.Common.{◌≡◌, ◌∙◌, ℕ, ◌+◌, List, [], ◌∷◌, length, map, refl, ap, arith}
+use Rattle.std.specs.Prelude.{slice_get, Option, Some, None}
+use Rattle.std.proofs.lemmas.List.{length-map}
 use Rattle.adv_base.specs.declared.catalogue.Catalogue.{Catalogue}
-use Rattle.adv_base.specs.declared.catalogue.index.Index.{Index}
 use Rattle.adv_base.specs.declared.catalogue.index.IndexShape.{IndexShape}
 use Rattle.adv_base.specs.declared.catalogue.table.Table.{Table}
 use Rattle.adv_base.specs.declared.setting.Config.{Config}
 use Rattle.adv_base.specs.declared.workload.block.Block.{Block}
 use Rattle.adv_base.specs.declared.workload.parts.Slot.{Slot}
-use Rattle.adv_base.specs.Configs.{chosen}
 use Rattle.adv_base.specs.Lookups.{table_at}
-use Rattle.adv_base.specs.Access.{index_price, table_price}
-use Rattle.adv_base.specs.Offers.{Offer, Path, Heap, Existing, Candidate, candidate_path, numbered_on, paths_on, paths_in, paths_of, paths, index_offer, path_offer, charged_path_offer, offers_on, offers_of, offers, charged_offers_on, charged_offers_of, charged_offers}
-
-map-map : {A B C : Type 0} (f : A → B) (g : B → C) (xs : List A) → map g (map f xs) ≡ map (λ x. g (f x)) xs
-map-map f g [] = refl
-map-map f g (x ∷ xs) = ap (λ (ys : List _). g (f x) ∷ ys) (map-map f g xs)
-
--- the numbers fall away again
-chosen-numbered : (flags : List Bool) (shapes : List IndexShape) (n : ℕ) → map (λ (p : ℕ × IndexShape). p.1) (chosen flags (enumerate_from n shapes)) ≡ chosen flags shapes
-chosen-numbered [] shapes n = refl
-chosen-numbered (flag ∷ flags) [] n = refl
-chosen-numbered (true ∷ flags) (shape ∷ shapes) n = ap (λ (ys : List IndexShape). shape ∷ ys) (chosen-numbered flags shapes (n + 1))
-chosen-numbered (false ∷ flags) (shape ∷ shapes) n = chosen-numbered flags shapes (n + 1)
-
-filter-numbered : (test : IndexShape → Bool) (xs : List (ℕ × IndexShape)) → map (λ (p : ℕ × IndexShape). p.1) (filter (λ p. test p.1) xs) ≡ filter test (map (λ (p : ℕ × IndexShape). p.1) xs)
-filter-numbered test [] = refl
-filter-numbered test (x ∷ xs) = filtered (test x.1) (filter-numbered test xs)
-  where
-    filtered : (b : Bool) → map (λ (p : ℕ × IndexShape). p.1) (filter (λ p. test p.1) xs) ≡ filter test (map (λ (p : ℕ × IndexShape). p.1) xs) →
-        map (λ (p : ℕ × IndexShape). p.1) (if b then x ∷ filter (λ p. test p.1) xs else filter (λ p. test p.1) xs) ≡ (if b then x.1 ∷ filter test (map (λ (p : ℕ × IndexShape). p.1) xs) else filter test (map (λ (p : ℕ × IndexShape). p.1) xs))
-    filtered true rest = ap (λ (ys : List IndexShape). x.1 ∷ ys) rest
-    filtered false rest = rest
-
--- the shapes of the configuration's candidates on a table
-pub numbered_on-shapes : (shapes : List IndexShape) (config : Config) (t : ℕ) →
-    map (λ (p : ℕ × IndexShape). p.1) (numbered_on shapes config t) ≡ filter (λ shape. shape.table == t) (chosen config.on shapes)
-numbered_on-shapes shapes config t =
-    filter-numbered (λ shape. shape.table == t) (chosen config.on (enumerate_from 1 shapes))
-    ∙ ap (filter (λ (shape : IndexShape). shape.table == t)) (chosen-numbered config.on shapes 1)
-
--- the offers are that of the table, and one for each shape: those of its indexes and then of the candidates
-pub offers_on-shapes : (cat : Catalogue) (block : Block) (shapes : List IndexShape) (config : Config) (s : ℕ) (slot : Slot) (table : Table) →
-    offers_on cat block shapes config s slot (Some table)
-    ≡ ([], table_price cat table) ∷ map (index_offer cat block s slot table) (map (λ index. index.shape) table.indexes ++ filter (λ shape. shape.table == slot.table) (chosen config.on shapes))
-offers_on-shapes cat block shapes config s slot table =
-    let taken = numbered_on shapes config slot.table in
-    let read : IndexShape → Offer = index_offer cat block s slot table in
-    let offer : Path → Offer = path_offer cat block s slot table in
-    let existing : map offer (map Existing table.indexes) ≡ map read (map (λ (index : Index). index.shape) table.indexes) =
-    map-map Existing offer table.indexes ∙ sym (map-map (λ (index : Index). index.shape) read table.indexes) in
-    let candidates : map offer (map candidate_path taken) ≡ map read (filter (λ (shape : IndexShape). shape.table == slot.table) (chosen config.on shapes)) =
-    map-map candidate_path offer taken ∙ sym (map-map (λ (p : ℕ × IndexShape). p.1) read taken) ∙ ap (map read) (numbered_on-shapes shapes config slot.table) in
-    ap (λ (rest : List Offer). ([], table_price cat table) ∷ rest)
-    (map-append offer (map Existing table.indexes) (map candidate_path taken)
-    ∙ ap (λ (front : List Offer). front ++ map offer (map candidate_path taken)) existing
-    ∙ ap (λ (back : List Offer). map read (map (λ (index : Index). index.shape) table.indexes) ++ back) candidates
-    ∙ sym (map-append read (map (λ (index : Index). index.shape) table.indexes) (filter (λ (shape : IndexShape). shape.table == slot.table) (chosen config.on shapes))))
+use Rattle.adv_base.specs.Access.{index_price}
+use Rattle.adv_base.specs.Offers.{Path, Heap, Existing, Candidate, paths_on, paths_in, paths_of, paths, index_offer, path_offer, charged_path_offer, offers_on, offers_of, offers, charged_offers_on, charged_offers_of, charged_offers}
 
 -- ## Charges
 

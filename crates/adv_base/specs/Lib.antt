@@ -5,6 +5,7 @@ pub mod Predicates
 pub mod Limits
 pub mod Lookups
 pub mod Named
+pub mod Readings
 pub mod Parts
 pub mod Rows
 pub mod Sizes
