@@ -16,6 +16,16 @@ const ONE_TABLE: Files<'static> = Files {
     conf: "",
 };
 
+/// A catalogue, a workload, and a certificate of advice on them within 4 pages.
+const CERTIFIED: Files<'static> = Files {
+    cat: "KNAP",
+    load: "-- weight 10~SELECT c FROM t ORDER BY c;~-- weight 11~SELECT d, e FROM v ORDER BY d, e;~",
+    conf: "cophy certificate 1~budget 4~config 2~cost 954000~bound 954000~sets 0~tree 3~B 1~L 0~L 0~end~",
+};
+
+/// As LINES, over these.
+const PROVED: &str = "6|check CAT LOAD CONF|proved cost 954000 bound 954000 budget 4~";
+
 /// How many calls read files, a command line, and what it prints where nothing fails; `~` stands for a line feed.
 const LINES: &str = r#"4|cost CAT LOAD|statement 1 weight 1 cost 30000~total 30000~
 4|candidates CAT LOAD|1 t(c) 3 pages~left over 0~
@@ -35,11 +45,18 @@ fn parts<'a>(rt: &impl Abort, case: &'a str) -> (u64, &'a str, &'a str) {
 }
 
 /// A run whose call of a number fails prints the output, and ends with the status.
-fn assert_run(rt: &impl Abort, alloc: Global, words: &str, call: u64, want: (u8, &str)) {
-    let mut shelf = ONE_TABLE.shelf(rt, alloc);
+fn assert_run(
+    rt: &impl Abort,
+    alloc: Global,
+    files: &Files<'_>,
+    words: &str,
+    call: u64,
+    want: (u8, &str),
+) {
+    let mut shelf = files.shelf(rt, alloc);
     shelf.fail_at(call).expect(rt, "memory");
     let (status, out) = answer(rt, alloc, words, &mut shelf, 1000);
-    ONE_TABLE.assert_kept(rt, alloc, &shelf);
+    files.assert_kept(rt, alloc, &shelf);
     let output = spread(rt, alloc, want.1);
     let wanted = if want.0 == 0 { status } else { want.0 };
     assert_told(
@@ -50,44 +67,69 @@ fn assert_run(rt: &impl Abort, alloc: Global, words: &str, call: u64, want: (u8,
     );
 }
 
-/// Lets the call of each number fail, until a run meets no failure. Where a read fails its file is named; an empty file is
-/// read by one call, any other by two, of which the second finds its end.
+/// Lets the call of each number fail, until the run of a line meets no failure.
+fn assert_reads(rt: &impl Abort, alloc: Global, files: &Files<'_>, case: &str) {
+    let (calls, words, output) = parts(rt, case);
+    let names = ["CAT", "CAT", "LOAD", "LOAD", "CONF", "CONF"];
+    for (i, name) in names.iter().enumerate() {
+        if (i as u64) < calls {
+            let output = format!(in alloc; "read fault: {name}~").expect(rt, "memory");
+            assert_run(rt, alloc, files, words, i as u64 + 1, (3, output.as_str()));
+        }
+    }
+    assert_run(
+        rt,
+        alloc,
+        files,
+        words,
+        calls.saturating_add(1),
+        (0, output),
+    );
+}
+
+/// Where a read fails its file is named; an empty file is read by one call, any other by two, of which the second finds
+/// its end.
 #[test]
 fn a_failed_read_is_told_with_the_name_of_its_file(rt: HostRuntime) {
-    let files = ["CAT", "CAT", "LOAD", "LOAD", "CONF"];
     for case in LINES.lines() {
-        let (calls, words, output) = parts(&rt, case);
-        for (i, name) in files.iter().enumerate() {
-            if (i as u64) < calls {
-                let output = format!(in rt.alloc(); "read fault: {name}~").expect(&rt, "memory");
-                assert_run(&rt, rt.alloc(), words, i as u64 + 1, (3, output.as_str()));
-            }
-        }
-        assert_run(&rt, rt.alloc(), words, calls.saturating_add(1), (0, output));
+        assert_reads(&rt, rt.alloc(), &ONE_TABLE, case);
     }
+    assert_reads(&rt, rt.alloc(), &CERTIFIED, PROVED);
 }
 
 /// A run with room for so many bytes of its output writes those, and ends with status 4 where there are more.
-fn assert_room(rt: &impl Abort, alloc: Global, words: &str, text: &[u8], room: usize) {
-    let mut shelf = ONE_TABLE.shelf(rt, alloc);
+fn assert_room(
+    rt: &impl Abort,
+    alloc: Global,
+    files: &Files<'_>,
+    words: &str,
+    text: &[u8],
+    room: usize,
+) {
+    let mut shelf = files.shelf(rt, alloc);
     let (status, out) = answer(rt, alloc, words, &mut shelf, room);
-    ONE_TABLE.assert_kept(rt, alloc, &shelf);
+    files.assert_kept(rt, alloc, &shelf);
     assert_eq!(rt; status == 4, room < text.len(), "{words}, room {room}");
     let front = text.get(..room).expect(rt, "a front");
     assert_told(rt, (status, out.bytes()), (status, front), words);
 }
 
-/// Gives the output less and less room than its text needs, and then all of it.
+/// Gives the output of a line less and less room than its text needs, and then all of it.
+fn assert_rooms(rt: &impl Abort, alloc: Global, files: &Files<'_>, case: &str) {
+    let (_, words, output) = parts(rt, case);
+    let text = spread(rt, alloc, output);
+    for room in 0..text.len() {
+        assert_room(rt, alloc, files, words, text.as_slice(), room);
+    }
+    assert_room(rt, alloc, files, words, text.as_slice(), text.len());
+}
+
 #[test]
 fn a_failed_write_ends_with_its_status(rt: HostRuntime) {
     for case in LINES.lines() {
-        let (_, words, output) = parts(&rt, case);
-        let text = spread(&rt, rt.alloc(), output);
-        for room in 0..text.len() {
-            assert_room(&rt, rt.alloc(), words, text.as_slice(), room);
-        }
-        assert_room(&rt, rt.alloc(), words, text.as_slice(), text.len());
+        assert_rooms(&rt, rt.alloc(), &ONE_TABLE, case);
     }
+    assert_rooms(&rt, rt.alloc(), &CERTIFIED, PROVED);
 }
 
 /// Prices an empty workload over a catalogue of the system, and compares the status and, where it is given, the output.

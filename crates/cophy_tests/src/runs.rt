@@ -104,27 +104,28 @@ const CONFIGURED: &str =
 5|whatif CAT LOAD CONF|T|SELECT c FROM|2~|refused: syntax at 14~
 3|whatif CAT LOAD none|T|SELECT c FROM||read fault: none~"#;
 
-/// Advice. How many nodes a search makes is its own affair: `#` stands for an odd number of at most the first part.
+/// Advice. How many nodes a search makes is its own affair: `#` stands for an odd number in the range of the first part.
 const ADVICE: &str =
-    r#"3|0|advise CAT LOAD 3|T|SELECT p.c FROM t p, t q WHERE p.c = q.c -- 94000 without||budget 3~candidates 1 left over 0~pick 1 t(c) 3 pages~size 3~cost 46000~bound 46000~gap 0~nodes # of 20000~finished~
-127|0|advise CAT LOAD 3000|ORDERS|-- weight 50~SELECT o.o_id, o.o_date, sum(l.l_price) AS revenue~FROM customer c JOIN orders o ON c.c_id = o.o_cust JOIN lineitem l ON l.l_order = o.o_id~WHERE c.c_segment = 'BUILDING' AND o.o_date BETWEEN DATE '1995-01-01' AND DATE '1995-03-31'~GROUP BY o.o_id, o.o_date ORDER BY revenue DESC, o.o_date LIMIT 10;~||budget 3000~candidates 8 left over 0~pick 2 customer(c_segment, c_id) 56 pages~pick 6 orders(o_date, o_id, o_cust) 589 pages~pick 8 lineitem(l_order, l_price) 2063 pages~size 2708~cost 583783100~bound 583783100~gap 0~nodes # of 20000~finished~
-5|0|advise CAT LOAD 4|KNAP|-- weight 10~SELECT c FROM t ORDER BY c;~-- weight 11~SELECT d, e FROM v ORDER BY d, e;~||budget 4~candidates 2 left over 0~pick 2 v(d, e) 4 pages~size 4~cost 954000~bound 954000~gap 0~nodes # of 20000~finished~
-5|0|advise CAT LOAD 4 --nodes 7|KNAP|-- weight 10~SELECT c FROM t ORDER BY c;~-- weight 11~SELECT d, e FROM v ORDER BY d, e;~||budget 4~candidates 2 left over 0~pick 2 v(d, e) 4 pages~size 4~cost 954000~bound 954000~gap 0~nodes # of 7~finished~
-1|0|advise CAT LOAD 0|KNAP|-- weight 10~SELECT c FROM t ORDER BY c;~-- weight 11~SELECT d, e FROM v ORDER BY d, e;~||budget 0~candidates 2 left over 0~size 0~cost 1680000~bound 1680000~gap 0~nodes # of 20000~finished~
-3|0|advise CAT LOAD 10|T|SELECT c FROM t ORDER BY c; UPDATE t SET c = 1 -- its upkeep is 16020000||budget 10~candidates 1 left over 0~size 0~cost 110000~bound 110000~gap 0~nodes # of 20000~finished~
-1|0|advise CAT LOAD 10|EMPTY|||budget 10~candidates 0 left over 0~size 0~cost 0~bound 0~gap 0~nodes # of 20000~finished~"#;
+    r#"1-3|0|advise CAT LOAD 3|T|SELECT p.c FROM t p, t q WHERE p.c = q.c -- 94000 without||budget 3~candidates 1 left over 0~pick 1 t(c) 3 pages~size 3~cost 46000~bound 46000~gap 0~nodes # of 20000~finished~
+1-127|0|advise CAT LOAD 3000|ORDERS|-- weight 50~SELECT o.o_id, o.o_date, sum(l.l_price) AS revenue~FROM customer c JOIN orders o ON c.c_id = o.o_cust JOIN lineitem l ON l.l_order = o.o_id~WHERE c.c_segment = 'BUILDING' AND o.o_date BETWEEN DATE '1995-01-01' AND DATE '1995-03-31'~GROUP BY o.o_id, o.o_date ORDER BY revenue DESC, o.o_date LIMIT 10;~||budget 3000~candidates 8 left over 0~pick 2 customer(c_segment, c_id) 56 pages~pick 6 orders(o_date, o_id, o_cust) 589 pages~pick 8 lineitem(l_order, l_price) 2063 pages~size 2708~cost 583783100~bound 583783100~gap 0~nodes # of 20000~finished~
+3-5|0|advise CAT LOAD 4|KNAP|-- weight 10~SELECT c FROM t ORDER BY c;~-- weight 11~SELECT d, e FROM v ORDER BY d, e;~||budget 4~candidates 2 left over 0~pick 2 v(d, e) 4 pages~size 4~cost 954000~bound 954000~gap 0~nodes # of 20000~finished~
+3-5|0|advise CAT LOAD 4 --nodes 7|KNAP|-- weight 10~SELECT c FROM t ORDER BY c;~-- weight 11~SELECT d, e FROM v ORDER BY d, e;~||budget 4~candidates 2 left over 0~pick 2 v(d, e) 4 pages~size 4~cost 954000~bound 954000~gap 0~nodes # of 7~finished~
+1-1|0|advise CAT LOAD 0|KNAP|-- weight 10~SELECT c FROM t ORDER BY c;~-- weight 11~SELECT d, e FROM v ORDER BY d, e;~||budget 0~candidates 2 left over 0~size 0~cost 1680000~bound 1680000~gap 0~nodes # of 20000~finished~
+1-3|0|advise CAT LOAD 10|T|SELECT c FROM t ORDER BY c; UPDATE t SET c = 1 -- its upkeep is 16020000||budget 10~candidates 1 left over 0~size 0~cost 110000~bound 110000~gap 0~nodes # of 20000~finished~
+1-1|0|advise CAT LOAD 10|EMPTY|||budget 10~candidates 0 left over 0~size 0~cost 0~bound 0~gap 0~nodes # of 20000~finished~"#;
 
 /// Advice on made workloads within no page, so that nothing can be picked. A second program, from what is said of the
 /// generator and of prices, made the same workloads, counted their slots and computed what they cost without an index; the
 /// candidates were counted by hand.
 const MADE: &str =
-    r#"1|0|bench 1 2 5 0|T|||tables 2~statements 5~slots 6~budget 0~candidates 11 left over 0~size 0~cost 4944003918~bound 4944003918~gap 0~nodes # of 20000~finished~
-1|0|bench 7 20 500 0|T|||tables 20~statements 500~slots 606~budget 0~candidates 180 left over 0~size 0~cost 568912639352~bound 568912639352~gap 0~nodes # of 20000~finished~"#;
+    r#"1-1|0|bench 1 2 5 0|T|||tables 2~statements 5~slots 6~budget 0~candidates 11 left over 0~size 0~cost 4944003918~bound 4944003918~gap 0~nodes # of 20000~finished~
+1-1|0|bench 7 20 500 0|T|||tables 20~statements 500~slots 606~budget 0~candidates 180 left over 0~size 0~cost 568912639352~bound 568912639352~gap 0~nodes # of 20000~finished~"#;
 
 /// Command lines that advise on made workloads, and how what they print begins.
 const MADE_TWICE: &str =
     r#"bench 7 4 20 2000|tables 4~statements 20~slots 25~budget 2000~candidates 23 left over 0~
-bench 18446744073709551615 3 8 1000000000000|tables 3~statements 8~slots 11~budget 1000000000000~"#;
+bench 18446744073709551615 3 8 1000000000000|tables 3~statements 8~slots 11~budget 1000000000000~
+bench 7 20 500 0|tables 20~statements 500~slots 606~budget 0~candidates 180 left over 0~size 0~cost 568912639352~"#;
 
 /// Certificates, and what each proves.
 const CHECKED: &str =
@@ -238,29 +239,41 @@ fn compare_unconfigured(rt: &impl Abort, alloc: Global, line: &str) {
     compare_case(rt, alloc, &unconfigured, line);
 }
 
-/// Whether an output is the wanted one with an odd number of at most `most` in the place of `#`.
-fn has_nodes(rt: &impl Abort, alloc: Global, out: &[u8], want: &str, most: u64) -> bool {
+/// Whether an output is the wanted one with an odd number from `least` to `most` in the place of `#`.
+fn has_nodes(
+    rt: &impl Abort,
+    alloc: Global,
+    out: &[u8],
+    want: &str,
+    (least, most): (u64, u64),
+) -> bool {
     let (front, back) = want.split_once('#').expect(rt, "a number of nodes");
-    for half in 0..most {
-        let nodes = half.saturating_mul(2).saturating_add(1);
+    for nodes in least..most.saturating_add(1) {
         let text = format!(in alloc; "{front}{nodes}{back}").expect(rt, "memory");
         let text = spread(rt, alloc, text.as_str());
-        if nodes <= most && text.as_slice() == out {
+        if nodes % 2 == 1 && text.as_slice() == out {
             return true;
         }
     }
     false
 }
 
+/// The two numbers with a dash between them.
+fn range(rt: &impl Abort, text: &str) -> (u64, u64) {
+    let (least, most) = text.split_once('-').expect(rt, "a range");
+    let least = least.parse::<u64>().expect(rt, "a number");
+    (least, most.parse::<u64>().expect(rt, "a number"))
+}
+
 /// Advises on a line.
 fn compare_advice(rt: &impl Abort, alloc: Global, line: &str) {
-    let (most, rest) = line.split_once('|').expect(rt, "a number");
-    let most = most.parse::<u64>().expect(rt, "a number");
+    let (nodes, rest) = line.split_once('|').expect(rt, "a range");
+    let nodes = range(rt, nodes);
     let case = case_of(rt, rest);
     let mut shelf = case.files.shelf(rt, alloc);
     let (status, out) = answer(rt, alloc, case.words, &mut shelf, 1000);
     let wanted = case.status.parse::<u8>().expect(rt, "a status");
-    let holds = status == wanted && has_nodes(rt, alloc, out.bytes(), case.output, most);
+    let holds = status == wanted && has_nodes(rt, alloc, out.bytes(), case.output, nodes);
     assert!(rt; holds, "{line}");
 }
 
@@ -331,7 +344,19 @@ fn a_seed_gives_the_same_advice_each_time(rt: HostRuntime) {
     }
 }
 
-/// Two candidates of which one fits, and no node to tell which: either may be picked.
+/// The number on the line of an output that begins with a word.
+fn told(rt: &impl Abort, out: &[u8], word: &str) -> u64 {
+    for line in out.split(|byte| *byte == b'\n') {
+        if let Some(number) = line.strip_prefix(word.as_bytes()) {
+            let number = str::from_utf8(number).expect(rt, "a number");
+            return number.parse::<u64>().expect(rt, "a number");
+        }
+    }
+    panic!(rt; "no line begins with {word}")
+}
+
+/// Two candidates of which one fits, and no node to tell which: either may be picked. The bound is no less than that of the
+/// best rents, worked out by hand, and no more than the linear relaxation.
 #[test]
 fn one_node_is_not_enough(rt: HostRuntime) {
     let alloc = rt.alloc();
@@ -346,6 +371,10 @@ fn one_node_is_not_enough(rt: HostRuntime) {
     let end = spread(&rt, alloc, "nodes 1 of 1~stopped~");
     let holds = status == 1 && out.bytes().ends_with(end.as_slice());
     assert!(rt; holds);
+    let cost = told(&rt, out.bytes(), "cost ");
+    let bound = told(&rt, out.bytes(), "bound ");
+    assert!(rt; cost == 954000 || cost == 1010000, "{cost}");
+    assert!(rt; 677204 <= bound && bound <= 828500, "{bound}");
 }
 
 #[test]
