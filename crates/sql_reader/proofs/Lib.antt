@@ -16,7 +16,6 @@ pub mod Outcome
 pub mod PrintedConditions
 pub mod PrintedItems
 pub mod PrintedOperands
-pub mod Rooms
 pub mod Same
 pub mod Steps
 pub mod Theory

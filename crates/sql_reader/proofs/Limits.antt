@@ -104,7 +104,7 @@ few_tokens at (p ∷ ps) text rest (behind, split, stands, cut) =
       length-append p.bytes behind,
     )
 
-few : (text : List ℕ) (list : List Token) (pieces : List Piece) → AreTokens text list → ArePieces text list no_mark pieces → length pieces ≤ length text
+pub few : (text : List ℕ) (list : List Token) (pieces : List Piece) → AreTokens text list → ArePieces text list no_mark pieces → length pieces ≤ length text
 few text list pieces tokens are =
     omega (arith, few_pieces text list no_mark pieces are, ap length tokens.tokens, few_tokens 0 tokens.parts text [] tokens.cut)
 
