@@ -1,6 +1,7 @@
 pub mod Alike
 pub mod AsPrinted
 pub mod Begun
+pub mod Digits
 pub mod Exactly
 pub mod Good
 pub mod Keeps
