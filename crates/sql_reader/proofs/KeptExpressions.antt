@@ -14,7 +14,7 @@ use Rattle.sql_reader.specs.declared.parsed.Condition.{Condition}
 use Rattle.sql_reader.specs.Rule.{Nesting, State, Rule, Nest, Conditions, Parenthesis, Call, Signed, Meaning}
 use Rattle.sql_reader.specs.Values.{not_alone, is_column, literal_form, literal_of, literal_of_kind, whole_literal, negative, signed, expr_of}
 use Rattle.sql_reader.specs.Valid.{span_in, option_in, name_in, source_in, literal_in, condition_in, are_few, one_if_plain, expr_in}
-use Rattle.sql_reader.specs.Pieces.{is_good_weight}
+use Rattle.sql_reader.specs.Words.{is_good_weight}
 use Rattle.sql_reader.specs.Grammar.{after_name, column, null_test}
 use Rattle.sql_reader.specs.Printed as printed
 use Rattle.sql_reader.proofs.KindSets.{not_both}

@@ -19,7 +19,7 @@ use Rattle.sql_reader.specs.declared.parts.Progress.{Progress}
 use Rattle.sql_reader.specs.Rule.{Nesting, State, Rule, Take, Use, Meaning, IsNested}
 use Rattle.sql_reader.specs.Values.{beside, conditions_of, with_conditions, expr_of, with_source, plain_column, weight_of, with_statement, insert_body, update_body}
 use Rattle.sql_reader.specs.Valid.{span_in, option_in, name_in, source_in, condition_in, item_in, order_item_in, select_in, rows_in, are_few, body_in, statement_in, expr_in, items_in, sources_in, conditions_in, names_in, order_in}
-use Rattle.sql_reader.specs.Pieces.{is_good_weight}
+use Rattle.sql_reader.specs.Words.{is_good_weight}
 use Rattle.sql_reader.specs.Grammar.{quantifier, group_part, column_list, one_column, more_columns, another_column, direction, insert_table, insert_columns, name_list, name_as_column, more_names, another_name, set_column}
 use Rattle.sql_reader.specs.Printed as printed
 use Rattle.sql_reader.proofs.Keeps.{Free, Scale, Keeps, give_keeps, take_keeps, then_keeps, use_keeps, part_keeps, either_keeps, many_keeps, known_keeps, free_keeps}

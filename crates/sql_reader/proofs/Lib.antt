@@ -1,6 +1,7 @@
 pub mod Alike
 pub mod AsPrinted
 pub mod Begun
+pub mod Digits
 pub mod Exactly
 pub mod Good
 pub mod Keeps
@@ -16,7 +17,6 @@ pub mod Outcome
 pub mod PrintedConditions
 pub mod PrintedItems
 pub mod PrintedOperands
-pub mod Rooms
 pub mod Same
 pub mod Steps
 pub mod Theory

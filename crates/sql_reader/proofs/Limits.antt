@@ -1,6 +1,7 @@
 -- The statements of a text keep the limits.
-use Rattle.std.proofs.Common.{◌≡◌, ℕ, zero, suc, ◌+◌, ◌^◌, ◌<◌, ◌≤◌, Bool, true, false, ◌&&◌, not, List, [], ◌∷◌, ◌++◌, length, Option, Some, None, nat_le, All, sym, refl, ap, subst, arith, length-append, if◌then◌else◌}
+use Rattle.std.proofs.Common.{◌≡◌, ℕ, zero, suc, ◌+◌, ◌^◌, ◌<◌, ◌≤◌, Bool, true, false, List, [], ◌∷◌, ◌++◌, length, Option, Some, None, nat_le, All, sym, refl, ap, subst, arith, length-append, if◌then◌else◌}
 use Rattle.std.specs.List.{list_all}
+use Rattle.std.specs.Str.Parse.{digits_value}
 use Rattle.std.proofs.lemmas.List.Elements.{All-head, All-tail}
 use Rattle.std.proofs.lemmas.Bool.{le-leb}
 use Rattle.sql_tokens.specs.declared.token.Token.{Token}
@@ -25,8 +26,8 @@ use Rattle.sql_reader.specs.Grammar.{starts, levels}
 use Rattle.sql_reader.specs.Printed as printed
 use Rattle.sql_reader.specs.Values.{place_of, weight_of, with_statement, no_statements, insert_body, update_body}
 use Rattle.sql_reader.specs.Valid.{span_in, statement_in, statements_in}
-use Rattle.sql_reader.specs.Pieces.{bytes_of, ArePieces, WithToken, IsPiece, no_mark, mark_of, is_weight, is_good_weight, is_bad_weight, bad_weight, start_behind}
-use Rattle.sql_reader.specs.Words.{weight_number}
+use Rattle.sql_reader.specs.Pieces.{bytes_of, ArePieces, WithToken, IsPiece, no_mark, mark_or, mark_behind, is_weight, start_behind}
+use Rattle.sql_reader.specs.Words.{is_good_weight, last_digits, comment_weight}
 use Rattle.sql_reader.proofs.KindSets.{in_wider}
 use Rattle.sql_reader.proofs.Keeps.{Free, Scale, Keeps, AllGood, give_keeps, take_keeps, then_keeps, use_keeps, either_keeps, many_keeps, free_keeps}
 use Rattle.sql_reader.proofs.Keeps as keeps
@@ -35,14 +36,13 @@ use Rattle.sql_reader.proofs.KeptStatements.{workload_keeps, all_nested}
 
 -- each piece lies in the text, and its weight was judged
 
-not_bad : (weight good : Bool) (o : Option ℕ) (place : ℕ) → (if weight && not good then Some place else o) ≡ None → weight ≡ true → good ≡ true
-not_bad true true o place e w = refl
-not_bad true false o place e w = absurd cc
-not_bad false good o place e w = absurd cc
-
-bad_behind : (bad : Bool) (o : Option ℕ) (place : ℕ) → (if bad then Some place else o) ≡ None → o ≡ None
-bad_behind true o place e = absurd cc
-bad_behind false o place e = e
+good_mark : (mark : Mark) (place : ℕ) (bytes : List ℕ) → is_good_weight mark.weight ≡ true → is_good_weight (mark_or mark place (comment_weight bytes)).weight ≡ true
+unfolding comment_weight
+good_mark mark place bytes good = by_weight (is_good_weight (digits_value 10 (last_digits bytes))) refl
+  where
+    by_weight : (b : Bool) → is_good_weight (digits_value 10 (last_digits bytes)) ≡ b → is_good_weight (mark_or mark place (if b then Some (digits_value 10 (last_digits bytes)) else None)).weight ≡ true
+    by_weight true e = e
+    by_weight false e = good
 
 span_lies : (text : List ℕ) (t : Token) → LiesIn text t → span_in (length text) t.span ≡ true
 span_lies text t (some, in_text) =
@@ -54,27 +54,23 @@ module _ (text : List ℕ) (d : (x : Nesting) → Meaning (State x) (State x)) w
       (subst (λ s. span_in (length text) s ≡ true) (sym is.span) (span_lies text t lies), subst (λ m. is_good_weight m.weight ≡ true) (sym is.mark_is) good)
 
   good_token : (weight : Bool) (t : Token) (ts : List Token) (mark : Mark) (pieces : List Piece) →
-      ((m : Mark) (ps : List Piece) → is_good_weight m.weight ≡ true → bad_weight text ts ≡ None → ArePieces text ts m ps → AllGood (text_scale (length text) d) ps) →
-      is_weight t.kind ≡ weight → LiesIn text t → is_good_weight mark.weight ≡ true → bad_weight text (t ∷ ts) ≡ None → WithToken text mark t (ArePieces text ts) weight pieces →
-      AllGood (text_scale (length text) d) pieces
-  good_token true t ts mark pieces behind e lies good none are =
-      behind (mark_of text t) pieces (not_bad (is_weight t.kind) (is_good_weight (weight_number (bytes_of text t))) (bad_weight text ts) (t.span.from + 1) none e)
-      (bad_behind (is_bad_weight text t) (bad_weight text ts) (t.span.from + 1) none) are
-  good_token false t ts mark pieces behind e lies good none (p, rest, split, is, are) =
-      subst (AllGood (text_scale (length text) d)) (sym split)
-      (piece_good mark t p lies good is, behind mark rest good (bad_behind (is_bad_weight text t) (bad_weight text ts) (t.span.from + 1) none) are)
+      ((m : Mark) (ps : List Piece) → is_good_weight m.weight ≡ true → ArePieces text ts m ps → AllGood (text_scale (length text) d) ps) →
+      LiesIn text t → is_good_weight mark.weight ≡ true → WithToken text mark t (ArePieces text ts) weight pieces → AllGood (text_scale (length text) d) pieces
+  good_token true t ts mark pieces behind lies good are = behind (mark_behind text t mark) pieces (good_mark mark (t.span.from + 1) (bytes_of text t) good) are
+  good_token false t ts mark pieces behind lies good (p, rest, split, is, are) =
+      subst (AllGood (text_scale (length text) d)) (sym split) (piece_good mark t p lies good is, behind mark rest good are)
 
-  good_pieces : (list : List Token) → All (LiesIn text) list → (mark : Mark) (pieces : List Piece) → is_good_weight mark.weight ≡ true → bad_weight text list ≡ None →
-      ArePieces text list mark pieces → AllGood (text_scale (length text) d) pieces
-  good_pieces [] lies mark pieces good none are = subst (AllGood (text_scale (length text) d)) (sym are) tt
-  good_pieces (t ∷ ts) lies mark pieces good none are =
-      good_token (is_weight t.kind) t ts mark pieces (good_pieces ts (All-tail (LiesIn text) t ts lies)) refl (All-head (LiesIn text) t ts lies) good none are
+  good_pieces : (list : List Token) → All (LiesIn text) list → (mark : Mark) (pieces : List Piece) → is_good_weight mark.weight ≡ true → ArePieces text list mark pieces →
+      AllGood (text_scale (length text) d) pieces
+  good_pieces [] lies mark pieces good are = subst (AllGood (text_scale (length text) d)) (sym are) tt
+  good_pieces (t ∷ ts) lies mark pieces good are =
+      good_token (is_weight t.kind) t ts mark pieces (good_pieces ts (All-tail (LiesIn text) t ts lies)) (All-head (LiesIn text) t ts lies) good are
 
 -- there are at most as many pieces as bytes
 
 few_behind : (text : List ℕ) (weight : Bool) (t : Token) (ts : List Token) (mark : Mark) (pieces : List Piece) → ((m : Mark) (ps : List Piece) → ArePieces text ts m ps → length ps ≤ length ts) →
     WithToken text mark t (ArePieces text ts) weight pieces → length pieces ≤ length (t ∷ ts)
-few_behind text true t ts mark pieces behind are = omega (arith, behind (mark_of text t) pieces are)
+few_behind text true t ts mark pieces behind are = omega (arith, behind (mark_behind text t mark) pieces are)
 few_behind text false t ts mark pieces behind (p, rest, split, is, are) = omega (arith, ap length split, behind mark rest are)
 
 few_pieces : (text : List ℕ) (list : List Token) (mark : Mark) (pieces : List Piece) → ArePieces text list mark pieces → length pieces ≤ length list
@@ -104,7 +100,7 @@ few_tokens at (p ∷ ps) text rest (behind, split, stands, cut) =
       length-append p.bytes behind,
     )
 
-few : (text : List ℕ) (list : List Token) (pieces : List Piece) → AreTokens text list → ArePieces text list no_mark pieces → length pieces ≤ length text
+pub few : (text : List ℕ) (list : List Token) (pieces : List Piece) → AreTokens text list → ArePieces text list no_mark pieces → length pieces ≤ length text
 few text list pieces tokens are =
     omega (arith, few_pieces text list no_mark pieces are, ap length tokens.tokens, few_tokens 0 tokens.parts text [] tokens.cut)
 
@@ -184,15 +180,15 @@ starts_at_most limit d (p ∷ ps) n none = starts_behind limit d n p ps (has sta
 
 -- what a text means as a workload keeps the limits
 pub limits : (text : List ℕ) (list : List Token) (pieces : List Piece) (progress : Progress) → length text < 2 ^ 32 → AreTokens text list → ArePieces text list no_mark pieces →
-    bad_weight text list ≡ None → start_behind 1000 pieces ≡ None → IsRead printed.grammar levels printed.workload no_statements pieces progress →
+    start_behind 1000 pieces ≡ None → IsRead printed.grammar levels printed.workload no_statements pieces progress →
     statements_in (length text) progress.statements ≡ true
-limits text list pieces progress short tokens are no_bad_weight no_start is =
+limits text list pieces progress short tokens are no_start is =
     let n = length text in
     let d = IsNested printed.grammar levels in
     let lies = subst (All (LiesIn text)) (sym tokens.tokens) (lies-cut tokens.parts text [] tokens.cut) in
     let weight = keeps.weight_of (text_scale n d) pieces in
     let kept = (workload_keeps n d (all_nested n levels)).keeps 0 weight no_statements pieces progress (omega arith)
-    (omega (arith, weight_is_length n d pieces, few text list pieces tokens are, short)) (good_pieces text d list lies no_mark pieces refl no_bad_weight are) refl is in
+    (omega (arith, weight_is_length n d pieces, few text list pieces tokens are, short)) (good_pieces text d list lies no_mark pieces refl are) refl is in
     let begun = keeps.weight_of (start_scale 1001 d) pieces in
     let at_most = starts_at_most 1001 d pieces 1000 no_start in
     let counted = (workload_counted 1001 d).keeps 0 begun no_statements pieces progress (omega arith) (omega (arith, at_most)) (all_good 1001 d pieces) (omega arith) is in

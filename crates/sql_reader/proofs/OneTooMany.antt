@@ -12,7 +12,7 @@ use Rattle.sql_reader.specs.declared.parts.Progress.{Progress}
 use Rattle.sql_reader.specs.Kinds.{has}
 use Rattle.sql_reader.specs.Grammar.{starts}
 use Rattle.sql_reader.specs.Values.{place_of, no_statements}
-use Rattle.sql_reader.specs.Pieces.{ArePieces, WithToken, no_mark, is_weight, mark_of, bad_weight, start_behind, starts_in, places_of}
+use Rattle.sql_reader.specs.Pieces.{ArePieces, WithToken, no_mark, is_weight, mark_behind, bad_weight, start_behind, starts_in, places_of}
 use Rattle.sql_reader.specs.Workload.{MeansStatements, left_out, grammar_fault, GrammarSays, place_of_fault, earlier, IsFirstFault, HasSqlFault, BeginsOneTooMany}
 use Rattle.sql_reader.proofs.Begun.{begun_if, starts-append, begin_at_starts}
 
@@ -78,7 +78,7 @@ after_earlier a b (p ∷ ps) l h = (omega (arith, l, h.0), h.1)
 one_token : (text : List ℕ) (t : Token) (ts : List Token) (a to : ℕ) (mark : Mark) (ps : List Piece) (weight : Bool) → InOrder a to (t ∷ ts) →
     ((m : Mark) (qs : List Piece) → ArePieces text ts m qs → After t.span.to qs) → WithToken text mark t (ArePieces text ts) weight ps → After a ps
 one_token text t ts a to mark ps true order behind are =
-    after_earlier a t.span.to ps (omega (arith, order.0, order.1)) (behind (mark_of text t) ps are)
+    after_earlier a t.span.to ps (omega (arith, order.0, order.1)) (behind (mark_behind text t mark) ps are)
 one_token text t ts a to mark ps false order behind (p, rest, split, is, are) =
     let from = ap (λ (s : Span). s.from) is.span in
     subst (After a) (sym split) (omega (arith, order.0, from), after_earlier p.span.from t.span.to rest (omega (arith, order.1, from)) (behind mark rest are))

@@ -8,7 +8,7 @@ use Rattle.sql_tokens.specs.declared.token.Span.{Span}
 use Rattle.sql_tokens.specs.declared.token.Token.{Token}
 use Rattle.sql_reader.specs.declared.piece.Piece.{Piece}
 use Rattle.sql_reader.specs.declared.piece.Mark.{Mark}
-use Rattle.sql_reader.specs.Pieces.{ArePieces, IsPiece, WithToken, mark_of, is_weight}
+use Rattle.sql_reader.specs.Pieces.{ArePieces, IsPiece, WithToken, mark_behind, is_weight}
 use Rattle.sql_reader.specs.Rule.{Meaning}
 use Rattle.sql_reader.specs.Exact.{GoesOn, NoneGoesOn, FailsAt}
 
@@ -36,7 +36,7 @@ one_piece text mark t p q a b =
 with_one_token : (text : List ℕ) (mark : Mark) (t : Token) (behind : Mark → List Piece → Type 0) →
     ((m : Mark) (ps qs : List Piece) → behind m ps → behind m qs → ps ≡ qs) → (weight : Bool) (ps qs : List Piece) →
     WithToken text mark t behind weight ps → WithToken text mark t behind weight qs → ps ≡ qs
-with_one_token text mark t behind one true ps qs a b = one (mark_of text t) ps qs a b
+with_one_token text mark t behind one true ps qs a b = one (mark_behind text t mark) ps qs a b
 with_one_token text mark t behind one false ps qs (p, more, e, is, h) (q, others, f, is_q, k) =
     let first = one_piece text mark t p q is is_q in
     let rest = one mark more others h k in

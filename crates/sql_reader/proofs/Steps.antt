@@ -1,5 +1,5 @@
 -- The loops over tokens and pieces, turn by turn.
-use Rattle.std.proofs.Common.{◌≡◌, ℕ, zero, suc, ◌+◌, ◌-◌, ◌*◌, ◌^◌, ◌<◌, ◌≤◌, Bool, true, false, List, [], ◌∷◌, ◌++◌, length, get_or, drop, sym, refl, ap, ◌∙◌, subst, arith, append_assoc, append-nil, add-one, drop-cons, drop_of_length-le, sub-one, pow-suc, add-zero, add-suc, add-sub_of_le, le_of_eq, Some, None, Result, Ok, Err, OnOk, IfErr, if◌then◌else◌}
+use Rattle.std.proofs.Common.{◌≡◌, ℕ, zero, suc, ◌+◌, ◌-◌, ◌<◌, ◌≤◌, Bool, true, false, List, [], ◌∷◌, ◌++◌, length, get_or, drop, sym, refl, ap, ◌∙◌, subst, arith, append_assoc, append-nil, add-one, drop-cons, drop_of_length-le, sub-one, Some, None, Result, Ok, Err, OnOk, IfErr, if◌then◌else◌}
 use Rattle.sql_tokens.specs.declared.token.Token.{Token}
 use Rattle.sql_reader.specs.declared.piece.Piece.{Piece}
 use Rattle.sql_reader.specs.declared.piece.Mark.{Mark}
@@ -9,7 +9,7 @@ use Rattle.sql_reader.specs.Values.{place_of}
 use Rattle.sql_reader.specs.declared.cursor.Unread.{Unread}
 use Rattle.sql_reader.specs.declared.cursor.Unread.TheVariants.{Memory}
 use Rattle.sql_reader.specs.inner.Reads.{IsPush}
-use Rattle.sql_reader.specs.Pieces.{mark_of, IsPiece, WithToken, ArePieces, AddsToken, is_weight, is_bad_weight, bad_weight, start_behind}
+use Rattle.sql_reader.specs.Pieces.{mark_behind, IsPiece, WithToken, ArePieces, AddsToken, is_weight, is_bad_weight, bad_weight, start_behind}
 
 -- what is left of a list at a place in it
 pub at_place : {A : Type 0} (xs : List A) (i : ℕ) (d : A) → i < length xs → drop i xs ≡ get_or xs i d ∷ drop (i + 1) xs
@@ -85,27 +85,9 @@ start_end list n i room = ap (start_behind n) (drop_of_length-le list room) ∙ 
     nothing zero = refl
     nothing (suc n) = refl
 
--- one digit more
-pub one_digit : (n d i : ℕ) → n < 10 ^ i → d ≤ 9 → 10 * n + d < 10 ^ (i + 1)
-one_digit n d i h k = omega (arith, pow-suc 10 i, ap (λ m. 10 ^ m) (add-one i))
-
-ten_up : (i k : ℕ) → 10 ^ i ≤ 10 ^ (i + k)
-ten_up i zero = le_of_eq (ap (λ m. 10 ^ m) (sym (add-zero i)))
-ten_up i (suc k) = omega (arith, ten_up i k, pow-suc 10 (i + k), ap (λ m. 10 ^ m) (add-suc i k))
-
--- there is room for one more
-pub room_for_digit : (n i : ℕ) → n < 10 ^ i → i < 18 → n < 10 ^ 17
-room_for_digit n i h k = omega (arith, ten_up i (17 - i), ap (λ m. 10 ^ m) (add-sub_of_le (le_of_lt_suc k)))
-  where
-    le_of_lt_suc : i < 18 → i ≤ 17
-    le_of_lt_suc k = omega arith
-
-pub few_digits : (n i : ℕ) → n < 10 ^ i → i ≤ 18 → n < 10 ^ 18
-few_digits n i h k = omega (arith, ten_up i (18 - i), ap (λ m. 10 ^ m) (add-sub_of_le k))
-
 -- one token was added
 
-pub add_mark : (text : List ℕ) (t : Token) (mark new_mark : Mark) (list : List Piece) (c : Bool) → c ≡ true → new_mark ≡ mark_of text t → AddsToken text t mark list c new_mark list
+pub add_mark : (text : List ℕ) (t : Token) (mark new_mark : Mark) (list : List Piece) (c : Bool) → c ≡ true → new_mark ≡ mark_behind text t mark → AddsToken text t mark list c new_mark list
 add_mark text t mark new_mark list true k e = (e, refl)
 add_mark text t mark new_mark list false k e = absurd cc
 

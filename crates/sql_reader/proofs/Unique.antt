@@ -76,9 +76,6 @@ module _ (text : List ℕ) (list : List Token) (pieces : List Piece) (fault : Op
   no_late : None ≡ earlier (option_map faults.BadWeight (bad_weight text list)) (option_map faults.TooManyStatements (start_behind 1000 pieces))
   no_late = sym (none_later fault _ none)
 
-  pub no_bad_weight : bad_weight text list ≡ None
-  no_bad_weight = not_mapped faults.BadWeight (bad_weight text list) (no_earlier _ _ no_late)
-
   pub no_start : start_behind 1000 pieces ≡ None
   no_start = not_mapped faults.TooManyStatements (start_behind 1000 pieces) (none_later _ _ no_late)
 

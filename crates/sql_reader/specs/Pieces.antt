@@ -1,5 +1,5 @@
 -- The pieces of a text, and its faults beside those of the grammar.
-use Rattle.std.specs.Prelude.{◌≡◌, ℕ, ℤ, zero, suc, ◌+◌, Bool, true, false, ◌&&◌, not, nat_le, List, [], ◌∷◌, ◌++◌, slice_index, slice_range, Option, Some, None, if◌then◌else◌}
+use Rattle.std.specs.Prelude.{◌≡◌, ℕ, ℤ, zero, suc, ◌+◌, Bool, true, false, List, [], ◌∷◌, ◌++◌, slice_index, slice_range, Option, Some, None, if◌then◌else◌}
 use Rattle.sql_tokens.specs.declared.token.Token.{Token}
 use Rattle.sql_tokens.specs.declared.token.TokenKind.{TokenKind}
 use Rattle.sql_tokens.specs.declared.token.TokenKind.TheVariants as token
@@ -11,7 +11,7 @@ use Rattle.sql_reader.specs.declared.parsed.ParsedStatement.{ParsedStatement}
 use Rattle.sql_reader.specs.Kinds.{has}
 use Rattle.sql_reader.specs.Grammar.{starts}
 use Rattle.sql_reader.specs.Values.{place_of}
-use Rattle.sql_reader.specs.Words.{word_kind, quoted_kind, symbol_kind, whole_number, text_day, weight_number}
+use Rattle.sql_reader.specs.Words.{word_kind, quoted_kind, symbol_kind, whole_number, text_day, comment_weight}
 
 -- the bytes of a token
 abbrev pub bytes_of : List ℕ → Token → List ℕ
@@ -46,9 +46,13 @@ pub record IsPiece (text : List ℕ) (mark : Mark) (t : Token) (p : Piece) : Typ
 abbrev pub no_mark : Mark
 no_mark = record { place = 0; weight = 1 }
 
--- the mark of a weight comment
-abbrev pub mark_of : List ℕ → Token → Mark
-mark_of text t = record { place = t.span.from + 1; weight = weight_number (bytes_of text t) }
+-- the mark behind a weight comment: it gives one where it has a weight
+abbrev pub mark_or : Mark → ℕ → Option ℕ → Mark
+mark_or mark place None = mark
+mark_or mark place (Some n) = record { place = place; weight = n }
+
+abbrev pub mark_behind : List ℕ → Token → Mark → Mark
+mark_behind text t mark = mark_or mark (t.span.from + 1) (comment_weight (bytes_of text t))
 
 abbrev pub is_weight : TokenKind → Bool
 is_weight token.Weight = true
@@ -56,7 +60,7 @@ is_weight _ = false
 
 -- one token more: a weight comment is the mark of the tokens behind it, every other token is a piece
 abbrev pub WithToken : List ℕ → Mark → Token → (Mark → List Piece → Type 0) → Bool → List Piece → Type 0
-WithToken text mark t behind true pieces = behind (mark_of text t) pieces
+WithToken text mark t behind true pieces = behind (mark_behind text t mark) pieces
 WithToken text mark t behind false pieces = (p : Piece) × (rest : List Piece) × (pieces ≡ p ∷ rest) × IsPiece text mark t p × behind mark rest
 
 -- the tokens are these pieces and weight comments, behind the weight comment that the mark names
@@ -66,16 +70,16 @@ ArePieces text (t ∷ ts) mark pieces = WithToken text mark t (ArePieces text ts
 
 -- a token was added to the mark and the pieces before it
 abbrev pub AddsToken : List ℕ → Token → Mark → List Piece → Bool → Mark → List Piece → Type 0
-AddsToken text t mark pieces true new_mark new = (new_mark ≡ mark_of text t) × (new ≡ pieces)
+AddsToken text t mark pieces true new_mark new = (new_mark ≡ mark_behind text t mark) × (new ≡ pieces)
 AddsToken text t mark pieces false new_mark new = (new_mark ≡ mark) × (p : Piece) × IsPiece text mark t p × (new ≡ pieces ++ p ∷ [])
 
--- a weight is 1 to 10^6
-abbrev pub is_good_weight : ℕ → Bool
-is_good_weight n = nat_le 1 n && nat_le n 1000000
+-- a weight comment without a weight
+abbrev pub lacks_weight : TokenKind → Option ℕ → Bool
+lacks_weight token.Weight None = true
+lacks_weight _ _ = false
 
--- a weight comment whose number isn't
 abbrev pub is_bad_weight : List ℕ → Token → Bool
-is_bad_weight text t = is_weight t.kind && not (is_good_weight (weight_number (bytes_of text t)))
+is_bad_weight text t = lacks_weight t.kind (comment_weight (bytes_of text t))
 
 -- the place of the first weight comment whose number isn't 1 to 10^6
 abbrev pub bad_weight : List ℕ → List Token → Option ℕ

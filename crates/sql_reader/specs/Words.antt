@@ -1,6 +1,8 @@
 -- Which kind each token is of.
-use Rattle.std.specs.Prelude.{ℕ, ℤ, pos, neg_ℤ, ◌+◌, ◌*◌, ◌-◌, ◌^◌, min, Bool, ◌&&◌, ◌==◌, nat_lt, int_lt, List, [], ◌∷◌, length, slice_range, fold, codes, Option, Some, None, option_and_then, if◌then◌else◌}
+use Rattle.std.specs.Prelude.{ℕ, ℤ, pos, neg_ℤ, ◌-◌, ◌^◌, Bool, ◌&&◌, ◌==◌, nat_le, int_lt, List, [], ◌∷◌, length, drop, slice_range, codes, Option, Some, None, option_and_then, if◌then◌else◌}
 use Rattle.std.specs.Char.{is_ascii_digit}
+use Rattle.std.specs.List.{list_all, suffix_len}
+use Rattle.std.specs.Str.Parse.{digits_value}
 use Rattle.std.specs.Str.{str_eq_ignore_ascii_case}
 use Rattle.adv_base.specs.Days.{day_number}
 use Rattle.sql_reader.specs.declared.kind.PieceKind.{PieceKind}
@@ -76,17 +78,9 @@ symbol_kind first second =
     else (if first == 36 then kinds.Question
     else kinds.Operator)))))))))))))
 
--- the value of a digit
-abbrev pub digit_value : ℕ → ℕ
-digit_value b = min (b - 48) 9
-
--- the number that digits write
-abbrev pub digits_value : List ℕ → ℕ
-digits_value bytes = fold (λ n b. 10 * n + digit_value b) 0 bytes
-
--- a whole number of at most 18 digits
+-- the number of at most 18 digits
 unfoldable pub whole_number : List ℕ → Option ℤ
-whole_number bytes = if nat_lt 18 (length bytes) then None else Some (pos (digits_value bytes))
+whole_number bytes = if nat_le (length bytes) 18 && list_all is_ascii_digit bytes then Some (pos (digits_value 10 bytes)) else None
 
 -- a number that holds what 18 digits can write; every day of the calendar does
 abbrev pub has_18_digits : ℤ → Bool
@@ -99,10 +93,14 @@ if_18_digits n = if has_18_digits n then Some n else None
 unfoldable pub text_day : List ℕ → Option ℤ
 text_day bytes = option_and_then if_18_digits (day_number (inside bytes))
 
--- One byte more of a weight comment: the number of the digits up to here, at most 10^7.
-abbrev pub weight_step : ℕ → ℕ → ℕ
-weight_step n b = if is_ascii_digit b then min (10 * n + digit_value b) 10000000 else 0
+-- the digits behind the last byte that is none
+abbrev pub last_digits : List ℕ → List ℕ
+last_digits bytes = drop (length bytes - suffix_len is_ascii_digit bytes) bytes
 
--- the number of a weight comment, that of its last digits
-unfoldable pub weight_number : List ℕ → ℕ
-weight_number bytes = fold weight_step 0 bytes
+-- a weight is 1 to 10^6
+abbrev pub is_good_weight : ℕ → Bool
+is_good_weight n = nat_le 1 n && nat_le n 1000000
+
+-- the weight of a weight comment: the number that its last digits write, where that is a weight
+unfoldable pub comment_weight : List ℕ → Option ℕ
+comment_weight bytes = if is_good_weight (digits_value 10 (last_digits bytes)) then Some (digits_value 10 (last_digits bytes)) else None

@@ -2,7 +2,7 @@
 ghost use Rattle.sql_reader.specs.Grammar as rule;
 ghost use Rattle.sql_reader.specs.inner.Room as room;
 ghost use Rattle.sql_reader.specs.inner.Reads.{AddsBy, ReadsBy};
-ghost use Rattle.std.specs.Prelude.{◌≡◌};
+ghost use Rattle.std.specs.Prelude.{◌≡◌, IfOk};
 
 use crate::cursor::{Cursor, GrammarReader, Unread};
 use crate::list::push;
@@ -15,7 +15,8 @@ impl GrammarReader {
     /// A name, put behind those before as a column.
     #[tactic(auto, unfolding(crate::specs::Grammar::name_as_column))]
     fn name_as_column(self, cursor: &mut Cursor<'_>, all: &mut List<NameUse>) -> Result<(), Unread>
-        ensures { AddsBy rule.name_as_column all.old self cursor.old result all.new cursor.new }
+        ensures reads { AddsBy rule.name_as_column all.old self cursor.old result all.new cursor.new }
+        ensures left { room.TakesSome result cursor.old cursor.new }
     {
         let name = cursor.take(&NAMES)?;
         push(
@@ -72,7 +73,11 @@ impl GrammarReader {
     /// The expressions of a row of VALUES.
     #[tactic(auto, unfolding(crate::specs::Grammar::row_values))]
     fn row_values(self, cursor: &mut Cursor<'_>, parts: &mut InsertParts) -> Result<(), Unread>
-        ensures { AddsBy rule.row_values parts.old self cursor.old result parts.new cursor.new }
+        requires rows { room.Fits parts.old.rows cursor.old }
+        requires stars { room.Fits parts.old.found.stars cursor.old }
+        ensures reads { AddsBy rule.row_values parts.old self cursor.old result parts.new cursor.new }
+        ensures rows { room.Spends parts.old.rows cursor.old parts.new.rows cursor.new }
+        ensures stars { room.Spends parts.old.found.stars cursor.old parts.new.found.stars cursor.new }
     {
         self.expressions(cursor, &mut parts.found)
     }
@@ -80,8 +85,11 @@ impl GrammarReader {
     /// A row of VALUES.
     #[tactic(auto, unfolding(crate::specs::Grammar::row))]
     fn row(self, cursor: &mut Cursor<'_>, parts: &mut InsertParts) -> Result<(), Unread>
-        requires { room.RowsFit parts.old cursor.old }
-        ensures { AddsBy rule.row parts.old self cursor.old result parts.new cursor.new }
+        requires rows { room.Fits parts.old.rows cursor.old }
+        requires stars { room.Fits parts.old.found.stars cursor.old }
+        ensures reads { AddsBy rule.row parts.old self cursor.old result parts.new cursor.new }
+        ensures rows { room.Spends parts.old.rows cursor.old parts.new.rows cursor.new }
+        ensures stars { room.Spends parts.old.found.stars cursor.old parts.new.found.stars cursor.new }
     {
         cursor.take(&[PieceKind::Open])?;
         self.row_values(cursor, parts)?;
@@ -93,8 +101,11 @@ impl GrammarReader {
     /// A comma and a row.
     #[tactic(auto, unfolding(crate::specs::Grammar::another_row))]
     fn another_row(self, cursor: &mut Cursor<'_>, parts: &mut InsertParts) -> Result<(), Unread>
-        requires { room.RowsFit parts.old cursor.old }
-        ensures { AddsBy rule.another_row parts.old self cursor.old result parts.new cursor.new }
+        requires rows { room.Fits parts.old.rows cursor.old }
+        requires stars { room.Fits parts.old.found.stars cursor.old }
+        ensures reads { AddsBy rule.another_row parts.old self cursor.old result parts.new cursor.new }
+        ensures rows { room.Spends parts.old.rows cursor.old parts.new.rows cursor.new }
+        ensures stars { room.Spends parts.old.found.stars cursor.old parts.new.found.stars cursor.new }
     {
         cursor.take(&[PieceKind::Comma])?;
         self.row(cursor, parts)
@@ -102,8 +113,11 @@ impl GrammarReader {
 
     /// More rows behind commas.
     fn more_rows(self, cursor: &mut Cursor<'_>, parts: &mut InsertParts) -> Result<(), Unread>
-        requires { room.RowsFit parts.old cursor.old }
-        ensures { AddsBy rule.more_rows parts.old self cursor.old result parts.new cursor.new }
+        requires rows { room.Fits parts.old.rows cursor.old }
+        requires stars { room.Fits parts.old.found.stars cursor.old }
+        ensures reads { AddsBy rule.more_rows parts.old self cursor.old result parts.new cursor.new }
+        ensures rows { room.Spends parts.old.rows cursor.old parts.new.rows cursor.new }
+        ensures stars { room.Spends parts.old.found.stars cursor.old parts.new.found.stars cursor.new }
     {
         'turns: while cursor.begins(&[PieceKind::Comma]) {
             self.another_row(cursor, parts)?;
@@ -114,8 +128,11 @@ impl GrammarReader {
     /// The rows of VALUES.
     #[tactic(auto, unfolding(crate::specs::Grammar::rows))]
     fn rows(self, cursor: &mut Cursor<'_>, parts: &mut InsertParts) -> Result<(), Unread>
-        requires { room.RowsFit parts.old cursor.old }
-        ensures { AddsBy rule.rows parts.old self cursor.old result parts.new cursor.new }
+        requires rows { room.Fits parts.old.rows cursor.old }
+        requires stars { room.Fits parts.old.found.stars cursor.old }
+        ensures reads { AddsBy rule.rows parts.old self cursor.old result parts.new cursor.new }
+        ensures rows { room.Spends parts.old.rows cursor.old parts.new.rows cursor.new }
+        ensures stars { room.Spends parts.old.found.stars cursor.old parts.new.found.stars cursor.new }
     {
         self.row(cursor, parts)?;
         self.more_rows(cursor, parts)
@@ -124,7 +141,9 @@ impl GrammarReader {
     /// INTO and the table of an INSERT.
     #[tactic(auto, unfolding(crate::specs::Grammar::insert_table))]
     fn insert_table(self, alloc: Global, cursor: &mut Cursor<'_>) -> Result<InsertParts, Unread>
-        ensures { ReadsBy rule.insert_table tt self cursor.old result cursor.new }
+        ensures reads { ReadsBy rule.insert_table tt self cursor.old result cursor.new }
+        ensures rows { IfOk result (λ parts. parts.rows ≡ 0) }
+        ensures stars { IfOk result (λ parts. parts.found.stars ≡ 0) }
     {
         cursor.take(&[PieceKind::Into])?;
         let table = cursor.take(&NAMES)?;
@@ -144,8 +163,6 @@ impl GrammarReader {
         let mut parts = self.insert_table(alloc, cursor)?;
         self.insert_columns(cursor, &mut parts.columns)?;
         cursor.take(&[PieceKind::Values])?;
-        // Each row takes a piece, so their number fits.
-        prove!(cursor.rest.len() <= usize::MAX);
         self.rows(cursor, &mut parts)?;
         Ok(parts)
     }
@@ -153,7 +170,9 @@ impl GrammarReader {
     /// The column that is set, and `=`.
     #[tactic(auto, unfolding(crate::specs::Grammar::set_column))]
     fn set_column(self, cursor: &mut Cursor<'_>, parts: &mut UpdateParts) -> Result<(), Unread>
-        ensures { AddsBy rule.set_column parts.old self cursor.old result parts.new cursor.new }
+        requires { room.Fits parts.old.found.stars cursor.old }
+        ensures reads { AddsBy rule.set_column parts.old self cursor.old result parts.new cursor.new }
+        ensures room { room.Spends parts.old.found.stars cursor.old parts.new.found.stars cursor.new }
     {
         self.name_as_column(cursor, &mut parts.columns)?;
         cursor.take(&[PieceKind::Equal])?;
@@ -163,7 +182,9 @@ impl GrammarReader {
     /// A column, `=` and an expression.
     #[tactic(auto, unfolding(crate::specs::Grammar::assignment))]
     fn assignment(self, cursor: &mut Cursor<'_>, parts: &mut UpdateParts) -> Result<(), Unread>
-        ensures { AddsBy rule.assignment parts.old self cursor.old result parts.new cursor.new }
+        requires { room.Fits parts.old.found.stars cursor.old }
+        ensures reads { AddsBy rule.assignment parts.old self cursor.old result parts.new cursor.new }
+        ensures room { room.Spends parts.old.found.stars cursor.old parts.new.found.stars cursor.new }
     {
         self.set_column(cursor, parts)?;
         self.expression(cursor, &mut parts.found)
@@ -176,7 +197,9 @@ impl GrammarReader {
         cursor: &mut Cursor<'_>,
         parts: &mut UpdateParts,
     ) -> Result<(), Unread>
-        ensures { AddsBy rule.another_assignment parts.old self cursor.old result parts.new cursor.new }
+        requires { room.Fits parts.old.found.stars cursor.old }
+        ensures reads { AddsBy rule.another_assignment parts.old self cursor.old result parts.new cursor.new }
+        ensures room { room.Spends parts.old.found.stars cursor.old parts.new.found.stars cursor.new }
     {
         cursor.take(&[PieceKind::Comma])?;
         self.assignment(cursor, parts)
@@ -188,7 +211,9 @@ impl GrammarReader {
         cursor: &mut Cursor<'_>,
         parts: &mut UpdateParts,
     ) -> Result<(), Unread>
-        ensures { AddsBy rule.more_assignments parts.old self cursor.old result parts.new cursor.new }
+        requires { room.Fits parts.old.found.stars cursor.old }
+        ensures reads { AddsBy rule.more_assignments parts.old self cursor.old result parts.new cursor.new }
+        ensures room { room.Spends parts.old.found.stars cursor.old parts.new.found.stars cursor.new }
     {
         'turns: while cursor.begins(&[PieceKind::Comma]) {
             self.another_assignment(cursor, parts)?;
@@ -199,7 +224,9 @@ impl GrammarReader {
     /// What SET says.
     #[tactic(auto, unfolding(crate::specs::Grammar::assignments))]
     fn assignments(self, cursor: &mut Cursor<'_>, parts: &mut UpdateParts) -> Result<(), Unread>
-        ensures { AddsBy rule.assignments parts.old self cursor.old result parts.new cursor.new }
+        requires { room.Fits parts.old.found.stars cursor.old }
+        ensures reads { AddsBy rule.assignments parts.old self cursor.old result parts.new cursor.new }
+        ensures room { room.Spends parts.old.found.stars cursor.old parts.new.found.stars cursor.new }
     {
         self.assignment(cursor, parts)?;
         self.more_assignments(cursor, parts)
@@ -208,7 +235,8 @@ impl GrammarReader {
     /// The source of an UPDATE.
     #[tactic(auto, unfolding(crate::specs::Grammar::update_source))]
     fn update_source(self, alloc: Global, cursor: &mut Cursor<'_>) -> Result<UpdateParts, Unread>
-        ensures { ReadsBy rule.update_source tt self cursor.old result cursor.new }
+        ensures reads { ReadsBy rule.update_source tt self cursor.old result cursor.new }
+        ensures stars { IfOk result (λ parts. parts.found.stars ≡ 0) }
     {
         let source = self.source(cursor)?;
         Ok(UpdateParts {

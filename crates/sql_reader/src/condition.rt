@@ -1,6 +1,7 @@
 //! Reads the tests of ON and WHERE.
 ghost use Rattle.sql_reader.specs.Grammar as rule;
 ghost use Rattle.sql_reader.specs.inner.Reads.{AddsBy, AddsNested, ReadsBy};
+ghost use Rattle.sql_reader.specs.inner.Room as room;
 ghost use Rattle.sql_reader.specs.Rule.{Conditions};
 ghost use Rattle.std.specs.Prelude.{◌≡◌};
 
@@ -96,18 +97,21 @@ impl GrammarReader {
     /// A comma and a value, counted.
     #[tactic(auto, unfolding(crate::specs::Grammar::in_value))]
     pub fn in_value(self, cursor: &mut Cursor<'_>, count: &mut u32) -> Result<(), Unread>
-        ensures { AddsBy rule.in_value count.old self cursor.old result count.new cursor.new }
+        requires { room.Fits count.old cursor.old }
+        ensures reads { AddsBy rule.in_value count.old self cursor.old result count.new cursor.new }
+        ensures room { room.Spends count.old cursor.old count.new cursor.new }
     {
         cursor.take(&[PieceKind::Comma])?;
         self.value(cursor)?;
-        // There are fewer values than bytes, so the count always fits.
-        *count = count.checked_add(1).ok_or(Unread::Memory)?;
+        *count += 1;
         Ok(())
     }
 
     /// More values behind commas, counted.
     pub fn more_in_values(self, cursor: &mut Cursor<'_>, count: &mut u32) -> Result<(), Unread>
-        ensures { AddsBy rule.more_in_values count.old self cursor.old result count.new cursor.new }
+        requires { room.Fits count.old cursor.old }
+        ensures reads { AddsBy rule.more_in_values count.old self cursor.old result count.new cursor.new }
+        ensures room { room.Spends count.old cursor.old count.new cursor.new }
     {
         'turns: while cursor.begins(&[PieceKind::Comma]) {
             self.in_value(cursor, count)?;

@@ -1,8 +1,6 @@
 //! A place in the pieces of a text.
-ghost use Rattle.sql_reader.specs.inner.Reads.{Gives, same};
 ghost use Rattle.sql_reader.specs.Kinds.{has};
-ghost use Rattle.sql_reader.specs.Rule.{begins, piece_of};
-ghost use Rattle.std.specs.Prelude.{◌≡◌};
+ghost use Rattle.std.specs.Prelude.{◌≡◌, ◌<◌, ◌^◌, length};
 
 use crate::{Piece, PieceKind};
 
@@ -17,6 +15,8 @@ pub enum Unread {
 #[derive(Drop)]
 pub struct Cursor<'a> {
     pub rest: &'a [Piece],
+    /// There are fewer pieces than bytes.
+    pub ghost short: { length rest.now < 2 ^ 32 },
 }
 
 /// Reads by the grammar, where so many more levels may nest.
@@ -34,6 +34,10 @@ pub fn has(kinds: &[PieceKind], kind: PieceKind) -> bool
 }
 
 impl Cursor<'_> {
+    ghost use Rattle.sql_reader.specs.inner.Reads.{Gives, same};
+    ghost use Rattle.sql_reader.specs.inner.Room as room;
+    ghost use Rattle.sql_reader.specs.Rule.{begins, piece_of};
+
     /// Whether the next piece is of one of these kinds.
     pub fn begins(&self, kinds: &[PieceKind]) -> bool
         ensures { result ≡ begins kinds.now self.now.rest.now }
@@ -46,7 +50,8 @@ impl Cursor<'_> {
 
     /// Takes one piece of these kinds.
     pub fn take(&mut self, kinds: &[PieceKind]) -> Result<Piece, Unread>
-        ensures { Gives same result (piece_of kinds.now self.old.rest.now) self.new }
+        ensures reads { Gives same result (piece_of kinds.now self.old.rest.now) self.new }
+        ensures left { room.TakesSome result self.old self.new }
     {
         let Some((piece, rest)) = self.rest.split_first() else {
             return Err(Unread::Here);

@@ -1,6 +1,7 @@
 //! Reads expressions.
 ghost use Rattle.sql_reader.specs.Grammar as rule;
 ghost use Rattle.sql_reader.specs.inner.Reads.{AddsBy, AddsNested};
+ghost use Rattle.sql_reader.specs.inner.Room as room;
 ghost use Rattle.sql_reader.specs.Rule.{Call, Parenthesis, Signed};
 ghost use Rattle.sql_reader.specs.Values as values;
 ghost use Rattle.std.specs.Prelude.{◌≡◌, OnOk, IfErr};
@@ -77,6 +78,7 @@ impl Seen {
     pub fn add_use(&mut self, name: NameUse) -> Result<(), Unread>
         ensures ok { OnOk result (self.new ≡ values.with_use self.old name) }
         ensures err { IfErr result (λ stop. stop ≡ Memory) }
+        ensures stars { self.new.stars ≡ self.old.stars }
     {
         push(&mut self.uses, name)?;
         self.form = ExprForm::Column;
@@ -131,7 +133,9 @@ impl GrammarReader {
         found: &mut Seen,
         name: Piece,
     ) -> Result<(), Unread>
-        ensures { AddsBy rule.called_name (found.old, name) self cursor.old result found.new cursor.new }
+        requires { room.Fits found.old.stars cursor.old }
+        ensures reads { AddsBy rule.called_name (found.old, name) self cursor.old result found.new cursor.new }
+        ensures room { room.Spends found.old.stars cursor.old found.new.stars cursor.new }
     {
         if cursor.begins(&[PieceKind::Open]) {
             found.aggregate = found.aggregate || name.kind.is_aggregate();
@@ -152,7 +156,9 @@ impl GrammarReader {
         found: &mut Seen,
         name: Piece,
     ) -> Result<(), Unread>
-        ensures { AddsBy rule.after_operand_name (found.old, name) self cursor.old result found.new cursor.new }
+        requires { room.Fits found.old.stars cursor.old }
+        ensures reads { AddsBy rule.after_operand_name (found.old, name) self cursor.old result found.new cursor.new }
+        ensures room { room.Spends found.old.stars cursor.old found.new.stars cursor.new }
     {
         if !cursor.begins(&[PieceKind::Point]) {
             return self.called_name(cursor, found, name);
@@ -174,7 +180,9 @@ impl GrammarReader {
         found: &mut Seen,
         name: Piece,
     ) -> Result<(), Unread>
-        ensures { AddsBy rule.after_operand_date (found.old, name) self cursor.old result found.new cursor.new }
+        requires { room.Fits found.old.stars cursor.old }
+        ensures reads { AddsBy rule.after_operand_date (found.old, name) self cursor.old result found.new cursor.new }
+        ensures room { room.Spends found.old.stars cursor.old found.new.stars cursor.new }
     {
         if !cursor.begins(&[PieceKind::Day]) {
             return self.after_operand_name(cursor, found, name);
@@ -188,7 +196,9 @@ impl GrammarReader {
     #[tactic(auto, unfolding(crate::specs::Grammar::other_operand))]
     #[cycle(expression)]
     pub fn other_operand(self, cursor: &mut Cursor<'_>, found: &mut Seen) -> Result<(), Unread>
-        ensures { AddsBy rule.other_operand found.old self cursor.old result found.new cursor.new }
+        requires { room.Fits found.old.stars cursor.old }
+        ensures reads { AddsBy rule.other_operand found.old self cursor.old result found.new cursor.new }
+        ensures room { room.Spends found.old.stars cursor.old found.new.stars cursor.new }
     {
         if cursor.begins(&[PieceKind::Open]) {
             return self.nested_parenthesis(cursor, found);
@@ -205,7 +215,9 @@ impl GrammarReader {
     #[tactic(auto, unfolding(crate::specs::Grammar::operand))]
     #[cycle(expression)]
     fn operand(self, cursor: &mut Cursor<'_>, found: &mut Seen) -> Result<(), Unread>
-        ensures { AddsBy rule.operand found.old self cursor.old result found.new cursor.new }
+        requires { room.Fits found.old.stars cursor.old }
+        ensures reads { AddsBy rule.operand found.old self cursor.old result found.new cursor.new }
+        ensures room { room.Spends found.old.stars cursor.old found.new.stars cursor.new }
     {
         if cursor.begins(&[PieceKind::Date]) {
             let name = cursor.take(&[PieceKind::Date])?;
@@ -222,7 +234,9 @@ impl GrammarReader {
     #[tactic(auto, unfolding(crate::specs::Grammar::operation))]
     #[cycle(expression)]
     fn operation(self, cursor: &mut Cursor<'_>, found: &mut Seen) -> Result<(), Unread>
-        ensures { AddsBy rule.operation found.old self cursor.old result found.new cursor.new }
+        requires { room.Fits found.old.stars cursor.old }
+        ensures reads { AddsBy rule.operation found.old self cursor.old result found.new cursor.new }
+        ensures room { room.Spends found.old.stars cursor.old found.new.stars cursor.new }
     {
         cursor.take(&OPERATORS)?;
         self.operand(cursor, found)?;
@@ -233,7 +247,9 @@ impl GrammarReader {
     /// The operators behind an operand, with their right sides.
     #[cycle(expression)]
     pub fn operations(self, cursor: &mut Cursor<'_>, found: &mut Seen) -> Result<(), Unread>
-        ensures { AddsBy rule.operations found.old self cursor.old result found.new cursor.new }
+        requires { room.Fits found.old.stars cursor.old }
+        ensures reads { AddsBy rule.operations found.old self cursor.old result found.new cursor.new }
+        ensures room { room.Spends found.old.stars cursor.old found.new.stars cursor.new }
     {
         'turns: while cursor.begins(&OPERATORS) {
             self.operation(cursor, found)?;
@@ -245,7 +261,9 @@ impl GrammarReader {
     #[tactic(auto, unfolding(crate::specs::Grammar::expression))]
     #[cycle(expression)]
     pub fn expression(self, cursor: &mut Cursor<'_>, found: &mut Seen) -> Result<(), Unread>
-        ensures { AddsBy rule.expression found.old self cursor.old result found.new cursor.new }
+        requires { room.Fits found.old.stars cursor.old }
+        ensures reads { AddsBy rule.expression found.old self cursor.old result found.new cursor.new }
+        ensures room { room.Spends found.old.stars cursor.old found.new.stars cursor.new }
     {
         self.operand(cursor, found)?;
         self.operations(cursor, found)
@@ -255,7 +273,9 @@ impl GrammarReader {
     #[tactic(auto, unfolding(crate::specs::Grammar::another_expression))]
     #[cycle(expression)]
     fn another_expression(self, cursor: &mut Cursor<'_>, found: &mut Seen) -> Result<(), Unread>
-        ensures { AddsBy rule.another_expression found.old self cursor.old result found.new cursor.new }
+        requires { room.Fits found.old.stars cursor.old }
+        ensures reads { AddsBy rule.another_expression found.old self cursor.old result found.new cursor.new }
+        ensures room { room.Spends found.old.stars cursor.old found.new.stars cursor.new }
     {
         cursor.take(&[PieceKind::Comma])?;
         self.expression(cursor, found)
@@ -264,7 +284,9 @@ impl GrammarReader {
     /// More expressions behind commas.
     #[cycle(expression)]
     fn more_expressions(self, cursor: &mut Cursor<'_>, found: &mut Seen) -> Result<(), Unread>
-        ensures { AddsBy rule.more_expressions found.old self cursor.old result found.new cursor.new }
+        requires { room.Fits found.old.stars cursor.old }
+        ensures reads { AddsBy rule.more_expressions found.old self cursor.old result found.new cursor.new }
+        ensures room { room.Spends found.old.stars cursor.old found.new.stars cursor.new }
     {
         'turns: while cursor.begins(&[PieceKind::Comma]) {
             self.another_expression(cursor, found)?;
@@ -276,7 +298,9 @@ impl GrammarReader {
     #[tactic(auto, unfolding(crate::specs::Grammar::expressions))]
     #[cycle(expression)]
     pub fn expressions(self, cursor: &mut Cursor<'_>, found: &mut Seen) -> Result<(), Unread>
-        ensures { AddsBy rule.expressions found.old self cursor.old result found.new cursor.new }
+        requires { room.Fits found.old.stars cursor.old }
+        ensures reads { AddsBy rule.expressions found.old self cursor.old result found.new cursor.new }
+        ensures room { room.Spends found.old.stars cursor.old found.new.stars cursor.new }
     {
         self.expression(cursor, found)?;
         self.more_expressions(cursor, found)
@@ -285,11 +309,12 @@ impl GrammarReader {
     /// The argument `*` of a call, to the closing parenthesis.
     #[tactic(auto, unfolding(crate::specs::Grammar::star_argument))]
     fn star_argument(self, cursor: &mut Cursor<'_>, found: &mut Seen) -> Result<(), Unread>
-        ensures { AddsBy rule.star_argument found.old self cursor.old result found.new cursor.new }
+        requires { room.Fits found.old.stars cursor.old }
+        ensures reads { AddsBy rule.star_argument found.old self cursor.old result found.new cursor.new }
+        ensures room { room.Spends found.old.stars cursor.old found.new.stars cursor.new }
     {
         cursor.take(&[PieceKind::Star])?;
-        // There are fewer calls than bytes, so the count always fits.
-        found.stars = found.stars.checked_add(1).ok_or(Unread::Memory)?;
+        found.stars += 1;
         cursor.take(&[PieceKind::Close])?;
         found.form = ExprForm::Other;
         Ok(())
@@ -298,7 +323,9 @@ impl GrammarReader {
     /// DISTINCT, perhaps.
     #[tactic(auto, unfolding(crate::specs::Grammar::maybe_distinct))]
     fn maybe_distinct(self, cursor: &mut Cursor<'_>, found: &Seen) -> Result<(), Unread>
-        ensures { AddsBy rule.maybe_distinct found.now self cursor.old result found.now cursor.new }
+        requires { room.Fits found.now.stars cursor.old }
+        ensures reads { AddsBy rule.maybe_distinct found.now self cursor.old result found.now cursor.new }
+        ensures room { room.Spends found.now.stars cursor.old found.now.stars cursor.new }
     {
         if !cursor.begins(&[PieceKind::Distinct]) {
             return Ok(());
@@ -311,7 +338,9 @@ impl GrammarReader {
     #[tactic(auto, unfolding(crate::specs::Grammar::listed_arguments))]
     #[cycle(expression)]
     fn listed_arguments(self, cursor: &mut Cursor<'_>, found: &mut Seen) -> Result<(), Unread>
-        ensures { AddsBy rule.listed_arguments found.old self cursor.old result found.new cursor.new }
+        requires { room.Fits found.old.stars cursor.old }
+        ensures reads { AddsBy rule.listed_arguments found.old self cursor.old result found.new cursor.new }
+        ensures room { room.Spends found.old.stars cursor.old found.new.stars cursor.new }
     {
         self.maybe_distinct(cursor, found)?;
         self.expressions(cursor, found)?;
@@ -324,7 +353,9 @@ impl GrammarReader {
     #[tactic(auto, unfolding(crate::specs::Grammar::arguments))]
     #[cycle(expression)]
     fn arguments(self, cursor: &mut Cursor<'_>, found: &mut Seen) -> Result<(), Unread>
-        ensures { AddsBy rule.arguments found.old self cursor.old result found.new cursor.new }
+        requires { room.Fits found.old.stars cursor.old }
+        ensures reads { AddsBy rule.arguments found.old self cursor.old result found.new cursor.new }
+        ensures room { room.Spends found.old.stars cursor.old found.new.stars cursor.new }
     {
         if cursor.begins(&[PieceKind::Close]) {
             cursor.take(&[PieceKind::Close])?;
@@ -341,7 +372,9 @@ impl GrammarReader {
     #[tactic(auto, unfolding(crate::specs::Grammar::call))]
     #[cycle(expression)]
     fn call(self, cursor: &mut Cursor<'_>, found: &mut Seen) -> Result<(), Unread>
-        ensures { AddsBy rule.call found.old self cursor.old result found.new cursor.new }
+        requires { room.Fits found.old.stars cursor.old }
+        ensures reads { AddsBy rule.call found.old self cursor.old result found.new cursor.new }
+        ensures room { room.Spends found.old.stars cursor.old found.new.stars cursor.new }
     {
         cursor.take(&[PieceKind::Open])?;
         self.arguments(cursor, found)
@@ -351,7 +384,9 @@ impl GrammarReader {
     #[tactic(auto, unfolding(crate::specs::Grammar::parenthesis))]
     #[cycle(expression)]
     fn parenthesis(self, cursor: &mut Cursor<'_>, found: &mut Seen) -> Result<(), Unread>
-        ensures { AddsBy rule.parenthesis found.old self cursor.old result found.new cursor.new }
+        requires { room.Fits found.old.stars cursor.old }
+        ensures reads { AddsBy rule.parenthesis found.old self cursor.old result found.new cursor.new }
+        ensures room { room.Spends found.old.stars cursor.old found.new.stars cursor.new }
     {
         cursor.take(&[PieceKind::Open])?;
         self.expression(cursor, found)?;
@@ -364,7 +399,9 @@ impl GrammarReader {
     #[tactic(auto, unfolding(crate::specs::Grammar::signed_operand))]
     #[cycle(expression)]
     fn signed_operand(self, cursor: &mut Cursor<'_>, found: &mut Seen) -> Result<(), Unread>
-        ensures { AddsBy rule.signed_operand found.old self cursor.old result found.new cursor.new }
+        requires { room.Fits found.old.stars cursor.old }
+        ensures reads { AddsBy rule.signed_operand found.old self cursor.old result found.new cursor.new }
+        ensures room { room.Spends found.old.stars cursor.old found.new.stars cursor.new }
     {
         cursor.take(&SIGNS)?;
         self.operand(cursor, found)?;
@@ -376,7 +413,9 @@ impl GrammarReader {
     #[tactic(auto, using(crate::proofs::Nested::no_call, crate::proofs::Nested::deeper_call))]
     #[cycle(expression)]
     fn nested_call(self, cursor: &mut Cursor<'_>, found: &mut Seen) -> Result<(), Unread>
-        ensures { AddsNested Call found.old self cursor.old result found.new cursor.new }
+        requires { room.Fits found.old.stars cursor.old }
+        ensures reads { AddsNested Call found.old self cursor.old result found.new cursor.new }
+        ensures room { room.Spends found.old.stars cursor.old found.new.stars cursor.new }
     {
         if self.levels == 0 {
             return Err(Unread::Here);
@@ -391,7 +430,9 @@ impl GrammarReader {
     #[tactic(auto, using(crate::proofs::Nested::no_parenthesis, crate::proofs::Nested::deeper_parenthesis))]
     #[cycle(expression)]
     fn nested_parenthesis(self, cursor: &mut Cursor<'_>, found: &mut Seen) -> Result<(), Unread>
-        ensures { AddsNested Parenthesis found.old self cursor.old result found.new cursor.new }
+        requires { room.Fits found.old.stars cursor.old }
+        ensures reads { AddsNested Parenthesis found.old self cursor.old result found.new cursor.new }
+        ensures room { room.Spends found.old.stars cursor.old found.new.stars cursor.new }
     {
         if self.levels == 0 {
             return Err(Unread::Here);
@@ -406,7 +447,9 @@ impl GrammarReader {
     #[tactic(auto, using(crate::proofs::Nested::no_signed, crate::proofs::Nested::deeper_signed))]
     #[cycle(expression)]
     fn nested_signed(self, cursor: &mut Cursor<'_>, found: &mut Seen) -> Result<(), Unread>
-        ensures { AddsNested Signed found.old self cursor.old result found.new cursor.new }
+        requires { room.Fits found.old.stars cursor.old }
+        ensures reads { AddsNested Signed found.old self cursor.old result found.new cursor.new }
+        ensures room { room.Spends found.old.stars cursor.old found.new.stars cursor.new }
     {
         if self.levels == 0 {
             return Err(Unread::Here);

@@ -1,6 +1,7 @@
 //! Reads the items of a select list.
 ghost use Rattle.sql_reader.specs.Grammar as rule;
 ghost use Rattle.sql_reader.specs.inner.Reads.{AddsBy, ReadsBy};
+ghost use Rattle.sql_reader.specs.inner.Room as room;
 ghost use Rattle.std.specs.Prelude.{◌≡◌};
 
 use crate::cursor::{Cursor, GrammarReader, Unread};
@@ -14,6 +15,7 @@ impl GrammarReader {
     /// The rest of an expression of a select list, and its alias.
     #[tactic(auto, unfolding(crate::specs::Grammar::rest_of_item))]
     fn rest_of_item(self, cursor: &mut Cursor<'_>, mut found: Seen) -> Result<ParsedItem, Unread>
+        requires { room.Fits found.stars cursor.old }
         ensures { ReadsBy rule.rest_of_item found self cursor.old result cursor.new }
     {
         self.operations(cursor, &mut found)?;

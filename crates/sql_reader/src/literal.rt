@@ -1,6 +1,7 @@
 //! Reads the values of tests.
 ghost use Rattle.sql_reader.specs.Grammar as rule;
 ghost use Rattle.sql_reader.specs.inner.Reads.{ReadsBy};
+ghost use Rattle.sql_reader.specs.inner.Room as room;
 ghost use Rattle.sql_reader.specs.Values as values;
 ghost use Rattle.std.specs.Prelude.{◌≡◌, pos, neg_ℤ, ◌<ℤ◌, ◌^◌};
 
@@ -107,7 +108,8 @@ impl GrammarReader {
     /// A value that doesn't begin with DATE.
     #[tactic(auto, unfolding(crate::specs::Grammar::plain_value))]
     pub fn plain_value(self, cursor: &mut Cursor<'_>) -> Result<Literal, Unread>
-        ensures { ReadsBy rule.plain_value tt self cursor.old result cursor.new }
+        ensures reads { ReadsBy rule.plain_value tt self cursor.old result cursor.new }
+        ensures left { room.TakesSome result cursor.old cursor.new }
     {
         if cursor.begins(&SIGNS) {
             let sign = cursor.take(&SIGNS)?;
@@ -121,7 +123,8 @@ impl GrammarReader {
     /// A value.
     #[tactic(auto, unfolding(crate::specs::Grammar::value))]
     pub fn value(self, cursor: &mut Cursor<'_>) -> Result<Literal, Unread>
-        ensures { ReadsBy rule.value tt self cursor.old result cursor.new }
+        ensures reads { ReadsBy rule.value tt self cursor.old result cursor.new }
+        ensures left { room.TakesSome result cursor.old cursor.new }
     {
         if cursor.begins(&[PieceKind::Date]) {
             cursor.take(&[PieceKind::Date])?;

@@ -6,7 +6,7 @@ ghost use Rattle.std.specs.Option.{ForSome};
 use crate::PieceKind;
 use sql_tokens::Span;
 
-/// The last weight comment before a token: its place in the text, 0 where there is none, and its number.
+/// The last weight comment before a token: its place in the text, 0 where there is none, and its weight.
 #[derive(Clone, Copy)]
 pub struct Mark {
     pub place: u64,

@@ -8,7 +8,7 @@ ghost use Rattle.std.specs.Prelude.{◌≡◌, ◌≤◌, ◌<◌, ◌^◌, ◌<
 use crate::cursor::{Unread, has};
 use crate::list::{push, with_room};
 use crate::statement::STARTS;
-use crate::words::{quoted_kind, symbol_kind, text_day, weight_number, whole_number, word_kind};
+use crate::words::{comment_weight, quoted_kind, symbol_kind, text_day, whole_number, word_kind};
 use crate::{Mark, Piece, PieceKind};
 use adv_base::List;
 use sql_tokens::{Token, TokenKind};
@@ -74,14 +74,17 @@ fn piece(text: &[u8], token: Token, mark: Mark) -> Piece
     }
 }
 
-/// The mark of a weight comment.
-fn mark_of(text: &[u8], token: Token) -> Mark
+/// The mark behind a weight comment.
+fn mark_behind(text: &[u8], token: Token, mark: Mark) -> Mark
     requires { LiesIn text.now token }
-    ensures { result ≡ pieces.mark_of text.now token }
+    ensures { result ≡ pieces.mark_behind text.now token mark }
 {
-    Mark {
-        place: token.span.place(),
-        weight: weight_number(bytes_of(text, token)),
+    match comment_weight(bytes_of(text, token)) {
+        Some(weight) => Mark {
+            place: token.span.place(),
+            weight,
+        },
+        None => mark,
     }
 }
 
@@ -93,7 +96,7 @@ fn add(text: &[u8], token: Token, mark: &mut Mark, list: &mut List<Piece>) -> Re
     ensures err { IfErr result (λ stop. stop ≡ Memory) }
 {
     if is_weight(token.kind) {
-        *mark = mark_of(text, token);
+        *mark = mark_behind(text, token, *mark);
         return Ok(());
     }
     let made = piece(text, token, *mark);
@@ -128,16 +131,16 @@ pub fn scan(alloc: Global, text: &[u8], tokens: &[Token]) -> Result<List<Piece>,
     Ok(list)
 }
 
-/// Whether a token is a weight comment whose number isn't 1 to 10^6.
+/// Whether a token is a weight comment without a weight.
 fn is_bad_weight(text: &[u8], token: Token) -> bool
     requires { LiesIn text.now token }
     ensures { result ≡ pieces.is_bad_weight text.now token }
 {
     match token.kind {
-        TokenKind::Weight => {
-            let weight = weight_number(bytes_of(text, token));
-            !(1 <= weight && weight <= 1_000_000)
-        }
+        TokenKind::Weight => match comment_weight(bytes_of(text, token)) {
+            Some(_) => false,
+            None => true,
+        },
         _ => false,
     }
 }

@@ -1,6 +1,7 @@
 //! Reads a SELECT.
 ghost use Rattle.sql_reader.specs.Grammar as rule;
 ghost use Rattle.sql_reader.specs.inner.Reads.{AddsBy, ReadsBy};
+ghost use Rattle.sql_reader.specs.inner.Room as room;
 ghost use Rattle.std.specs.Prelude.{◌≡◌};
 
 use crate::cursor::{Cursor, GrammarReader, Unread};
@@ -183,7 +184,9 @@ impl GrammarReader {
     /// A comparison of two expressions.
     #[tactic(auto, unfolding(crate::specs::Grammar::having_test))]
     fn having_test(self, cursor: &mut Cursor<'_>, found: &mut Seen) -> Result<(), Unread>
-        ensures { AddsBy rule.having_test found.old self cursor.old result found.new cursor.new }
+        requires { room.Fits found.old.stars cursor.old }
+        ensures reads { AddsBy rule.having_test found.old self cursor.old result found.new cursor.new }
+        ensures room { room.Spends found.old.stars cursor.old found.new.stars cursor.new }
     {
         self.expression(cursor, found)?;
         cursor.take(&COMPARISONS)?;
@@ -193,7 +196,9 @@ impl GrammarReader {
     /// AND and a comparison.
     #[tactic(auto, unfolding(crate::specs::Grammar::another_having_test))]
     fn another_having_test(self, cursor: &mut Cursor<'_>, found: &mut Seen) -> Result<(), Unread>
-        ensures { AddsBy rule.another_having_test found.old self cursor.old result found.new cursor.new }
+        requires { room.Fits found.old.stars cursor.old }
+        ensures reads { AddsBy rule.another_having_test found.old self cursor.old result found.new cursor.new }
+        ensures room { room.Spends found.old.stars cursor.old found.new.stars cursor.new }
     {
         cursor.take(&[PieceKind::And])?;
         self.having_test(cursor, found)
@@ -201,7 +206,9 @@ impl GrammarReader {
 
     /// More comparisons behind AND.
     fn more_having_tests(self, cursor: &mut Cursor<'_>, found: &mut Seen) -> Result<(), Unread>
-        ensures { AddsBy rule.more_having_tests found.old self cursor.old result found.new cursor.new }
+        requires { room.Fits found.old.stars cursor.old }
+        ensures reads { AddsBy rule.more_having_tests found.old self cursor.old result found.new cursor.new }
+        ensures room { room.Spends found.old.stars cursor.old found.new.stars cursor.new }
     {
         'turns: while cursor.begins(&[PieceKind::And]) {
             self.another_having_test(cursor, found)?;
@@ -212,7 +219,9 @@ impl GrammarReader {
     /// Comparisons with AND between them.
     #[tactic(auto, unfolding(crate::specs::Grammar::having_tests))]
     fn having_tests(self, cursor: &mut Cursor<'_>, found: &mut Seen) -> Result<(), Unread>
-        ensures { AddsBy rule.having_tests found.old self cursor.old result found.new cursor.new }
+        requires { room.Fits found.old.stars cursor.old }
+        ensures reads { AddsBy rule.having_tests found.old self cursor.old result found.new cursor.new }
+        ensures room { room.Spends found.old.stars cursor.old found.new.stars cursor.new }
     {
         self.having_test(cursor, found)?;
         self.more_having_tests(cursor, found)

@@ -1,8 +1,11 @@
 //! Tells the kinds of words, names, symbols and numbers.
 ghost use Rattle.sql_reader.specs.Words as words;
-ghost use Rattle.std.specs.Prelude.{◌≡◌, ◌≤◌, ◌<◌, ◌^◌, ◌<ℤ◌, length, neg_ℤ, pos};
+ghost use Rattle.std.specs.Prelude.{◌≡◌, ◌≤◌, ◌<◌, ◌^◌, ◌<ℤ◌, Some, None, if◌then◌else◌, nat_le, neg_ℤ, pos};
 ghost use Rattle.std.specs.Option.{ForSome};
+ghost use Rattle.std.specs.Char.{is_ascii_digit};
+ghost use Rattle.std.specs.List.{list_all};
 ghost use Rattle.std.specs.Str.{str_eq_ignore_ascii_case};
+ghost use Rattle.std.specs.Str.Parse.{AllDigits, digits_value};
 
 use crate::PieceKind;
 use adv_base::day_of;
@@ -153,31 +156,37 @@ pub fn whole_number(bytes: &[u8]) -> Option<i64>
     ensures least { ForSome result (λ n. neg_ℤ (pos (10 ^ 18)) <ℤ n) }
     ensures most { ForSome result (λ n. n <ℤ pos (10 ^ 18)) }
 {
-    if bytes.len() > 18 {
+    if bytes.len() > 18 || !all_digits(bytes) {
         return None;
     }
-    Some(digits_value(bytes) as i64)
+    match number_up_to(bytes, 999_999_999_999_999_999) {
+        Some(number) => Some(number as i64),
+        None => None,
+    }
 }
 
-/// The number that digits write.
-fn digits_value(bytes: &[u8]) -> u64
-    requires { length bytes.now ≤ 18 }
-    ensures value { result ≡ words.digits_value bytes.now }
-    ensures small { result < 10 ^ 18 }
+/// Whether each byte is a digit.
+fn all_digits(bytes: &[u8]) -> bool
+    ensures { result ≡ list_all is_ascii_digit bytes.now }
+{
+    bytes.iter().all(|byte| byte.is_ascii_digit())
+}
+
+/// The number that digits write, where it is at most so large.
+fn number_up_to(digits: &[u8], most: u64) -> Option<u64>
+    requires digits { AllDigits 10 digits.now }
+    requires most { most < 10 ^ 18 }
+    ensures { result ≡ (if nat_le (digits_value 10 digits.now) most then Some (digits_value 10 digits.now) else None) }
 {
     let mut number = 0;
-    for byte in bytes {
-        number = 10 * number + digit_value(*byte);
+    'turns: for byte in digits {
+        let digit = *byte - b'0';
+        number = 10 * number + u64::from(digit);
+        if number > most {
+            return None;
+        }
     }
-    number
-}
-
-/// The value of a digit.
-fn digit_value(byte: u8) -> u64
-    ensures value { result ≡ words.digit_value byte }
-    ensures small { result ≤ 9 }
-{
-    u64::from(byte.saturating_sub(b'0').min(9))
+    Some(number)
 }
 
 /// The day in a text.
@@ -202,27 +211,26 @@ fn if_18_digits(number: i64) -> Option<i64>
     None
 }
 
-/// The number of a weight comment, that of its last digits, at most 10^7.
-#[tactic(auto, unfolding(crate::specs::Words::weight_number))]
-pub fn weight_number(bytes: &[u8]) -> u32
-    ensures value { result ≡ words.weight_number bytes.now }
+/// The weight of a weight comment: the number that its last digits write, where it is 1 to 10^6.
+#[tactic(auto, using(crate::proofs::Digits::no_weight, crate::proofs::Digits::zero_weight, crate::proofs::Digits::a_weight), unfolding(crate::specs::Words::comment_weight))]
+pub fn comment_weight(bytes: &[u8]) -> Option<u32>
+    ensures { result ≡ words.comment_weight bytes.now }
 {
-    let mut number = 0;
-    for byte in bytes {
-        number = weight_step(number, *byte);
+    match number_up_to(last_digits(bytes), 1_000_000) {
+        Some(0) => None,
+        Some(number) => Some(number as u32),
+        None => None,
     }
-    number
 }
 
-/// One byte more of a weight comment.
-fn weight_step(number: u32, byte: u8) -> u32
-    requires { number ≤ 10000000 }
-    ensures value { result ≡ words.weight_step number byte }
-    ensures small { result ≤ 10000000 }
+/// The digits behind the last byte that is none.
+fn last_digits(bytes: &[u8]) -> &[u8]
+    ensures value { result.now ≡ words.last_digits bytes.now }
+    ensures digits { AllDigits 10 result.now }
 {
-    if byte.is_ascii_digit() {
-        (10 * number + digit_value(byte) as u32).min(10_000_000)
-    } else {
-        0
+    let mut start = bytes.len();
+    'turns: while start > 0 && bytes[start - 1].is_ascii_digit() {
+        start -= 1;
     }
+    &bytes[start..]
 }

@@ -93,6 +93,7 @@ fn read_pieces(
     end: u64,
     list: &[Piece],
 ) -> Result<(Progress, Option<SqlFault>), Unread>
+    requires { length list.now < 2 ^ 32 }
     ensures ok { IfOk result (λ r. workload.GrammarSays end list.now r.0 r.1) }
     ensures err { IfErr result (λ stop. stop ≡ Memory) }
 {
@@ -196,9 +197,10 @@ fn read_tokens<'a>(alloc: Global, tokens: Tokens<'a>) -> Result<Parsed<'a>, SqlF
 {
     match scan(alloc, tokens.text, tokens.list.as_slice()) {
         Ok(list) => {
+            let pieces = list.as_slice();
             let end = tokens.text.len() as u64 + 1;
-            match read_pieces(alloc, end, list.as_slice()) {
-                Ok((progress, fault)) => conclude(tokens, list.as_slice(), progress, fault),
+            match read_pieces(alloc, end, pieces) {
+                Ok((progress, fault)) => conclude(tokens, pieces, progress, fault),
                 Err(_) => Err(SqlFault::Memory),
             }
         }

@@ -12,6 +12,6 @@ returns c =
 pub returns-then-is_weight : goal.returns-then-is_weight
 returns-then-is_weight c =
     record {
-      ok = add_mark c.args.text.now c.args.token c.args.mark.now c.mark_of.result c.args.list.now _ (sym c.is_weight.ensures ∙ c.if-is_weight.true) c.mark_of.ensures;
+      ok = add_mark c.args.text.now c.args.token c.args.mark.now c.mark_behind.result c.args.list.now _ (sym c.is_weight.ensures ∙ c.if-is_weight.true) c.mark_behind.ensures;
       err = tt;
     }

@@ -1,6 +1,6 @@
 use Rattle.std.proofs.Common.{◌+◌, length, Option, refl, inr, subst}
 use Rattle.sql_reader.proofs.Limits.{limits}
-use Rattle.sql_reader.proofs.Unique.{no_grammar_fault, no_bad_weight, no_start}
+use Rattle.sql_reader.proofs.Unique.{no_grammar_fault, no_start}
 use Rattle.sql_reader.specs.declared.parsed.SqlFault.{SqlFault}
 use Rattle.sql_reader.specs.Workload.{GrammarSays}
 use Rattle.sql_reader.proofs.workload.conclude.Goals as goal
@@ -11,7 +11,7 @@ parsed-requires-clause-within c =
     let list = c.args.tokens.list in
     let pieces = c.args.list.now in
     let none = c.in-None.ensures in
-    limits text list pieces c.args.progress c.requires.short c.requires.tokens c.requires.pieces (no_bad_weight text list pieces c.args.fault none) (no_start text list pieces c.args.fault none)
+    limits text list pieces c.args.progress c.requires.short c.requires.tokens c.requires.pieces (no_start text list pieces c.args.fault none)
     (subst (λ (o : Option SqlFault). GrammarSays (length text + 1) pieces c.args.progress o) (no_grammar_fault text list pieces c.args.fault none) c.requires.says)
 
 pub returns : goal.returns

@@ -1,6 +1,7 @@
 -- Each call is at a lower rank, or one level deeper.
 use Rattle.std.proofs.Common.{◌≡◌, ◌+◌, ◌*◌, length}
 use Rattle.sql_reader.specs.Exact.{reads}
+use Rattle.sql_reader.specs.inner.Room.{Spends}
 use Rattle.sql_reader.specs.Grammar as rule
 use Rattle.sql_reader.proofs.cursor.GrammarReader.+expression.Given as goal
 
@@ -61,18 +62,24 @@ decreases-parenthesis l = 20 * l.self.levels + 10
 abbrev pub decreases-signed_operand : goal.decreases-signed_operand
 decreases-signed_operand l = 20 * l.self.levels + 7
 
--- what is left to read is what was to be read
+-- what is left to read is what was to be read, and at most as many were counted as pieces were taken
 abbrev pub invariant-operations-turns : goal.invariant-operations-turns
 invariant-operations-turns l =
-    reads rule.grammar l.self.levels rule.operations l.found l.cursor.rest.now ≡ reads rule.grammar l.self.levels rule.operations l.fn.found l.fn.cursor.rest.now
+    record {
+      read : reads rule.grammar l.self.levels rule.operations l.found l.cursor.rest.now ≡ reads rule.grammar l.self.levels rule.operations l.fn.found l.fn.cursor.rest.now;
+      room : Spends l.fn.found.stars l.fn.cursor l.found.stars l.cursor;
+    }
 
 abbrev pub decreases-operations-turns : goal.decreases-operations-turns
 decreases-operations-turns l = length l.cursor.rest.now
 
--- what is left to read is what was to be read
+-- what is left to read is what was to be read, and at most as many were counted as pieces were taken
 abbrev pub invariant-more_expressions-turns : goal.invariant-more_expressions-turns
 invariant-more_expressions-turns l =
-    reads rule.grammar l.self.levels rule.more_expressions l.found l.cursor.rest.now ≡ reads rule.grammar l.self.levels rule.more_expressions l.fn.found l.fn.cursor.rest.now
+    record {
+      read : reads rule.grammar l.self.levels rule.more_expressions l.found l.cursor.rest.now ≡ reads rule.grammar l.self.levels rule.more_expressions l.fn.found l.fn.cursor.rest.now;
+      room : Spends l.fn.found.stars l.fn.cursor l.found.stars l.cursor;
+    }
 
 abbrev pub decreases-more_expressions-turns : goal.decreases-more_expressions-turns
 decreases-more_expressions-turns l = length l.cursor.rest.now

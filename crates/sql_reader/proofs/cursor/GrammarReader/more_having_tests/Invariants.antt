@@ -1,12 +1,16 @@
 use Rattle.std.proofs.Common.{◌≡◌, length}
 use Rattle.sql_reader.specs.Exact.{reads}
+use Rattle.sql_reader.specs.inner.Room.{Spends}
 use Rattle.sql_reader.specs.Grammar as rule
 use Rattle.sql_reader.proofs.cursor.GrammarReader.more_having_tests.Given as goal
 
--- what is left to read is what was to be read
+-- what is left to read is what was to be read, and at most as many were counted as pieces were taken
 abbrev pub invariant-turns : goal.invariant-turns
 invariant-turns l =
-    reads rule.grammar l.self.levels rule.more_having_tests l.found l.cursor.rest.now ≡ reads rule.grammar l.self.levels rule.more_having_tests l.fn.found l.fn.cursor.rest.now
+    record {
+      read : reads rule.grammar l.self.levels rule.more_having_tests l.found l.cursor.rest.now ≡ reads rule.grammar l.self.levels rule.more_having_tests l.fn.found l.fn.cursor.rest.now;
+      room : Spends l.fn.found.stars l.fn.cursor l.found.stars l.cursor;
+    }
 
 abbrev pub decreases-turns : goal.decreases-turns
 decreases-turns l = length l.cursor.rest.now
