@@ -1,10 +1,11 @@
 -- Steps from a configuration to one with a candidate more or less.
 use Rattle.std.proofs.Common.{◌≡◌, ◌∙◌, ◌≢◌, ◌⊎◌, inl, inr, ℕ, zero, suc, ◌+◌, ◌<◌, ◌≤◌, Bool, true, false, cond, List, [], ◌∷◌, length, get_or, take, sum, refl, sym, ap, subst, arith, get_or-set_other}
-use Rattle.std.specs.Prelude.{Option, Some, None, count_by}
+use Rattle.std.specs.Prelude.{Option, Some, None, nat_lt, count_by}
 use Rattle.std.proofs.Math.ListN.{set}
 use Rattle.std.proofs.Math.Seq.{take-set-lt}
 use Rattle.std.proofs.lemmas.Bool.{cases_lt, false≢true}
-use Rattle.std.proofs.lemmas.List.{length-take}
+use Rattle.std.proofs.lemmas.Bool.Decides.{nat_tests}
+use Rattle.std.proofs.lemmas.List.{length-take, get_or_past}
 use Rattle.std.proofs.lemmas.List.Sums.{count_by-le-length, sum_by-cons}
 use Rattle.adv_base.specs.declared.setting.Config.{Config}
 use Rattle.adv_base.specs.Configs.{chosen}
@@ -13,10 +14,11 @@ use Rattle.bip_model.specs.declared.fix.State.{State}
 use Rattle.bip_model.specs.declared.fix.State.TheVariants.{Free, In, Out}
 use Rattle.bip_model.specs.declared.programme.Programme.{Programme}
 use Rattle.bip_model.specs.Values.{value}
+use Rattle.bip_model.proofs.Sides.{both-of, off-of}
 use Rattle.lagrange_bound.specs.Bounds.{state_at}
 use Rattle.branch_bound.specs.declared.climb.Costed.{Costed}
 use Rattle.branch_bound.specs.Sides.{is_free_state, pages}
-use Rattle.branch_bound.specs.inner.Climbs.{flag_at, changed, IsSound, IsSoundHere, GainsNothing, IsTopBelow, height, IsLower, IsTrial, IsRemoved, IsAdded}
+use Rattle.branch_bound.specs.inner.Climbs.{flag_at, changed, agrees, ObeysBelow, IsSound, IsSoundHere, GainsNothing, IsTopBelow, height, IsLower, IsTrial, IsRemoved, IsAdded}
 
 pub free-is : (state : State) → is_free_state state ≡ true → state ≡ Free
 free-is Free free = refl
@@ -97,6 +99,35 @@ front-off flags n i within on =
 
 front-most : (flags : List Bool) (n : ℕ) → count_on (take n flags) ≤ n
 front-most flags n = omega (arith, count_by-le-length (λ (flag : Bool). flag) (take n flags), length-take n flags)
+
+-- ## What is sound
+
+-- past the candidates nothing is on
+known-of : (state : State) (on known : Bool) → agrees state on known ≡ true → known ≡ false → on ≡ false
+known-of In on known is not_known = absurd (false≢true (sym not_known ∙ (both-of on known is).1))
+known-of Out on known is not_known = off-of on is
+known-of Free true known is not_known = absurd (false≢true (sym not_known ∙ is))
+known-of Free false known is not_known = refl
+
+pub sound-tested : (programme : Programme) (budget : ℕ) (root : Fix) (config : Config) (cost : ℕ) → length root.state ≡ 256 → length config.on ≡ 256 →
+    ObeysBelow root.state config.on (length programme.sizes) 256 → pages programme config ≤ budget → cost ≡ value programme config → IsSound programme budget root config cost
+sound-tested programme budget root config cost long wide obeys room cost_is =
+    record {
+      cost_is = cost_is;
+      fits = room;
+      holds = λ i at. elim (cases_lt i 256) [
+        | inl less ↦ (both-of (flag_at config i) (nat_lt i (length programme.sizes)) (sym (ap (λ (state : State). agrees state (flag_at config i) (nat_lt i (length programme.sizes))) at) ∙ obeys i less)).0
+        | inr more ↦ let beyond : Free ≡ In = sym (get_or_past root.state i Free (omega (arith, long, more))) ∙ at in cc
+      ];
+      lacks = λ i at. elim (cases_lt i 256) [
+        | inl less ↦ off-of (flag_at config i) (sym (ap (λ (state : State). agrees state (flag_at config i) (nat_lt i (length programme.sizes))) at) ∙ obeys i less)
+        | inr more ↦ get_or_past config.on i false (omega (arith, wide, more))
+      ];
+      past = λ i beyond. elim (cases_lt i 256) [
+        | inl less ↦ known-of (state_at root i) (flag_at config i) (nat_lt i (length programme.sizes)) (obeys i less) (grind (arith, nat_tests))
+        | inr more ↦ get_or_past config.on i false (omega (arith, wide, more))
+      ];
+    }
 
 -- ## What stays sound
 

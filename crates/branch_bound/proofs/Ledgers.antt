@@ -1,5 +1,5 @@
 -- Ledgers of zeros and of the sets, of which one is written.
-use Rattle.std.proofs.Common.{◌≡◌, ◌≢◌, ◌⊎◌, inl, inr, ℕ, suc, ◌+◌, ◌<◌, ◌≤◌, List, ◌∷◌, length, get_or, sym, ap, subst, arith, get_or-set_other}
+use Rattle.std.proofs.Common.{◌≡◌, ◌≢◌, ◌⊎◌, inl, inr, ℕ, ◌+◌, ◌<◌, ◌≤◌, List, ◌∷◌, length, get_or, sym, subst, arith, get_or-set_other}
 use Rattle.std.specs.Prelude.{slice_index_or}
 use Rattle.std.proofs.Math.ListN.{set}
 use Rattle.std.proofs.lemmas.Bool.{cases_lt}
@@ -7,7 +7,7 @@ use Rattle.std.proofs.lemmas.List.{get_or-set_same, length-set}
 use Rattle.bip_model.specs.declared.multipliers.Multipliers.{Multipliers}
 use Rattle.bip_model.specs.declared.programme.Programme.{Programme}
 use Rattle.lagrange_bound.specs.declared.ledger.Ledger.{Ledger}
-use Rattle.lagrange_bound.specs.Ledgers.{HasRoom, IsLedger}
+use Rattle.lagrange_bound.specs.Ledgers.{IsLedger}
 use Rattle.branch_bound.specs.inner.Runs.{AreOpen}
 
 -- a number is another, or isn't

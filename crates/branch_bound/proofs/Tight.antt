@@ -20,8 +20,8 @@ use Rattle.bip_model.specs.declared.fix.State.TheVariants.{Free, In, Out}
 use Rattle.bip_model.specs.Best.{Subproblem, subproblems, HasLagrangian, IsTight}
 use Rattle.bip_model.specs.Candidates.{is_useful, pages_of, size_of}
 use Rattle.bip_model.specs.Laws.{NoneUseful}
-use Rattle.bip_model.specs.Trees.{Tree, Branches, Leaf, Full, in_side, out_side, zeros, set_at}
-use Rattle.bip_model.specs.Views.{is_in, is_out, node_of, multipliers_of}
+use Rattle.bip_model.specs.Trees.{Tree, Branches, Leaf, Full, in_side, out_side, set_at}
+use Rattle.bip_model.specs.Views.{is_in, is_out, node_of}
 use Rattle.bip_model.proofs.Deciding.{open-same}
 use Rattle.bip_model.proofs.Descending.{with-config}
 use Rattle.bip_model.proofs.Lists.{front-of, back-of}

@@ -12,7 +12,7 @@ ghost use Rattle.branch_bound.specs.inner.Climbs as climbs;
 ghost use Rattle.branch_bound.specs.inner.Proposals as proposals;
 ghost use Rattle.branch_bound.specs.inner.Runs as runs;
 
-use crate::climb::{Costed, changed, climb};
+use crate::climb::{Costed, climb};
 use crate::explore::explore;
 use crate::fixing::inside;
 use crate::found::Found;
@@ -23,10 +23,11 @@ use crate::incumbent::{greedy, shares_of};
 use crate::opening::open_all;
 use crate::plan::{Step, better, keep, propose};
 use crate::room::{Room, set_limit};
+use crate::taken::cheaper;
 use crate::task::Task;
 use crate::useful::useful_of;
+use adv_base::List;
 use adv_base::limits::MOST_CANDIDATES;
-use adv_base::{Config, List};
 use bip_model::{Answer, Fix, Multipliers, Node, Programme, value};
 use lagrange_bound::{Ledger, Pace, ascend, improve};
 
@@ -46,16 +47,6 @@ const SECOND: Pace = Pace {
     patience: 30,
 };
 
-/// What each candidate saves alone beside those of a configuration, in thousandths of a page read.
-fn gains_of(programme: &Programme, config: &Config) -> [u128; MOST_CANDIDATES] {
-    let cost = value(programme, config);
-    let mut gains = [0; MOST_CANDIDATES];
-    for index in 0..programme.sizes.len() {
-        gains[index] = cost.saturating_sub(value(programme, &changed(config, index, true)));
-    }
-    gains
-}
-
 /// What nothing that fits costs less than: the cost, or the least value of the leaves at which the search gave up.
 fn least_bound(cost: u128, low: i128) -> i128
     ensures { result ≡ runs.least_bound cost low }
@@ -71,6 +62,7 @@ fn least_bound(cost: u128, low: i128) -> i128
 fn bare(programme: &Programme, budget: u64, root: &Fix) -> Costed
     requires { sides.IsRoot programme.now budget root.now }
     ensures sound { climbs.IsSoundHere programme.now budget root.now result }
+    ensures inside { result.config ≡ sides.inside root.now }
     ensures long { length root.now.state ≡ MOST_CANDIDATES }
 {
     let config = inside(root);
@@ -120,16 +112,14 @@ fn ascended(task: &Task<'_>, first: &mut Multipliers, hands: &mut Hands) -> Cost
     ensures hands { proposals.AreHands task.now.programme.now hands.new }
     ensures keeps { bounds.lagrangian task.now.programme.now task.now.budget task.now.root.now first.old ≤ℤ bounds.lagrangian task.now.programme.now task.now.budget task.now.root.now first.new }
 {
-    let known = greedy(
-        task.programme,
-        task.budget,
-        task.root,
-        task.useful,
-        task.bare,
-    );
+    hands
+        .plain
+        .open(task.programme, task.zeros, &[0; MOST_CANDIDATES]);
+    let draft = greedy(task, &mut hands.plain);
+    let known = cheaper(task, task.bare, &draft);
     raised(task, known.cost, first, hands, FIRST);
-    let known = better(task, known, &shares_of(&hands.ascent));
-    let known = climb(task.programme, task.budget, task.root, known);
+    let shares = shares_of(&hands.ascent);
+    let known = better(task, known, &shares, hands);
     raised(task, known.cost, first, hands, SECOND);
     known
 }
@@ -190,7 +180,6 @@ fn explored(
     ensures most { result.made ≤ nodes }
 {
     open_all(task.programme, zeros, sets, ledgers);
-    let gains = gains_of(task.programme, &task.bare.config);
     let frame = Frame {
         programme: task.programme,
         budget: task.budget,
@@ -198,11 +187,20 @@ fn explored(
         zeros,
         sets,
         useful: task.useful,
-        gains: &gains,
         plan,
     };
     let before = started(known);
-    explore(&frame, task.root, before, 0, tree, &mut 0, ledgers, guides)
+    explore(
+        &frame,
+        task.root,
+        task.bare.cost,
+        before,
+        0,
+        tree,
+        &mut 0,
+        ledgers,
+        guides,
+    )
 }
 
 /// Climbs from the cheapest configuration in the tree.
@@ -245,6 +243,7 @@ pub fn search(programme: &Programme, root: &Fix, budget: u64, nodes: u32, room: 
         budget,
         useful: &useful.flags,
         root,
+        zeros: &zeros,
         bare: bare(programme, budget, root),
         most: set_limit(programme),
     };

@@ -1,14 +1,17 @@
 //! The tree of a search, explored depth first.
 ghost use Rattle.std.specs.Prelude.{◌≡◌, ◌+◌, ◌<◌, ◌≤◌, [], ◌∷◌, ◌++◌, length, vec_len};
 ghost use Rattle.std.specs.Vec.{vec_capacity};
+ghost use Rattle.adv_base.specs.declared.limits.TheConstants.{MOST_CANDIDATES};
 ghost use Rattle.bip_model.specs.declared.answer.Node.{Node};
+ghost use Rattle.bip_model.specs.declared.fix.State.TheVariants.{Out};
+ghost use Rattle.branch_bound.specs.Sides as sides;
 ghost use Rattle.branch_bound.specs.inner.Runs as runs;
 
 use crate::fixing::fixed;
 use crate::found::Found;
 use crate::frame::Frame;
 use crate::guide::Guide;
-use crate::node::{Fate, fate_of, lag, visited};
+use crate::node::{Fate, fate_of, lag, total_at, visited};
 use bip_model::{Fix, Node, State};
 use lagrange_bound::Ledger;
 
@@ -75,11 +78,23 @@ fn sides_of(frame: &Frame<'_>, place: usize, index: usize) -> Sides {
     }
 }
 
-/// Explores what is below a node that was made, and appends its tree in preorder. It has this place in the plan; `hint` is the
-/// set that closed the last leaf.
+/// The out-side of a branch, at which is in what was before, at the same cost.
+fn outside(frame: &Frame<'_>, fix: &Fix, index: usize, cost: u128) -> Fix
+    requires choice { runs.IsChoice (runs.rules_of frame.now) fix.now index }
+    requires within { index < MOST_CANDIDATES }
+    requires cost { cost ≡ sides.total frame.now.programme.now fix.now }
+    ensures exact { result ≡ sides.fixed fix.now index Out }
+    ensures cost { cost ≡ sides.total frame.now.programme.now result }
+{
+    fixed(fix, index, State::Out)
+}
+
+/// Explores what is below a node that was made, and appends its tree in preorder. What is in there costs so much, and it has
+/// this place in the plan; `hint` is the set that closed the last leaf.
 pub(crate) fn explore(
     frame: &Frame<'_>,
     fix: &Fix,
+    cost: u128,
     before: Found,
     place: usize,
     tree: &mut Vec<Node>,
@@ -87,6 +102,7 @@ pub(crate) fn explore(
     ledgers: &mut [Ledger],
     guides: &mut [Guide],
 ) -> Found
+    requires cost { cost ≡ sides.total frame.now.programme.now fix.now }
     requires pending { vec_len tree.old < before.made }
     requires made { before.made ≤ frame.now.nodes }
     requires room { frame.now.nodes ≤ vec_capacity tree.old }
@@ -98,7 +114,7 @@ pub(crate) fn explore(
     ensures room { vec_capacity tree.old ≤ vec_capacity tree.new }
     ensures ledgers { runs.AreLedgers (runs.rules_of frame.now) ledgers.new }
 {
-    let found = visited(frame, fix, before);
+    let found = visited(fix, cost, before);
     match fate_of(frame, fix, &found, *hint, place, ledgers, guides) {
         Fate::Closed(set) => {
             *hint = set;
@@ -113,9 +129,11 @@ pub(crate) fn explore(
             append(tree, Node::Branch(index as u16 + 1));
             let sides = sides_of(frame, place, index);
             let below = branched(found, frame.nodes);
+            let within = fixed(fix, index, State::In);
             let middle = explore(
                 frame,
-                &fixed(fix, index, State::In),
+                &within,
+                total_at(frame, &within),
                 below,
                 sides.inside,
                 tree,
@@ -123,10 +141,11 @@ pub(crate) fn explore(
                 ledgers,
                 guides,
             );
-            let out = fixed(fix, index, State::Out);
+            let out = outside(frame, fix, index, cost);
             explore(
                 frame,
                 &out,
+                cost,
                 middle,
                 sides.outside,
                 tree,

@@ -8,8 +8,8 @@ use adv_base::limits::MOST_CANDIDATES;
 use bip_model::{Multipliers, Programme};
 
 /// The programme, a budget of pages and one of nodes, the set of zeros and the other sets of multipliers, which candidates
-/// are useful, what each alone would gain, and the plan: a branch is on the candidate that the plan proposes, else on the one
-/// that a guide proposes, and where that isn't open and useful on the one that gains most.
+/// are useful, and the plan: a branch is on the candidate that the plan proposes, else on the one that a guide proposes, and
+/// where that isn't open and useful on the first one that is.
 #[derive(Drop)]
 pub(crate) struct Frame<'a> {
     pub programme: &'a Programme,
@@ -18,7 +18,6 @@ pub(crate) struct Frame<'a> {
     pub zeros: &'a Multipliers,
     pub sets: &'a [Multipliers],
     pub useful: &'a [bool; MOST_CANDIDATES],
-    pub gains: &'a [u128; MOST_CANDIDATES],
     pub plan: &'a [Step],
     pub ghost budget_most: { budget ≤ MOST_ROWS },
     pub ghost nodes_most: { nodes ≤ MOST_NODES },

@@ -3,7 +3,7 @@
 ghost use Rattle.adv_base.specs.declared.limits.TheConstants.{MOST_CANDIDATES};
 
 use crate::fixing::is_in;
-use adv_base::limits::{MOST_CANDIDATES, MOST_SLOTS};
+use adv_base::limits::{MOST_CANDIDATES, MOST_SLOTS, MOST_STATEMENTS};
 use adv_base::{Config, NoMemory};
 use bip_model::{Fix, Grant, Multipliers, Part, Programme, SlotPart};
 use plan_model::Template;
@@ -35,6 +35,12 @@ const NO_OFFER: Offer = Offer {
 
 /// Rows to begin with.
 const NO_ROWS: Rows = [[NO_OFFER; MOST_ORDERS]; MOST_SLOTS];
+
+/// The least price of each order of each slot.
+type Prices = [[u64; MOST_ORDERS]; MOST_SLOTS];
+
+/// Prices to begin with.
+const NO_PRICES: Prices = [[NO_PRICE; MOST_ORDERS]; MOST_SLOTS];
 
 /// An offer beside a price of a candidate.
 fn lowered(offer: Offer, price: u64, number: u16) -> Offer {
@@ -103,6 +109,57 @@ fn write_row(
     }
 }
 
+/// A cost that a word holds.
+fn clipped(cost: u128) -> u64 {
+    cost.min(u64::MAX as u128) as u64
+}
+
+/// Puts what exists and the offers of a slot into a row of least prices.
+fn write_least(
+    slot: &SlotPart,
+    config: &Config,
+    rents: &[u64],
+    at: usize,
+    row: &mut [u64; MOST_ORDERS],
+) {
+    let base = slot.base.as_slice();
+    for order in 0..base.len().min(MOST_ORDERS) {
+        row[order] = word(base[order], 0);
+    }
+    let grants = slot.grants.as_slice();
+    for index in 0..grants.len() {
+        if config.has(grants[index].candidate) {
+            let rent = rent_at(rents, at.saturating_add(index));
+            let prices = grants[index].prices.as_slice();
+            for order in 0..prices.len().min(MOST_ORDERS) {
+                row[order] = row[order].min(word(prices[order], rent));
+            }
+        }
+    }
+}
+
+/// What a template and so many slots cost at least prices.
+fn template_cost(template: &Template, slots: usize, prices: &Prices) -> u128 {
+    let mut cost = template.internal;
+    for s in 0..slots.min(MOST_SLOTS) {
+        let price = prices[s][template.needs[s] as usize];
+        if price == NO_PRICE {
+            return u128::MAX;
+        }
+        cost = cost.saturating_add(price as u128);
+    }
+    cost
+}
+
+/// What a part costs at least prices.
+fn part_cost(part: &Part, prices: &Prices) -> u128 {
+    let mut best = u128::MAX;
+    for template in part.templates.as_slice() {
+        best = best.min(template_cost(template, part.slots.len(), prices));
+    }
+    best
+}
+
 /// The price of an offer without a candidate.
 fn price_without(offer: Offer, number: u16) -> u64 {
     if offer.by == number && number > 0 {
@@ -137,6 +194,19 @@ fn part_without(part: &Part, rows: &Rows, number: u16) -> u128 {
 /// Which candidates are meant, a bit for each.
 pub(crate) type Marks = [u64; 4];
 
+/// Which parts are meant, a bit for each.
+type Places = [u64; 16];
+
+/// No part.
+const NO_PLACES: Places = [0; 16];
+
+/// Marks a part, by its place.
+fn mark_place(places: &mut Places, place: usize) {
+    if place < MOST_STATEMENTS {
+        places[place / 64] |= 1u64 << (place % 64);
+    }
+}
+
 /// No candidate.
 const NO_MARKS: Marks = [0; 4];
 
@@ -145,10 +215,10 @@ const NO_MARKS: Marks = [0; 4];
 #[derive(Clone, Copy)]
 struct PartGuide {
     at: usize,
-    least: u128,
+    least: u64,
     is_full: bool,
     by: [u16; MOST_SLOTS],
-    loss: [u128; MOST_SLOTS],
+    loss: [u64; MOST_SLOTS],
 }
 
 /// Where nothing is kept.
@@ -167,7 +237,7 @@ const MOST_KNOWN: usize = 8;
 #[derive(Clone, Copy)]
 struct Known {
     key: u64,
-    least: u128,
+    least: u64,
 }
 
 /// What is remembered of a part.
@@ -215,13 +285,16 @@ pub(crate) fn usable_of(config: Config) -> Usable {
 /// What is kept under a set of multipliers: the candidates that may be used where the guide stands, its parts and of which
 /// candidates each has grants, the weighted sum of their costs, how much more all parts would cost without each candidate, what
 /// each costs beyond its rents and what its rents bring in beyond its cost, in parts of 65536, and its share in the relaxation.
-/// `rows` is room for one part's offers, and `memories` has some earlier costs of each part.
+/// `rows` and `prices` are room for one part's offers, `users` has the parts of each candidate, and `memories` some earlier
+/// costs of each part.
 #[derive(Drop)]
 pub(crate) struct Guide {
     here: Usable,
     rows: Vec<Rows>,
+    prices: Vec<Prices>,
     parts: Vec<PartGuide>,
     marks: Vec<Marks>,
+    users: Vec<Places>,
     memories: Vec<Memory>,
     plans: u128,
     losses: [u128; MOST_CANDIDATES],
@@ -247,6 +320,11 @@ fn marked(marks: &mut Marks, index: usize) {
     if index < MOST_CANDIDATES {
         marks[index / 64] |= 1u64 << (index % 64);
     }
+}
+
+/// Whether a candidate is marked, by its index.
+fn is_marked(marks: &Marks, index: usize) -> bool {
+    index < MOST_CANDIDATES && marks[index / 64] & (1u64 << (index % 64)) != 0
 }
 
 /// Whether a candidate is marked in both.
@@ -277,11 +355,22 @@ fn write_rows(part: &Part, config: &Config, rents: &[u64], at: usize, rows: &mut
     }
 }
 
+/// Puts the least prices at the slots of a part into rows.
+fn write_prices(part: &Part, config: &Config, rents: &[u64], at: usize, prices: &mut Prices) {
+    let slots = part.slots.as_slice();
+    let mut place = at;
+    for s in 0..slots.len().min(MOST_SLOTS) {
+        write_least(&slots[s], config, rents, place, &mut prices[s]);
+        place = place.saturating_add(slots[s].grants.len());
+    }
+}
+
 /// The place of a part's least template.
-fn least_template(part: &Part, rows: &Rows, least: u128) -> usize {
+fn least_template(part: &Part, rows: &Rows, least: u64) -> usize {
     let templates = part.templates.as_slice();
     for place in 0..templates.len() {
-        if template_without(&templates[place], part.slots.len(), rows, 0) == least {
+        let cost = template_without(&templates[place], part.slots.len(), rows, 0);
+        if clipped(cost) == least {
             return place;
         }
     }
@@ -299,7 +388,8 @@ fn fill_part(part: &Part, rows: &Rows, own: &mut PartGuide) {
             let number = rows[s][template.needs[s] as usize].by;
             if number > 0 {
                 own.by[s] = number;
-                own.loss[s] = part_without(part, rows, number).saturating_sub(own.least);
+                let cost = clipped(part_without(part, rows, number));
+                own.loss[s] = cost.saturating_sub(own.least);
             }
         }
     }
@@ -329,7 +419,7 @@ fn count_losses(part: &Part, own: &PartGuide, more: bool, losses: &mut [u128; MO
     for s in 0..part.slots.len().min(MOST_SLOTS) {
         let index = own.by[s] as usize;
         if 0 < index && index <= MOST_CANDIDATES && !is_repeated(&own.by, s) {
-            let loss = own.loss[s].saturating_mul(part.weight as u128);
+            let loss = own.loss[s] as u128 * part.weight as u128;
             losses[index - 1] = counted(losses[index - 1], loss, more);
         }
     }
@@ -378,13 +468,15 @@ fn put<T: Drop>(list: &mut Vec<T>, item: T) {
 }
 
 impl Guide {
-    /// A guide that stands nowhere: 464 bytes for each part, and 64 thousand.
+    /// A guide that stands nowhere: 264 bytes for each part, and 113 thousand.
     pub(crate) fn new(alloc: Global, programme: &Programme) -> Result<Guide, NoMemory> {
         Ok(Guide {
             here: usable_of(Config::none()),
             rows: Vec::with_capacity(alloc, 1)?,
+            prices: Vec::with_capacity(alloc, 1)?,
             parts: Vec::with_capacity(alloc, programme.parts.len())?,
             marks: Vec::with_capacity(alloc, programme.parts.len())?,
+            users: Vec::with_capacity(alloc, MOST_CANDIDATES)?,
             memories: Vec::with_capacity(alloc, programme.parts.len())?,
             plans: 0,
             losses: [0; MOST_CANDIDATES],
@@ -394,11 +486,11 @@ impl Guide {
     }
 
     /// What a part costs where some candidates may be used, found anew or remembered.
-    fn least_of(&mut self, part: &Part, place: usize, to: &Usable, rents: &[u64]) -> u128 {
+    fn least_of(&mut self, part: &Part, place: usize, to: &Usable, rents: &[u64]) -> u64 {
         if place >= self.parts.len()
             || place >= self.marks.len()
             || place >= self.memories.len()
-            || self.rows.len() == 0
+            || self.prices.len() == 0
         {
             return 0;
         }
@@ -409,8 +501,8 @@ impl Guide {
             return known.least;
         }
         let at = self.parts[place].at;
-        write_rows(part, &to.config, rents, at, &mut self.rows[0]);
-        let least = part_without(part, &self.rows[0], 0);
+        write_prices(part, &to.config, rents, at, &mut self.prices[0]);
+        let least = clipped(part_cost(part, &self.prices[0]));
         self.memories[place][spot] = Known { key, least };
         least
     }
@@ -421,7 +513,7 @@ impl Guide {
         if place < self.parts.len() {
             self.parts[place].least = least;
             self.parts[place].is_full = false;
-            let cost = least.wrapping_mul(part.weight as u128);
+            let cost = least as u128 * part.weight as u128;
             self.plans = self.plans.wrapping_add(cost);
         }
     }
@@ -431,7 +523,7 @@ impl Guide {
         if place >= self.parts.len() {
             return;
         }
-        let cost = self.parts[place].least.wrapping_mul(part.weight as u128);
+        let cost = self.parts[place].least as u128 * part.weight as u128;
         self.plans = self.plans.wrapping_sub(cost);
         if self.parts[place].is_full {
             count_losses(part, &self.parts[place], false, &mut self.losses);
@@ -452,6 +544,12 @@ impl Guide {
     /// Adds a part, whose rents begin at a place and that has grants of the marked candidates.
     fn add_part(&mut self, at: usize, marks: Marks) {
         let own = PartGuide { at, ..NO_PART };
+        let place = self.parts.len();
+        for index in 0..MOST_CANDIDATES {
+            if is_marked(&marks, index) && index < self.users.len() {
+                mark_place(&mut self.users[index], place);
+            }
+        }
         put(&mut self.parts, own);
         put(&mut self.marks, marks);
         put(&mut self.memories, NO_MEMORY);
@@ -462,6 +560,13 @@ impl Guide {
         self.parts.clear();
         self.marks.clear();
         self.memories.clear();
+        self.users.clear();
+        for _ in 0..MOST_CANDIDATES {
+            put(&mut self.users, NO_PLACES);
+        }
+        if self.prices.len() == 0 {
+            put(&mut self.prices, NO_PRICES);
+        }
         if self.rows.len() == 0 {
             put(&mut self.rows, NO_ROWS);
         }
@@ -495,9 +600,30 @@ impl Guide {
         }
     }
 
-    /// Whether a part has a grant of a marked candidate.
-    fn touches(&self, place: usize, changed: &Marks) -> bool {
-        place < self.marks.len() && meet(&self.marks[place], changed)
+    /// Whether no part has grants of both of two candidates.
+    pub(crate) fn are_apart(&self, one: usize, other: usize) -> bool {
+        if one >= self.users.len() || other >= self.users.len() {
+            return false;
+        }
+        for word in 0..16 {
+            if self.users[one][word] & self.users[other][word] != 0 {
+                return false;
+            }
+        }
+        true
+    }
+
+    /// The parts that have grants of marked candidates.
+    fn touched(&self, changed: &Marks) -> Places {
+        let mut places = NO_PLACES;
+        for index in 0..self.users.len() {
+            if is_marked(changed, index) {
+                for word in 0..16 {
+                    places[word] |= self.users[index][word];
+                }
+            }
+        }
+        places
     }
 
     /// Carries the guide to where some candidates may be used.
@@ -508,10 +634,19 @@ impl Guide {
         }
         let parts = programme.parts.as_slice();
         let rents = own.lambda.as_slice();
-        for place in 0..parts.len() {
-            if self.touches(place, &changed) {
-                self.forget(&parts[place], place);
-                self.price(&parts[place], place, to, rents);
+        let touched = self.touched(&changed);
+        for word in 0..16 {
+            let mut bits = touched[word];
+            for _ in 0..64 {
+                if bits == 0 {
+                    break;
+                }
+                let place = 64 * word + bits.trailing_zeros() as usize;
+                bits &= bits - 1;
+                if place < parts.len() {
+                    self.forget(&parts[place], place);
+                    self.price(&parts[place], place, to, rents);
+                }
             }
         }
         self.here = *to;
@@ -545,6 +680,18 @@ impl Guide {
             inside: costs.inside / 65536,
             outside: self.losses[index].saturating_add(costs.outside / 65536),
         }
+    }
+
+    /// What the candidates cost that may be used where the guide stands, with what exists and the plans under its multipliers.
+    pub(crate) fn total(&self, programme: &Programme) -> u128 {
+        let upkeep = programme.upkeep.as_slice();
+        let mut sum = self.plans.saturating_add(programme.kept);
+        for index in 0..upkeep.len().min(MOST_CANDIDATES) {
+            if self.here.config.on[index] {
+                sum = sum.saturating_add(upkeep[index]);
+            }
+        }
+        sum
     }
 
     /// The Lagrangian value of a node, where the guide stands there.

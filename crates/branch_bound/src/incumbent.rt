@@ -1,17 +1,82 @@
-//! First configurations of a search: greedy by saving for each page, and rounded from the relaxation.
-ghost use Rattle.std.specs.Prelude.{◌<◌, IfSome};
+//! First configurations of a search: greedy by saving for each page, rounded from the relaxation, and bettered by exchanges.
+//! Proposals alone: what is taken of them is tested and priced anew.
+ghost use Rattle.std.specs.Prelude.{◌≡◌, ◌<◌, true};
 ghost use Rattle.adv_base.specs.declared.limits.TheConstants.{MOST_CANDIDATES};
-ghost use Rattle.branch_bound.specs.inner.Climbs as climbs;
 
-use crate::climb::{Costed, tried};
+use crate::climb::changed;
+use crate::fixing::is_free;
+use crate::guide::{Guide, usable_of};
+use crate::task::Task;
+use adv_base::Config;
 use adv_base::limits::MOST_CANDIDATES;
-use bip_model::{Fix, Programme};
 use lagrange_bound::Ascent;
 
 /// The most steps of the greedy choice.
 const MOST_STEPS: u32 = 4096;
 /// The least share of a candidate that is rounded up.
 const LEAST_SHARE: u64 = 6553;
+/// The most rounds in which each candidate is exchanged.
+const MOST_ROUNDS: u32 = 8;
+
+/// A configuration with its pages and what it costs, as a guide under zeros tells it, in thousandths of a page read.
+#[derive(Clone, Copy)]
+pub(crate) struct Draft {
+    pub config: Config,
+    pub pages: u64,
+    pub cost: u128,
+}
+
+/// The pages of a candidate.
+fn pages_of(task: &Task<'_>, index: usize) -> u64 {
+    let sizes = task.programme.sizes.as_slice();
+    if index < sizes.len() {
+        sizes[index]
+    } else {
+        u64::MAX
+    }
+}
+
+/// A configuration as a draft.
+fn draft_of(task: &Task<'_>, config: &Config, guide: &mut Guide) -> Draft {
+    let mut pages: u64 = 0;
+    for index in 0..MOST_CANDIDATES {
+        if config.on[index] {
+            pages = pages.saturating_add(pages_of(task, index));
+        }
+    }
+    guide.carry(task.programme, task.zeros, &usable_of(*config));
+    Draft {
+        config: *config,
+        pages,
+        cost: guide.total(task.programme),
+    }
+}
+
+/// Whether a draft may have a candidate more.
+fn may_add(task: &Task<'_>, draft: &Draft, index: usize) -> bool
+    ensures { result ≡ true → index < MOST_CANDIDATES }
+{
+    index < MOST_CANDIDATES
+        && !draft.config.on[index]
+        && is_free(task.root.state[index])
+        && draft.pages.saturating_add(pages_of(task, index)) <= task.budget
+}
+
+/// A draft with a candidate more.
+fn joined(task: &Task<'_>, draft: &Draft, index: usize, guide: &mut Guide) -> Draft {
+    if !may_add(task, draft, index) {
+        return *draft;
+    }
+    draft_of(task, &changed(&draft.config, index, true), guide)
+}
+
+/// A draft with a candidate less.
+fn parted(task: &Task<'_>, draft: &Draft, index: usize, guide: &mut Guide) -> Draft {
+    if index >= MOST_CANDIDATES {
+        return *draft;
+    }
+    draft_of(task, &changed(&draft.config, index, false), guide)
+}
 
 /// Whether one saving for each of some pages is larger than another.
 fn is_larger(saving: u128, pages: u64, other: u128, other_pages: u64) -> bool {
@@ -19,59 +84,19 @@ fn is_larger(saving: u128, pages: u64, other: u128, other_pages: u64) -> bool {
 }
 
 /// The candidate that saves most for each page, by savings that are known; 256 where none saves anything.
-fn largest(programme: &Programme, savings: &[u128; MOST_CANDIDATES]) -> usize {
-    let sizes = programme.sizes.as_slice();
+fn largest(task: &Task<'_>, savings: &[u128; MOST_CANDIDATES]) -> usize {
     let mut best = MOST_CANDIDATES;
     let mut most = 0;
     let mut pages = 1;
-    for index in 0..sizes.len().min(MOST_CANDIDATES) {
-        if savings[index] > 0 && is_larger(savings[index], sizes[index], most, pages) {
+    for index in 0..MOST_CANDIDATES {
+        let own = savings[index];
+        if own > 0 && is_larger(own, pages_of(task, index), most, pages) {
             best = index;
-            most = savings[index];
-            pages = sizes[index];
+            most = own;
+            pages = pages_of(task, index);
         }
     }
     best
-}
-
-/// What a step from one configuration to a cheaper one saves; nothing where there is no step.
-fn saving(best: &Costed, to: &Option<Costed>) -> u128 {
-    match to {
-        None => 0,
-        Some(to) => best.cost.saturating_sub(to.cost),
-    }
-}
-
-/// The configuration with a candidate more where it hasn't the candidate, the root leaves it free and that gains something.
-fn joined(
-    programme: &Programme,
-    budget: u64,
-    root: &Fix,
-    best: &Costed,
-    index: usize,
-) -> Option<Costed>
-    requires sound { climbs.IsSoundHere programme.now budget root.now best.now }
-    ensures { IfSome result (climbs.IsLower programme.now budget root.now best.now) }
-{
-    if index >= programme.sizes.len() || index >= MOST_CANDIDATES || best.config.on[index] {
-        return None;
-    }
-    match tried(programme, budget, root, best, index) {
-        Some(to) => Some(to),
-        None => None,
-    }
-}
-
-/// The configuration that was stepped to, where there was a step.
-fn taken(programme: &Programme, budget: u64, root: &Fix, best: Costed, to: Option<Costed>) -> Costed
-    requires best { climbs.IsSoundHere programme.now budget root.now best }
-    requires to { IfSome to (climbs.IsLower programme.now budget root.now best) }
-    ensures { climbs.IsSoundHere programme.now budget root.now result }
-{
-    match to {
-        Some(next) => next,
-        None => best,
-    }
 }
 
 /// What each useful candidate may save: not known.
@@ -87,31 +112,28 @@ fn unknown(useful: &[bool; MOST_CANDIDATES]) -> [u128; MOST_CANDIDATES] {
 
 /// Adds the candidate that saves most for each page, again and again. What each saved beside fewer others stands for what it
 /// saves, until it is the largest.
-pub(crate) fn greedy(
-    programme: &Programme,
-    budget: u64,
-    root: &Fix,
-    useful: &[bool; MOST_CANDIDATES],
-    from: Costed,
-) -> Costed
-    requires { climbs.IsSoundHere programme.now budget root.now from }
-    ensures { climbs.IsSoundHere programme.now budget root.now result }
-{
-    let mut savings = unknown(useful);
+fn extended(task: &Task<'_>, from: Draft, guide: &mut Guide) -> Draft {
+    let mut savings = unknown(task.useful);
     let mut best = from;
-    for step in 0..MOST_STEPS {
-        let index = largest(programme, &savings);
+    for _ in 0..MOST_STEPS {
+        let index = largest(task, &savings);
         if index >= MOST_CANDIDATES {
             return best;
         }
-        let to = joined(programme, budget, root, &best, index);
-        savings[index] = saving(&best, &to);
-        if largest(programme, &savings) == index {
+        let to = joined(task, &best, index, guide);
+        savings[index] = best.cost.saturating_sub(to.cost);
+        if savings[index] > 0 && largest(task, &savings) == index {
             savings[index] = 0;
-            best = taken(programme, budget, root, best, to);
+            best = to;
         }
     }
     best
+}
+
+/// The greedy configuration.
+pub(crate) fn greedy(task: &Task<'_>, guide: &mut Guide) -> Draft {
+    let bare = draft_of(task, &task.bare.config, guide);
+    extended(task, bare, guide)
 }
 
 /// The share of each candidate in the relaxation after an ascent.
@@ -136,42 +158,123 @@ fn most_shared(shares: &[u64; MOST_CANDIDATES]) -> usize
     best
 }
 
-/// Adds candidates by falling share of the relaxation, where that saves something.
+/// Candidates by falling share of the relaxation, where each saves something, and then greedily more.
 pub(crate) fn rounded(
-    programme: &Programme,
-    budget: u64,
-    root: &Fix,
+    task: &Task<'_>,
     shares: &[u64; MOST_CANDIDATES],
-    from: Costed,
-) -> Costed
-    requires { climbs.IsSoundHere programme.now budget root.now from }
-    ensures { climbs.IsSoundHere programme.now budget root.now result }
-{
+    guide: &mut Guide,
+) -> Draft {
     let mut left = *shares;
-    let mut best = from;
-    for step in 0..MOST_CANDIDATES {
+    let mut best = draft_of(task, &task.bare.config, guide);
+    for _ in 0..MOST_CANDIDATES {
         let index = most_shared(&left);
         if left[index] <= LEAST_SHARE {
-            return best;
+            break;
         }
         left[index] = 0;
-        let to = joined(programme, budget, root, &best, index);
-        best = taken(programme, budget, root, best, to);
+        let to = joined(task, &best, index, guide);
+        if to.cost < best.cost {
+            best = to;
+        }
+    }
+    extended(task, best, guide)
+}
+
+/// Whether a draft's cost isn't among those seen, where it is put.
+pub(crate) fn is_new(draft: &Draft, seen: &mut [u128; 16]) -> bool {
+    let place = (draft.cost % 16) as usize;
+    if seen[place] == draft.cost {
+        return false;
+    }
+    seen[place] = draft.cost;
+    true
+}
+
+/// Whether a draft costs little more than so much.
+pub(crate) fn is_near(draft: &Draft, cost: u128) -> bool {
+    draft.cost.saturating_sub(cost) <= cost / 64
+}
+
+/// What a draft costs with each useful candidate more, whether it fits or not.
+fn costs_beside(task: &Task<'_>, draft: &Draft, guide: &mut Guide) -> [u128; MOST_CANDIDATES] {
+    let mut costs = [u128::MAX; MOST_CANDIDATES];
+    for index in 0..MOST_CANDIDATES {
+        if task.useful[index] && !draft.config.on[index] && is_free(task.root.state[index]) {
+            costs[index] = draft_of(task, &changed(&draft.config, index, true), guide).cost;
+        }
+    }
+    costs
+}
+
+/// The least that a draft with a candidate less may cost with another one, which costs so much beside both: exact where no
+/// statement uses both, since then neither tells what the other saves.
+fn least_with(
+    task: &Task<'_>,
+    from: &Draft,
+    without: &Draft,
+    index: usize,
+    other: usize,
+    beside: u128,
+    guide: &Guide,
+) -> u128 {
+    if guide.are_apart(index, other) {
+        return without
+            .cost
+            .saturating_add(beside)
+            .saturating_sub(from.cost);
+    }
+    let upkeep = task.programme.upkeep.as_slice();
+    if index < upkeep.len() {
+        beside.saturating_sub(upkeep[index])
+    } else {
+        beside
+    }
+}
+
+/// A draft with a candidate less and the best other one in its place, where that is cheaper. What it costs with each one more
+/// is told.
+fn exchanged_one(
+    task: &Task<'_>,
+    from: Draft,
+    index: usize,
+    beside: &[u128; MOST_CANDIDATES],
+    guide: &mut Guide,
+) -> Draft {
+    let without = parted(task, &from, index, guide);
+    let mut best = from;
+    if without.cost <= best.cost {
+        best = without;
+    }
+    for other in 0..MOST_CANDIDATES {
+        let cost = beside[other];
+        if cost < u128::MAX && may_add(task, &without, other) {
+            let least = least_with(task, &from, &without, index, other, cost, guide);
+            if least < best.cost {
+                let to = joined(task, &without, other, guide);
+                if to.cost < best.cost {
+                    best = to;
+                }
+            }
+        }
     }
     best
 }
 
-/// The cheaper of two configurations.
-pub(crate) fn cheaper(
-    programme: &Programme,
-    budget: u64,
-    root: &Fix,
-    one: Costed,
-    other: Costed,
-) -> Costed
-    requires one { climbs.IsSoundHere programme.now budget root.now one }
-    requires other { climbs.IsSoundHere programme.now budget root.now other }
-    ensures { climbs.IsSoundHere programme.now budget root.now result }
-{
-    if other.cost < one.cost { other } else { one }
+/// Exchanges candidates, and adds more, as long as that saves something.
+pub(crate) fn exchanged(task: &Task<'_>, from: Draft, guide: &mut Guide) -> Draft {
+    let mut best = from;
+    for _ in 0..MOST_ROUNDS {
+        let before = best.cost;
+        let beside = costs_beside(task, &best, guide);
+        for index in 0..MOST_CANDIDATES {
+            if best.config.on[index] && is_free(task.root.state[index]) {
+                best = exchanged_one(task, best, index, &beside, guide);
+            }
+        }
+        best = extended(task, best, guide);
+        if best.cost >= before {
+            return best;
+        }
+    }
+    best
 }

@@ -20,6 +20,7 @@
 #![tactic(auto)]
 
 mod best;
+mod choosing;
 mod climb;
 mod explore;
 mod fixing;
@@ -32,6 +33,7 @@ mod node;
 mod opening;
 mod plan;
 mod room;
+mod taken;
 mod task;
 mod useful;
 

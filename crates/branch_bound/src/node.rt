@@ -3,13 +3,14 @@ ghost use Rattle.std.specs.Prelude.{◌≡◌, ℕ, ◌+◌, ◌*◌, ◌<◌, �
 ghost use Rattle.adv_base.specs.declared.limits.TheConstants.{MOST_CANDIDATES, MOST_INDEX_PAGES};
 ghost use Rattle.bip_model.specs.Views.{AreMultipliers};
 ghost use Rattle.lagrange_bound.specs.Bounds as bounds;
+ghost use Rattle.branch_bound.specs.Sides as sides;
 ghost use Rattle.branch_bound.specs.inner.Runs as runs;
 
+use crate::choosing::{Best, Scope, best_set, choice_at, reaches};
 use crate::fixing::{config_pages, inside, is_free};
 use crate::found::Found;
 use crate::frame::Frame;
 use crate::guide::Guide;
-use crate::plan::{Best, best_set, gap_to, pick, usable};
 use adv_base::limits::MOST_CANDIDATES;
 use bip_model::{Fix, Multipliers, Programme, value};
 use lagrange_bound::{Ledger, bound_by};
@@ -25,23 +26,21 @@ pub(crate) enum Fate {
     Branch(usize),
 }
 
-/// Whether a Lagrangian value is at least a cost.
-fn reaches(value: i128, cost: u128) -> bool
-    ensures { result ≡ runs.reaches value cost }
+/// The total of what is in at a node.
+pub(crate) fn total_at(frame: &Frame<'_>, fix: &Fix) -> u128
+    ensures { result ≡ sides.total frame.now.programme.now fix.now }
 {
-    value >= 0 && value as u128 >= cost
+    value(frame.programme, &inside(fix))
 }
 
-/// What was found, with a node whose in-candidates may cost less.
-pub(crate) fn visited(frame: &Frame<'_>, fix: &Fix, before: Found) -> Found
+/// What was found, with a node whose in-candidates cost so much, which may be less.
+pub(crate) fn visited(fix: &Fix, cost: u128, before: Found) -> Found
     ensures made { result.made ≡ before.made }
-    ensures exact { result ≡ runs.visited (runs.rules_of frame.now) fix.now before }
+    ensures exact { result ≡ runs.visited_at fix.now cost before }
 {
-    let config = inside(fix);
-    let cost = value(frame.programme, &config);
     if cost < before.cost {
         Found {
-            config,
+            config: inside(fix),
             cost,
             low: before.low,
             made: before.made,
@@ -72,55 +71,21 @@ fn is_choice(frame: &Frame<'_>, fix: &Fix, used: u64, index: usize) -> bool
         && frame.useful[index]
 }
 
-/// The one of two candidates that gains more alone.
-fn better(frame: &Frame<'_>, best: usize, index: usize) -> usize
-    requires best { best < MOST_CANDIDATES }
-    requires index { index < MOST_CANDIDATES }
-    ensures { (result ≡ best) ⊎ (result ≡ index) }
-{
-    if frame.gains[index] > frame.gains[best] {
-        index
-    } else {
-        best
-    }
-}
-
-/// The best choice of the candidates up to this one, of which the best before it is known.
-fn next_choice(
-    frame: &Frame<'_>,
-    fix: &Fix,
-    used: u64,
-    best: Option<usize>,
-    index: usize,
-) -> Option<usize>
-    requires within { index < length frame.now.programme.now.sizes }
+/// The first open useful candidate.
+fn choice(frame: &Frame<'_>, fix: &Fix, used: u64) -> Option<usize>
     requires used { used ≡ bounds.pages_inside frame.now.programme.now fix.now }
     requires most { used ≤ MOST_CANDIDATES * MOST_INDEX_PAGES }
-    requires best { runs.IsChoiceBelow (runs.rules_of frame.now) fix.now index best }
-    ensures { runs.IsChoiceBelow (runs.rules_of frame.now) fix.now (index + 1) result }
-{
-    if !is_choice(frame, fix, used, index) {
-        return best;
-    }
-    match best {
-        None => Some(index),
-        Some(other) => Some(better(frame, other, index)),
-    }
-}
-
-/// The open useful candidate that gains most alone.
-fn choice(frame: &Frame<'_>, fix: &Fix) -> Option<usize>
     ensures { runs.IsChoiceBelow (runs.rules_of frame.now) fix.now (length frame.now.programme.now.sizes) result }
 {
-    let used = config_pages(frame.programme.sizes.as_slice(), &inside(fix));
-    let mut best = None;
     for index in 0..frame.programme.sizes.len() {
-        best = next_choice(frame, fix, used, best, index);
+        if is_choice(frame, fix, used, index) {
+            return Some(index);
+        }
     }
-    best
+    None
 }
 
-/// The proposed candidate where it is open and useful, else the one that gains most alone.
+/// The proposed candidate where it is open and useful, else the first one that is.
 fn chosen(frame: &Frame<'_>, fix: &Fix, proposal: usize) -> Option<usize>
     ensures { runs.IsChoiceBelow (runs.rules_of frame.now) fix.now (length frame.now.programme.now.sizes) result }
 {
@@ -128,7 +93,16 @@ fn chosen(frame: &Frame<'_>, fix: &Fix, proposal: usize) -> Option<usize>
     if proposal < frame.programme.sizes.len() && is_choice(frame, fix, used, proposal) {
         return Some(proposal);
     }
-    choice(frame, fix)
+    choice(frame, fix, used)
+}
+
+/// What guides are asked about in a search.
+fn scope_of<'a>(frame: &Frame<'a>) -> Scope<'a> {
+    Scope {
+        programme: frame.programme,
+        budget: frame.budget,
+        useful: frame.useful,
+    }
 }
 
 /// The candidate that the plan proposes at one of its nodes, or that a guide proposes; by its index, 256 for none.
@@ -143,14 +117,7 @@ fn proposed(
     if place < frame.plan.len() && frame.plan[place].candidate < MOST_CANDIDATES {
         return frame.plan[place].candidate;
     }
-    if best.set >= frame.sets.len() || best.set >= guides.len() {
-        return MOST_CANDIDATES;
-    }
-    let gap = gap_to(cost, best.value);
-    let here = usable(frame.programme, frame.budget, fix);
-    let own = &frame.sets[best.set];
-    let guide = &mut guides[best.set];
-    pick(frame.programme, frame.useful, fix, &here, own, guide, gap)
+    choice_at(&scope_of(frame), frame.sets, guides, cost, fix, best)
 }
 
 /// A candidate to branch on, where two more nodes are left.
@@ -302,15 +269,7 @@ pub(crate) fn fate_of(
     ensures ledgers { runs.AreLedgers (runs.rules_of frame.now) ledgers.new }
 {
     let first = (hint as usize).saturating_sub(1);
-    let guess = best_set(
-        frame.programme,
-        frame.budget,
-        found.cost,
-        frame.sets,
-        guides,
-        fix,
-        first,
-    );
+    let guess = best_set(&scope_of(frame), frame.sets, guides, found.cost, fix, first);
     let set = number_of(frame, guess.set);
     if reaches(guess.value, found.cost) && reaches(lag(frame, fix, set, ledgers), found.cost) {
         return Fate::Closed(set);

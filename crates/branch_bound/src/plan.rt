@@ -7,25 +7,22 @@ ghost use Rattle.bip_model.specs.Views.{AreMultipliers};
 ghost use Rattle.branch_bound.specs.inner.Climbs as climbs;
 ghost use Rattle.branch_bound.specs.inner.Proposals as proposals;
 
+use crate::choosing::{Best, Scope, best_set, choice_at, gap_to, is_closed, open_at, reaches};
 use crate::climb::Costed;
-use crate::fixing::{fixed, is_free, is_in};
-use crate::guide::{Guide, Usable, brokenness, promise, usable_of};
+use crate::fixing::fixed;
+use crate::guide::{Guide, brokenness};
 use crate::hands::Hands;
-use crate::incumbent::{cheaper, greedy, rounded, shares_of};
+use crate::incumbent::{exchanged, is_near, is_new, rounded, shares_of};
+use crate::taken::cheaper;
 use crate::task::Task;
-use adv_base::Config;
 use adv_base::limits::MOST_CANDIDATES;
-use bip_model::{Fix, Multipliers, Programme, State};
+use bip_model::{Fix, Multipliers, State};
 use lagrange_bound::{Pace, ascend};
 
 /// The most branches of a plan.
 const MOST_BRANCHES: usize = 250;
 /// The most nodes of a plan.
 pub(crate) const MOST_STEPS: usize = 501;
-/// The most nodes that a trial has before it.
-pub(crate) const MOST_WAITING: usize = 600;
-/// The most nodes of a trial of a subtree.
-const TRIAL: u32 = 200;
 /// How a set of a subtree is made.
 const SUBTREE: Pace = Pace {
     rounds: 300,
@@ -58,207 +55,13 @@ pub(crate) struct Step {
     pub outside: usize,
 }
 
-/// A set, by its place, and its value at a node.
-#[derive(Clone, Copy)]
-pub(crate) struct Best {
-    pub set: usize,
-    pub value: i128,
-}
-
-/// Whether a value is at least a cost.
-fn reached(value: i128, cost: u128) -> bool {
-    value >= 0 && value as u128 >= cost
-}
-
-/// How much a value is below a cost.
-pub(crate) fn gap_to(cost: u128, value: i128) -> u128 {
-    if value < 0 {
-        cost
-    } else {
-        cost.saturating_sub(value as u128)
+/// What guides are asked about in a task.
+fn scope_of<'a>(task: &Task<'a>) -> Scope<'a> {
+    Scope {
+        programme: task.programme,
+        budget: task.budget,
+        useful: task.useful,
     }
-}
-
-/// The pages of what is in at a node.
-fn used_pages(sizes: &[u64], fix: &Fix) -> u64 {
-    let mut used: u64 = 0;
-    for index in 0..sizes.len().min(MOST_CANDIDATES) {
-        if is_in(fix.state[index]) {
-            used = used.saturating_add(sizes[index]);
-        }
-    }
-    used
-}
-
-/// The candidates that may be used at a node.
-pub(crate) fn usable(programme: &Programme, budget: u64, fix: &Fix) -> Usable {
-    let sizes = programme.sizes.as_slice();
-    let used = used_pages(sizes, fix);
-    let mut config = Config::none();
-    for index in 0..sizes.len().min(MOST_CANDIDATES) {
-        let state = fix.state[index];
-        let fits = used.saturating_add(sizes[index]) <= budget;
-        config.on[index] = is_in(state) || (is_free(state) && fits);
-    }
-    usable_of(config)
-}
-
-/// The value of a node under a set, to which its guide is carried.
-fn value_at(
-    programme: &Programme,
-    budget: u64,
-    own: &Multipliers,
-    guide: &mut Guide,
-    fix: &Fix,
-    here: &Usable,
-) -> i128 {
-    guide.carry(programme, own, here);
-    guide.value(programme, budget, fix, own)
-}
-
-/// The set of the highest value at a node, or one that reaches a cost; the hinted one is tried first.
-pub(crate) fn best_set(
-    programme: &Programme,
-    budget: u64,
-    cost: u128,
-    sets: &[Multipliers],
-    guides: &mut [Guide],
-    fix: &Fix,
-    hint: usize,
-) -> Best {
-    let here = usable(programme, budget, fix);
-    let mut best = Best {
-        set: hint,
-        value: i128::MIN,
-    };
-    if hint < sets.len() && hint < guides.len() {
-        let guide = &mut guides[hint];
-        best.value = value_at(programme, budget, &sets[hint], guide, fix, &here);
-    }
-    for set in 0..sets.len().min(guides.len()) {
-        if reached(best.value, cost) {
-            return best;
-        }
-        if set != hint {
-            let guide = &mut guides[set];
-            let value = value_at(programme, budget, &sets[set], guide, fix, &here);
-            if value > best.value {
-                best = Best { set, value };
-            }
-        }
-    }
-    best
-}
-
-/// The same for a task.
-fn best_of(
-    task: &Task<'_>,
-    cost: u128,
-    sets: &[Multipliers],
-    guides: &mut [Guide],
-    fix: &Fix,
-    hint: usize,
-) -> Best {
-    best_set(task.programme, task.budget, cost, sets, guides, fix, hint)
-}
-
-/// The candidate whose branch promises most, by its index; 256 where none is open and useful.
-pub(crate) fn pick(
-    programme: &Programme,
-    useful: &[bool; MOST_CANDIDATES],
-    fix: &Fix,
-    here: &Usable,
-    own: &Multipliers,
-    guide: &mut Guide,
-    gap: u128,
-) -> usize {
-    guide.carry(programme, own, here);
-    guide.fill(programme, own);
-    let mut best = MOST_CANDIDATES;
-    let mut most = 0;
-    for index in 0..MOST_CANDIDATES {
-        if is_free(fix.state[index]) && here.config.on[index] && useful[index] {
-            let value = promise(guide.gains(index), gap);
-            if best == MOST_CANDIDATES || value > most {
-                best = index;
-                most = value;
-            }
-        }
-    }
-    best
-}
-
-/// The candidate to branch on at a node, by its index, where a set gives it the highest value; 256 for none.
-fn choice_at(
-    task: &Task<'_>,
-    cost: u128,
-    sets: &[Multipliers],
-    guides: &mut [Guide],
-    fix: &Fix,
-    best: Best,
-) -> usize {
-    if best.set >= sets.len() || best.set >= guides.len() {
-        return MOST_CANDIDATES;
-    }
-    let here = usable(task.programme, task.budget, fix);
-    let gap = gap_to(cost, best.value);
-    pick(
-        task.programme,
-        task.useful,
-        fix,
-        &here,
-        &sets[best.set],
-        &mut guides[best.set],
-        gap,
-    )
-}
-
-/// Puts a node before a trial; whether there was room.
-fn put(stack: &mut Vec<Fix>, fix: Fix) -> bool {
-    match stack.push(fix) {
-        Ok(()) => true,
-        Err(_) => false,
-    }
-}
-
-/// Puts both sides of a branch before a trial; whether there was room.
-fn put_sides(stack: &mut Vec<Fix>, fix: &Fix, index: usize) -> bool {
-    if index >= MOST_CANDIDATES {
-        return false;
-    }
-    put(stack, fixed(fix, index, State::Out)) && put(stack, fixed(fix, index, State::In))
-}
-
-/// Whether a search of few nodes closes a subtree.
-fn is_closed(
-    task: &Task<'_>,
-    cost: u128,
-    sets: &[Multipliers],
-    guides: &mut [Guide],
-    fix: &Fix,
-    stack: &mut Vec<Fix>,
-) -> bool {
-    stack.clear();
-    if !put(stack, *fix) {
-        return false;
-    }
-    let mut hint = 0;
-    for _ in 0..TRIAL {
-        match stack.pop() {
-            None => return true,
-            Some(here) => {
-                let best = best_of(task, cost, sets, guides, &here, hint);
-                hint = best.set;
-                if !reached(best.value, cost) {
-                    let index = choice_at(task, cost, sets, guides, &here, best);
-                    if !put_sides(stack, &here, index) {
-                        return false;
-                    }
-                }
-            }
-        }
-    }
-    stack.is_empty()
 }
 
 /// The place of the open node of the least value; past the plan where none is open.
@@ -347,15 +150,26 @@ fn keep_back(task: &Task<'_>, others: &mut Vec<Multipliers>, own: Multipliers)
     }
 }
 
-/// The cheaper of the configuration that is known and of one that is rounded from shares.
-pub(crate) fn better(task: &Task<'_>, known: Costed, shares: &[u64; MOST_CANDIDATES]) -> Costed
-    requires { climbs.IsSoundHere task.now.programme.now task.now.budget task.now.root.now known }
-    ensures { climbs.IsSoundHere task.now.programme.now task.now.budget task.now.root.now result }
+/// The cheaper of the configuration that is known and of one that is rounded from shares, and bettered by exchanges where it
+/// is new and near to that.
+pub(crate) fn better(
+    task: &Task<'_>,
+    known: Costed,
+    shares: &[u64; MOST_CANDIDATES],
+    hands: &mut Hands,
+) -> Costed
+    requires known { climbs.IsSoundHere task.now.programme.now task.now.budget task.now.root.now known }
+    requires hands { proposals.AreHands task.now.programme.now hands.old }
+    ensures known { climbs.IsSoundHere task.now.programme.now task.now.budget task.now.root.now result }
+    ensures hands { proposals.AreHands task.now.programme.now hands.new }
 {
-    let programme = task.programme;
-    let guess = rounded(programme, task.budget, task.root, shares, task.bare);
-    let guess = greedy(programme, task.budget, task.root, task.useful, guess);
-    cheaper(programme, task.budget, task.root, known, guess)
+    let draft = rounded(task, shares, &mut hands.plain);
+    let known = cheaper(task, known, &draft);
+    if !is_new(&draft, &mut hands.seen) || !is_near(&draft, known.cost) {
+        return known;
+    }
+    let draft = exchanged(task, draft, &mut hands.plain);
+    cheaper(task, known, &draft)
 }
 
 /// A node of the plan with a set of its own, made from the best one there, where that is higher.
@@ -392,7 +206,7 @@ fn added(
         SUBTREE,
     );
     let shares = shares_of(&hands.ascent);
-    *known = better(task, *known, &shares);
+    *known = better(task, *known, &shares, hands);
     if value <= best.value {
         keep_back(task, &mut hands.others, own);
         return leaf(fix, best, true);
@@ -400,7 +214,7 @@ fn added(
     let set = sets.len();
     open_guide(task, hands.guides.as_mut_slice(), set, &own, &shares);
     keep(sets, own);
-    leaf(fix, Best { set, value }, !reached(value, known.cost))
+    leaf(fix, Best { set, value }, !reaches(value, known.cost))
 }
 
 /// A node of the plan, with a set of its own where the others leave it open, its other side isn't closed, and one more set may
@@ -423,21 +237,16 @@ fn grown(
     ensures sets { proposals.AreMore task.now.programme.now task.now.most sets.old.items sets.new.items }
     ensures room { MOST_SETS ≤ vec_capacity sets.new }
 {
-    if reached(best.value, known.cost) {
+    if reaches(best.value, known.cost) {
         return leaf(fix, best, false);
     }
     if is_lone || sets.len() >= task.most {
         return leaf(fix, best, true);
     }
+    let scope = scope_of(task);
     let guides = hands.guides.as_mut_slice();
-    if is_closed(
-        task,
-        known.cost,
-        sets.as_slice(),
-        guides,
-        fix,
-        &mut hands.stack,
-    ) {
+    let own = sets.as_slice();
+    if is_closed(&scope, own, guides, known.cost, fix, &mut hands.stack) {
         return leaf(fix, best, false);
     }
     match hands.others.pop() {
@@ -447,14 +256,19 @@ fn grown(
 }
 
 /// The shares of the candidates that are open and useful at a node, under the set that gives it the highest value; 0 for others.
-fn open_shares(task: &Task<'_>, fix: &Fix, best: Best, guides: &[Guide]) -> [u64; MOST_CANDIDATES] {
+fn open_shares(
+    scope: &Scope<'_>,
+    fix: &Fix,
+    best: Best,
+    guides: &[Guide],
+) -> [u64; MOST_CANDIDATES] {
     let mut shares = [0; MOST_CANDIDATES];
     if best.set >= guides.len() {
         return shares;
     }
-    let here = usable(task.programme, task.budget, fix);
+    let open = open_at(scope, fix);
     for index in 0..MOST_CANDIDATES {
-        if is_free(fix.state[index]) && here.config.on[index] && task.useful[index] {
+        if open[index] {
             shares[index] = guides[best.set].share(index);
         }
     }
@@ -551,7 +365,8 @@ fn tried_choice(
     ensures hands { proposals.AreHands task.now.programme.now hands.new }
 {
     let mut own = other;
-    let mut shares = open_shares(task, &step.fix, step.best, hands.guides.as_slice());
+    let scope = scope_of(task);
+    let mut shares = open_shares(&scope, &step.fix, step.best, hands.guides.as_slice());
     let mut chosen = index;
     let mut most = 0;
     for round in 0..MOST_TRIED {
@@ -581,8 +396,9 @@ fn branch_choice(
     requires sets { All (AreMultipliers task.now.programme.now) sets.now }
     ensures hands { proposals.AreHands task.now.programme.now hands.new }
 {
+    let scope = scope_of(task);
     let guides = hands.guides.as_mut_slice();
-    let index = choice_at(task, cost, sets, guides, &step.fix, step.best);
+    let index = choice_at(&scope, sets, guides, cost, &step.fix, step.best);
     if sets.len() < TRIED_FROM {
         return index;
     }
@@ -624,7 +440,6 @@ fn branch(
     let here = plan[place];
     plan[place].is_open = false;
     let index = branch_choice(task, &here, known.cost, hands, sets.as_slice());
-    let guides = hands.guides.as_mut_slice();
     if index >= MOST_CANDIDATES {
         return;
     }
@@ -633,23 +448,12 @@ fn branch(
     plan[place].outside = plan.len().saturating_add(1);
     let within = fixed(&here.fix, index, State::In);
     let without = fixed(&here.fix, index, State::Out);
-    let one = best_of(
-        task,
-        known.cost,
-        sets.as_slice(),
-        guides,
-        &within,
-        here.best.set,
-    );
-    let other = best_of(
-        task,
-        known.cost,
-        sets.as_slice(),
-        guides,
-        &without,
-        here.best.set,
-    );
-    let is_lone = reached(one.value, known.cost) || reached(other.value, known.cost);
+    let scope = scope_of(task);
+    let own = sets.as_slice();
+    let guides = hands.guides.as_mut_slice();
+    let one = best_set(&scope, own, guides, known.cost, &within, here.best.set);
+    let other = best_set(&scope, own, guides, known.cost, &without, here.best.set);
+    let is_lone = reaches(one.value, known.cost) || reaches(other.value, known.cost);
     let first = grown(task, &within, one, is_lone, known, hands, sets);
     append(plan, first);
     let second = grown(task, &without, other, is_lone, known, hands, sets);
@@ -674,8 +478,9 @@ pub(crate) fn propose(
     let shares = shares_of(&hands.ascent);
     let guides = hands.guides.as_mut_slice();
     open_guide(task, guides, 0, &sets[0], &shares);
-    let best = best_of(task, known.cost, sets.as_slice(), guides, task.root, 0);
-    let is_open = !reached(best.value, known.cost);
+    let scope = scope_of(task);
+    let best = best_set(&scope, sets.as_slice(), guides, known.cost, task.root, 0);
+    let is_open = !reaches(best.value, known.cost);
     append(plan, leaf(task.root, best, is_open));
     for round in 0..MOST_BRANCHES {
         let place = least_open(plan.as_slice());

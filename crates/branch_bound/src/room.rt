@@ -8,9 +8,10 @@ ghost use Rattle.lagrange_bound.specs.Ledgers.{HasRoom};
 ghost use Rattle.branch_bound.specs.Rooms.{IsSetLimit};
 ghost use Rattle.branch_bound.specs.inner.Proposals as proposals;
 
+use crate::choosing::MOST_WAITING;
 use crate::guide::Guide;
 use crate::hands::Hands;
-use crate::plan::{MOST_STEPS, MOST_WAITING, Step};
+use crate::plan::{MOST_STEPS, Step};
 use adv_base::NoMemory;
 use adv_base::limits::{MOST_ENTRIES, MOST_SETS};
 use bip_model::{Multipliers, Node, Programme, grant_count};
@@ -19,8 +20,8 @@ use std::alloc::Global;
 
 /// All the memory that a search takes, in bytes: 4 for each node of its budget; 8 for each grant of the programme in each set of
 /// multipliers, of which there are zeros, one that is worked on and as many as `set_limit` says, so that these are at most
-/// 1500000 numbers or one set; 464 for each part and 64 thousand in each of as many guides; 32 for each part and five thousand
-/// in each of 17 ledgers; for an ascent 42 for each grant, 32 for each part, and 16 for each template, for each order of each
+/// 1500000 numbers or one set; 264 for each part and 113 thousand in each of as many guides and one more; 32 for each part and
+/// five thousand in each of 17 ledgers; for an ascent 42 for each grant, 32 for each part, and 16 for each template, for each order of each
 /// slot and for each price of a grant below what exists; and half a million for the plan. With a million nodes, 1000 parts of
 /// 4096 templates, and 512000 grants of 9 prices each, that is 195 million.
 #[derive(Drop)]
@@ -117,12 +118,15 @@ fn fresh_hands(alloc: Global, programme: &Programme) -> Result<Hands, NoMemory>
     let ascent = Ascent::new(alloc, programme)?;
     let stack = Vec::with_capacity(alloc, MOST_WAITING)?;
     let guides = fresh_guides(alloc, programme, count)?;
+    let plain = Guide::new(alloc, programme)?;
     Ok(Hands {
         others,
         spare,
         ascent,
         stack,
         guides,
+        plain,
+        seen: [0; 16],
     })
 }
 

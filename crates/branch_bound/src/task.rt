@@ -1,23 +1,26 @@
 //! What a plan is made for.
-ghost use Rattle.std.specs.Prelude.{◌≤◌};
+ghost use Rattle.std.specs.Prelude.{◌≡◌, ◌≤◌};
 ghost use Rattle.adv_base.specs.declared.limits.TheConstants.{MOST_ROWS, MOST_SETS};
+ghost use Rattle.branch_bound.specs.Sides as sides;
 ghost use Rattle.branch_bound.specs.inner.Climbs as climbs;
 
 use crate::climb::Costed;
 use adv_base::limits::MOST_CANDIDATES;
-use bip_model::{Fix, Programme};
+use bip_model::{Fix, Multipliers, Programme};
 
 /// The programme, the budget of pages, the root of the search and the configuration that it has in, which candidates are
-/// useful, and how many sets of multipliers a search may keep.
+/// useful, multipliers of zeros, and how many sets of multipliers a search may keep.
 #[derive(Drop)]
 pub(crate) struct Task<'a> {
     pub programme: &'a Programme,
     pub budget: u64,
     pub useful: &'a [bool; MOST_CANDIDATES],
     pub root: &'a Fix,
+    pub zeros: &'a Multipliers,
     pub bare: Costed,
     pub most: usize,
     pub ghost budget_most: { budget ≤ MOST_ROWS },
+    pub ghost bare_inside: { bare.config ≡ sides.inside root.now },
     pub ghost bare_sound: { climbs.IsSoundHere programme.now budget root.now bare },
     pub ghost most_sets: { most ≤ MOST_SETS },
 }

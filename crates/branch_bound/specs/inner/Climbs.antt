@@ -1,7 +1,8 @@
 -- The steps from one configuration to the next.
-use Rattle.std.specs.Prelude.{◌≡◌, ℕ, ◌+◌, ◌*◌, ◌<◌, ◌≤◌, Bool, true, false, length, count_by, take, Option, Some, None, slice_index_or, slice_set}
+use Rattle.std.specs.Prelude.{◌≡◌, ℕ, List, ◌+◌, ◌*◌, ◌<◌, ◌≤◌, Bool, true, false, not, ◌&&◌, ◌||◌, nat_lt, length, count_by, take, Option, Some, None, slice_index_or, slice_set}
 use Rattle.adv_base.specs.declared.setting.Config.{Config}
 use Rattle.bip_model.specs.declared.fix.Fix.{Fix}
+use Rattle.bip_model.specs.declared.fix.State.{State}
 use Rattle.bip_model.specs.declared.fix.State.TheVariants.{Free, In, Out}
 use Rattle.bip_model.specs.declared.programme.Programme.{Programme}
 use Rattle.bip_model.specs.Values.{value}
@@ -26,6 +27,16 @@ pub record IsSound (programme : Programme) (budget : ℕ) (root : Fix) (config :
 
 abbrev pub IsSoundHere : Programme → ℕ → Fix → Costed → Type 0
 IsSoundHere programme budget root costed = IsSound programme budget root costed.config costed.cost
+
+-- a flag is as the root's state wants it; it isn't on where it is no candidate's
+abbrev pub agrees : State → Bool → Bool → Bool
+agrees In on known = on && known
+agrees Out on known = not on
+agrees Free on known = not on || known
+
+-- so are the first n flags, of which so many are candidates'
+abbrev pub ObeysBelow : List State → List Bool → ℕ → ℕ → Type 0
+ObeysBelow states flags count n = (i : ℕ) → i < n → agrees (slice_index_or states i Free) (slice_index_or flags i false) (nat_lt i count) ≡ true
 
 -- to change what it makes of one candidate gains nothing
 pub record GainsNothing (programme : Programme) (budget : ℕ) (root : Fix) (config : Config) (cost i : ℕ) : Type 0 where

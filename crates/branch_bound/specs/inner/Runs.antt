@@ -1,5 +1,5 @@
 -- A run of the search below a node: what it had found before and what after, and the tree that it wrote.
-use Rattle.std.specs.Prelude.{◌≡◌, ℕ, ◌+◌, ◌-◌, ◌^◌, ◌<◌, ◌≤◌, ◌==◌, nat_lt, nat_le, Bool, true, false, ◌&&◌, if◌then◌else◌, ◌⊎◌, List, ◌∷◌, ◌++◌, length, Option, Some, None, slice_index_or, ℤ, pos, negsuc, ◌≤ℤ◌}
+use Rattle.std.specs.Prelude.{◌≡◌, ℕ, ◌+◌, ◌-◌, ◌^◌, ◌<◌, ◌≤◌, nat_lt, nat_le, Bool, true, false, ◌&&◌, if◌then◌else◌, ◌⊎◌, List, ◌∷◌, ◌++◌, length, Option, Some, None, slice_index_or, ℤ, pos, negsuc, ◌≤ℤ◌}
 use Rattle.std.specs.Int.{int_min}
 use Rattle.bip_model.specs.declared.answer.Node.{Node}
 use Rattle.bip_model.specs.declared.fix.Fix.{Fix}
@@ -71,10 +71,11 @@ reaches (pos n) cost = nat_le cost n
 reaches (negsuc n) cost = false
 
 -- what was found, with a node whose in-candidates may cost less
+abbrev pub visited_at : Fix → ℕ → Found → Found
+visited_at fix cost found = if nat_lt cost found.cost then record { config = inside fix; cost = cost; low = found.low; made = found.made } else found
+
 abbrev pub visited : Rules → Fix → Found → Found
-visited rules fix found =
-    if nat_lt (total rules.programme fix) found.cost
-    then record { config = inside fix; cost = total rules.programme fix; low = found.low; made = found.made } else found
+visited rules fix found = visited_at fix (total rules.programme fix) found
 
 -- a candidate is open and useful, by its index
 abbrev pub is_choice : Rules → Fix → ℕ → Bool

@@ -7,7 +7,6 @@ use Rattle.bip_model.specs.declared.multipliers.Multipliers.{Multipliers}
 use Rattle.bip_model.specs.declared.programme.Programme.{Programme}
 use Rattle.bip_model.specs.Best.{IsBest}
 use Rattle.bip_model.specs.Views.{node_of}
-use Rattle.branch_bound.specs.declared.climb.Costed.{Costed}
 use Rattle.branch_bound.specs.declared.found.Found.{Found}
 use Rattle.branch_bound.specs.inner.Runs.{Rules, IsExplored, least_bound, started}
 use Rattle.branch_bound.proofs.Sound.{explored-sound}

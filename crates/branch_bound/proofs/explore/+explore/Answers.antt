@@ -1,19 +1,22 @@
+use Rattle.std.proofs.Common.{◌∙◌, ℕ, ap}
 use Rattle.branch_bound.specs.inner.Runs as runs
 use Rattle.branch_bound.proofs.Explored.{closed-explored, forced-explored, branch-explored}
 use Rattle.branch_bound.proofs.explore.+explore.Goals as goal
 
 pub returns-in-Closed-clause-explored : goal.returns-in-Closed-clause-explored
 returns-in-Closed-clause-explored t c =
-    closed-explored (runs.rules_of c.args.frame.now) c.args.fix.now c.args.before c.visited-found.result c.in-Closed.set _ _ c.visited-found.ensures.exact c.in-Closed.ensures.fate
+    closed-explored (runs.rules_of c.args.frame.now) c.args.fix.now c.args.before c.visited-found.result c.in-Closed.set _ _
+    (c.visited-found.ensures.exact ∙ ap (λ (n : ℕ). runs.visited_at c.args.fix.now n c.args.before) c.requires.cost) c.in-Closed.ensures.fate
     c.append.ensures.items
 
 pub returns-in-Forced-clause-explored : goal.returns-in-Forced-clause-explored
 returns-in-Forced-clause-explored t c =
     forced-explored (runs.rules_of c.args.frame.now) c.args.fix.now c.args.before c.visited-found.result c.given_up.result c.in-Forced.set _ _
-    c.visited-found.ensures.exact c.in-Forced.ensures.fate c.given_up.ensures.exact c.append-in-Forced.ensures.items
+    (c.visited-found.ensures.exact ∙ ap (λ (n : ℕ). runs.visited_at c.args.fix.now n c.args.before) c.requires.cost) c.in-Forced.ensures.fate c.given_up.ensures.exact c.append-in-Forced.ensures.items
 
 pub returns-in-Branch-clause-explored : goal.returns-in-Branch-clause-explored
 returns-in-Branch-clause-explored t c =
-    branch-explored (runs.rules_of c.args.frame.now) c.args.fix.now c.fixed.result c.fixed-out.result c.args.before c.visited-found.result c.branched-below.result c.explore-middle.result
-    c.explore.result c.in-Branch.index c.args.tree.now.items c.append-in-Branch.new.tree.items c.explore-middle.new.tree.items c.explore.new.tree.items c.visited-found.ensures.exact c.fixed.ensures
-    c.fixed-out.ensures c.branched-below.ensures c.in-Branch.ensures.fate c.append-in-Branch.ensures.items c.explore-middle.ensures.explored c.explore.ensures.explored
+    branch-explored (runs.rules_of c.args.frame.now) c.args.fix.now c.fixed-within.result c.outside-out.result c.args.before c.visited-found.result c.branched-below.result c.explore-middle.result
+    c.explore.result c.in-Branch.index c.args.tree.now.items c.append-in-Branch.new.tree.items c.explore-middle.new.tree.items c.explore.new.tree.items
+    (c.visited-found.ensures.exact ∙ ap (λ (n : ℕ). runs.visited_at c.args.fix.now n c.args.before) c.requires.cost) c.fixed-within.ensures
+    c.outside-out.ensures.exact c.branched-below.ensures c.in-Branch.ensures.fate c.append-in-Branch.ensures.items c.explore-middle.ensures.explored c.explore.ensures.explored

@@ -1,0 +1,61 @@
+//! What is taken of a draft: it is tested against the root and the budget, and priced anew.
+ghost use Rattle.std.specs.Prelude.{◌≡◌, true, length};
+ghost use Rattle.adv_base.specs.declared.limits.TheConstants.{MOST_CANDIDATES};
+ghost use Rattle.branch_bound.specs.inner.Climbs as climbs;
+
+use crate::climb::Costed;
+use crate::fixing::config_pages;
+use crate::incumbent::Draft;
+use crate::task::Task;
+use adv_base::limits::MOST_CANDIDATES;
+use bip_model::{State, value};
+
+/// Whether a flag is as the root's state wants it; it isn't on where it is no candidate's.
+fn agrees(state: State, on: bool, is_candidate: bool) -> bool
+    ensures { result ≡ climbs.agrees state on is_candidate }
+{
+    match state {
+        State::In => on && is_candidate,
+        State::Out => !on,
+        State::Free => !on || is_candidate,
+    }
+}
+
+/// Whether the flags of a configuration of so many candidates obey the root's states.
+fn obeys(states: &[State], flags: &[bool], count: usize) -> bool
+    requires states { length states.now ≡ MOST_CANDIDATES }
+    requires flags { length flags.now ≡ MOST_CANDIDATES }
+    ensures obeys { result ≡ true → climbs.ObeysBelow states.now flags.now count MOST_CANDIDATES }
+    ensures states { length states.now ≡ MOST_CANDIDATES }
+    ensures flags { length flags.now ≡ MOST_CANDIDATES }
+{
+    for index in 0..MOST_CANDIDATES {
+        if !agrees(states[index], flags[index], index < count) {
+            return false;
+        }
+    }
+    true
+}
+
+/// The cheaper of the configuration that is known and of a draft, where that obeys the root and fits.
+pub(crate) fn cheaper(task: &Task<'_>, known: Costed, draft: &Draft) -> Costed
+    requires { climbs.IsSoundHere task.now.programme.now task.now.budget task.now.root.now known }
+    ensures { climbs.IsSoundHere task.now.programme.now task.now.budget task.now.root.now result }
+{
+    if draft.cost >= known.cost {
+        return known;
+    }
+    let config = draft.config;
+    let sizes = task.programme.sizes.as_slice();
+    if !obeys(&task.root.state, &config.on, sizes.len())
+        || config_pages(sizes, &config) > task.budget
+    {
+        return known;
+    }
+    let cost = value(task.programme, &config);
+    if cost < known.cost {
+        Costed { config, cost }
+    } else {
+        known
+    }
+}
