@@ -15,7 +15,7 @@ use Rattle.report.specs.declared.done.WordFault.{WordFault}
 use Rattle.cophy_core.specs.Answers.{Answers}
 use Rattle.cophy_core.specs.Causes.{IsOrMemory, IsSteady, UsageIsTrue, ReadFaultIsTrue, WriteFaultIsTrue, RefusalIsTrue, MemoryWritesNothing, IsSound, IsWritten, IsBounded, IsUnproved, NotProvedIsTrue}
 use Rattle.cophy_core.specs.CommandLine.{PlainCommand, Candidates, Cost, WhatIf, Explain, Advise, Check, Bench, command_of}
-use Rattle.cophy_core.specs.Endings.{Put, Outside, outside, put_all, put_answer, IsPutFault, EndsUnput, Ends, EndsWhole, EndsUnwritten}
+use Rattle.cophy_core.specs.Endings.{Put, Outside, outside, put_all, put_answer, IsPutFault, EndsUnput, Ends}
 use Rattle.cophy_core.specs.Left.{PutsFile, PutsFileTo}
 use Rattle.cophy_core.specs.Files.{ReadCounts, counts}
 use Rattle.cophy_core.specs.Reading.{StopsAtFiles}

@@ -1,22 +1,16 @@
 -- From what is replied, and how that ends, to what is promised.
-use Rattle.std.proofs.Common.{◌≡◌, ◌≢◌, inl, inr, ◌⊎◌, ℕ, suc, ◌+◌, ◌-◌, ◌^◌, ◌<◌, ◌≤◌, Bool, true, false, List, [], ◌∷◌, ◌++◌, length, Option, Some, None, Ok, ℤ, pos, negsuc, refl, sym, ap, subst, ◌∙◌, eqb, arith}
-use Rattle.std.specs.Prelude.{◌<ℤ◌, ◌≤ℤ◌, ◌==◌, if◌then◌else◌, All, slice_get}
-use Rattle.std.specs.FinMap.{get, insert}
+use Rattle.std.proofs.Common.{◌≡◌, ◌≢◌, inl, inr, ◌⊎◌, ℕ, ◌+◌, ◌<◌, ◌≤◌, Bool, true, false, List, [], ◌∷◌, ◌++◌, length, Option, Some, None, Ok, ℤ, pos, negsuc, refl, sym, ap, subst, ◌∙◌, eqb, arith}
+use Rattle.std.specs.Prelude.{◌<ℤ◌, ◌≤ℤ◌, ◌==◌, if◌then◌else◌}
+use Rattle.std.specs.FinMap.{insert}
 use Rattle.std.proofs.lemmas.Bool.{eqb-true, eqb-false}
 use Rattle.std.proofs.lemmas.Int.{ints}
-use Rattle.std.proofs.lemmas.Option.{get_or_from_slice_get, slice_get_within}
-use Rattle.adv_base.specs.declared.limits.TheConstants.{MOST_CANDIDATES, MOST_CERTIFICATE_BYTES, MOST_FILE_BYTES}
-use Rattle.adv_base.specs.declared.workload.Statement.{Statement}
-use Rattle.adv_base.specs.declared.workload.block.Block.{Block}
+use Rattle.adv_base.specs.declared.limits.TheConstants.{MOST_CERTIFICATE_BYTES, MOST_FILE_BYTES}
 use Rattle.adv_base.specs.Settings.{TheSetting}
-use Rattle.adv_shelf.proofs.CallerLemmas.{told_fact, put_is_there, others_stay}
+use Rattle.adv_shelf.proofs.CallerLemmas.{put_is_there, others_stay}
 use Rattle.adv_shelf.specs.declared.shelf.PutFault.{PutFault}
 use Rattle.adv_shelf.specs.declared.shelf.PutFault.TheVariants as faults
-use Rattle.adv_shelf.specs.Faults.{Rose}
 use Rattle.adv_shelf.specs.Shelf.{Files, HasFile, put_file}
 use Rattle.adv_shelf.specs.Sink.{append_to}
-use Rattle.bip_model.specs.declared.answer.Answer.{Answer}
-use Rattle.bip_model.specs.Best.{IsBest, HasGivenUp}
 use Rattle.certificate.specs.declared.cert.Cert.{Cert}
 use Rattle.certificate.specs.Certificates.{IsCertificate, OneCertificate, TextsFit}
 use Rattle.certificate.specs.Answers.{answer_cert}
@@ -24,46 +18,39 @@ use Rattle.gap_checker.specs.declared.fault.Checked.{Checked as GapChecked}
 use Rattle.gap_checker.specs.Faults.{IsFault}
 use Rattle.gap_checker.specs.Laws.{BestAreProved, FaultsExcludeProofs}
 use Rattle.gap_checker.specs.Views.{IsProof}
-use Rattle.plan_model.specs.Totals.{block_of}
-use Rattle.plan_model.specs.Useful.{AreUseful}
 use Rattle.report.specs.declared.done.Advice.{Advice}
 use Rattle.report.specs.declared.done.Done.{Done}
-use Rattle.report.specs.declared.done.Done.TheVariants.{ReadFault, WriteFault, Refused, Memory, Advised, Checked, NotProved}
+use Rattle.report.specs.declared.done.Done.TheVariants.{ReadFault, Refused, Memory, Advised, Checked, NotProved}
 use Rattle.report.specs.declared.done.NotProved.TheVariants.{Malformed, Fault}
 use Rattle.report.specs.declared.done.Refusal.{Refusal}
 use Rattle.report.specs.declared.done.Refusal.TheVariants.{TooLong, Cat, Sql, Bind, TooManyCombinations}
 use Rattle.report.specs.declared.done.Role.{Role}
-use Rattle.report.specs.declared.done.Role.TheVariants.{Catalogue, Workload, Third}
-use Rattle.tuning.specs.Refusals.{AreFew, IsFew, IsFirstBeyond}
-use Rattle.cophy_core.specs.commands.Advise.{IsAdvice, IsCertificateOf, IsCertificatePut, PutsFor}
+use Rattle.report.specs.declared.done.Role.TheVariants.{Catalogue, Workload}
+use Rattle.cophy_core.specs.commands.Advise.{IsAdvice, PutsFor}
 use Rattle.cophy_core.specs.commands.Check as check
 use Rattle.cophy_core.specs.Answers.{Answers}
 use Rattle.cophy_core.specs.Causes.{IsSteady, gap_status, status_of}
 use Rattle.cophy_core.specs.Endings.{Put, Outside, put_all, put_answer, IsPutFault, EndsWhole, Ends}
 use Rattle.cophy_core.specs.Files.{InputFile, IsInput, AreInputs, input, input_file, setting_files, files_of, IsTooLong, ReadCounts}
-use Rattle.cophy_core.specs.Headline.{Asked, asked_command, IsAccepted, IsPriced, IsSpent, IsEnd, IsCertified, Certifies, Headline}
-use Rattle.cophy_core.specs.CommandLine.{PlainCommand, Advise, Check, command_of}
+use Rattle.cophy_core.specs.Headline.{Asked, asked_command, IsAccepted, IsEnd, Certifies, Headline}
+use Rattle.cophy_core.specs.CommandLine.{Check, command_of}
 use Rattle.cophy_core.specs.Replies.{MayAnswer, ArePuts, IsReply}
 use Rattle.cophy_core.specs.Settings.{IsSetting, HasCatFault, IsSqlRefusal, IsBindRefusal}
 use Rattle.cophy_core.proofs.CauseLemmas.{to_command, to_puts}
+use Rattle.cophy_core.proofs.Combinations.{none_beyond}
+use Rattle.cophy_core.proofs.FilesRead.{not_long_and_whole, one_content}
+use Rattle.cophy_core.proofs.Lines.{not_nothing}
 
 -- ## Accepted input is not refused
-
-none_left : (front rest : List InputFile) (file : InputFile) → [] ≡ front ++ file ∷ rest → ⊥
-none_left [] rest file e = cc
-none_left (f ∷ fs) rest file e = cc
 
 one_of_two : (front rest : List InputFile) (file first second : InputFile) → first ∷ second ∷ [] ≡ front ++ file ∷ rest → (file ≡ first) ⊎ (file ≡ second)
 one_of_two [] rest file first second e = inl cc
 one_of_two (f ∷ []) rest file first second e = inr cc
-one_of_two (f ∷ g ∷ more) rest file first second e = absurd (none_left more rest file cc)
+one_of_two (f ∷ g ∷ more) rest file first second e = absurd (not_nothing more rest file cc)
 
 short : (files : Files) (role : Role) (name bytes : List ℕ) (file : InputFile) → IsInput (Some files) (input_file role name MOST_FILE_BYTES) bytes → file ≡ input_file role name MOST_FILE_BYTES → HasFile (Some files) file.name (λ b. file.most < length b) → ⊥
 short files role name bytes file is e long =
-    let there : HasFile (Some files) name (λ b. MOST_FILE_BYTES < length b) = subst (λ (f : InputFile). HasFile (Some files) f.name (λ b. f.most < length b)) e long in
-    let over : MOST_FILE_BYTES < length bytes = told_fact (Some files) files name bytes (λ b. MOST_FILE_BYTES < length b) refl is.whole there in
-    let within : length bytes ≤ MOST_FILE_BYTES = is.short in
-    absurd (omega (arith, over, within))
+    not_long_and_whole files (input_file role name MOST_FILE_BYTES) bytes is (subst (λ (f : InputFile). HasFile (Some files) f.name (λ b. f.most < length b)) e long)
 
 not_long : (files : Files) (asked : Asked) (role : Role) → IsAccepted files asked → IsTooLong (Some files) (setting_files asked.cat asked.load) role → ⊥
 not_long files asked role ok h =
@@ -71,13 +58,6 @@ not_long files asked role ok h =
       | inl first ↦ short files Catalogue asked.cat ok.cat_bytes h.file ok.cat_is first h.bad.long
       | inr second ↦ short files Workload asked.load ok.load_bytes h.file ok.load_is second h.bad.long
     ]
-
--- a file has one content
-one_content : (files : Files) (file : InputFile) (a b : List ℕ) → IsInput (Some files) file a → IsInput (Some files) file b → a ≡ b
-one_content files file a b x y =
-    let there : get files file.name ≡ Some a = x.whole in
-    let here : get files file.name ≡ Some b = y.whole in
-    cc
 
 pub same_inputs : (files : Files) (asked : Asked) (inputs : List (List ℕ)) (ok : IsAccepted files asked) → AreInputs (Some files) (setting_files asked.cat asked.load) inputs → inputs ≡ ok.cat_bytes ∷ ok.load_bytes ∷ []
 same_inputs files asked [] ok are = absurd are
@@ -87,15 +67,6 @@ same_inputs files asked (a ∷ b ∷ []) ok are =
     let second = one_content files (input_file Workload asked.load MOST_FILE_BYTES) b ok.load_bytes are.1.0 ok.load_is in
     cc
 same_inputs files asked (a ∷ b ∷ c ∷ more) ok are = absurd are.1.1
-
-all-at : {X : Type 0} (P : X → Type 0) (xs : List X) (i : ℕ) (x : X) → All P xs → slice_get xs i ≡ Some x → P x
-all-at P xs i x all there = subst P (get_or_from_slice_get xs i x x there) (all i x (slice_get_within xs i x there))
-
-none_beyond : (setting : TheSetting) (n count : ℕ) → AreFew setting.cat setting.statements → IsFirstBeyond setting n count → ⊥
-none_beyond setting n count few h =
-    let within = all-at (λ (s : Statement). (block : Block) → block_of s.work ≡ Some block → IsFew setting.cat block) setting.statements (n - 1) h.statement few h.found h.block h.block_is count h.has in
-    let beyond = h.beyond in
-    absurd (omega (arith, within, beyond))
 
 pub not_refused : (files : Files) (asked : Asked) (why : Refusal) → IsAccepted files asked → Answers (asked_command asked) (Some files) (Refused why) → ⊥
 not_refused files asked (TooLong role) ok h = not_long files asked role ok h

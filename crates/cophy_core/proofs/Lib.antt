@@ -7,6 +7,10 @@ pub mod PriceLists
 pub mod Cached
 pub mod Advising
 pub mod Checking
+pub mod OneSetting
+pub mod Combinations
+pub mod TooMany
+pub mod OneRefusal
 pub mod Ranges
 pub mod Stopped
 pub mod Mapped

@@ -4,7 +4,7 @@
 -- with its exact cost, the weighted sum of least plan costs and index upkeep, and a bound that no fitting candidate set
 -- undercuts; it writes, where asked, a certificate that `check` accepts through the planner alone; and cost equals bound
 -- unless the node budget, smaller than 2^(m+1) - 1, was spent. m is how many candidates are useful.
-use Rattle.std.specs.Prelude.{◌≡◌, ◌≢◌, ℕ, ◌+◌, ◌-◌, ◌^◌, ◌<◌, ◌⊎◌, List, [], ◌∷◌, length, Option, Some, None, ℤ, pos, ◌<ℤ◌}
+use Rattle.std.specs.Prelude.{◌≡◌, ◌≢◌, ℕ, ◌+◌, ◌-◌, ◌^◌, ◌<◌, ◌⊎◌, List, [], ◌∷◌, length, Option, Some, None, pos, ◌<ℤ◌}
 use Rattle.adv_base.specs.declared.limits.TheConstants.{MOST_FILE_BYTES}
 use Rattle.adv_base.specs.declared.setting.Config.{Config}
 use Rattle.adv_base.specs.Configs.{IsConfigOf, Fits}

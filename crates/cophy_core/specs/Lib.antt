@@ -9,6 +9,7 @@ pub mod Endings
 pub mod Inputs
 pub mod commands
 pub mod Answers
+pub mod Laws
 pub mod Stops
 pub mod Reading
 pub mod Replies

@@ -13,7 +13,7 @@ pub const DEFAULT_NODES: u32 = 20000;
 const MOST_BUDGET: u64 = 1000000000000;
 
 /// The most nodes of a search.
-const MOST_NODES: u64 = 1000000;
+const MOST_NODES: u32 = 1000000;
 
 /// What the words of a command line ask for. Files go by their names.
 #[derive(Clone, Copy, Debug)]
@@ -97,6 +97,15 @@ fn number_at(words: &[String], number: u32, least: u64, most: u64) -> Result<u64
     }
 }
 
+/// The same of a number that fits 32 bits.
+fn small_at(words: &[String], number: u32, least: u32, most: u32) -> Result<u32, WordFault>
+    requires { 1 ≤ number }
+    ensures { result ≡ spec.number_at (spec.texts words.now) number least most }
+{
+    let n = number_at(words, number, least as u64, most as u64)?;
+    Ok(n as u32)
+}
+
 /// Says that no word stands behind the one of a number.
 #[tactic(auto, unfolding(crate::specs::CommandLine::end_at))]
 fn end_at(words: &[String], number: u32) -> Result<(), WordFault>
@@ -122,9 +131,9 @@ fn nodes_option<'a>(
     if given.nodes.is_some() {
         return Err(WordFault::Twice(number));
     }
-    let nodes = number_at(words, number + 1, 1, MOST_NODES)?;
+    let nodes = small_at(words, number + 1, 1, MOST_NODES)?;
     Ok(Options {
-        nodes: Some(nodes as u32),
+        nodes: Some(nodes),
         cert: given.cert,
     })
 }
@@ -172,16 +181,18 @@ fn option_at<'a>(
     Err(WordFault::Extra(number))
 }
 
-/// The options behind the plain words of a search.
-fn read_options<'a>(words: &'a [String]) -> Result<Options<'a>, WordFault>
-    ensures { spec.GivesBy spec.plain_options result (spec.options_from (spec.texts words.now) 3 5 spec.no_options) }
+/// The options of a search, from the word of a number on.
+fn read_options<'a>(words: &'a [String], first: u32) -> Result<Options<'a>, WordFault>
+    requires some { 1 ≤ first }
+    requires few { first < 90 }
+    ensures { spec.GivesBy spec.plain_options result (spec.options_from (spec.texts words.now) 3 first spec.no_options) }
 {
     let mut given = Options {
         nodes: None,
         cert: None,
     };
     'options: for turn in 0..3u32 {
-        let number = 5 + 2 * turn;
+        let number = first + 2 * turn;
         if words.len() < number as usize {
             return Ok(given);
         }
@@ -190,93 +201,41 @@ fn read_options<'a>(words: &'a [String]) -> Result<Options<'a>, WordFault>
             Err(fault) => return Err(fault),
         };
     }
-    Err(WordFault::Extra(11))
+    Err(WordFault::Extra(first + 6))
 }
 
-fn cost<'a>(words: &'a [String]) -> Result<Command<'a>, WordFault>
-    ensures { spec.GivesBy spec.plain_command result (spec.read_row (spec.texts words.now) spec.cost_row) }
-{
-    let cat = word_at(words, 2)?;
-    let load = word_at(words, 3)?;
-    end_at(words, 3)?;
-    Ok(Command::Cost { cat, load })
+/// A command of these fields, which were read up to the word of a number: with `options` those of a search follow, else no
+/// word does.
+macro_rules! asked {
+    ($words:ident, $at:ident, $command:ident { $($field:ident),+ }) => {{
+        end_at($words, $at)?;
+        Command::$command { $($field),+ }
+    }};
+    ($words:ident, $at:ident, $command:ident { $($field:ident),+ } options) => {{
+        let given = read_options($words, $at + 1)?;
+        Command::$command {
+            $($field,)+
+            nodes: given.nodes.unwrap_or(DEFAULT_NODES),
+            cert: given.cert,
+        }
+    }};
 }
 
-fn what_if<'a>(words: &'a [String]) -> Result<Command<'a>, WordFault>
-    ensures { spec.GivesBy spec.plain_command result (spec.read_row (spec.texts words.now) spec.what_if_row) }
-{
-    let cat = word_at(words, 2)?;
-    let load = word_at(words, 3)?;
-    let conf = word_at(words, 4)?;
-    end_at(words, 4)?;
-    Ok(Command::WhatIf { cat, load, conf })
-}
-
-fn explain<'a>(words: &'a [String]) -> Result<Command<'a>, WordFault>
-    ensures { spec.GivesBy spec.plain_command result (spec.read_row (spec.texts words.now) spec.explain_row) }
-{
-    let cat = word_at(words, 2)?;
-    let load = word_at(words, 3)?;
-    let conf = word_at(words, 4)?;
-    let number = number_at(words, 5, 1, 1000)? as u32;
-    end_at(words, 5)?;
-    Ok(Command::Explain {
-        cat,
-        load,
-        conf,
-        number,
-    })
-}
-
-fn candidates<'a>(words: &'a [String]) -> Result<Command<'a>, WordFault>
-    ensures { spec.GivesBy spec.plain_command result (spec.read_row (spec.texts words.now) spec.candidates_row) }
-{
-    let cat = word_at(words, 2)?;
-    let load = word_at(words, 3)?;
-    end_at(words, 3)?;
-    Ok(Command::Candidates { cat, load })
-}
-
-fn advise<'a>(words: &'a [String]) -> Result<Command<'a>, WordFault>
-    ensures { spec.GivesBy spec.plain_command result (spec.read_row (spec.texts words.now) spec.advise_row) }
-{
-    let cat = word_at(words, 2)?;
-    let load = word_at(words, 3)?;
-    let budget = number_at(words, 4, 0, MOST_BUDGET)?;
-    let given = read_options(words)?;
-    Ok(Command::Advise {
-        cat,
-        load,
-        budget,
-        nodes: given.nodes.unwrap_or(DEFAULT_NODES),
-        cert: given.cert,
-    })
-}
-
-fn check<'a>(words: &'a [String]) -> Result<Command<'a>, WordFault>
-    ensures { spec.GivesBy spec.plain_command result (spec.read_row (spec.texts words.now) spec.check_row) }
-{
-    let cat = word_at(words, 2)?;
-    let load = word_at(words, 3)?;
-    let cert = word_at(words, 4)?;
-    end_at(words, 4)?;
-    Ok(Command::Check { cat, load, cert })
-}
-
-fn bench<'a>(words: &'a [String]) -> Result<Command<'a>, WordFault>
-    ensures { spec.GivesBy spec.plain_command result (spec.read_row (spec.texts words.now) spec.bench_row) }
-{
-    let seed = number_at(words, 2, 0, u64::MAX)?;
-    let tables = number_at(words, 3, 2, 20)? as u32;
-    let statements = number_at(words, 4, 1, 500)? as u32;
-    let budget = number_at(words, 5, 0, MOST_BUDGET)?;
-    end_at(words, 5)?;
-    Ok(Command::Bench {
-        seed,
-        tables,
-        statements,
-        budget,
-    })
+/// Returns the command of a name by a table with a row for each: its name, and its fields in the order of the words. Each is
+/// read by a function of the words, the number of its word and the range of a number.
+macro_rules! commands {
+    ($name:ident, $words:ident; $(
+        $spelled:literal => $command:ident { $($field:ident: $kind:ident($($range:expr),*)),+ } $(+ $options:ident)?;
+    )+) => {
+        $(if $name == $spelled {
+            let mut at = 1u32;
+            $(
+                at += 1;
+                let $field = $kind($words, at $(, $range)*)?;
+            )+
+            return Ok(asked!($words, at, $command { $($field),+ } $($options)?));
+        })+
+    };
 }
 
 /// The command of a name, with the rest of the words.
@@ -284,26 +243,19 @@ fn bench<'a>(words: &'a [String]) -> Result<Command<'a>, WordFault>
 fn named<'a>(name: &str, words: &'a [String]) -> Result<Command<'a>, WordFault>
     ensures { spec.GivesBy spec.plain_command result (spec.named_command name.now (spec.texts words.now)) }
 {
-    if name == "cost" {
-        return cost(words);
-    }
-    if name == "whatif" {
-        return what_if(words);
-    }
-    if name == "explain" {
-        return explain(words);
-    }
-    if name == "candidates" {
-        return candidates(words);
-    }
-    if name == "advise" {
-        return advise(words);
-    }
-    if name == "check" {
-        return check(words);
-    }
-    if name == "bench" {
-        return bench(words);
+    commands! { name, words;
+        "cost" => Cost { cat: word_at(), load: word_at() };
+        "whatif" => WhatIf { cat: word_at(), load: word_at(), conf: word_at() };
+        "explain" => Explain { cat: word_at(), load: word_at(), conf: word_at(), number: small_at(1, 1000) };
+        "candidates" => Candidates { cat: word_at(), load: word_at() };
+        "advise" => Advise { cat: word_at(), load: word_at(), budget: number_at(0, MOST_BUDGET) } + options;
+        "check" => Check { cat: word_at(), load: word_at(), cert: word_at() };
+        "bench" => Bench {
+            seed: number_at(0, u64::MAX),
+            tables: small_at(2, 20),
+            statements: small_at(1, 500),
+            budget: number_at(0, MOST_BUDGET)
+        };
     }
     Err(WordFault::UnknownCommand(1))
 }

@@ -1,0 +1,54 @@
+-- The first statement with too many combinations is one.
+use Rattle.std.proofs.Common.{◌≡◌, inl, inr, ℕ, zero, suc, ◌-◌, ◌<◌, List, [], ◌∷◌, take, slice_get, Some, sym, ap, subst, ◌∙◌, arith}
+use Rattle.std.proofs.lemmas.Bool.{cases_lt}
+use Rattle.adv_base.specs.declared.catalogue.Catalogue.{Catalogue}
+use Rattle.adv_base.specs.declared.workload.Statement.{Statement}
+use Rattle.adv_base.specs.declared.workload.block.Block.{Block}
+use Rattle.adv_base.specs.Settings.{TheSetting}
+use Rattle.gap_checker.proofs.Lists.{all-at}
+use Rattle.plan_model.proofs.Unique.{one-task}
+use Rattle.plan_model.specs.Orders.{combinations}
+use Rattle.plan_model.specs.Totals.{block_of}
+use Rattle.tuning.specs.Refusals.{HasCombinations, IsFew, AreFew, IsFirstBeyond}
+
+-- a block has one count of combinations
+pub one_count : (cat : Catalogue) (block : Block) (a b : ℕ) → HasCombinations cat block a → HasCombinations cat block b → a ≡ b
+one_count cat block a b x y = sym x.count_is ∙ ap combinations (one-task cat block x.task y.task x.task_is y.task_is) ∙ y.count_is
+
+-- what is found in a list is found in its front
+in_front : {X : Type 0} (xs : List X) (k i : ℕ) (x : X) → i < k → slice_get xs i ≡ Some x → slice_get (take k xs) i ≡ Some x
+in_front [] k i x low found = absurd cc
+in_front (y ∷ ys) zero i x low found = absurd (omega (arith, low))
+in_front (y ∷ ys) (suc k) zero x low found = found
+in_front (y ∷ ys) (suc k) (suc i) x low found = in_front ys k i x (omega (arith, low)) found
+
+-- where all have few, none has too many
+none_too_many : (setting : TheSetting) (xs : List Statement) (n count : ℕ) (h : IsFirstBeyond setting n count) → AreFew setting.cat xs → slice_get xs (n - 1) ≡ Some h.statement → ⊥
+none_too_many setting xs n count h few found =
+    let within = all-at (λ (s : Statement). (block : Block) → block_of s.work ≡ Some block → IsFew setting.cat block) xs (n - 1) h.statement few found h.block h.block_is count h.has in
+    let beyond = h.beyond in
+    absurd (omega (arith, within, beyond))
+
+pub none_beyond : (setting : TheSetting) (n count : ℕ) → AreFew setting.cat setting.statements → IsFirstBeyond setting n count → ⊥
+none_beyond setting n count few h = none_too_many setting setting.statements n count h few h.found
+
+none_before : (setting : TheSetting) (n m count other : ℕ) → IsFirstBeyond setting n count → IsFirstBeyond setting m other → n < m → ⊥
+none_before setting n m count other x y low =
+    let from = x.from_one in
+    none_too_many setting (take (m - 1) setting.statements) n count x y.few_before (in_front setting.statements (m - 1) (n - 1) x.statement (omega (arith, low, from)) x.found)
+
+-- one statement is the first that has more, and it has one count
+pub one_beyond : (setting : TheSetting) (n m count other : ℕ) → IsFirstBeyond setting n count → IsFirstBeyond setting m other → (n ≡ m) × (count ≡ other)
+one_beyond setting n m count other x y =
+    let place : n ≡ m = elim (cases_lt n m) [
+      | inl low ↦ absurd (none_before setting n m count other x y low)
+      | inr high ↦ elim (cases_lt m n) [
+        | inl low ↦ absurd (none_before setting m n other count y x low)
+        | inr low ↦ omega (arith, high, low)
+      ]
+    ] in
+    let found : Some x.statement ≡ Some y.statement = sym x.found ∙ ap (λ (k : ℕ). slice_get setting.statements (k - 1)) place ∙ y.found in
+    let statement : x.statement ≡ y.statement = cc in
+    let reads : Some x.block ≡ Some y.block = sym x.block_is ∙ ap (λ (s : Statement). block_of s.work) statement ∙ y.block_is in
+    let block : x.block ≡ y.block = cc in
+    (place, one_count setting.cat y.block count other (subst (λ (b : Block). HasCombinations setting.cat b count) block x.has) y.has)
