@@ -217,9 +217,24 @@ fn climbed(programme: &Programme, budget: u64, root: &Fix, found: &Found) -> Cos
     climb(programme, budget, root, from)
 }
 
-/// Branch and bound: a best configuration of the programme below a root for a budget of pages, with at most so many nodes,
-/// by depth-first search over CoPhy's programme with Lagrangian bounds. The answer holds the tree that shows the bound; where
-/// the nodes sufficed, the bound is the cost. Costs are in thousandths of a page read. All memory is the room's.
+/// What a search answers with the cheapest configuration that it found.
+fn answer(best: Costed, low: i128, sets: Vec<Multipliers>, tree: Vec<Node>, useful: u32) -> Answer
+    ensures { result ≡ runs.answer best low sets.items tree.items useful }
+{
+    Answer {
+        config: best.config,
+        cost: best.cost,
+        bound: least_bound(best.cost, low),
+        sets: List { items: sets },
+        tree: List { items: tree },
+        useful,
+    }
+}
+
+/// Branch and bound: a configuration of the programme below a root that fits a budget of pages, by depth-first search over
+/// CoPhy's programme with Lagrangian bounds, of at most so many nodes. The answer holds the tree that shows that none costs
+/// less than the bound; where the nodes sufficed, the bound is the cost, and the configuration a best one. Costs are in
+/// thousandths of a page read. All memory is the room's.
 pub fn search(programme: &Programme, root: &Fix, budget: u64, nodes: u32, room: Room) -> Answer
     requires budget { budget ≤ MOST_ROWS }
     requires some_node { 1 ≤ nodes }
@@ -260,13 +275,5 @@ pub fn search(programme: &Programme, root: &Fix, budget: u64, nodes: u32, room: 
         hands.guides.as_mut_slice(),
     );
     let best = climbed(programme, budget, root, &found);
-    let bound = least_bound(best.cost, found.low);
-    Answer {
-        config: best.config,
-        cost: best.cost,
-        bound,
-        sets: List { items: sets },
-        tree: List { items: tree },
-        useful: useful.count,
-    }
+    answer(best, found.low, sets, tree, useful.count)
 }

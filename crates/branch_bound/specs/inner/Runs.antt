@@ -1,6 +1,7 @@
 -- A run of the search below a node: what it had found before and what after, and the tree that it wrote.
 use Rattle.std.specs.Prelude.{◌≡◌, ℕ, ◌+◌, ◌-◌, ◌^◌, ◌<◌, ◌≤◌, nat_lt, nat_le, Bool, true, false, ◌&&◌, if◌then◌else◌, ◌⊎◌, List, ◌∷◌, ◌++◌, length, Option, Some, None, slice_index_or, ℤ, pos, negsuc, ◌≤ℤ◌}
 use Rattle.std.specs.Int.{int_min}
+use Rattle.bip_model.specs.declared.answer.Answer.{Answer}
 use Rattle.bip_model.specs.declared.answer.Node.{Node}
 use Rattle.bip_model.specs.declared.fix.Fix.{Fix}
 use Rattle.bip_model.specs.declared.fix.State.TheVariants.{In, Out}
@@ -176,3 +177,8 @@ pub record IsExplored (rules : Rules) (fix : Fix) (before : Found) (old : List N
 abbrev pub least_bound : ℕ → ℤ → ℤ
 least_bound cost (pos n) = if nat_lt n cost then pos n else pos cost
 least_bound cost (negsuc n) = negsuc n
+
+-- what a search answers with the cheapest configuration that it found
+abbrev pub answer : Costed → ℤ → List Multipliers → List Node → ℕ → Answer
+answer best low sets tree useful =
+    record { config = best.config; cost = best.cost; bound = least_bound best.cost low; sets = sets; tree = tree; useful = useful }

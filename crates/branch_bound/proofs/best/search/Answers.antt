@@ -1,5 +1,4 @@
-use Rattle.std.proofs.Common.{◌≡◌, Bool, ℕ, List, ℤ, to_z, of_z, refl, subst, rules}
-use mir.Syntax.{w128}
+use Rattle.std.proofs.Common.{◌≡◌, Bool, ℕ, List, refl, sym, subst, rules}
 use Rattle.bip_model.specs.declared.answer.Answer.{Answer}
 use Rattle.bip_model.specs.declared.answer.Node.{Node}
 use Rattle.bip_model.specs.declared.fix.Fix.{Fix}
@@ -8,7 +7,7 @@ use Rattle.bip_model.specs.declared.programme.Programme.{Programme}
 use Rattle.bip_model.specs.Best.{IsBest}
 use Rattle.bip_model.specs.Views.{node_of}
 use Rattle.branch_bound.specs.declared.found.Found.{Found}
-use Rattle.branch_bound.specs.inner.Runs.{Rules, IsExplored, least_bound, started}
+use Rattle.branch_bound.specs.inner.Runs.{Rules, IsExplored, answer, started}
 use Rattle.branch_bound.proofs.Sound.{explored-sound}
 use Rattle.branch_bound.proofs.Linking.{AreKept, search-best}
 use Rattle.branch_bound.proofs.best.search.Goals as goal
@@ -50,16 +49,8 @@ returns c =
       sets = c.proposed-known.new.sets.items;
       useful = c.useful_of-useful.result.flags;
     } in
-    let answer_of : ℤ → Answer = λ b.
-    record {
-      config = c.climbed-best.result.config;
-      cost = c.climbed-best.result.cost;
-      bound = b;
-      sets = c.proposed-known.new.sets.items;
-      tree = c.explored-found.new.tree.items;
-      useful = c.useful_of-useful.result.count;
-    } in
-    let told : least_bound c.climbed-best.result.cost c.explored-found.result.low ≡ to_z w128 (of_z w128 c.least_bound-bound.result) = search (rules, c.least_bound-bound.ensures) in
+    let told : c.answer.result ≡ answer c.climbed-best.result c.explored-found.result.low c.proposed-known.new.sets.items c.explored-found.new.tree.items c.useful_of-useful.result.count =
+    search (rules, c.answer.ensures) in
     let raised = c.proposed-known.ensures.sets in
     let kept : AreKept own raised.first c.set_limit.result =
     record {
@@ -70,7 +61,7 @@ returns c =
       limit = c.set_limit.ensures;
     } in
     λ setting limits stands.
-    subst (λ (b : ℤ). IsBest setting c.args.budget c.args.nodes (node_of c.args.root.now) (answer_of b)) told
+    subst (λ (a : Answer). IsBest setting c.args.budget c.args.nodes (node_of c.args.root.now) a) (sym told)
     (search-best own c.args.root.now c.proposed-known.result (started c.proposed-known.result) c.explored-found.result c.args.room.tree.items c.explored-found.new.tree.items c.climbed-best.result.config c.climbed-best.result.cost raised.first
     c.set_limit.result c.useful_of-useful.result.count c.requires.room.zeros_fit kept c.requires.room.zeros_page c.requires.room.zeros_are c.useful_of-useful.ensures.flags c.requires.root
     c.bare.ensures.long refl c.requires.room.tree_empty (same-sets c.args.programme.now c.args.budget c.args.nodes c.args.room.zeros c.useful_of-useful.result.flags c.as_slice.result.now c.proposed-known.new.sets.items c.args.root.now (started c.proposed-known.result) c.explored-found.result c.args.room.tree.items c.explored-found.new.tree.items c.as_slice.ensures.value c.explored-found.ensures.explored) c.explored-found.ensures.most c.useful_of-useful.ensures.count
