@@ -3,9 +3,9 @@ use Rattle.std.proofs.Common.{◌≡◌, ℕ, ◌+◌, ◌<◌, ◌≤◌, List,
 use Rattle.std.specs.Prelude.{◌≢◌}
 use Rattle.std.proofs.Math.Seq.{drop-cons}
 use Rattle.std.proofs.lemmas.List.{drop_all}
+use Rattle.adv_base.specs.Readings.{◌>>=◌, in_turn, put_behind}
 use Rattle.binder.specs.declared.fault.BindFault.{BindFault}
 use Rattle.binder.specs.declared.fault.BindFault.TheVariants.{Memory}
-use Rattle.binder.specs.Results.{◌>>=◌, in_turn, put_behind}
 
 module _ {S A : Type 0} (step : S → A → Result S BindFault) (xs : List A) (total : Result S BindFault) where
   at_turn : (s : S) (i : ℕ) (x : A) → i < length xs → x ≡ get_or xs i x → in_turn step s (drop i xs) ≡ (step s x >>= λ t. in_turn step t (drop (i + 1) xs))

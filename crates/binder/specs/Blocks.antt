@@ -2,6 +2,7 @@
 use Rattle.std.specs.Prelude.{ℕ, true, false, List, [], ◌∷◌, ◌++◌, length, None, Result, Ok}
 use Rattle.std.specs.List.{flat_map}
 use Rattle.adv_base.specs.declared.catalogue.Catalogue.{Catalogue}
+use Rattle.adv_base.specs.Readings.{◌>>=◌, or_fault, where_holds, each}
 use Rattle.sql_reader.specs.declared.parsed.Condition.{Condition}
 use Rattle.sql_reader.specs.declared.parsed.NameUse.{NameUse}
 use Rattle.sql_reader.specs.declared.parsed.ParsedSelect.{ParsedSelect}
@@ -20,7 +21,6 @@ use Rattle.binder.specs.Lists.{aggregates, group_list, order_list}
 use Rattle.binder.specs.Needed.{slots_from}
 use Rattle.binder.specs.Orders.{mentions_from, orders_from}
 use Rattle.binder.specs.Plain.{PlainBlock}
-use Rattle.binder.specs.Results.{◌>>=◌, or_fault, where_holds, each}
 use Rattle.binder.specs.Scopes.{Names}
 use Rattle.binder.specs.Sources.{table_meant, sources_of, visible}
 

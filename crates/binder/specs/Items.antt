@@ -1,6 +1,7 @@
 -- The items of a select list.
 use Rattle.std.specs.Prelude.{ℕ, ◌==◌, Bool, true, false, List, [], Option, Some, None, slice_get, option_and_then, Result, Ok}
 use Rattle.std.specs.List.{position_from}
+use Rattle.adv_base.specs.Readings.{◌>>=◌, each}
 use Rattle.sql_tokens.specs.declared.token.Span.{Span}
 use Rattle.sql_reader.specs.declared.parsed.NameUse.{NameUse}
 use Rattle.sql_reader.specs.declared.parsed.ParsedItem.{ParsedItem}
@@ -11,7 +12,6 @@ use Rattle.binder.specs.declared.gathered.BoundItem.TheVariants.{Star, SlotStar,
 use Rattle.binder.specs.declared.fault.BindFault.{BindFault}
 use Rattle.binder.specs.Names.{name_in}
 use Rattle.binder.specs.Lookups.{goes_by}
-use Rattle.binder.specs.Results.{◌>>=◌, each}
 use Rattle.binder.specs.Scopes.{Names, source_meant, meaning}
 
 -- the columns that names mean, in written order

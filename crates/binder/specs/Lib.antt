@@ -1,4 +1,4 @@
-pub mod Results
+pub mod Faults
 pub mod Names
 pub mod Index
 pub mod Lookups

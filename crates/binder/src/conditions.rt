@@ -4,7 +4,7 @@ ghost use Rattle.adv_base.specs.declared.workload.predicate.Test.TheVariants as 
 ghost use Rattle.adv_base.specs.Limits.Tests.{TestLimits};
 ghost use Rattle.binder.specs.Limits.{ConditionLimits, NameLimits};
 ghost use Rattle.binder.specs.Conditions as where_clause;
-ghost use Rattle.binder.specs.Results.{Gives};
+ghost use Rattle.binder.specs.Faults.{Gives};
 ghost use Rattle.binder.specs.View.{names_of, plain_tests};
 
 use crate::fault::BindFault;

@@ -3,7 +3,7 @@ ghost use Rattle.std.specs.Prelude.{◌≡◌, ◌<◌, ◌^◌, ◌+◌, length
 ghost use Rattle.binder.specs.Aliases.{IndexesAliases, PutsAlias};
 ghost use Rattle.binder.specs.Limits.{NameLimits, OrderLimits};
 ghost use Rattle.binder.specs.Orders as order_by;
-ghost use Rattle.binder.specs.Results.{Gives};
+ghost use Rattle.binder.specs.Faults.{Gives};
 ghost use Rattle.binder.specs.View.{names_of, list_of};
 
 use crate::fault::BindFault;

@@ -6,7 +6,7 @@ ghost use Rattle.binder.specs.Limits.{SelectLimits};
 ghost use Rattle.binder.specs.Lists as lists;
 ghost use Rattle.binder.specs.Needed.{slots_from};
 ghost use Rattle.binder.specs.Plain.{plain_block};
-ghost use Rattle.binder.specs.Results.{Gives};
+ghost use Rattle.binder.specs.Faults.{Gives};
 ghost use Rattle.binder.specs.View.{names_of, plain_clauses};
 
 use crate::conditions::tests;

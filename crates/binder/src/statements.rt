@@ -5,7 +5,7 @@ ghost use Rattle.adv_base.specs.Limits.Settings as settings;
 ghost use Rattle.adv_base.specs.Named.{NamesWork};
 ghost use Rattle.binder.specs.Limits.{StatementLimits, BodyLimits};
 ghost use Rattle.binder.specs.Plain.{plain_work, plain_statements};
-ghost use Rattle.binder.specs.Results.{Gives};
+ghost use Rattle.binder.specs.Faults.{Gives};
 ghost use Rattle.binder.specs.Statements as meant;
 ghost use Rattle.binder.specs.View.{plain_bound};
 ghost use Rattle.binder.specs.Works.{WorkLimits};

@@ -7,6 +7,7 @@ use Rattle.toml.specs.Parse.{parse_document}
 use Rattle.adv_base.specs.declared.limits.TheConstants.{MOST_ROWS, MOST_RATE, MOST_WIDTH, MOST_TABLES, MOST_COLUMNS, MOST_INDEXES, MOST_KEYS}
 use Rattle.adv_base.specs.declared.catalogue.column.Kind.{Kind}
 use Rattle.adv_base.specs.declared.catalogue.column.Kind.TheVariants.{Int, Text, Date}
+use Rattle.adv_base.specs.Readings.{◌>>=◌, or_fault, where_holds}
 use Rattle.catalogue.specs.declared.fault.CatFault.{CatFault}
 use Rattle.catalogue.specs.declared.fault.CatFault.TheVariants.{NotToml, OutOfRange, TwoNames, UnknownName}
 use Rattle.catalogue.specs.declared.fault.KeyField.{KeyField}
@@ -15,8 +16,7 @@ use Rattle.catalogue.specs.declared.fault.KeyPath.{KeyPath}
 use Rattle.catalogue.specs.Content.{PlainStatistics, PlainColumn, PlainIndex, PlainTable, PlainRates, PlainCatalogue}
 use Rattle.catalogue.specs.Keys.{needed, optional, given_or, number_of}
 use Rattle.catalogue.specs.Paths.{whole_path, rates_path, table_path, column_path, index_path, key_column_path}
-use Rattle.catalogue.specs.Results.{◌>>=◌, or_fault, where_holds, read_each}
-use Rattle.catalogue.specs.Values.{Rule, natural, end_number, end_day, text, boolean, keys_of, elements, elements_within, column_kind, folded, new_name}
+use Rattle.catalogue.specs.Values.{Rule, natural, end_number, end_day, text, boolean, keys_of, elements, elements_within, column_kind, folded, new_name, read_each}
 
 -- a rate, or its default
 abbrev pub rate : List ℕ → KeyField → ℕ → Members → Result ℕ CatFault

@@ -4,8 +4,7 @@ ghost use Rattle.adv_base.specs.declared.limits.TheConstants.{MOST_COLUMNS};
 ghost use Rattle.toml.specs.View.{view, items_view};
 ghost use Rattle.catalogue.specs.Catalogue as rows;
 ghost use Rattle.catalogue.specs.Content.{plain_column, plain_columns};
-ghost use Rattle.catalogue.specs.Results.{Gives, read_each};
-ghost use Rattle.catalogue.specs.Values.{folded};
+ghost use Rattle.catalogue.specs.Values.{folded, Gives, read_each};
 
 use crate::fault::{CatFault, KeyField, KeyPath};
 use crate::names::Names;

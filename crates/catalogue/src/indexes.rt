@@ -7,8 +7,7 @@ ghost use Rattle.adv_base.specs.Limits.Numbers.{KeyLimits};
 ghost use Rattle.catalogue.specs.Catalogue as rows;
 ghost use Rattle.catalogue.specs.Content.{plain_index, plain_indexes};
 ghost use Rattle.catalogue.specs.Keys.{given_or};
-ghost use Rattle.catalogue.specs.Results.{Gives, read_each};
-ghost use Rattle.catalogue.specs.Values.{folded};
+ghost use Rattle.catalogue.specs.Values.{folded, Gives, read_each};
 
 use crate::fault::{CatFault, KeyField, KeyPath};
 use crate::names::Names;

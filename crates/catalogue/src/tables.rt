@@ -7,8 +7,7 @@ ghost use Rattle.catalogue.specs.Catalogue as rows;
 ghost use Rattle.catalogue.specs.Content.{plain_columns, plain_indexes, plain_table, plain_tables};
 ghost use Rattle.catalogue.specs.Paths as paths;
 ghost use Rattle.catalogue.specs.Keys as key_rules;
-ghost use Rattle.catalogue.specs.Results.{Gives, read_each};
-ghost use Rattle.catalogue.specs.Values.{folded};
+ghost use Rattle.catalogue.specs.Values.{folded, Gives, read_each};
 
 use crate::columns::columns;
 use crate::fault::{CatFault, KeyField};

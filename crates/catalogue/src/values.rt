@@ -3,7 +3,7 @@ ghost use Rattle.std.specs.Prelude.{◌≡◌, ◌≤◌, ◌^◌, ◌<◌, leng
 ghost use Rattle.std.specs.List.{list_all};
 ghost use Rattle.toml.specs.View.{view, items_view, table_view};
 ghost use Rattle.adv_base.specs.Limits.Numbers.{EndLimits};
-ghost use Rattle.catalogue.specs.Results.{Gives};
+ghost use Rattle.catalogue.specs.Values.{Gives};
 ghost use Rattle.catalogue.specs.Values as values;
 
 use crate::fault::{CatFault, KeyPath};

@@ -2,7 +2,7 @@ use Rattle.std.proofs.Common.{◌≡◌, [], length, drop}
 use Rattle.toml.specs.View.{items_view}
 use Rattle.catalogue.specs.Catalogue.{next_column, column_names}
 use Rattle.catalogue.specs.Content.{plain_columns}
-use Rattle.catalogue.specs.Results.{read_each}
+use Rattle.catalogue.specs.Values.{read_each}
 use Rattle.catalogue.proofs.columns.columns_in.Given as goal
 
 abbrev pub invariant-loop-value : goal.invariant-loop-value

@@ -2,7 +2,7 @@ use Rattle.std.proofs.Common.{◌≡◌, ◌<◌, ◌≤◌, ◌+◌, [], length
 use Rattle.toml.specs.View.{items_view}
 use Rattle.catalogue.specs.Catalogue.{next_index, index_names, has_clustered}
 use Rattle.catalogue.specs.Content.{plain_indexes}
-use Rattle.catalogue.specs.Results.{read_each}
+use Rattle.catalogue.specs.Values.{read_each}
 use Rattle.catalogue.proofs.indexes.indexes_in.Given as goal
 
 abbrev pub invariant-loop-value : goal.invariant-loop-value

@@ -2,7 +2,7 @@ use Rattle.std.proofs.Common.{◌≡◌, ◌≤◌, [], length, drop}
 use Rattle.toml.specs.View.{items_view}
 use Rattle.catalogue.specs.Catalogue.{next_table, table_names, index_count}
 use Rattle.catalogue.specs.Content.{plain_tables}
-use Rattle.catalogue.specs.Results.{read_each}
+use Rattle.catalogue.specs.Values.{read_each}
 use Rattle.catalogue.proofs.IndexLists.{AreOwnFrom}
 use Rattle.catalogue.proofs.tables.tables_in.Given as goal
 
