@@ -3,12 +3,11 @@ ghost use Rattle.std.specs.Prelude.{◌≡◌, ◌≤◌, ◌+◌, ◌∷◌, �
 ghost use Rattle.adv_base.specs.declared.limits.TheConstants.{MOST_SLOTS, MOST_SLOTS_IN_ALL, MOST_STATEMENTS};
 ghost use Rattle.adv_base.specs.Limits.Settings as settings;
 ghost use Rattle.adv_base.specs.Named.{NamesWork};
-ghost use Rattle.binder.specs.Limits.{StatementLimits, BodyLimits};
+ghost use Rattle.binder.specs.Limits.{StatementLimits, BodyLimits, WorkLimits};
 ghost use Rattle.binder.specs.Plain.{plain_work, plain_statements};
 ghost use Rattle.binder.specs.Faults.{Gives};
 ghost use Rattle.binder.specs.Statements as meant;
 ghost use Rattle.binder.specs.View.{plain_bound};
-ghost use Rattle.binder.specs.Works.{WorkLimits};
 
 use crate::changes::{delete_block, insert_table, update_work};
 use crate::directory::Directory;
@@ -97,29 +96,6 @@ fn slot_count(work: &Work) -> u64
     }
 }
 
-/// What a statement does, and how many slots there are with its own, which are at most 2000.
-#[tactic(auto, unfolding(crate::specs::Statements::counted_work))]
-fn counted_work(
-    alloc: Global,
-    directory: &Directory<'_>,
-    text: &[u8],
-    slots: u64,
-    statement: &ParsedStatement,
-) -> Result<(Work, u64), BindFault>
-    requires limits { BodyLimits statement.now.body }
-    requires few { slots ≤ MOST_SLOTS_IN_ALL }
-    ensures exact { Gives (λ x. (plain_work x.0, x.1)) result (meant.counted_work directory.now.cat.now text.now slots statement.now) }
-    ensures limits { IfOk result (λ x. WorkLimits x.0) }
-    ensures few { IfOk result (λ x. x.1 ≤ MOST_SLOTS_IN_ALL) }
-{
-    let work = work(alloc, directory, text, statement.place, &statement.body)?;
-    let slots = slots + slot_count(&work);
-    if slots > MOST_SLOTS_IN_ALL as u64 {
-        return Err(BindFault::TooManySlotsInAll(statement.place));
-    }
-    Ok((work, slots))
-}
-
 /// Puts a statement behind the others.
 fn put(statements: &mut List<Statement>, statement: Statement) -> Result<(), AllocError>
     ensures { OnOk result (statements.new ≡ statements.old ++ statement ∷ []) }
@@ -128,8 +104,8 @@ fn put(statements: &mut List<Statement>, statement: Statement) -> Result<(), All
     Ok(())
 }
 
-/// Puts what one more statement means behind the others.
-#[tactic(auto, unfolding(crate::specs::Statements::with_statement))]
+/// Puts what one more statement means behind the others; all together have at most 2000 slots.
+#[tactic(auto, unfolding(crate::specs::Statements::with_statement, crate::specs::Statements::counted_work))]
 fn put_statement(
     alloc: Global,
     directory: &Directory<'_>,
@@ -143,9 +119,13 @@ fn put_statement(
     ensures few { OnOk result (so_far.new.slots ≤ MOST_SLOTS_IN_ALL) }
     ensures count { OnOk result (length so_far.new.statements ≡ length so_far.old.statements + 1) }
 {
-    let (work, slots) = counted_work(alloc, directory, text, so_far.slots, statement)?;
+    let work = work(alloc, directory, text, statement.place, &statement.body)?;
+    let slots = so_far.slots + slot_count(&work);
     let weight = statement.weight;
     put(&mut so_far.statements, Statement { weight, work })?;
+    if slots > MOST_SLOTS_IN_ALL as u64 {
+        return Err(BindFault::TooManySlotsInAll(statement.place));
+    }
     so_far.slots = slots;
     Ok(())
 }
