@@ -15,7 +15,7 @@ use Rattle.catalogue.specs.Paths.{whole_path, rates_path, table_path, column_pat
 use Rattle.catalogue.specs.Catalogue.{rate, access_rates, operator_rates, rates_of, default_rates, end_of, not_below, column_names, statistics_of, column_at, next_column, columns_of, key_column, next_key, key_columns_of, flag, clustered, index_keys, shape_of, index_at, index_names, has_clustered, index_count, table_names, next_index, indexes_of, size_of, parts_of, table_at, next_table, tables_of, catalogue_of, document, catalogue_in}
 use Rattle.adv_base.specs.declared.catalogue.Catalogue.{Catalogue}
 use Rattle.adv_base.specs.Readings.{◌>>=◌, or_fault, where_holds}
-use Rattle.catalogue.specs.Content.{PlainRates, PlainColumn, PlainIndex, PlainTable, PlainCatalogue, plain_catalogue}
+use Rattle.catalogue.specs.Content.{PlainRates, PlainCatalogue, plain_catalogue}
 use Rattle.catalogue.specs.Values.{Rule, natural_within, natural, end_number, text, end_day, boolean, keys_of, elements, elements_within, column_kind, name, folded, new_name, Gives, read_each}
 use Rattle.catalogue.specs.Keys.{number_of, needed, optional, read_if_there, given_or}
 

@@ -1,5 +1,5 @@
 //! The table of rates.
-ghost use Rattle.std.specs.Prelude.{◌≡◌, ◌≤◌, codes, IfOk};
+ghost use Rattle.std.specs.Prelude.{◌≡◌, ◌≤◌, IfOk};
 ghost use Rattle.adv_base.specs.declared.limits.TheConstants.{MOST_RATE};
 ghost use Rattle.toml.specs.View.{view, table_view};
 ghost use Rattle.catalogue.specs.Catalogue as rows;
