@@ -7,6 +7,7 @@ use Rattle.std.proofs.lemmas.List.Elements.{All-nil, All-push}
 use Rattle.adv_base.specs.declared.workload.predicate.Test.{Test}
 use Rattle.adv_base.specs.declared.workload.predicate.Value.{Value}
 use Rattle.adv_base.specs.declared.workload.predicate.Test.TheVariants as tests
+use Rattle.adv_base.specs.Readings.{◌>>=◌}
 use Rattle.sql_reader.specs.declared.parsed.Compare.{Compare}
 use Rattle.sql_reader.specs.declared.parsed.Compare.TheVariants as compares
 use Rattle.sql_reader.specs.declared.parsed.Condition.{Condition}
@@ -15,7 +16,6 @@ use Rattle.sql_reader.specs.declared.parsed.NameUse.{NameUse}
 use Rattle.binder.specs.declared.gathered.SlotColumn.{SlotColumn}
 use Rattle.binder.specs.Plain.{PlainPred, PlainEdge}
 use Rattle.binder.specs.Conditions.{PlainTests, no_tests, pred_of, edge_of, with_test, with_equality, compare_test, named_test, named_equality, literal_value, with_condition, tests_of}
-use Rattle.binder.specs.Results.{◌>>=◌}
 use Rattle.binder.specs.Scopes.{Names, meaning}
 use Rattle.binder.proofs.Readings.{bind_ok, ok_is, in_turn-keeps, in_turn-counts}
 use Rattle.binder.proofs.Within.{width, IsColumn, IsColumn-meaning}

@@ -1,13 +1,12 @@
 -- Tables beside the indexes of their columns.
-use Rattle.std.proofs.Common.{◌≡◌, ℕ, zero, suc, ◌+◌, ◌<◌, ◌≤◌, List, [], ◌∷◌, ◌++◌, length, take, get_or, Some, None, refl, sym, ap, subst, ◌∙◌, arith}
+use Rattle.std.proofs.Common.{◌≡◌, ℕ, zero, suc, ◌+◌, ◌<◌, List, [], ◌∷◌, ◌++◌, length, take, get_or, Some, refl, sym, ap, subst, ◌∙◌, arith}
 use Rattle.std.specs.Prelude.{slice_get, option_and_then}
-use Rattle.std.proofs.lemmas.Option.{option_and_then_some, slice_get-get_or, slice_get_past}
+use Rattle.std.proofs.lemmas.Option.{option_and_then_some, slice_get-get_or}
 use Rattle.adv_base.specs.declared.catalogue.table.Table.{Table}
 use Rattle.adv_base.specs.declared.catalogue.column.Column.{Column}
 use Rattle.binder.specs.declared.index.NameIndex.{NameIndex}
 use Rattle.std.proofs.lemmas.List.{take_more, length-take-le, length-append}
-use Rattle.binder.specs.Index.{find_in}
-use Rattle.binder.specs.Lookups.{goes_by, table_number, column_number, column_of, IndexesColumns, IndexesEach}
+use Rattle.binder.specs.Lookups.{find_in, goes_by, table_number, column_number, column_of, IndexesColumns, IndexesEach}
 use Rattle.binder.proofs.Positions.{position_from-within}
 
 pub table_number-within : (tables : List Table) (word : List ℕ) (t : ℕ) → table_number tables word ≡ Some t → t < length tables
@@ -41,9 +40,6 @@ pub IndexesEach-at : (tables : List Table) (indexes : List NameIndex) (index : N
 IndexesEach-at tables indexes index t word each lt is =
     let at : slice_get indexes t ≡ Some index = slice_get-get_or indexes t index lt ∙ ap (λ (x : NameIndex). Some x) (sym is) in
     sym (ap (option_and_then (λ (i : NameIndex). find_in i word)) at) ∙ each t word
-
-pub IndexesEach-past : (tables : List Table) (indexes : List NameIndex) (t : ℕ) (word : List ℕ) → IndexesEach tables indexes → length indexes ≤ t → None ≡ column_of tables t word
-IndexesEach-past tables indexes t word each le = sym (ap (option_and_then (λ (i : NameIndex). find_in i word)) (slice_get_past indexes t le)) ∙ each t word
 
 pub IndexesEach-none : (indexes : List NameIndex) → indexes ≡ [] → (length indexes ≡ 0) × IndexesEach [] indexes
 unfolding column_of

@@ -17,6 +17,7 @@ use Rattle.adv_base.specs.Lookups.{column_count, slot_columns, table_at}
 use Rattle.std.specs.Option.{option_map_or}
 use Rattle.std.specs.Prelude.{slice_get, option_and_then}
 use Rattle.adv_base.specs.Named.{NamesBlock, NamesUpdate, NamesWork}
+use Rattle.adv_base.specs.Readings.{◌>>=◌, where_holds}
 use Rattle.sql_tokens.specs.declared.token.Span.{Span}
 use Rattle.sql_reader.specs.declared.parsed.Body.{Body}
 use Rattle.sql_reader.specs.declared.parsed.Body.TheVariants as bodies
@@ -39,7 +40,7 @@ use Rattle.binder.specs.Joins.{is_joined}
 use Rattle.binder.specs.Lists.{aggregates}
 use Rattle.binder.specs.Needed.{slots_from}
 use Rattle.binder.specs.Plain.{PlainBlock, PlainWork, PlainStatement, Select, Update, Delete, Insert, plain_block, plain_work, plain_statement, plain_statements}
-use Rattle.binder.specs.Results.{◌>>=◌, where_holds, both}
+use Rattle.binder.specs.Faults.{both}
 use Rattle.binder.specs.Scopes.{Names}
 use Rattle.binder.specs.Sources.{table_meant, visible, sources_of}
 use Rattle.binder.specs.Statements.{first_table, update_of, without_names, insert_of, work_of, PlainBound, slot_count, counted_work, with_statement, bound_of, statements_of}

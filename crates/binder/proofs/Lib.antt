@@ -1,7 +1,6 @@
 pub mod Entries
 pub mod Positions
 pub mod Columns
-pub mod Owners
 pub mod Turns
 pub mod Readings
 pub mod Within

@@ -1,5 +1,5 @@
 -- The blocks that statements mean keep the limits of blocks.
-use Rattle.std.proofs.Common.{◌≡◌, ℕ, suc, ◌+◌, ◌-◌, ◌^◌, ◌<◌, ◌≤◌, Bool, true, List, [], ◌∷◌, length, map, None, Ok, refl, sym, ap, subst, ◌∙◌, arith}
+use Rattle.std.proofs.Common.{◌≡◌, ℕ, suc, ◌+◌, ◌^◌, ◌<◌, ◌≤◌, Bool, true, List, [], ◌∷◌, length, map, None, Ok, refl, sym, ap, subst, ◌∙◌, arith}
 use Rattle.std.specs.Prelude.{All}
 use Rattle.std.proofs.lemmas.List.{length-map}
 use Rattle.std.proofs.lemmas.List.Elements.{All-nil, All-cons, All-head, All-tail, All-weaker}
@@ -8,6 +8,7 @@ use Rattle.adv_base.specs.declared.workload.parts.Edge.{Edge}
 use Rattle.adv_base.specs.declared.workload.predicate.Pred.{Pred}
 use Rattle.adv_base.specs.Limits.Blocks.{BlockLimits, GroupLimits, AreFree, ends}
 use Rattle.adv_base.specs.Sets.{IsConnected}
+use Rattle.adv_base.specs.Readings.{◌>>=◌}
 use Rattle.sql_reader.specs.declared.parsed.Condition.{Condition}
 use Rattle.sql_reader.specs.declared.parsed.ParsedSelect.{ParsedSelect}
 use Rattle.binder.specs.declared.gathered.SlotColumn.{SlotColumn}
@@ -21,7 +22,6 @@ use Rattle.binder.specs.Lists.{kept_columns, upward, group_list, order_list}
 use Rattle.binder.specs.Needed.{slots_from}
 use Rattle.binder.specs.Orders.{SelectList, mentions_from, orders_from}
 use Rattle.binder.specs.Plain.{PlainPred, plain_pred, plain_edge, plain_preds, plain_edges}
-use Rattle.binder.specs.Results.{◌>>=◌}
 use Rattle.binder.specs.Scopes.{Names}
 use Rattle.binder.proofs.Readings.{bind_ok, ok_is}
 use Rattle.binder.proofs.Within.{IsColumn}

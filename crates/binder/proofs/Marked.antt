@@ -1,24 +1,18 @@
 -- Columns that are marked, one after the other.
-use Rattle.std.proofs.Common.{◌≡◌, ℕ, ◌+◌, ◌<◌, Bool, true, false, cond, eqb, not, ◌&&◌, ◌||◌, List, [], ◌∷◌, ◌++◌, length, get_or, take, drop, map, fold, Option, Some, None, refl, sym, ap, ◌∙◌, arith, add-one, true≢false}
-use Rattle.std.specs.List.{list_any, range_with_len}
-use Rattle.std.specs.Prelude.{filter}
-use Rattle.std.specs.Option.{option_map_or}
+use Rattle.std.proofs.Common.{◌≡◌, ℕ, ◌+◌, ◌<◌, Bool, true, false, cond, eqb, ◌&&◌, ◌||◌, List, [], ◌∷◌, ◌++◌, length, get_or, take, drop, fold, refl, sym, ap, ◌∙◌, arith, add-one, true≢false}
+use Rattle.std.specs.List.{list_any}
 use Rattle.std.proofs.Math.Seq.{drop-cons}
 use Rattle.std.proofs.lemmas.Bool.{eqb-true}
 use Rattle.std.proofs.lemmas.Bool.Decides.{nat_tests}
 use Rattle.std.proofs.lemmas.List.{take_more, map_push}
 use Rattle.std.proofs.lemmas.List.Folds.{list_any-append}
-use Rattle.std.proofs.lemmas.List.Elements.{filter-append}
-use Rattle.std.proofs.lemmas.List.FromFn.{map-range_with_len_more}
 use Rattle.adv_base.specs.declared.workload.parts.Item.{Item}
 use Rattle.adv_base.specs.declared.workload.parts.Item.TheVariants.{Up, Down, Made}
 use Rattle.adv_base.specs.declared.workload.predicate.Pred.{Pred}
 use Rattle.adv_base.specs.Items.{is_same_column}
-use Rattle.adv_base.specs.Predicates.{is_equality}
 use Rattle.binder.specs.declared.gathered.SlotColumn.{SlotColumn}
 use Rattle.binder.specs.Lists.{binds, is_bound, keep, upward}
 use Rattle.binder.specs.Marks.{is_marked, Marks, BoundMarks, is_marked_item, KeepsMarks}
-use Rattle.binder.specs.Orders.{column_of_item}
 use Rattle.binder.specs.Plain.{PlainPred, plain_pred, plain_preds}
 use Rattle.binder.specs.Scopes.{is_same, slot_column}
 
@@ -125,71 +119,6 @@ kept-turn preds items i d kept kept_after total marked marked_after lt marks ste
     let item = get_or items i d in
     let next : fold (keep preds) kept (drop i items) ≡ fold (keep preds) (keep preds kept item) (drop (i + 1) items) = rw (drop-cons items i d) (rw add-one refl) in
     ap (λ (xs : List Item). fold (keep preds) xs (drop (i + 1) items)) (Marks-item preds item kept kept_after marked marked_after marks step) ∙ sym next ∙ so_far
-
--- the columns of a slot that pass a test, one column further
-pub filter-column : (p : ℕ → Bool) (n : ℕ) → filter p (range_with_len 0 (n + 1)) ≡ cond (p n) (filter p (range_with_len 0 n) ++ n ∷ []) (filter p (range_with_len 0 n))
-filter-column p n = ap (filter p) (range_more n) ∙ filter-append p (range_with_len 0 n) (n ∷ []) ∙ by (p n) refl
-  where
-    same : (xs : List ℕ) → map (λ x. x) xs ≡ xs
-    same [] = refl
-    same (x ∷ xs) = ap (λ (ys : List ℕ). x ∷ ys) (same xs)
-
-    range_more : (k : ℕ) → range_with_len 0 (k + 1) ≡ range_with_len 0 k ++ k ∷ []
-    range_more k = sym (same (range_with_len 0 (k + 1))) ∙ map-range_with_len_more (λ x. x) 0 k k (omega arith) ∙ ap (λ (xs : List ℕ). xs ++ k ∷ []) (same (range_with_len 0 k))
-
-    nothing_behind : (xs : List ℕ) → xs ++ [] ≡ xs
-    nothing_behind [] = refl
-    nothing_behind (x ∷ xs) = ap (λ (ys : List ℕ). x ∷ ys) (nothing_behind xs)
-
-    by : (t : Bool) → p n ≡ t → filter p (range_with_len 0 n) ++ filter p (n ∷ []) ≡ cond (p n) (filter p (range_with_len 0 n) ++ n ∷ []) (filter p (range_with_len 0 n))
-    by true e = rw e refl
-    by false e = rw e (nothing_behind (filter p (range_with_len 0 n)))
-
-unmoved : (t : Bool) → t ≡ (t || false)
-unmoved true = refl
-unmoved false = refl
-
--- a made item is kept, and marks nothing
-pub keeps-made : (item : Item) (marked : List SlotColumn) (kept kept_after : List Item) → column_of_item item ≡ None → kept_after ≡ kept ++ item ∷ [] → KeepsMarks item marked kept marked kept_after
-keeps-made (Up s c) marked kept kept_after none put = absurd cc
-keeps-made (Down s c) marked kept kept_after none put = absurd cc
-keeps-made (Made n) marked kept kept_after none put = record { items = put; marks = λ c. unmoved (is_marked marked c) }
-
-chosen_not : {A : Type 0} (t : Bool) (x y : A) → cond (not t) x y ≡ cond t y x
-chosen_not true x y = refl
-chosen_not false x y = refl
-
-same_as_item : (item : Item) (c q : SlotColumn) → column_of_item item ≡ Some c → is_same q c ≡ is_same_column item (upward q)
-same_as_item (Up s k) c q e = let same : slot_column s k ≡ c = cc in rw (← same) refl
-same_as_item (Down s k) c q e = let same : slot_column s k ≡ c = cc in rw (← same) refl
-same_as_item (Made n) c q e = absurd cc
-
--- any other item is kept where its column is newly marked
-pub keeps-column : (item : Item) (c : SlotColumn) (marked marked_after : List SlotColumn) (kept kept_after : List Item) (fresh : Bool) → column_of_item item ≡ Some c → fresh ≡ not (is_marked marked c)
-    → ((q : SlotColumn) → is_marked marked_after q ≡ (is_marked marked q || is_same q c)) → kept_after ≡ cond fresh (kept ++ item ∷ []) kept → KeepsMarks item marked kept marked_after kept_after
-keeps-column item c marked marked_after kept kept_after fresh is new marks put = record {
-  items = put ∙ ap (λ (t : Bool). cond t (kept ++ item ∷ []) kept) new ∙ chosen_not (is_marked marked c) (kept ++ item ∷ []) kept
-      ∙ ap (λ (t : Bool). cond t kept (kept ++ item ∷ [])) (sym (ap (λ (o : Option SlotColumn). option_map_or (is_marked marked) o false) is));
-  marks = λ q. marks q ∙ ap (λ (t : Bool). is_marked marked q || t) (same_as_item item c q is);
-}
-
-bound_and : (t : Bool) → (t && true) ≡ t
-bound_and true = refl
-bound_and false = refl
-
-free_and : (t : Bool) → (t && false) ≡ false
-free_and true = refl
-free_and false = refl
-
--- `column = literal` marks its column
-pub BoundMarks-equality : (pred : PlainPred) (old new : List SlotColumn) → is_equality pred.test ≡ true → ((q : SlotColumn) → is_marked new q ≡ (is_marked old q || is_same q (slot_column pred.slot pred.column))) → BoundMarks pred old new
-BoundMarks-equality pred old new equal marks q =
-    marks q ∙ ap (λ (t : Bool). is_marked old q || t) (sym (ap (λ (t : Bool). (eqb pred.slot q.slot && eqb pred.column q.column) && t) equal ∙ bound_and (eqb pred.slot q.slot && eqb pred.column q.column)))
-
--- any other predicate marks nothing
-pub BoundMarks-other : (pred : PlainPred) (old : List SlotColumn) → is_equality pred.test ≡ false → BoundMarks pred old old
-BoundMarks-other pred old other q =
-    unmoved (is_marked old q) ∙ ap (λ (t : Bool). is_marked old q || t) (sym (ap (λ (t : Bool). (eqb pred.slot q.slot && eqb pred.column q.column) && t) other ∙ free_and (eqb pred.slot q.slot && eqb pred.column q.column)))
 
 eqb_sym : (a b : ℕ) → eqb a b ≡ eqb b a
 eqb_sym a b = grind (arith, nat_tests)

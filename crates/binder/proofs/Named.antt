@@ -26,10 +26,10 @@ use Rattle.binder.specs.Names.{word_in, place}
 use Rattle.binder.specs.Lookups.{table_number}
 use Rattle.binder.specs.Needed.{is_at, needed_columns, slot_of, slots_from}
 use Rattle.binder.specs.Plain.{plain_pred, plain_edge, plain_preds, plain_edges}
-use Rattle.binder.specs.Results.{◌>>=◌, where_holds}
 use Rattle.binder.specs.Scopes.{Names}
 use Rattle.binder.specs.Sources.{table_meant, visible, is_taken, put_source, with_source, sources_of}
 use Rattle.std.specs.Prelude.{unwrap_or, not}
+use Rattle.adv_base.specs.Readings.{◌>>=◌, where_holds}
 use Rattle.binder.proofs.Readings.{bind_ok, or_fault_ok, where_ok, in_turn-keeps}
 use Rattle.binder.proofs.Columns.{table_number-within}
 use Rattle.binder.proofs.Within.{width}

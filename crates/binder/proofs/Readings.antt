@@ -2,8 +2,8 @@
 use Rattle.std.proofs.Common.{◌≡◌, ℕ, ◌+◌, ◌≤◌, Bool, true, false, List, [], ◌∷◌, ◌++◌, length, Option, Some, None, Result, Ok, Err, refl, ap, subst, arith}
 use Rattle.std.specs.Prelude.{All}
 use Rattle.std.proofs.lemmas.List.Elements.{All-nil, All-push}
+use Rattle.adv_base.specs.Readings.{◌>>=◌, or_fault, where_holds, in_turn, put_behind, each}
 use Rattle.binder.specs.declared.fault.BindFault.{BindFault}
-use Rattle.binder.specs.Results.{◌>>=◌, or_fault, where_holds, in_turn, put_behind, each}
 
 -- what a reading that has no fault gave on the way
 pub bind_ok : {A B : Type 0} (r : Result A BindFault) (f : A → Result B BindFault) (y : B) → (r >>= f) ≡ Ok y → (x : A) × (r ≡ Ok x) × (f x ≡ Ok y)

@@ -6,6 +6,7 @@ use Rattle.std.proofs.lemmas.Option.{option_and_then_some, slice_get_within}
 use Rattle.adv_base.specs.declared.catalogue.Catalogue.{Catalogue}
 use Rattle.adv_base.specs.declared.catalogue.table.Table.{Table}
 use Rattle.adv_base.specs.Lookups.{column_count}
+use Rattle.adv_base.specs.Readings.{or_fault}
 use Rattle.sql_tokens.specs.declared.token.Span.{Span}
 use Rattle.sql_reader.specs.declared.parsed.NameUse.{NameUse}
 use Rattle.binder.specs.declared.gathered.SlotColumn.{SlotColumn}
@@ -13,7 +14,6 @@ use Rattle.binder.specs.declared.scope.Visible.{Visible}
 use Rattle.binder.specs.declared.fault.BindFault.TheVariants.{NoColumn}
 use Rattle.binder.specs.Names.{word_in, place}
 use Rattle.binder.specs.Lookups.{column_number, column_of}
-use Rattle.binder.specs.Results.{or_fault}
 use Rattle.binder.specs.Scopes.{Names, slot_column, source_meant, column_in, owner, owners, the_one, qualified, unqualified, by_qualifier, meaning}
 use Rattle.binder.proofs.Readings.{bind_ok, or_fault_ok}
 use Rattle.binder.proofs.Columns.{column_number-within}

@@ -2,6 +2,7 @@
 use Rattle.std.specs.Prelude.{ℕ, true, false, List, [], ◌∷◌, ◌++◌, length, None, Result, Ok}
 use Rattle.std.specs.List.{flat_map}
 use Rattle.adv_base.specs.declared.catalogue.Catalogue.{Catalogue}
+use Rattle.adv_base.specs.Readings.{◌>>=◌, or_fault, where_holds, each}
 use Rattle.sql_reader.specs.declared.parsed.Condition.{Condition}
 use Rattle.sql_reader.specs.declared.parsed.NameUse.{NameUse}
 use Rattle.sql_reader.specs.declared.parsed.ParsedSelect.{ParsedSelect}
@@ -18,9 +19,8 @@ use Rattle.binder.specs.Items.{columns_of, items_of, item_mentions}
 use Rattle.binder.specs.Joins.{is_joined}
 use Rattle.binder.specs.Lists.{aggregates, group_list, order_list}
 use Rattle.binder.specs.Needed.{slots_from}
-use Rattle.binder.specs.Orders.{mentions_from, orders_from}
+use Rattle.binder.specs.Orders.{SelectList, mentions_from, orders_from}
 use Rattle.binder.specs.Plain.{PlainBlock}
-use Rattle.binder.specs.Results.{◌>>=◌, or_fault, where_holds, each}
 use Rattle.binder.specs.Scopes.{Names}
 use Rattle.binder.specs.Sources.{table_meant, sources_of, visible}
 
@@ -31,11 +31,13 @@ pub record PlainClauses : Type 0 where
   pub group : List SlotColumn
   pub order : SortKeys
 
--- HAVING and then ORDER BY, behind what the select items stand for
+-- HAVING and then ORDER BY, which see a select list
+abbrev pub sorted_of : Names → SelectList → ParsedSelect → Result SortKeys BindFault
+sorted_of names list select = mentions_from names list [] select.having >>= λ having. orders_from names list having select.order
+
+-- the same, behind what the select items stand for
 unfoldable pub sort_keys_of : Names → ParsedSelect → List BoundItem → Result SortKeys BindFault
-sort_keys_of names select items = do
-  having ← mentions_from names (record { written = select.items; bound = items }) [] select.having
-  orders_from names (record { written = select.items; bound = items }) having select.order
+sort_keys_of names select items = sorted_of names (record { written = select.items; bound = items }) select
 
 -- the clauses of a SELECT, in written order: items, ON and WHERE, GROUP BY, HAVING, ORDER BY
 unfoldable pub clauses_of : Names → ParsedSelect → Result PlainClauses BindFault

@@ -7,6 +7,7 @@ use Rattle.adv_base.specs.declared.catalogue.column.Kind.TheVariants as kinds
 use Rattle.adv_base.specs.declared.workload.predicate.Test.{Test}
 use Rattle.adv_base.specs.declared.workload.predicate.Test.TheVariants as tests
 use Rattle.adv_base.specs.declared.workload.predicate.Value.{Value}
+use Rattle.adv_base.specs.Readings.{◌>>=◌, in_turn}
 use Rattle.sql_reader.specs.declared.parsed.Compare.{Compare}
 use Rattle.sql_reader.specs.declared.parsed.Compare.TheVariants as compares
 use Rattle.sql_reader.specs.declared.parsed.Condition.{Condition}
@@ -16,7 +17,6 @@ use Rattle.sql_reader.specs.declared.parsed.NameUse.{NameUse}
 use Rattle.binder.specs.declared.gathered.SlotColumn.{SlotColumn}
 use Rattle.binder.specs.declared.fault.BindFault.{BindFault}
 use Rattle.binder.specs.Plain.{PlainPred, PlainEdge}
-use Rattle.binder.specs.Results.{◌>>=◌, in_turn}
 use Rattle.binder.specs.Scopes.{Names, meaning}
 use Rattle.binder.specs.Values.{value_of}
 

@@ -1,17 +1,18 @@
--- The items of a select list.
-use Rattle.std.specs.Prelude.{ℕ, ◌==◌, Bool, true, false, List, [], Option, Some, None, slice_get, option_and_then, Result, Ok}
+-- The items of a select list, and their aliases.
+use Rattle.std.specs.Prelude.{◌≡◌, ℕ, if◌then◌else◌, ◌==◌, Bool, true, false, List, [], Option, Some, None, slice_get, option_and_then, Result, Ok}
 use Rattle.std.specs.List.{position_from}
+use Rattle.adv_base.specs.Readings.{◌>>=◌, each}
 use Rattle.sql_tokens.specs.declared.token.Span.{Span}
 use Rattle.sql_reader.specs.declared.parsed.NameUse.{NameUse}
 use Rattle.sql_reader.specs.declared.parsed.ParsedItem.{ParsedItem}
 use Rattle.sql_reader.specs.declared.parsed.ParsedItem.TheVariants as parsed
+use Rattle.binder.specs.declared.index.NameIndex.{NameIndex}
 use Rattle.binder.specs.declared.gathered.SlotColumn.{SlotColumn}
 use Rattle.binder.specs.declared.gathered.BoundItem.{BoundItem}
 use Rattle.binder.specs.declared.gathered.BoundItem.TheVariants.{Star, SlotStar, Made}
 use Rattle.binder.specs.declared.fault.BindFault.{BindFault}
 use Rattle.binder.specs.Names.{name_in}
-use Rattle.binder.specs.Lookups.{goes_by}
-use Rattle.binder.specs.Results.{◌>>=◌, each}
+use Rattle.binder.specs.Lookups.{find_in, goes_by}
 use Rattle.binder.specs.Scopes.{Names, source_meant, meaning}
 
 -- the columns that names mean, in written order
@@ -71,3 +72,11 @@ has_alias text word item = false
 -- the number of the first item with the alias, counted from 0
 abbrev pub aliased : List ℕ → List ParsedItem → List ℕ → Option ℕ
 aliased text items word = position_from (has_alias text word) 0 items
+
+-- an index tells which item is the first of an alias
+abbrev pub IndexesAliases : List ℕ → List ParsedItem → NameIndex → Type 0
+IndexesAliases text items index = (word : List ℕ) → find_in index word ≡ aliased text items word
+
+-- new is old with an item's alias, where it has one
+abbrev pub PutsAlias : List ℕ → ParsedItem → ℕ → NameIndex → NameIndex → Type 0
+PutsAlias text item number old new = (word : List ℕ) → find_in new word ≡ (if has_alias text word item then Some number else find_in old word)

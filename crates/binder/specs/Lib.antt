@@ -1,6 +1,5 @@
-pub mod Results
+pub mod Faults
 pub mod Names
-pub mod Index
 pub mod Lookups
 pub mod Scopes
 pub mod Sources
@@ -9,7 +8,6 @@ pub mod Plain
 pub mod Limits
 pub mod Conditions
 pub mod Items
-pub mod Aliases
 pub mod Orders
 pub mod Lists
 pub mod Marks
@@ -18,5 +16,4 @@ pub mod Joins
 pub mod inner
 pub mod Blocks
 pub mod Statements
-pub mod Works
 pub mod View

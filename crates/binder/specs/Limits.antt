@@ -1,5 +1,5 @@
--- What binding asks of the statements that were read.
-use Rattle.std.specs.Prelude.{◌≡◌, ℕ, ◌+◌, ◌<◌, ◌≤◌, ◌^◌, List, length, All, Option, Some}
+-- What binding asks of the statements that were read, and what it keeps of what they do.
+use Rattle.std.specs.Prelude.{◌≡◌, ℕ, ◌+◌, ◌<◌, ◌≤◌, ◌^◌, true, List, length, All, Option, Some}
 use Rattle.sql_tokens.specs.declared.token.Span.{Span}
 use Rattle.sql_reader.specs.declared.parsed.NameUse.{NameUse}
 use Rattle.sql_reader.specs.declared.parsed.Source.{Source}
@@ -15,7 +15,11 @@ use Rattle.sql_reader.specs.declared.parsed.ParsedSelect.{ParsedSelect}
 use Rattle.sql_reader.specs.declared.parsed.Body.{Body}
 use Rattle.sql_reader.specs.declared.parsed.Body.TheVariants.{Select, Insert, Update, Delete}
 use Rattle.sql_reader.specs.declared.parsed.ParsedStatement.{ParsedStatement}
-use Rattle.adv_base.specs.declared.limits.TheConstants.{MOST_WEIGHT}
+use Rattle.adv_base.specs.declared.limits.TheConstants.{MOST_WEIGHT, MOST_ROWS}
+use Rattle.adv_base.specs.declared.workload.Work.{Work}
+use Rattle.adv_base.specs.declared.workload.Work.TheVariants as works
+use Rattle.adv_base.specs.declared.workload.block.Block.{Block}
+use Rattle.adv_base.specs.Limits.Works.{ChangeLimits}
 
 -- the place of a span is a number of 64 bits
 abbrev pub IsShort : Span → Type 0
@@ -90,3 +94,10 @@ pub record StatementLimits (statement : ParsedStatement) : Type 0 where
   pub weight_least : 1 ≤ statement.weight
   pub weight_most : statement.weight ≤ MOST_WEIGHT
   pub body : BodyLimits statement.body
+
+-- what a statement of any weight keeps
+pub record WorkLimits (work : Work) : Type 0 where
+  pub selects : (block : Block) → work ≡ works.Select block → block.may_cover ≡ true
+  pub updates : (block : Block) (columns : List ℕ) → work ≡ works.Update block columns → ChangeLimits block
+  pub deletes : (block : Block) → work ≡ works.Delete block → ChangeLimits block
+  pub inserts : (table rows : ℕ) → work ≡ works.Insert table rows → (1 ≤ rows) × (rows ≤ MOST_ROWS)

@@ -1,12 +1,17 @@
--- Tables and columns by their names.
+-- Numbers by names: what an index finds, tables and columns.
 use Rattle.std.specs.Prelude.{◌≡◌, ℕ, Bool, List, Option, slice_get, option_and_then}
 use Rattle.std.specs.Str.{bytes_eq}
 use Rattle.std.specs.List.{position_from}
+use Rattle.std.specs.Global.{Vec}
+use Rattle.indexmap.specs.IndexMap.{get_by}
 use Rattle.adv_base.specs.declared.catalogue.table.Table.{Table}
 use Rattle.adv_base.specs.declared.catalogue.column.Column.{Column}
 use Rattle.binder.specs.declared.index.NameIndex.{NameIndex}
-use Rattle.binder.specs.Index.{find_in}
 use Rattle.binder.specs.Names.{folded}
+
+-- the number that an index has for a folded name
+abbrev pub find_in : NameIndex → List ℕ → Option ℕ
+find_in index word = get_by (λ (key : Vec ℕ). bytes_eq word key.items) index.numbers
 
 -- a name is this folded one
 abbrev pub goes_by : List ℕ → List ℕ → Bool

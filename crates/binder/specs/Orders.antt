@@ -2,6 +2,7 @@
 use Rattle.std.specs.Prelude.{ℕ, zero, suc, ◌+◌, Bool, true, false, List, [], ◌∷◌, ◌++◌, length, Option, Some, None, slice_get, Result, Ok}
 use Rattle.adv_base.specs.declared.workload.parts.Item.{Item}
 use Rattle.adv_base.specs.declared.workload.parts.Item.TheVariants.{Up, Down, Made}
+use Rattle.adv_base.specs.Readings.{◌>>=◌, in_turn}
 use Rattle.sql_tokens.specs.declared.token.Span.{Span}
 use Rattle.sql_reader.specs.declared.parsed.Expr.{Expr}
 use Rattle.sql_reader.specs.declared.parsed.NameUse.{NameUse}
@@ -16,7 +17,6 @@ use Rattle.binder.specs.declared.gathered.Term.TheVariants as terms
 use Rattle.binder.specs.declared.fault.BindFault.{BindFault}
 use Rattle.binder.specs.Names.{word_in}
 use Rattle.binder.specs.Items.{aliased, column_at}
-use Rattle.binder.specs.Results.{◌>>=◌, in_turn}
 use Rattle.binder.specs.Scopes.{Names, slot_column, meaning}
 
 -- the select list as HAVING and ORDER BY see it: as it is written, and what it stands for

@@ -2,6 +2,7 @@
 use Rattle.std.specs.Prelude.{ℕ, ◌+◌, ◌==◌, Bool, ◌&&◌, List, [], ◌∷◌, Option, Some, None, option_map, option_and_then, slice_get, Result, Ok, Err}
 use Rattle.std.specs.List.{position_from}
 use Rattle.adv_base.specs.declared.catalogue.Catalogue.{Catalogue}
+use Rattle.adv_base.specs.Readings.{◌>>=◌, or_fault}
 use Rattle.sql_tokens.specs.declared.token.Span.{Span}
 use Rattle.sql_reader.specs.declared.parsed.NameUse.{NameUse}
 use Rattle.binder.specs.declared.gathered.SlotColumn.{SlotColumn}
@@ -10,7 +11,6 @@ use Rattle.binder.specs.declared.fault.BindFault.{BindFault}
 use Rattle.binder.specs.declared.fault.BindFault.TheVariants.{NoColumn, Ambiguous}
 use Rattle.binder.specs.Names.{word_in, place}
 use Rattle.binder.specs.Lookups.{goes_by, column_of}
-use Rattle.binder.specs.Results.{◌>>=◌, or_fault}
 
 -- the sources that a statement's names speak of, over a catalogue and a text
 pub record Names : Type 0 where

@@ -4,6 +4,7 @@ use Rattle.std.specs.Option.{option_map_or}
 use Rattle.std.specs.List.{list_any}
 use Rattle.adv_base.specs.declared.limits.TheConstants.{MOST_SLOTS}
 use Rattle.adv_base.specs.declared.catalogue.Catalogue.{Catalogue}
+use Rattle.adv_base.specs.Readings.{◌>>=◌, or_fault, where_holds, in_turn}
 use Rattle.sql_tokens.specs.declared.token.Span.{Span}
 use Rattle.sql_reader.specs.declared.parsed.Source.{Source}
 use Rattle.binder.specs.declared.scope.Visible.{Visible}
@@ -11,7 +12,6 @@ use Rattle.binder.specs.declared.fault.BindFault.{BindFault}
 use Rattle.binder.specs.declared.fault.BindFault.TheVariants.{NoTable, TwoAliases, TooManySlots}
 use Rattle.binder.specs.Names.{folded, name_in, word_in, place}
 use Rattle.binder.specs.Lookups.{goes_by, table_number}
-use Rattle.binder.specs.Results.{◌>>=◌, or_fault, where_holds, in_turn}
 
 -- the table of a name in a statement
 abbrev pub table_meant : Catalogue → List ℕ → Span → Result ℕ BindFault

@@ -2,6 +2,7 @@
 use Rattle.std.specs.Prelude.{ℕ, ◌+◌, nat_le, List, [], ◌∷◌, ◌++◌, length, unwrap_or, Result, Ok, Err}
 use Rattle.adv_base.specs.declared.limits.TheConstants.{MOST_SLOTS_IN_ALL}
 use Rattle.adv_base.specs.declared.catalogue.Catalogue.{Catalogue}
+use Rattle.adv_base.specs.Readings.{◌>>=◌, where_holds, in_turn}
 use Rattle.sql_tokens.specs.declared.token.Span.{Span}
 use Rattle.sql_reader.specs.declared.parsed.Body.{Body}
 use Rattle.sql_reader.specs.declared.parsed.Body.TheVariants as bodies
@@ -16,7 +17,7 @@ use Rattle.binder.specs.Names.{place}
 use Rattle.binder.specs.Blocks.{select_of, delete_of, changed_block, one_source, written_columns}
 use Rattle.binder.specs.Items.{columns_of}
 use Rattle.binder.specs.Plain.{PlainWork, PlainStatement, Select, Update, Delete, Insert}
-use Rattle.binder.specs.Results.{◌>>=◌, where_holds, in_turn, both}
+use Rattle.binder.specs.Faults.{both}
 use Rattle.binder.specs.Sources.{table_meant}
 
 -- the table of an UPDATE's source

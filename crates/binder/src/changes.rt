@@ -8,8 +8,8 @@ ghost use Rattle.binder.specs.Limits.{ConditionsLimits, IsShort, NameLimits, Sou
 ghost use Rattle.binder.specs.Names.{place};
 ghost use Rattle.binder.specs.Plain as plain;
 ghost use Rattle.binder.specs.Plain.{plain_block};
-ghost use Rattle.binder.specs.Results as readings;
-ghost use Rattle.binder.specs.Results.{Gives};
+ghost use Rattle.binder.specs.Faults as faults;
+ghost use Rattle.binder.specs.Faults.{Gives};
 ghost use Rattle.binder.specs.Statements as meant;
 ghost use Rattle.binder.specs.View.{names_of, plain_tests};
 
@@ -150,7 +150,7 @@ pub fn delete_block(
 
 /// Where a fault stands in the text.
 fn fault_place(fault: BindFault) -> u64
-    ensures { result ≡ readings.fault_place fault }
+    ensures { result ≡ faults.fault_place fault }
 {
     match fault {
         BindFault::Memory => 0,
@@ -166,7 +166,7 @@ fn fault_place(fault: BindFault) -> u64
 
 /// The fault that stands first in the text; want of memory before all.
 fn earlier(d: BindFault, e: BindFault) -> BindFault
-    ensures { result ≡ readings.earlier d e }
+    ensures { result ≡ faults.earlier d e }
 {
     if fault_place(d) <= fault_place(e) {
         d
@@ -186,7 +186,7 @@ fn set_clause(
     requires names_short { All NameLimits names.now }
     requires uses_short { All NameLimits uses.now }
     ensures { let seen = names_of scope.now in
-        Gives (λ x. x) result (readings.both (blocks.written_columns seen.cat seen.text (meant.first_table seen.sources) names.now) (columns_of seen uses.now)) }
+        Gives (λ x. x) result (faults.both (blocks.written_columns seen.cat seen.text (meant.first_table seen.sources) names.now) (columns_of seen uses.now)) }
 {
     let table = scope.sources.items[0].table;
     let set = written_columns(alloc, scope.directory, scope.text, table, names);

@@ -1,10 +1,10 @@
 //! The conditions of ON and WHERE.
-ghost use Rattle.std.specs.Prelude.{◌≡◌, IfOk, All};
+ghost use Rattle.std.specs.Prelude.{◌≡◌, OnOk, All};
 ghost use Rattle.adv_base.specs.declared.workload.predicate.Test.TheVariants as kinds_of_test;
 ghost use Rattle.adv_base.specs.Limits.Tests.{TestLimits};
 ghost use Rattle.binder.specs.Limits.{ConditionLimits, NameLimits};
 ghost use Rattle.binder.specs.Conditions as where_clause;
-ghost use Rattle.binder.specs.Results.{Gives};
+ghost use Rattle.binder.specs.Faults.{Gives};
 ghost use Rattle.binder.specs.View.{names_of, plain_tests};
 
 use crate::fault::BindFault;
@@ -40,10 +40,10 @@ fn compare_test(compare: Compare, value: Value) -> Test
     }
 }
 
-/// The tests with one more, of one column.
-fn with_test(mut so_far: Tests, c: SlotColumn, test: Test) -> Result<Tests, AllocError>
+/// Puts a test of one column behind the others.
+fn put_test(so_far: &mut Tests, c: SlotColumn, test: Test) -> Result<(), AllocError>
     requires { TestLimits test }
-    ensures { IfOk result (λ x. plain_tests x ≡ where_clause.with_test (plain_tests so_far) c test) }
+    ensures { OnOk result (plain_tests so_far.new ≡ where_clause.with_test (plain_tests so_far.old) c test) }
 {
     so_far.preds.items.push(Pred {
         slot: c.slot,
@@ -51,12 +51,12 @@ fn with_test(mut so_far: Tests, c: SlotColumn, test: Test) -> Result<Tests, Allo
         test,
     })?;
     so_far.mentions.items.push(c)?;
-    Ok(so_far)
+    Ok(())
 }
 
-/// The tests with an equality of two columns.
-fn with_equality(mut so_far: Tests, c: SlotColumn, d: SlotColumn) -> Result<Tests, AllocError>
-    ensures { IfOk result (λ x. plain_tests x ≡ where_clause.with_equality (plain_tests so_far) c d) }
+/// Puts an equality of two columns behind the tests.
+fn put_equality(so_far: &mut Tests, c: SlotColumn, d: SlotColumn) -> Result<(), AllocError>
+    ensures { OnOk result (plain_tests so_far.new ≡ where_clause.with_equality (plain_tests so_far.old) c d) }
 {
     so_far.mentions.items.push(c)?;
     so_far.mentions.items.push(d)?;
@@ -74,102 +74,100 @@ fn with_equality(mut so_far: Tests, c: SlotColumn, d: SlotColumn) -> Result<Test
             right_column: d.column,
         })?;
     }
-    Ok(so_far)
+    Ok(())
 }
 
-/// The tests with one more, of what a name means.
-fn named_test(
+/// Puts a test of what a name means behind the others.
+fn put_named(
     alloc: Global,
     scope: &Scope<'_>,
-    so_far: Tests,
+    so_far: &mut Tests,
     name: NameUse,
     test: Test,
-) -> Result<Tests, BindFault>
+) -> Result<(), BindFault>
     requires name_short { NameLimits name }
     requires limits { TestLimits test }
-    ensures { Gives plain_tests result (where_clause.named_test (names_of scope.now) (plain_tests so_far) name (λ _. test)) }
+    ensures { Gives (λ _. plain_tests so_far.new) result (where_clause.named_test (names_of scope.now) (plain_tests so_far.old) name (λ _. test)) }
 {
     let c = meaning(alloc, scope, name)?;
-    Ok(with_test(so_far, c, test)?)
+    Ok(put_test(so_far, c, test)?)
 }
 
-/// The tests with a comparison of what a name means.
-fn compared(
+/// Puts a comparison of what a name means behind the tests.
+fn put_compared(
     alloc: Global,
     scope: &Scope<'_>,
-    so_far: Tests,
+    so_far: &mut Tests,
     name: NameUse,
     compare: Compare,
     literal: Literal,
-) -> Result<Tests, BindFault>
+) -> Result<(), BindFault>
     requires { NameLimits name }
     ensures { let names = names_of scope.now in
-        Gives plain_tests result (where_clause.named_test names (plain_tests so_far) name (λ c. where_clause.compare_test compare (where_clause.literal_value names c literal))) }
+        Gives (λ _. plain_tests so_far.new) result (where_clause.named_test names (plain_tests so_far.old) name (λ c. where_clause.compare_test compare (where_clause.literal_value names c literal))) }
 {
     let c = meaning(alloc, scope, name)?;
     let value = literal_value(scope, c, literal);
-    Ok(with_test(so_far, c, compare_test(compare, value))?)
+    Ok(put_test(so_far, c, compare_test(compare, value))?)
 }
 
-/// The tests with a BETWEEN of what a name means.
-fn between(
+/// Puts a BETWEEN of what a name means behind the tests.
+fn put_between(
     alloc: Global,
     scope: &Scope<'_>,
-    so_far: Tests,
+    so_far: &mut Tests,
     name: NameUse,
     low: Literal,
     high: Literal,
-) -> Result<Tests, BindFault>
+) -> Result<(), BindFault>
     requires { NameLimits name }
     ensures { let names = names_of scope.now in
-        Gives plain_tests result (where_clause.named_test names (plain_tests so_far) name (λ c. kinds_of_test.Between (where_clause.literal_value names c low) (where_clause.literal_value names c high))) }
+        Gives (λ _. plain_tests so_far.new) result (where_clause.named_test names (plain_tests so_far.old) name (λ c. kinds_of_test.Between (where_clause.literal_value names c low) (where_clause.literal_value names c high))) }
 {
     let c = meaning(alloc, scope, name)?;
     let least = literal_value(scope, c, low);
     let most = literal_value(scope, c, high);
-    Ok(with_test(so_far, c, Test::Between(least, most))?)
+    Ok(put_test(so_far, c, Test::Between(least, most))?)
 }
 
-/// The tests with an equality of what two names mean.
-fn tied(
+/// Puts an equality of what two names mean behind the tests.
+fn put_tied(
     alloc: Global,
     scope: &Scope<'_>,
-    so_far: Tests,
+    so_far: &mut Tests,
     left: NameUse,
     right: NameUse,
-) -> Result<Tests, BindFault>
+) -> Result<(), BindFault>
     requires left_short { NameLimits left }
     requires right_short { NameLimits right }
-    ensures { Gives plain_tests result (where_clause.named_equality (names_of scope.now) (plain_tests so_far) left right) }
+    ensures { Gives (λ _. plain_tests so_far.new) result (where_clause.named_equality (names_of scope.now) (plain_tests so_far.old) left right) }
 {
     let c = meaning(alloc, scope, left)?;
     let d = meaning(alloc, scope, right)?;
-    Ok(with_equality(so_far, c, d)?)
+    Ok(put_equality(so_far, c, d)?)
 }
 
-/// The tests with one condition more.
+/// Puts one condition more behind the tests.
 #[tactic(auto, unfolding(crate::specs::Conditions::with_condition))]
-fn with_condition(
+fn put_condition(
     alloc: Global,
     scope: &Scope<'_>,
-    so_far: Tests,
+    so_far: &mut Tests,
     condition: Condition,
-) -> Result<Tests, BindFault>
+) -> Result<(), BindFault>
     requires { ConditionLimits condition }
-    ensures { Gives plain_tests result (where_clause.with_condition (names_of scope.now) (plain_tests so_far) condition) }
+    ensures { Gives (λ _. plain_tests so_far.new) result (where_clause.with_condition (names_of scope.now) (plain_tests so_far.old) condition) }
 {
     match condition {
         Condition::Compared(name, compare, literal) => {
-            compared(alloc, scope, so_far, name, compare, literal)
+            put_compared(alloc, scope, so_far, name, compare, literal)
         }
-        Condition::Tied(left, right) => tied(alloc, scope, so_far, left, right),
-        Condition::Between(name, low, high) => between(alloc, scope, so_far, name, low, high),
-        Condition::OneOf(name, count) => {
-            named_test(alloc, scope, so_far, name, Test::OneOf(count))
-        }
-        Condition::Like(name) => named_test(alloc, scope, so_far, name, Test::Like),
-        Condition::IsNull(name) => named_test(alloc, scope, so_far, name, Test::IsNull),
-        Condition::NotNull(name) => named_test(alloc, scope, so_far, name, Test::NotNull),
+        Condition::Tied(left, right) => put_tied(alloc, scope, so_far, left, right),
+        Condition::Between(name, low, high) => put_between(alloc, scope, so_far, name, low, high),
+        Condition::OneOf(name, count) => put_named(alloc, scope, so_far, name, Test::OneOf(count)),
+        Condition::Like(name) => put_named(alloc, scope, so_far, name, Test::Like),
+        Condition::IsNull(name) => put_named(alloc, scope, so_far, name, Test::IsNull),
+        Condition::NotNull(name) => put_named(alloc, scope, so_far, name, Test::NotNull),
     }
 }
 
@@ -180,7 +178,7 @@ pub fn tests(alloc: Global, scope: &Scope<'_>, conditions: &[Condition]) -> Resu
 {
     let mut so_far = no_tests(alloc);
     for condition in conditions {
-        so_far = with_condition(alloc, scope, so_far, *condition)?;
+        put_condition(alloc, scope, &mut so_far, *condition)?;
     }
     Ok(so_far)
 }

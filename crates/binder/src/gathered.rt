@@ -1,6 +1,6 @@
 //! What is gathered of a statement and of all statements, with names turned into numbers.
 
-use adv_base::{Edge, Item, List, Pred, Statement};
+use adv_base::{Edge, Item, List, Pred, Slot, Statement};
 
 /// A column of a slot, both by number.
 #[derive(Clone, Copy, PartialEq, Eq, Hash)]
@@ -59,6 +59,14 @@ pub struct Clauses {
     pub tests: Tests,
     pub group: List<SlotColumn>,
     pub order: SortKeys,
+}
+
+/// The slots of a block, and the lists by which it groups and orders.
+#[derive(Drop)]
+pub struct BlockParts {
+    pub slots: List<Slot>,
+    pub group: Option<List<Item>>,
+    pub order: List<Item>,
 }
 
 /// The statements so far, and how many slots they have in all.

@@ -1,7 +1,7 @@
 //! Numbers looked up by name.
 ghost use Rattle.std.specs.Prelude.{◌≡◌, ℕ, List, OnOk, None, Some, bytes_eq, if◌then◌else◌};
 ghost use Rattle.binder.specs.Names as spelling;
-ghost use Rattle.binder.specs.Index.{find_in};
+ghost use Rattle.binder.specs.Lookups.{find_in};
 
 use crate::names::folded;
 use indexmap::IndexMap;

@@ -3,7 +3,7 @@ ghost use Rattle.std.specs.Prelude.{◌≡◌, IfOk, All};
 ghost use Rattle.std.specs.List.{flat_map};
 ghost use Rattle.binder.specs.Items as select_items;
 ghost use Rattle.binder.specs.Limits.{NameLimits, ItemLimits};
-ghost use Rattle.binder.specs.Results.{Gives};
+ghost use Rattle.binder.specs.Faults.{Gives};
 ghost use Rattle.binder.specs.View.{names_of};
 
 use crate::fault::BindFault;

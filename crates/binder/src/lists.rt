@@ -1,5 +1,5 @@
 //! The lists by which a block groups and orders.
-ghost use Rattle.std.specs.Prelude.{◌≡◌, ◌||◌, ◌∷◌, ◌++◌, [], not, if◌then◌else◌, map, IfOk};
+ghost use Rattle.std.specs.Prelude.{◌≡◌, ◌||◌, ◌∷◌, ◌++◌, [], not, if◌then◌else◌, map, IfOk, OnOk};
 ghost use Rattle.binder.specs.declared.gathered.SlotColumn.{SlotColumn};
 ghost use Rattle.binder.specs.Scopes.{is_same};
 ghost use Rattle.std.specs.List.{list_any, list_all, filter_map};
@@ -27,30 +27,27 @@ fn column_of(item: Item) -> Option<SlotColumn>
 }
 
 /// Marks a column; says whether it was new.
-fn mark(
-    mut marked: IndexSet<SlotColumn>,
-    c: SlotColumn,
-) -> Result<(IndexSet<SlotColumn>, bool), AllocError>
-    ensures is_new { IfOk result (λ x. x.1 ≡ not (is_marked marked.keys c)) }
-    ensures marks { IfOk result (λ x. (q : SlotColumn) → is_marked x.0.keys q ≡ (is_marked marked.keys q || is_same q c)) }
+fn mark(marked: &mut IndexSet<SlotColumn>, c: SlotColumn) -> Result<bool, AllocError>
+    ensures is_new { IfOk result (λ is_new. is_new ≡ not (is_marked marked.old.keys c)) }
+    ensures marks { OnOk result ((q : SlotColumn) → is_marked marked.new.keys q ≡ (is_marked marked.old.keys q || is_same q c)) }
 {
     let is_new = marked.insert(c)?;
-    Ok((marked, is_new))
+    Ok(is_new)
 }
 
 /// Marks a column where a predicate gives it a literal.
-fn mark_bound(marked: IndexSet<SlotColumn>, pred: &Pred) -> Result<IndexSet<SlotColumn>, AllocError>
-    ensures { IfOk result (λ new. BoundMarks (plain_pred pred.now) marked.keys new.keys) }
+fn mark_bound(marked: &mut IndexSet<SlotColumn>, pred: &Pred) -> Result<(), AllocError>
+    ensures { OnOk result (BoundMarks (plain_pred pred.now) marked.old.keys marked.new.keys) }
 {
     if !pred.test.is_equality() {
-        return Ok(marked);
+        return Ok(());
     }
     let c = SlotColumn {
         slot: pred.slot,
         column: pred.column,
     };
-    let (after, _) = mark(marked, c)?;
-    Ok(after)
+    mark(marked, c)?;
+    Ok(())
 }
 
 /// The columns to which predicates give a literal.
@@ -59,7 +56,7 @@ fn bound_columns(alloc: Global, preds: &[Pred]) -> Result<IndexSet<SlotColumn>, 
 {
     let mut marked = IndexSet::new(alloc);
     for pred in preds {
-        marked = mark_bound(marked, pred)?;
+        mark_bound(&mut marked, pred)?;
     }
     Ok(marked)
 }
@@ -72,29 +69,24 @@ struct Kept {
 }
 
 /// An item behind the others, where it is to be kept.
-fn put_kept(mut items: List<Item>, item: Item, is_kept: bool) -> Result<List<Item>, AllocError>
-    ensures { IfOk result (λ x. x ≡ (if is_kept then items ++ item ∷ [] else items)) }
+fn put_kept(items: &mut List<Item>, item: Item, is_kept: bool) -> Result<(), AllocError>
+    ensures { OnOk result (items.new ≡ (if is_kept then items.old ++ item ∷ [] else items.old)) }
 {
     if is_kept {
         items.items.push(item)?;
     }
-    Ok(items)
+    Ok(())
 }
 
 /// Keeps an item unless its column is marked, and marks its column.
-fn keep(kept: Kept, item: Item) -> Result<Kept, AllocError>
-    ensures { IfOk result (λ x. KeepsMarks item kept.marked.keys kept.items x.marked.keys x.items) }
+fn keep(kept: &mut Kept, item: Item) -> Result<(), AllocError>
+    ensures { OnOk result (KeepsMarks item kept.old.marked.keys kept.old.items kept.new.marked.keys kept.new.items) }
 {
-    let Kept { marked, items } = kept;
     match column_of(item) {
-        None => {
-            let items = put_kept(items, item, true)?;
-            Ok(Kept { marked, items })
-        }
+        None => put_kept(&mut kept.items, item, true),
         Some(c) => {
-            let (marked, is_new) = mark(marked, c)?;
-            let items = put_kept(items, item, is_new)?;
-            Ok(Kept { marked, items })
+            let is_new = mark(&mut kept.marked, c)?;
+            put_kept(&mut kept.items, item, is_new)
         }
     }
 }
@@ -108,7 +100,7 @@ fn kept_items(alloc: Global, preds: &[Pred], items: &[Item]) -> Result<List<Item
         items: List::new(alloc),
     };
     for item in items {
-        kept = keep(kept, *item)?;
+        keep(&mut kept, *item)?;
     }
     let Kept { items, .. } = kept;
     Ok(items)

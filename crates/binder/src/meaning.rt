@@ -2,7 +2,7 @@
 ghost use Rattle.std.specs.Prelude.{◌≡◌, ◌<◌, ◌+◌, ◌∷◌, [], length, drop, IfSome, MatchOption};
 ghost use Rattle.binder.specs.Names as spelling;
 ghost use Rattle.binder.specs.Limits.{IsShort, NameLimits};
-ghost use Rattle.binder.specs.Results.{Gives};
+ghost use Rattle.binder.specs.Faults.{Gives};
 ghost use Rattle.binder.specs.Scopes as scopes;
 ghost use Rattle.binder.specs.View.{names_of};
 

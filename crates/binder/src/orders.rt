@@ -1,9 +1,9 @@
 //! HAVING and ORDER BY.
 ghost use Rattle.std.specs.Prelude.{◌≡◌, ◌<◌, ◌^◌, ◌+◌, length, IfOk, IfSome, All};
-ghost use Rattle.binder.specs.Aliases.{IndexesAliases, PutsAlias};
+ghost use Rattle.binder.specs.Items.{IndexesAliases, PutsAlias};
 ghost use Rattle.binder.specs.Limits.{NameLimits, OrderLimits};
 ghost use Rattle.binder.specs.Orders as order_by;
-ghost use Rattle.binder.specs.Results.{Gives};
+ghost use Rattle.binder.specs.Faults.{Gives};
 ghost use Rattle.binder.specs.View.{names_of, list_of};
 
 use crate::fault::BindFault;

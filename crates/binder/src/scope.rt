@@ -1,7 +1,7 @@
 //! What the names of a statement see: its sources, and in HAVING and ORDER BY its select list.
 ghost use Rattle.std.specs.Prelude.{◌≤◌, length};
 ghost use Rattle.adv_base.specs.declared.limits.TheConstants.{MOST_SLOTS};
-ghost use Rattle.binder.specs.Aliases.{IndexesAliases};
+ghost use Rattle.binder.specs.Items.{IndexesAliases};
 
 use crate::directory::Directory;
 use crate::gathered::BoundItem;

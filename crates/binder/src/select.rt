@@ -1,18 +1,19 @@
 //! The block of a SELECT.
-ghost use Rattle.std.specs.Prelude.{◌≡◌, ◌≤◌, true, length, IfOk, Ok};
+ghost use Rattle.std.specs.Prelude.{◌≡◌, ◌≢◌, ◌<◌, ◌≤◌, true, false, length, All, IfOk, IfErr, OnOk, Ok};
+ghost use Rattle.binder.specs.declared.fault.BindFault.TheVariants as faults;
 ghost use Rattle.binder.specs.Blocks as blocks;
 ghost use Rattle.binder.specs.Joins as joins;
 ghost use Rattle.binder.specs.Limits.{SelectLimits};
 ghost use Rattle.binder.specs.Lists as lists;
 ghost use Rattle.binder.specs.Needed.{slots_from};
 ghost use Rattle.binder.specs.Plain.{plain_block};
-ghost use Rattle.binder.specs.Results.{Gives};
-ghost use Rattle.binder.specs.View.{names_of, plain_clauses};
+ghost use Rattle.binder.specs.Faults.{Gives};
+ghost use Rattle.binder.specs.View.{names_of, list_of, plain_clauses};
 
 use crate::conditions::tests;
 use crate::directory::Directory;
 use crate::fault::BindFault;
-use crate::gathered::{BoundItem, Clauses, SlotColumn, SortKeys};
+use crate::gathered::{BlockParts, BoundItem, Clauses, SlotColumn, SortKeys};
 use crate::items::{columns, items, mentions_of};
 use crate::joins::is_joined;
 use crate::lists::{aggregates, group_list, order_list};
@@ -23,6 +24,19 @@ use crate::sources::sources;
 use adv_base::{Block, Item, List, Slot};
 use sql_reader::ParsedSelect;
 use std::alloc::{AllocError, Global};
+
+/// The items of ORDER BY, with the columns that HAVING and they mention, which see a select list.
+fn sorted(
+    alloc: Global,
+    list: &SelectList<'_>,
+    select: &ParsedSelect,
+) -> Result<SortKeys, BindFault>
+    requires { SelectLimits select.now }
+    ensures { Gives (λ x. x) result (blocks.sorted_of (names_of list.now.scope.now) (list_of list.now) select.now) }
+{
+    let having = mentions(alloc, list, List::new(alloc), select.having.as_slice())?;
+    orders(alloc, list, having, select.order.as_slice())
+}
 
 /// The items of ORDER BY, with the columns that HAVING and they mention, behind a bound select list.
 #[tactic(auto, unfolding(crate::specs::Blocks::sort_keys_of))]
@@ -36,8 +50,7 @@ fn sort_keys(
     ensures { Gives (λ x. x) result (blocks.sort_keys_of (names_of scope.now) select.now items.now) }
 {
     let list = SelectList::new(alloc, scope, select.items.as_slice(), items)?;
-    let having = mentions(alloc, &list, List::new(alloc), select.having.as_slice())?;
-    orders(alloc, &list, having, select.order.as_slice())
+    sorted(alloc, &list, select)
 }
 
 /// The clauses of a SELECT, their names looked up in written order.
@@ -58,26 +71,26 @@ fn clauses(alloc: Global, scope: &Scope<'_>, select: &ParsedSelect) -> Result<Cl
     })
 }
 
-/// The clauses of a SELECT whose statement begins at a place, and whose join edges have to connect its slots.
-#[tactic(auto, unfolding(crate::specs::Blocks::joined_clauses))]
-fn joined_clauses(
+/// Answers that the slots of a SELECT whose statement begins at a place are unjoined, where its join edges don't connect
+/// them.
+fn check_joined(
     alloc: Global,
     scope: &Scope<'_>,
     place: u64,
-    select: &ParsedSelect,
-) -> Result<Clauses, BindFault>
+    clauses: &Clauses,
+) -> Result<(), BindFault>
     requires some { 1 ≤ length scope.now.sources }
-    requires limits { SelectLimits select.now }
-    ensures exact { Gives plain_clauses result (blocks.joined_clauses place (names_of scope.now) select.now) }
-    ensures bound { IfOk result (λ x. blocks.clauses_of (names_of scope.now) select.now ≡ Ok (plain_clauses x)) }
-    ensures joined { IfOk result (λ x. joins.is_joined (length scope.now.sources) (plain_clauses x).tests.edges ≡ true) }
+    requires lefts { All (λ edge. edge.left < length scope.now.sources) clauses.now.tests.edges }
+    requires rights { All (λ edge. edge.right < length scope.now.sources) clauses.now.tests.edges }
+    ensures joined { OnOk result (joins.is_joined (length scope.now.sources) (plain_clauses clauses.now).tests.edges ≡ true) }
+    ensures unjoined { IfErr result (λ e. e ≢ faults.Memory →
+        (e ≡ faults.Unjoined place) × (joins.is_joined (length scope.now.sources) (plain_clauses clauses.now).tests.edges ≡ false)) }
 {
-    let clauses = clauses(alloc, scope, select)?;
     let count = scope.sources.len() as u8;
     if !is_joined(alloc, count, clauses.tests.edges.as_slice())? {
         return Err(BindFault::Unjoined(place));
     }
-    Ok(clauses)
+    Ok(())
 }
 
 /// The columns that the clauses mention by their names.
@@ -136,6 +149,29 @@ fn block_lists(
     Ok((group, order))
 }
 
+/// The parts of a block that are made of the clauses of a SELECT.
+fn block_parts(
+    alloc: Global,
+    scope: &Scope<'_>,
+    select: &ParsedSelect,
+    clauses: &Clauses,
+) -> Result<BlockParts, AllocError>
+    ensures slots { let names = names_of scope.now in let seen = plain_clauses clauses.now in
+        IfOk result (λ x. x.slots ≡ slots_from names.cat seen.items (blocks.clause_mentions seen) 0 names.sources) }
+    ensures group { let seen = plain_clauses clauses.now in
+        IfOk result (λ x. x.group ≡ lists.group_list select.now.distinct (lists.aggregates seen.items select.now.order) seen.tests.preds seen.group seen.items) }
+    ensures order { let seen = plain_clauses clauses.now in
+        IfOk result (λ x. x.order ≡ lists.order_list (lists.aggregates seen.items select.now.order) seen.tests.preds seen.group seen.order.items) }
+{
+    let slots = block_slots(alloc, scope, clauses)?;
+    let (group, order) = block_lists(alloc, select, clauses)?;
+    Ok(BlockParts {
+        slots,
+        group,
+        order,
+    })
+}
+
 /// The block that the clauses of a SELECT make, without a look at its joins.
 fn block_of(
     alloc: Global,
@@ -150,21 +186,20 @@ fn block_of(
     ensures exact { IfOk result (λ block. plain_block block ≡ blocks.select_block (names_of scope.now) select.now (plain_clauses clauses)) }
     ensures covers { IfOk result (λ block. block.may_cover ≡ true) }
 {
-    let slots = block_slots(alloc, scope, &clauses)?;
-    let (group, order) = block_lists(alloc, select, &clauses)?;
+    let parts = block_parts(alloc, scope, select, &clauses)?;
     let Clauses { tests, .. } = clauses;
     Ok(Block {
-        slots,
+        slots: parts.slots,
         preds: tests.preds,
         edges: tests.edges,
-        group,
-        order,
+        group: parts.group,
+        order: parts.order,
         may_cover: true,
     })
 }
 
 /// The block of a SELECT whose statement begins at a place.
-#[tactic(auto, unfolding(crate::specs::Blocks::select_of))]
+#[tactic(auto, unfolding(crate::specs::Blocks::select_of, crate::specs::Blocks::joined_clauses))]
 pub fn select_block(
     alloc: Global,
     directory: &Directory<'_>,
@@ -182,6 +217,7 @@ pub fn select_block(
         text,
         sources,
     };
-    let clauses = joined_clauses(alloc, &scope, place, select)?;
+    let clauses = clauses(alloc, &scope, select)?;
+    check_joined(alloc, &scope, place, &clauses)?;
     Ok(block_of(alloc, &scope, select, clauses)?)
 }

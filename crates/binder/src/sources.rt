@@ -1,9 +1,9 @@
 //! The sources of a statement.
-ghost use Rattle.std.specs.Prelude.{◌≡◌, ◌<◌, ◌≤◌, ◌+◌, length, IfOk, All, unwrap_or};
+ghost use Rattle.std.specs.Prelude.{◌≡◌, ◌<◌, ◌≤◌, ◌+◌, length, IfOk, OnOk, All, unwrap_or};
 ghost use Rattle.adv_base.specs.declared.limits.TheConstants.{MOST_SLOTS};
 ghost use Rattle.binder.specs.Limits.{IsShort, SourceLimits};
 ghost use Rattle.binder.specs.Names.{place};
-ghost use Rattle.binder.specs.Results.{Gives};
+ghost use Rattle.binder.specs.Faults.{Gives};
 ghost use Rattle.binder.specs.Sources as from_clause;
 
 use crate::directory::Directory;
@@ -91,19 +91,19 @@ fn visible_place(source: Source) -> u64
     }
 }
 
-/// A source behind the earlier ones.
+/// Puts a source behind the earlier ones.
 #[tactic(auto, unfolding(crate::specs::Sources::with_source))]
-fn with_source(
+fn put_source(
     alloc: Global,
     directory: &Directory<'_>,
     text: &[u8],
-    mut sources: List<Visible>,
+    sources: &mut List<Visible>,
     source: Source,
-) -> Result<List<Visible>, BindFault>
+) -> Result<(), BindFault>
     requires { SourceLimits source }
-    ensures exact { Gives (λ x. x) result (from_clause.with_source directory.now.cat.now text.now sources source) }
-    ensures few { IfOk result (λ x. length x ≤ MOST_SLOTS) }
-    ensures count { IfOk result (λ x. length x ≡ length sources + 1) }
+    ensures exact { Gives (λ _. sources.new) result (from_clause.with_source directory.now.cat.now text.now sources.old source) }
+    ensures few { OnOk result (length sources.new ≤ MOST_SLOTS) }
+    ensures count { OnOk result (length sources.new ≡ length sources.old + 1) }
 {
     if sources.len() >= MOST_SLOTS {
         return Err(BindFault::TooManySlots(source.table.place()));
@@ -114,7 +114,7 @@ fn with_source(
         return Err(BindFault::TwoAliases(visible_place(source)));
     }
     sources.items.push(new)?;
-    Ok(sources)
+    Ok(())
 }
 
 /// The sources of a SELECT, in order.
@@ -131,7 +131,7 @@ pub fn sources(
 {
     let mut sources = List::new(alloc);
     for source in written {
-        sources = with_source(alloc, directory, text, sources, *source)?;
+        put_source(alloc, directory, text, &mut sources, *source)?;
     }
     Ok(sources)
 }

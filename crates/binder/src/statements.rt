@@ -1,14 +1,13 @@
 //! Binding whole statements.
-ghost use Rattle.std.specs.Prelude.{◌≡◌, ◌≤◌, ◌+◌, IfOk, All, sum_by, length};
+ghost use Rattle.std.specs.Prelude.{◌≡◌, ◌≤◌, ◌+◌, ◌∷◌, ◌++◌, [], IfOk, OnOk, All, sum_by, length};
 ghost use Rattle.adv_base.specs.declared.limits.TheConstants.{MOST_SLOTS, MOST_SLOTS_IN_ALL, MOST_STATEMENTS};
 ghost use Rattle.adv_base.specs.Limits.Settings as settings;
 ghost use Rattle.adv_base.specs.Named.{NamesWork};
-ghost use Rattle.binder.specs.Limits.{StatementLimits, BodyLimits};
+ghost use Rattle.binder.specs.Limits.{StatementLimits, BodyLimits, WorkLimits};
 ghost use Rattle.binder.specs.Plain.{plain_work, plain_statements};
-ghost use Rattle.binder.specs.Results.{Gives};
+ghost use Rattle.binder.specs.Faults.{Gives};
 ghost use Rattle.binder.specs.Statements as meant;
 ghost use Rattle.binder.specs.View.{plain_bound};
-ghost use Rattle.binder.specs.Works.{WorkLimits};
 
 use crate::changes::{delete_block, insert_table, update_work};
 use crate::directory::Directory;
@@ -18,7 +17,7 @@ use crate::select::select_block;
 use adv_base::limits::MOST_SLOTS_IN_ALL;
 use adv_base::{Catalogue, List, Statement, Work};
 use sql_reader::{Body, Parsed, ParsedStatement};
-use std::alloc::Global;
+use std::alloc::{AllocError, Global};
 
 /// What a statement does, whose first token stands at a place.
 #[tactic(auto, unfolding(crate::specs::Statements::work_of))]
@@ -97,51 +96,38 @@ fn slot_count(work: &Work) -> u64
     }
 }
 
-/// What a statement does, and how many slots there are with its own, which are at most 2000.
-#[tactic(auto, unfolding(crate::specs::Statements::counted_work))]
-fn counted_work(
+/// Puts a statement behind the others.
+fn put(statements: &mut List<Statement>, statement: Statement) -> Result<(), AllocError>
+    ensures { OnOk result (statements.new ≡ statements.old ++ statement ∷ []) }
+{
+    statements.items.push(statement)?;
+    Ok(())
+}
+
+/// Puts what one more statement means behind the others; all together have at most 2000 slots.
+#[tactic(auto, unfolding(crate::specs::Statements::with_statement, crate::specs::Statements::counted_work))]
+fn put_statement(
     alloc: Global,
     directory: &Directory<'_>,
     text: &[u8],
-    slots: u64,
+    so_far: &mut Bound,
     statement: &ParsedStatement,
-) -> Result<(Work, u64), BindFault>
-    requires limits { BodyLimits statement.now.body }
-    requires few { slots ≤ MOST_SLOTS_IN_ALL }
-    ensures exact { Gives (λ x. (plain_work x.0, x.1)) result (meant.counted_work directory.now.cat.now text.now slots statement.now) }
-    ensures limits { IfOk result (λ x. WorkLimits x.0) }
-    ensures few { IfOk result (λ x. x.1 ≤ MOST_SLOTS_IN_ALL) }
+) -> Result<(), BindFault>
+    requires limits { StatementLimits statement.now }
+    requires few { so_far.old.slots ≤ MOST_SLOTS_IN_ALL }
+    ensures exact { Gives (λ _. plain_bound so_far.new) result (meant.with_statement directory.now.cat.now text.now (plain_bound so_far.old) statement.now) }
+    ensures few { OnOk result (so_far.new.slots ≤ MOST_SLOTS_IN_ALL) }
+    ensures count { OnOk result (length so_far.new.statements ≡ length so_far.old.statements + 1) }
 {
     let work = work(alloc, directory, text, statement.place, &statement.body)?;
-    let slots = slots + slot_count(&work);
+    let slots = so_far.slots + slot_count(&work);
+    let weight = statement.weight;
+    put(&mut so_far.statements, Statement { weight, work })?;
     if slots > MOST_SLOTS_IN_ALL as u64 {
         return Err(BindFault::TooManySlotsInAll(statement.place));
     }
-    Ok((work, slots))
-}
-
-/// The statements with one more.
-#[tactic(auto, unfolding(crate::specs::Statements::with_statement))]
-fn with_statement(
-    alloc: Global,
-    directory: &Directory<'_>,
-    text: &[u8],
-    so_far: Bound,
-    statement: &ParsedStatement,
-) -> Result<Bound, BindFault>
-    requires limits { StatementLimits statement.now }
-    requires few { so_far.slots ≤ MOST_SLOTS_IN_ALL }
-    ensures exact { Gives plain_bound result (meant.with_statement directory.now.cat.now text.now (plain_bound so_far) statement.now) }
-    ensures few { IfOk result (λ x. x.slots ≤ MOST_SLOTS_IN_ALL) }
-    ensures count { IfOk result (λ x. length x.statements ≡ length so_far.statements + 1) }
-{
-    let mut statements = so_far.statements;
-    let (work, slots) = counted_work(alloc, directory, text, so_far.slots, statement)?;
-    statements.items.push(Statement {
-        weight: statement.weight,
-        work,
-    })?;
-    Ok(Bound { slots, statements })
+    so_far.slots = slots;
+    Ok(())
 }
 
 /// Statements over a catalogue, in order.
@@ -160,7 +146,7 @@ fn statements(
         statements: List::new(alloc),
     };
     for statement in parsed {
-        so_far = with_statement(alloc, directory, text, so_far, statement)?;
+        put_statement(alloc, directory, text, &mut so_far, statement)?;
     }
     Ok(so_far)
 }

@@ -1,5 +1,5 @@
 -- No key answers that there is no document.
-use Rattle.std.proofs.Common.{◌≡◌, ◌≢◌, ℕ, ◌+◌, ◌-◌, length, Bool, true, false, ℤ, pos, negsuc, List, [], ◌∷◌, ◌++◌, Option, Some, None, Result, Ok, Err, refl, sym, ap, ◌∙◌}
+use Rattle.std.proofs.Common.{◌≡◌, ◌≢◌, ℕ, ◌+◌, length, Bool, true, false, ℤ, pos, negsuc, List, [], ◌∷◌, ◌++◌, Option, Some, None, Result, Ok, Err, refl, sym, ap, ◌∙◌}
 use Rattle.std.specs.Prelude.{codes, not, ◌&&◌, nat_eq}
 use Rattle.std.specs.List.{list_any}
 use Rattle.toml.specs.Data.{Data, Items, no_items, item, Members, get_member, as_integer, as_str, as_bool, as_array, as_table}
@@ -12,11 +12,11 @@ use Rattle.catalogue.specs.declared.fault.KeyField.{KeyField}
 use Rattle.catalogue.specs.declared.fault.KeyField.TheVariants.{Itself, Version, SeqPage, RandPage, RowCpu, SortCpu, MergeCpu, HashCpu, GroupCpu, Name, Rows, Pages, Columns, Indexes, Kind as KindKey, Width, Distinct, Low, High, Keys, Unique, Clustered}
 use Rattle.catalogue.specs.declared.fault.KeyPath.{KeyPath}
 use Rattle.catalogue.specs.Paths.{whole_path, rates_path, table_path, column_path, index_path, key_column_path}
-use Rattle.catalogue.specs.Catalogue.{rate, access_rates, operator_rates, rates_of, default_rates, end_of, not_below, column_names, statistics_of, column_at, next_column, columns_of, key_column, next_key, key_columns_of, flag, clustered, index_keys, index_at, index_names, has_clustered, index_count, table_names, next_index, indexes_of, size_of, parts_of, table_at, next_table, tables_of, catalogue_of, document, catalogue_in}
+use Rattle.catalogue.specs.Catalogue.{rate, access_rates, operator_rates, rates_of, default_rates, end_of, not_below, column_names, statistics_of, column_at, next_column, columns_of, key_column, next_key, key_columns_of, flag, clustered, index_keys, shape_of, index_at, index_names, has_clustered, index_count, table_names, next_index, indexes_of, size_of, parts_of, table_at, next_table, tables_of, catalogue_of, document, catalogue_in}
 use Rattle.adv_base.specs.declared.catalogue.Catalogue.{Catalogue}
-use Rattle.catalogue.specs.Content.{PlainRates, PlainColumn, PlainIndex, PlainTable, PlainCatalogue, plain_catalogue}
-use Rattle.catalogue.specs.Results.{◌>>=◌, Gives, or_fault, where_holds, read_each}
-use Rattle.catalogue.specs.Values.{Rule, natural_within, natural, end_number, text, end_day, boolean, keys_of, elements, elements_within, column_kind, name, folded, new_name}
+use Rattle.adv_base.specs.Readings.{◌>>=◌, or_fault, where_holds}
+use Rattle.catalogue.specs.Content.{PlainRates, PlainCatalogue, plain_catalogue}
+use Rattle.catalogue.specs.Values.{Rule, natural_within, natural, end_number, text, end_day, boolean, keys_of, elements, elements_within, column_kind, name, folded, new_name, Gives, read_each}
 use Rattle.catalogue.specs.Keys.{number_of, needed, optional, read_if_there, given_or}
 
 -- what was read isn't that there is no document
@@ -198,6 +198,13 @@ clustered-keys path taken keys = bind-keys _ _ (flag-keys (codes "clustered") pa
 index_keys-keys : (path : KeyPath) (before : ℕ) (d : Data) → IsOfKeys (index_keys path before d)
 index_keys-keys path before d = bind-keys _ _ (keys_of-keys path d) (λ keys. where-keys (OutOfRange path) _ keys (range path))
 
+shape_of-keys : (t i : ℕ) (columns : List (List ℕ)) (taken : Bool) (keys : Members) → IsOfKeys (shape_of t i columns taken keys)
+unfolding shape_of
+shape_of-keys t i columns taken keys =
+    bind-keys _ _ (needed-keys (codes "keys") (index_path t i Keys) (key_columns_of t i columns) keys (key_columns_of-keys t i columns)) (λ key_columns.
+    bind-keys _ _ (flag-keys (codes "unique") (index_path t i Unique) keys) (λ unique.
+    bind-keys _ _ (clustered-keys (index_path t i Clustered) taken keys) (λ one. ok-keys _)))
+
 index_at-keys : (t : ℕ) (columns : List (List ℕ)) (before : ℕ) (earlier : List (List ℕ)) (taken : Bool) (d : Data) → IsOfKeys (index_at t columns before earlier taken d)
 unfolding index_at
 index_at-keys t columns before earlier taken d =
@@ -205,10 +212,7 @@ index_at-keys t columns before earlier taken d =
     let at : KeyField → KeyPath = index_path t i in
     bind-keys _ _ (index_keys-keys (at Itself) before d) (λ keys.
     bind-keys _ _ (needed-keys (codes "name") (at Name) (new_name earlier) keys (new_name-keys earlier)) (λ name.
-    bind-keys _ _ (needed-keys (codes "keys") (at Keys) (key_columns_of t i columns) keys (key_columns_of-keys t i columns)) (λ key_columns.
-    bind-keys _ _ (flag-keys (codes "unique") (at Unique) keys) (λ unique.
-    bind-keys _ _ (clustered-keys (at Clustered) taken keys) (λ one.
-    ok-keys {A = PlainIndex} (record { name = name; table = t - 1; keys = key_columns; unique = unique; clustered = one }))))))
+    bind-keys _ _ (shape_of-keys t i columns taken keys) (λ shape. ok-keys _)))
 
 indexes_of-keys : (t : ℕ) (columns : List (List ℕ)) (before : ℕ) → Keeps (indexes_of t columns before)
 indexes_of-keys t columns before path d = bind-keys _ _ (elements-keys path d) (λ items. each-keys (next_index t columns before) [] items (λ front x. index_at-keys t columns (before + length front) (index_names front) (has_clustered front) x))

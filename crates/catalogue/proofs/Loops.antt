@@ -5,9 +5,10 @@ use Rattle.toml.specs.Data.{Data}
 use Rattle.toml.specs.View.{view, items_view}
 use Rattle.toml.specs.declared.value.Value.{Value}
 use Rattle.toml.proofs.Views.{items_view-drop}
+use Rattle.adv_base.specs.Readings.{◌>>=◌}
 use Rattle.catalogue.specs.declared.fault.CatFault.{CatFault}
 use Rattle.catalogue.specs.declared.fault.CatFault.TheVariants.{Memory}
-use Rattle.catalogue.specs.Results.{◌>>=◌, read_each}
+use Rattle.catalogue.specs.Values.{read_each}
 
 -- what is left begins with this turn's element
 turn : {A : Type 0} (next : List A → Data → Result A CatFault) (front : List A) (vs : List Value) (i : ℕ) (v : Value) → i < length vs → v ≡ get_or vs i v

@@ -7,16 +7,16 @@ use Rattle.toml.specs.Parse.{parse_document}
 use Rattle.adv_base.specs.declared.limits.TheConstants.{MOST_ROWS, MOST_RATE, MOST_WIDTH, MOST_TABLES, MOST_COLUMNS, MOST_INDEXES, MOST_KEYS}
 use Rattle.adv_base.specs.declared.catalogue.column.Kind.{Kind}
 use Rattle.adv_base.specs.declared.catalogue.column.Kind.TheVariants.{Int, Text, Date}
+use Rattle.adv_base.specs.Readings.{◌>>=◌, or_fault, where_holds}
 use Rattle.catalogue.specs.declared.fault.CatFault.{CatFault}
 use Rattle.catalogue.specs.declared.fault.CatFault.TheVariants.{NotToml, OutOfRange, TwoNames, UnknownName}
 use Rattle.catalogue.specs.declared.fault.KeyField.{KeyField}
 use Rattle.catalogue.specs.declared.fault.KeyField.TheVariants.{Itself, Version, SeqPage, RandPage, RowCpu, SortCpu, MergeCpu, HashCpu, GroupCpu, Name, Rows, Pages, Columns, Indexes, Kind as KindKey, Width, Distinct, Low, High, Keys, Unique, Clustered}
 use Rattle.catalogue.specs.declared.fault.KeyPath.{KeyPath}
-use Rattle.catalogue.specs.Content.{PlainStatistics, PlainColumn, PlainIndex, PlainTable, PlainRates, PlainCatalogue}
+use Rattle.catalogue.specs.Content.{PlainStatistics, PlainColumn, PlainShape, PlainIndex, PlainTable, PlainRates, PlainCatalogue}
 use Rattle.catalogue.specs.Keys.{needed, optional, given_or, number_of}
 use Rattle.catalogue.specs.Paths.{whole_path, rates_path, table_path, column_path, index_path, key_column_path}
-use Rattle.catalogue.specs.Results.{◌>>=◌, or_fault, where_holds, read_each}
-use Rattle.catalogue.specs.Values.{Rule, natural, end_number, end_day, text, boolean, keys_of, elements, elements_within, column_kind, folded, new_name}
+use Rattle.catalogue.specs.Values.{Rule, natural, end_number, end_day, text, boolean, keys_of, elements, elements_within, column_kind, folded, new_name, read_each}
 
 -- a rate, or its default
 abbrev pub rate : List ℕ → KeyField → ℕ → Members → Result ℕ CatFault
@@ -125,16 +125,22 @@ index_keys path before d = do
   keys ← keys_of path d
   where_holds (OutOfRange path) (nat_lt before MOST_INDEXES) keys
 
+-- the shape of index i of table t, which has these columns
+unfoldable pub shape_of : ℕ → ℕ → List (List ℕ) → Bool → Members → Result PlainShape CatFault
+shape_of t i columns taken keys = do
+  key_columns ← keys_needed t i columns keys
+  unique ← flag (codes "unique") (index_path t i Unique) keys
+  clustered ← clustered (index_path t i Clustered) taken keys
+  Ok (record { table = t - 1; keys = key_columns; unique = unique; clustered = clustered })
+
 -- an index of table t, which has these columns, behind those that have the earlier names
 unfoldable pub index_at : ℕ → List (List ℕ) → ℕ → List (List ℕ) → Bool → Data → Result PlainIndex CatFault
 index_at t columns before earlier taken d =
     let i = length earlier + 1 in do
       keys ← index_keys (index_path t i Itself) before d
       name ← needed (codes "name") (index_path t i Name) (new_name earlier) keys
-      key_columns ← keys_needed t i columns keys
-      unique ← flag (codes "unique") (index_path t i Unique) keys
-      clustered ← clustered (index_path t i Clustered) taken keys
-      Ok (record { name = name; table = t - 1; keys = key_columns; unique = unique; clustered = clustered })
+      shape ← shape_of t i columns taken keys
+      Ok (record { name = name; table = shape.table; keys = shape.keys; unique = shape.unique; clustered = shape.clustered })
 
 abbrev pub index_names : List PlainIndex → List (List ℕ)
 index_names indexes = map (λ index. folded index.name) indexes

@@ -4,6 +4,7 @@ use Rattle.adv_base.specs.declared.catalogue.Catalogue.{Catalogue}
 use Rattle.adv_base.specs.declared.catalogue.column.Column.{Column}
 use Rattle.adv_base.specs.declared.catalogue.column.Kind.{Kind}
 use Rattle.adv_base.specs.declared.catalogue.index.Index.{Index}
+use Rattle.adv_base.specs.declared.catalogue.index.IndexShape.{IndexShape}
 use Rattle.adv_base.specs.declared.catalogue.rates.Rates.{Rates}
 use Rattle.adv_base.specs.declared.catalogue.table.Table.{Table}
 use Rattle.catalogue.specs.declared.statistics.Statistics.{Statistics}
@@ -23,7 +24,14 @@ pub record PlainColumn : Type 0 where
   pub low : Option ℤ
   pub high : Option ℤ
 
--- an index names the table that holds it and its key columns by their numbers from 0
+-- an index's shape names the table that holds it and its key columns by their numbers from 0
+pub record PlainShape : Type 0 where
+  pub table : ℕ
+  pub keys : List ℕ
+  pub unique : Bool
+  pub clustered : Bool
+
+-- an index is a name and a shape
 pub record PlainIndex : Type 0 where
   pub name : List ℕ
   pub table : ℕ
@@ -56,6 +64,9 @@ plain_statistics x = record { width = x.width; distinct = x.distinct; low = x.lo
 
 abbrev pub plain_column : Column → PlainColumn
 plain_column x = record { name = x.name; kind = x.kind; width = x.width; distinct = x.distinct; low = x.low; high = x.high }
+
+abbrev pub plain_shape : IndexShape → PlainShape
+plain_shape x = record { table = x.table; keys = x.keys; unique = x.unique; clustered = x.clustered }
 
 abbrev pub plain_index : Index → PlainIndex
 plain_index x = record { name = x.name; table = x.shape.table; keys = x.shape.keys; unique = x.shape.unique; clustered = x.shape.clustered }

@@ -2,10 +2,10 @@
 use Rattle.std.specs.Prelude.{ℕ, List, position, Result, Ok, Option, Some, None, unwrap_or}
 use Rattle.std.specs.Str.{bytes_eq}
 use Rattle.toml.specs.Data.{Data, Members, get_member}
+use Rattle.adv_base.specs.Readings.{◌>>=◌, or_fault}
 use Rattle.catalogue.specs.declared.fault.CatFault.{CatFault}
 use Rattle.catalogue.specs.declared.fault.CatFault.TheVariants.{Missing}
 use Rattle.catalogue.specs.declared.fault.KeyPath.{KeyPath}
-use Rattle.catalogue.specs.Results.{◌>>=◌, or_fault}
 use Rattle.catalogue.specs.Values.{Rule}
 
 -- the place of a folded name, counted from 0

@@ -1,5 +1,4 @@
 pub mod Paths
-pub mod Results
 pub mod Values
 pub mod Keys
 pub mod Content

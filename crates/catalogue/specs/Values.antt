@@ -1,5 +1,5 @@
 -- The kinds of values, and their ranges.
-use Rattle.std.specs.Prelude.{ℕ, suc, Bool, true, not, ◌&&◌, ◌||◌, ◌==◌, nat_le, int_le, if◌then◌else◌, ℤ, pos, negsuc, neg_ℤ, List, [], ◌∷◌, length, codes, Result, Err, Option, Some, None}
+use Rattle.std.specs.Prelude.{ℕ, suc, Bool, true, not, ◌&&◌, ◌||◌, ◌==◌, nat_le, int_le, if◌then◌else◌, ℤ, pos, negsuc, neg_ℤ, List, [], ◌∷◌, ◌++◌, length, codes, Result, Ok, Err, Option, Some, None}
 use Rattle.std.specs.Char.{is_ascii_digit, is_ascii_alphanumeric}
 use Rattle.std.specs.Str.{bytes_eq, str_to_ascii_lowercase}
 use Rattle.std.specs.List.{list_all, list_any}
@@ -7,14 +7,18 @@ use Rattle.toml.specs.Data.{Data, Items, no_items, item, Members, as_integer, as
 use Rattle.adv_base.specs.Days.{day_number}
 use Rattle.adv_base.specs.declared.catalogue.column.Kind.{Kind}
 use Rattle.adv_base.specs.declared.catalogue.column.Kind.TheVariants.{Int, Text, Date}
+use Rattle.adv_base.specs.Readings.{◌>>=◌, GivesUnless, or_fault, where_holds}
 use Rattle.catalogue.specs.declared.fault.CatFault.{CatFault}
-use Rattle.catalogue.specs.declared.fault.CatFault.TheVariants.{WrongKind, OutOfRange, TwoNames}
+use Rattle.catalogue.specs.declared.fault.CatFault.TheVariants.{Memory, WrongKind, OutOfRange, TwoNames}
 use Rattle.catalogue.specs.declared.fault.KeyPath.{KeyPath}
-use Rattle.catalogue.specs.Results.{◌>>=◌, or_fault, where_holds}
 
 -- how the value at a path is read
 abbrev pub Rule : Type 0 → Type 0
 Rule A = KeyPath → Data → Result A CatFault
+
+-- what a function returned, seen by view, is what reading gives, unless memory ran out
+abbrev pub Gives : {X Y : Type 0} → (X → Y) → Result X CatFault → Result Y CatFault → Type 0
+Gives view result read = GivesUnless Memory view result read
 
 -- a number from low to high, neither of which is negative
 abbrev pub natural_within : ℕ → ℕ → KeyPath → ℤ → Result ℕ CatFault
@@ -63,6 +67,11 @@ abbrev pub elements_within : ℕ → ℕ → Rule Items
 elements_within low high path d = do
   items ← elements path d
   where_holds (OutOfRange path) (nat_le low (item_count items) && nat_le (item_count items) high) items
+
+-- each element of an array in turn, knowing what was read before it, behind the earlier ones
+unfoldable pub read_each : {A : Type 0} → (List A → Data → Result A CatFault) → List A → Items → Result (List A) CatFault
+read_each next earlier no_items = Ok earlier
+read_each next earlier (item d ds) = next earlier d >>= λ x. read_each next (earlier ++ x ∷ []) ds
 
 -- the name of a kind of columns
 abbrev pub kind_named : List ℕ → Option Kind

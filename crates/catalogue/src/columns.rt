@@ -1,11 +1,10 @@
 //! The columns of a table.
-ghost use Rattle.std.specs.Prelude.{◌≡◌, ◌≤◌, ◌<◌, ◌∷◌, ◌++◌, [], length, IfOk};
+ghost use Rattle.std.specs.Prelude.{◌≡◌, ◌≤◌, ◌<◌, ◌∷◌, ◌++◌, [], length, IfOk, OnOk};
 ghost use Rattle.adv_base.specs.declared.limits.TheConstants.{MOST_COLUMNS};
 ghost use Rattle.toml.specs.View.{view, items_view};
 ghost use Rattle.catalogue.specs.Catalogue as rows;
 ghost use Rattle.catalogue.specs.Content.{plain_column, plain_columns};
-ghost use Rattle.catalogue.specs.Results.{Gives, read_each};
-ghost use Rattle.catalogue.specs.Values.{folded};
+ghost use Rattle.catalogue.specs.Values.{folded, Gives, read_each};
 
 use crate::fault::{CatFault, KeyField, KeyPath};
 use crate::names::Names;
@@ -14,7 +13,7 @@ use crate::spread::statistics_of;
 use crate::{keys, values};
 use adv_base::limits::MOST_COLUMNS;
 use adv_base::{Column, List};
-use std::alloc::Global;
+use std::alloc::{AllocError, Global};
 use toml::Value;
 
 /// One column of the table of this number. Its name joins those of the columns before it.
@@ -40,33 +39,52 @@ fn column(alloc: Global, table: u32, names: &mut Names, value: &Value) -> Result
     })
 }
 
-/// The columns of the table of this number, and their names.
-fn columns_in(alloc: Global, table: u32, items: &[Value]) -> Result<(List<Column>, Names), CatFault>
-    requires { length items.now ≤ MOST_COLUMNS }
-    ensures exact { Gives (λ x. plain_columns x.0) result (read_each (rows.next_column table) [] (items_view items.now)) }
-    ensures names { IfOk result (λ x. x.1 ≡ rows.column_names (plain_columns x.0)) }
-    ensures count { IfOk result (λ x. length x.0 ≡ length items.now) }
+/// Puts a column behind the others.
+fn put(columns: &mut List<Column>, column: Column) -> Result<(), AllocError>
+    ensures { OnOk result (columns.new ≡ columns.old ++ column ∷ []) }
 {
-    let mut columns = Vec::new(alloc);
-    let mut names = Names::new(alloc);
-    for value in items {
-        let next = column(alloc, table, &mut names, value)?;
-        columns.push(next)?;
-    }
-    Ok((List { items: columns }, names))
+    columns.items.push(column)?;
+    Ok(())
 }
 
-/// The 1 to 200 columns that an array gives the table of this number, and their names.
+/// Reads the columns of the table of this number, and their names, where there are none yet.
+fn read_columns(
+    alloc: Global,
+    table: u32,
+    items: &[Value],
+    columns: &mut List<Column>,
+    names: &mut Names,
+) -> Result<(), CatFault>
+    requires few { length items.now ≤ MOST_COLUMNS }
+    requires no_columns { columns.old ≡ [] }
+    requires no_names { names.old ≡ [] }
+    ensures exact { Gives (λ _. plain_columns columns.new) result (read_each (rows.next_column table) [] (items_view items.now)) }
+    ensures names { OnOk result (names.new ≡ rows.column_names (plain_columns columns.new)) }
+    ensures count { OnOk result (length columns.new ≡ length items.now) }
+{
+    for value in items {
+        let next = column(alloc, table, names, value)?;
+        put(columns, next)?;
+    }
+    Ok(())
+}
+
+/// Reads the 1 to 200 columns that an array gives the table of this number, where there are none yet; answers their
+/// names.
 pub fn columns(
     alloc: Global,
     table: u32,
     value: &Value,
     path: KeyPath,
-) -> Result<(List<Column>, Names), CatFault>
-    ensures exact { Gives (λ x. plain_columns x.0) result (rows.columns_of table path (view value.now)) }
-    ensures names { IfOk result (λ x. x.1 ≡ rows.column_names (plain_columns x.0)) }
-    ensures count { IfOk result (λ x. (1 ≤ length x.0) × (length x.0 ≤ MOST_COLUMNS)) }
+    columns: &mut List<Column>,
+) -> Result<Names, CatFault>
+    requires { columns.old ≡ [] }
+    ensures exact { Gives (λ _. plain_columns columns.new) result (rows.columns_of table path (view value.now)) }
+    ensures names { IfOk result (λ names. names ≡ rows.column_names (plain_columns columns.new)) }
+    ensures count { OnOk result ((1 ≤ length columns.new) × (length columns.new ≤ MOST_COLUMNS)) }
 {
     let items = values::elements_within(value, path, 1, MOST_COLUMNS)?;
-    columns_in(alloc, table, items)
+    let mut names = Names::new(alloc);
+    read_columns(alloc, table, items, columns, &mut names)?;
+    Ok(names)
 }

@@ -2,12 +2,13 @@
 ghost use Rattle.std.specs.Prelude.{◌≡◌, codes, IsErrOf, None};
 ghost use Rattle.toml.specs.Parse.{parse_document};
 ghost use Rattle.toml.specs.View.{table_view};
+ghost use Rattle.adv_base.specs.Readings.{or_fault};
 ghost use Rattle.catalogue.specs.declared.fault.CatFault.TheVariants.{NotToml};
 ghost use Rattle.catalogue.specs.Catalogue as rows;
 ghost use Rattle.catalogue.specs.Content.{plain_catalogue, plain_rates};
 ghost use Rattle.catalogue.specs.Keys.{given_or};
 ghost use Rattle.catalogue.specs.Paths as paths;
-ghost use Rattle.catalogue.specs.Results.{Gives, or_fault};
+ghost use Rattle.catalogue.specs.Values.{Gives};
 
 use crate::fault::{CatFault, KeyField};
 use crate::keys;

@@ -5,10 +5,9 @@ ghost use Rattle.std.specs.List.{list_any};
 ghost use Rattle.toml.specs.View.{view, items_view, table_view};
 ghost use Rattle.adv_base.specs.Limits.Numbers.{KeyLimits};
 ghost use Rattle.catalogue.specs.Catalogue as rows;
-ghost use Rattle.catalogue.specs.Content.{plain_index, plain_indexes};
+ghost use Rattle.catalogue.specs.Content.{plain_index, plain_indexes, plain_shape};
 ghost use Rattle.catalogue.specs.Keys.{given_or};
-ghost use Rattle.catalogue.specs.Results.{Gives, read_each};
-ghost use Rattle.catalogue.specs.Values.{folded};
+ghost use Rattle.catalogue.specs.Values.{folded, Gives, read_each};
 
 use crate::fault::{CatFault, KeyField, KeyPath};
 use crate::names::Names;
@@ -16,7 +15,7 @@ use crate::paths::{index_path, key_column_path};
 use crate::{keys, values};
 use adv_base::limits::{MOST_INDEXES, MOST_KEYS};
 use adv_base::{Index, IndexShape, List};
-use std::alloc::Global;
+use std::alloc::{AllocError, Global};
 use toml::{Table, Value};
 
 /// The key column of an index behind the earlier ones, by its number among the table's columns.
@@ -112,6 +111,35 @@ fn keys_of(value: &Value, path: KeyPath, before: usize) -> Result<&Table, CatFau
     Ok(keys)
 }
 
+/// The shape of the index of this number of a table that has these columns; `taken` says that one of the table is
+/// clustered.
+#[tactic(auto, unfolding(crate::specs::Catalogue::shape_of))]
+fn shape(
+    alloc: Global,
+    table: u32,
+    number: u32,
+    columns: &Names,
+    taken: bool,
+    found: &Table,
+) -> Result<IndexShape, CatFault>
+    requires some { 1 ≤ table }
+    requires most { table ≤ MOST_TABLES }
+    requires known { length columns.now ≤ MOST_COLUMNS }
+    ensures exact { Gives plain_shape result (rows.shape_of table number columns.now taken (table_view found.now)) }
+    ensures own { IfOk result (λ shape. shape.table + 1 ≡ table) }
+    ensures known { IfOk result (λ shape. All (λ k. k < length columns.now) shape.keys) }
+{
+    let key_columns = key_columns(alloc, table, number, columns, found)?;
+    let unique = keys::flag(found, "unique", index_path(table, number, KeyField::Unique))?;
+    let clustered = clustered(found, index_path(table, number, KeyField::Clustered), taken)?;
+    Ok(IndexShape {
+        table: (table - 1) as u16,
+        keys: key_columns,
+        unique,
+        clustered,
+    })
+}
+
 /// One index of the table of this number, which has these columns. Its name joins those of the table's indexes before
 /// it; `before` counts the indexes before it over all tables, and `taken` says that one of its table is clustered.
 #[tactic(auto, unfolding(crate::specs::Catalogue::index_at))]
@@ -138,18 +166,49 @@ fn index(
     let found = keys_of(value, index_path(table, number, KeyField::Itself), before)?;
     let path = index_path(table, number, KeyField::Name);
     let name = keys::needed_name(alloc, found, path, names)?;
-    let key_columns = key_columns(alloc, table, number, columns, found)?;
-    let unique = keys::flag(found, "unique", index_path(table, number, KeyField::Unique))?;
-    let clustered = clustered(found, index_path(table, number, KeyField::Clustered), taken)?;
-    Ok(Index {
-        name,
-        shape: IndexShape {
-            table: (table - 1) as u16,
-            keys: key_columns,
-            unique,
-            clustered,
-        },
-    })
+    let shape = shape(alloc, table, number, columns, taken, found)?;
+    Ok(Index { name, shape })
+}
+
+/// Puts an index behind the others.
+fn put(indexes: &mut List<Index>, index: Index) -> Result<(), AllocError>
+    ensures { OnOk result (indexes.new ≡ indexes.old ++ index ∷ []) }
+{
+    indexes.items.push(index)?;
+    Ok(())
+}
+
+/// Reads the indexes of the table of this number, which has these columns, and their names, where there are none yet;
+/// `before` counts those of the tables before it.
+fn read_indexes(
+    alloc: Global,
+    table: u32,
+    columns: &Names,
+    before: usize,
+    items: &[Value],
+    indexes: &mut List<Index>,
+    names: &mut Names,
+) -> Result<(), CatFault>
+    requires some { 1 ≤ table }
+    requires most { table ≤ MOST_TABLES }
+    requires known { length columns.now ≤ MOST_COLUMNS }
+    requires few { before ≤ MOST_INDEXES }
+    requires no_indexes { indexes.old ≡ [] }
+    requires no_names { names.old ≡ [] }
+    ensures exact { Gives (λ _. plain_indexes indexes.new) result
+        (read_each (rows.next_index table columns.now before) [] (items_view items.now)) }
+    ensures room { OnOk result (before + length indexes.new ≤ MOST_INDEXES) }
+    ensures own { OnOk result (All (λ index. index.shape.table + 1 ≡ table) indexes.new) }
+    ensures known { OnOk result (All (λ index. All (λ k. k < length columns.now) index.shape.keys) indexes.new) }
+{
+    let mut taken = false;
+    for value in items {
+        let here = before + indexes.len();
+        let next = index(alloc, table, columns, here, names, taken, value)?;
+        taken = taken | next.shape.clustered;
+        put(indexes, next)?;
+    }
+    Ok(())
 }
 
 /// The indexes of the table of this number, which has these columns; `before` counts those of the tables before it.
@@ -170,16 +229,18 @@ fn indexes_in(
     ensures own { IfOk result (All (λ index. index.shape.table + 1 ≡ table)) }
     ensures known { IfOk result (All (λ index. All (λ k. k < length columns.now) index.shape.keys)) }
 {
-    let mut indexes = Vec::new(alloc);
+    let mut indexes = List::new(alloc);
     let mut names = Names::new(alloc);
-    let mut taken = false;
-    for value in items {
-        let here = before + indexes.len();
-        let next = index(alloc, table, columns, here, &mut names, taken, value)?;
-        taken = taken | next.shape.clustered;
-        indexes.push(next)?;
-    }
-    Ok(List { items: indexes })
+    read_indexes(
+        alloc,
+        table,
+        columns,
+        before,
+        items,
+        &mut indexes,
+        &mut names,
+    )?;
+    Ok(indexes)
 }
 
 /// The indexes of the table of this number, which may be left out.

@@ -3,7 +3,7 @@ ghost use Rattle.std.specs.Prelude.{◌≡◌, ◌≤◌, ◌∷◌, ◌++◌, [
 ghost use Rattle.std.specs.Option.{ForSome};
 ghost use Rattle.toml.specs.Data.{get_member};
 ghost use Rattle.toml.specs.View.{view, table_view};
-ghost use Rattle.catalogue.specs.Results.{Gives};
+ghost use Rattle.catalogue.specs.Values.{Gives};
 ghost use Rattle.catalogue.specs.Values as values;
 ghost use Rattle.catalogue.specs.Keys as rows;
 ghost use Rattle.catalogue.specs.Catalogue as table;

@@ -1,10 +1,10 @@
 //! The table of rates.
-ghost use Rattle.std.specs.Prelude.{◌≡◌, ◌≤◌, codes, IfOk};
+ghost use Rattle.std.specs.Prelude.{◌≡◌, ◌≤◌, IfOk};
 ghost use Rattle.adv_base.specs.declared.limits.TheConstants.{MOST_RATE};
 ghost use Rattle.toml.specs.View.{view, table_view};
 ghost use Rattle.catalogue.specs.Catalogue as rows;
 ghost use Rattle.catalogue.specs.Content.{plain_rates};
-ghost use Rattle.catalogue.specs.Results.{Gives};
+ghost use Rattle.catalogue.specs.Values.{Gives};
 
 use crate::fault::{CatFault, KeyField, KeyPath};
 use crate::keys::optional_natural;

@@ -4,7 +4,7 @@ ghost use Rattle.toml.specs.View.{table_view};
 ghost use Rattle.catalogue.specs.Catalogue as rows;
 ghost use Rattle.catalogue.specs.Content.{plain_statistics};
 ghost use Rattle.catalogue.specs.Paths as paths;
-ghost use Rattle.catalogue.specs.Results.{Gives};
+ghost use Rattle.catalogue.specs.Values.{Gives};
 
 use crate::fault::{CatFault, KeyField, KeyPath};
 use crate::keys;

@@ -1,5 +1,5 @@
 //! The tables of a catalogue.
-ghost use Rattle.std.specs.Prelude.{◌≡◌, ◌≤◌, ◌<◌, ◌+◌, ◌∷◌, ◌++◌, [], codes, length, All, IfOk};
+ghost use Rattle.std.specs.Prelude.{◌≡◌, ◌≤◌, ◌<◌, ◌+◌, ◌∷◌, ◌++◌, [], codes, length, All, IfOk, OnOk};
 ghost use Rattle.adv_base.specs.declared.limits.TheConstants.{MOST_ROWS, MOST_TABLES, MOST_COLUMNS, MOST_INDEXES};
 ghost use Rattle.toml.specs.View.{view, items_view, table_view};
 ghost use Rattle.adv_base.specs.Limits.Catalogues.{CatalogueLimits};
@@ -7,8 +7,7 @@ ghost use Rattle.catalogue.specs.Catalogue as rows;
 ghost use Rattle.catalogue.specs.Content.{plain_columns, plain_indexes, plain_table, plain_tables};
 ghost use Rattle.catalogue.specs.Paths as paths;
 ghost use Rattle.catalogue.specs.Keys as key_rules;
-ghost use Rattle.catalogue.specs.Results.{Gives, read_each};
-ghost use Rattle.catalogue.specs.Values.{folded};
+ghost use Rattle.catalogue.specs.Values.{folded, Gives, read_each};
 
 use crate::columns::columns;
 use crate::fault::{CatFault, KeyField};
@@ -18,24 +17,26 @@ use crate::paths::table_path;
 use crate::{keys, values};
 use adv_base::limits::{MOST_ROWS, MOST_TABLES};
 use adv_base::{Column, Index, List, Table};
-use std::alloc::Global;
+use std::alloc::{AllocError, Global};
 use toml::Value;
 
-/// The columns of the table of this number, which are needed, and their names.
+/// Reads the columns of the table of this number, which are needed, where there are none yet; answers their names.
 fn needed_columns(
     alloc: Global,
     table: u32,
     keys: &toml::Table,
-) -> Result<(List<Column>, Names), CatFault>
-    ensures exact { Gives (λ x. plain_columns x.0) result
+    into: &mut List<Column>,
+) -> Result<Names, CatFault>
+    requires { into.old ≡ [] }
+    ensures exact { Gives (λ _. plain_columns into.new) result
         (key_rules.needed (codes "column") (paths.table_path table KeyField.Columns) (rows.columns_of table)
         (table_view keys.now)) }
-    ensures names { IfOk result (λ x. x.1 ≡ rows.column_names (plain_columns x.0)) }
-    ensures count { IfOk result (λ x. (1 ≤ length x.0) × (length x.0 ≤ MOST_COLUMNS)) }
+    ensures names { IfOk result (λ names. names ≡ rows.column_names (plain_columns into.new)) }
+    ensures count { OnOk result ((1 ≤ length into.new) × (length into.new ≤ MOST_COLUMNS)) }
 {
     let path = table_path(table, KeyField::Columns);
     let value = keys::needed(keys, "column", path)?;
-    columns(alloc, table, value, path)
+    columns(alloc, table, value, path, into)
 }
 
 /// The rows and the pages of the table of this number.
@@ -51,8 +52,33 @@ fn size(number: u32, found: &toml::Table) -> Result<(u64, u64), CatFault>
     Ok((rows, pages))
 }
 
-/// The columns and the indexes of the table of this number; `before` counts the indexes of the tables before it.
+/// Reads the columns of the table of this number, where there are none yet, and its indexes; `before` counts the indexes
+/// of the tables before it.
 #[tactic(auto, unfolding(crate::specs::Catalogue::parts_of))]
+fn read_parts(
+    alloc: Global,
+    number: u32,
+    before: usize,
+    found: &toml::Table,
+    columns: &mut List<Column>,
+) -> Result<List<Index>, CatFault>
+    requires some { 1 ≤ number }
+    requires most { number ≤ MOST_TABLES }
+    requires room { before ≤ MOST_INDEXES }
+    requires no_columns { columns.old ≡ [] }
+    ensures exact { Gives (λ x. (plain_columns columns.new, plain_indexes x)) result (rows.parts_of number before (table_view found.now)) }
+    ensures count { OnOk result ((1 ≤ length columns.new) × (length columns.new ≤ MOST_COLUMNS)) }
+    ensures room { IfOk result (λ x. before + length x ≤ MOST_INDEXES) }
+    ensures own { IfOk result (λ x. All (λ index. index.shape.table + 1 ≡ number) x) }
+    ensures known { IfOk result (λ x. All (λ index. All (λ k. k < length columns.new) index.shape.keys) x) }
+{
+    let names = needed_columns(alloc, number, found, columns)?;
+    let path = table_path(number, KeyField::Indexes);
+    let indexes = indexes(alloc, number, &names, before, found, path)?;
+    Ok(indexes)
+}
+
+/// The columns and the indexes of the table of this number; `before` counts the indexes of the tables before it.
 fn parts(
     alloc: Global,
     number: u32,
@@ -68,9 +94,8 @@ fn parts(
     ensures own { IfOk result (λ x. All (λ index. index.shape.table + 1 ≡ number) x.1) }
     ensures known { IfOk result (λ x. All (λ index. All (λ k. k < length x.0) index.shape.keys) x.1) }
 {
-    let (columns, column_names) = needed_columns(alloc, number, found)?;
-    let path = table_path(number, KeyField::Indexes);
-    let indexes = indexes(alloc, number, &column_names, before, found, path)?;
+    let mut columns = List::new(alloc);
+    let indexes = read_parts(alloc, number, before, found, &mut columns)?;
     Ok((columns, indexes))
 }
 
@@ -99,21 +124,46 @@ fn table(alloc: Global, before: usize, names: &mut Names, value: &Value) -> Resu
     })
 }
 
+/// Puts a table behind the others.
+fn put(tables: &mut List<Table>, table: Table) -> Result<(), AllocError>
+    ensures { OnOk result (tables.new ≡ tables.old ++ table ∷ []) }
+{
+    tables.items.push(table)?;
+    Ok(())
+}
+
+/// Reads the tables that an array gives, and their names, where there are none yet.
+fn read_tables(
+    alloc: Global,
+    items: &[Value],
+    tables: &mut List<Table>,
+    names: &mut Names,
+) -> Result<(), CatFault>
+    requires few { length items.now ≤ MOST_TABLES }
+    requires no_tables { tables.old ≡ [] }
+    requires no_names { names.old ≡ [] }
+    ensures exact { Gives (λ _. plain_tables tables.new) result (read_each rows.next_table [] (items_view items.now)) }
+    ensures limits { OnOk result (CatalogueLimits tables.new) }
+{
+    let mut before = 0;
+    for value in items {
+        let next = table(alloc, before, names, value)?;
+        before += next.indexes.len();
+        put(tables, next)?;
+    }
+    Ok(())
+}
+
 /// The tables that an array gives.
 fn tables_in(alloc: Global, items: &[Value]) -> Result<List<Table>, CatFault>
     requires { length items.now ≤ MOST_TABLES }
     ensures exact { Gives plain_tables result (read_each rows.next_table [] (items_view items.now)) }
     ensures limits { IfOk result CatalogueLimits }
 {
-    let mut tables = Vec::new(alloc);
+    let mut tables = List::new(alloc);
     let mut names = Names::new(alloc);
-    let mut before = 0;
-    for value in items {
-        let next = table(alloc, before, &mut names, value)?;
-        before += next.indexes.len();
-        tables.push(next)?;
-    }
-    Ok(List { items: tables })
+    read_tables(alloc, items, &mut tables, &mut names)?;
+    Ok(tables)
 }
 
 /// The tables of a document, at most 200, which may be left out.

@@ -1,6 +1,6 @@
 use Rattle.std.proofs.Common.{◌≡◌, drop}
+use Rattle.adv_base.specs.Readings.{in_turn, put_behind}
 use Rattle.binder.specs.Blocks.{written_column, written_columns}
-use Rattle.binder.specs.Results.{in_turn, put_behind}
 use Rattle.binder.proofs.changes.written_columns.Given as goal
 
 -- the columns so far, with those of the rest behind them, are all columns

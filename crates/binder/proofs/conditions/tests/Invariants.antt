@@ -1,6 +1,6 @@
 use Rattle.std.proofs.Common.{◌≡◌, drop}
+use Rattle.adv_base.specs.Readings.{in_turn}
 use Rattle.binder.specs.Conditions.{with_condition, tests_of}
-use Rattle.binder.specs.Results.{in_turn}
 use Rattle.binder.specs.View.{names_of, plain_tests}
 use Rattle.binder.proofs.conditions.tests.Given as goal
 

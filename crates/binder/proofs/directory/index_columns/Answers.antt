@@ -1,7 +1,6 @@
 use Rattle.std.proofs.Common.{ap, sym, ◌∙◌, arith, length}
 use Rattle.adv_base.specs.declared.catalogue.column.Column.{Column}
-use Rattle.binder.specs.Index.{find_in}
-use Rattle.binder.specs.Lookups.{goes_by}
+use Rattle.binder.specs.Lookups.{find_in, goes_by}
 use Rattle.binder.proofs.Positions.{position_from-past, position_from-earlier}
 use Rattle.binder.proofs.directory.index_columns.Goals as goal
 

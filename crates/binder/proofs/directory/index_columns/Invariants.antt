@@ -1,7 +1,6 @@
 use Rattle.std.proofs.Common.{◌≡◌, ℕ, List, drop}
 use Rattle.std.specs.List.{position_from}
-use Rattle.binder.specs.Index.{find_in}
-use Rattle.binder.specs.Lookups.{goes_by}
+use Rattle.binder.specs.Lookups.{find_in, goes_by}
 use Rattle.binder.proofs.directory.index_columns.Given as goal
 
 -- the index tells the numbers of those from this one on

@@ -1,6 +1,6 @@
 use Rattle.std.proofs.Common.{◌≡◌, drop}
+use Rattle.adv_base.specs.Readings.{in_turn, put_behind}
 use Rattle.binder.specs.Items.{columns_of}
-use Rattle.binder.specs.Results.{in_turn, put_behind}
 use Rattle.binder.specs.Scopes.{meaning}
 use Rattle.binder.specs.View.{names_of}
 use Rattle.binder.proofs.items.columns.Given as goal

@@ -1,6 +1,6 @@
 use Rattle.std.proofs.Common.{◌≡◌, drop}
+use Rattle.adv_base.specs.Readings.{in_turn, put_behind}
 use Rattle.binder.specs.Items.{item_of, items_of}
-use Rattle.binder.specs.Results.{in_turn, put_behind}
 use Rattle.binder.specs.View.{names_of}
 use Rattle.binder.proofs.items.items.Given as goal
 

@@ -9,9 +9,9 @@ pub loop-item-preserved : goal.loop-item-preserved
 loop-item-preserved c =
     let preds = plain_preds c.args.preds.now in
     let kept = c.loop-item.kept in
-    let after = c.in_ok-kept.kept in
+    let after = c.keep.new.kept in
     record {
-      marks = Marks-kept preds (get_or c.args.items.now c.loop-item.item-index (Up 0 0)) kept.items after.items kept.marked.keys after.marked.keys c.loop-item.invariant.marks c.in_ok-kept.ensures;
+      marks = Marks-kept preds (get_or c.args.items.now c.loop-item.item-index (Up 0 0)) kept.items after.items kept.marked.keys after.marked.keys c.loop-item.invariant.marks c.in_ok-keep.ensures;
       so_far = kept-turn preds c.args.items.now c.loop-item.item-index (Up 0 0) kept.items after.items (kept_items preds c.args.items.now) kept.marked.keys after.marked.keys
-          c.loop-item-test.true c.loop-item.invariant.marks c.in_ok-kept.ensures c.loop-item.invariant.so_far;
+          c.loop-item-test.true c.loop-item.invariant.marks c.in_ok-keep.ensures c.loop-item.invariant.so_far;
     }

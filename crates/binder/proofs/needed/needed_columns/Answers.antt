@@ -2,7 +2,7 @@ use Rattle.std.proofs.Common.{◌<◌, ◌||◌, ℕ, Bool, cond, List, [], ◌�
 use Rattle.std.specs.List.{list_any}
 use Rattle.std.proofs.lemmas.List.{get_or_read}
 use Rattle.binder.specs.Needed.{is_at}
-use Rattle.binder.proofs.Marked.{filter-column}
+use Rattle.binder.proofs.Ranges.{filter_more}
 use Rattle.binder.proofs.needed.needed_columns.Goals as goal
 
 pub loop-column-preserved : goal.loop-column-preserved
@@ -12,4 +12,4 @@ loop-column-preserved c =
     let lt : n < length c.in_ok-flags.flags.items = let len = c.in_ok-flags.ensures.len in omega arith in
     let flag = get_or_read c.in_ok-flags.flags.items n c.index.result.now lt c.index.ensures false ∙ c.in_ok-flags.ensures.each n c.loop-column-test.true in
     c.in_ok-columns.ensures ∙ ap (λ (t : Bool). cond t (c.loop-column.columns ++ n ∷ []) c.loop-column.columns) flag
-    ∙ ap (λ (xs : List ℕ). cond (p n) (xs ++ n ∷ []) xs) c.loop-column.invariant ∙ sym (filter-column p n)
+    ∙ ap (λ (xs : List ℕ). cond (p n) (xs ++ n ∷ []) xs) c.loop-column.invariant ∙ sym (filter_more p n)

@@ -1,5 +1,5 @@
 use Rattle.std.proofs.Common.{refl, arith}
-use Rattle.binder.specs.Index.{find_in}
+use Rattle.binder.specs.Lookups.{find_in}
 use Rattle.binder.specs.Items.{has_alias}
 use Rattle.binder.proofs.Positions.{position_from-earlier}
 use Rattle.binder.proofs.orders.index_aliases.Goals as goal

@@ -1,6 +1,6 @@
 use Rattle.std.proofs.Common.{◌≡◌, ℕ, List, drop}
 use Rattle.std.specs.List.{position_from}
-use Rattle.binder.specs.Index.{find_in}
+use Rattle.binder.specs.Lookups.{find_in}
 use Rattle.binder.specs.Items.{has_alias}
 use Rattle.binder.proofs.orders.index_aliases.Given as goal
 

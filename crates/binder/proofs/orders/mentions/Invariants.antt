@@ -1,6 +1,6 @@
 use Rattle.std.proofs.Common.{◌≡◌, drop}
+use Rattle.adv_base.specs.Readings.{in_turn}
 use Rattle.binder.specs.Orders.{mention, mentions_from}
-use Rattle.binder.specs.Results.{in_turn}
 use Rattle.binder.specs.View.{names_of, list_of}
 use Rattle.binder.proofs.orders.mentions.Given as goal
 

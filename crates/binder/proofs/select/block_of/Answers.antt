@@ -11,7 +11,7 @@ invariant_of-result c =
     let clauses = plain_clauses c.args.clauses in
     let select = c.args.select.now in
     record {
-      limits = rw (c.in_ok-slots.ensures, c.in_ok-group.ensures.group, c.in_ok-group.ensures.order)
+      limits = rw (c.in_ok-parts.ensures.slots, c.in_ok-parts.ensures.group, c.in_ok-parts.ensures.order)
           (select-limits names select clauses c.args.clauses.tests.preds c.args.clauses.tests.edges (clause_mentions clauses)
           select.distinct (aggregates clauses.items select.order) c.requires.some c.args.scope.now.few c.requires.limits.conditions.most c.requires.bound (record { preds_are = refl; edges_are = refl }) c.requires.joined);
     }

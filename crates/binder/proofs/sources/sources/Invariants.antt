@@ -1,5 +1,5 @@
 use Rattle.std.proofs.Common.{◌≡◌, ◌≤◌, length, drop}
-use Rattle.binder.specs.Results.{in_turn}
+use Rattle.adv_base.specs.Readings.{in_turn}
 use Rattle.binder.specs.Sources.{with_source, sources_of}
 use Rattle.binder.proofs.sources.sources.Given as goal
 

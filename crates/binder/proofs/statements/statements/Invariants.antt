@@ -1,9 +1,9 @@
 use Rattle.std.proofs.Common.{◌≡◌, ◌≤◌, drop, length}
-use Rattle.binder.specs.Results.{in_turn}
 use Rattle.binder.specs.Statements.{with_statement, bound_of}
 use Rattle.binder.specs.View.{plain_bound}
 use Rattle.binder.proofs.statements.statements.Given as goal
 use Rattle.adv_base.specs.declared.limits.TheConstants.{MOST_SLOTS_IN_ALL}
+use Rattle.adv_base.specs.Readings.{in_turn}
 
 -- the statements so far, with those of the rest behind them, are all statements
 abbrev pub invariant-loop-statement : goal.invariant-loop-statement

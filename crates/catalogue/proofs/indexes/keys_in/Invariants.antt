@@ -2,7 +2,7 @@ use Rattle.std.proofs.Common.{◌≡◌, ◌≢◌, ◌<◌, [], length, drop, A
 use Rattle.std.specs.List.{AllPairs}
 use Rattle.toml.specs.View.{items_view}
 use Rattle.catalogue.specs.Catalogue.{next_key}
-use Rattle.catalogue.specs.Results.{read_each}
+use Rattle.catalogue.specs.Values.{read_each}
 use Rattle.catalogue.proofs.indexes.keys_in.Given as goal
 
 abbrev pub invariant-loop-value : goal.invariant-loop-value
