@@ -18,12 +18,6 @@ use Rattle.bip_model.specs.Views.{is_in, is_out, node_of}
 use Rattle.branch_bound.specs.Sides.{IsRoot}
 use Rattle.plan_model.proofs.TotalBound.{total-below}
 use Rattle.report.specs.Texts.{IsBoundedBy}
-use Rattle.tuning.specs.declared.fault.TuneFault.{TuneFault}
-use Rattle.tuning.specs.declared.fault.TuneFault.TheVariants as tune
-use Rattle.tuning.specs.Refusals.{IsCause}
-use Rattle.cophy_core.specs.declared.stop.Stop.{Stop}
-use Rattle.cophy_core.specs.Stops.{StopsAt}
-use Rattle.cophy_core.specs.commands.Advise.{Refuses, IsTuneStop}
 
 -- ## The root
 
@@ -72,9 +66,3 @@ is_bounded setting budget count root answer limits best = record {
       (λ k d h block is. offers-limits setting.cat block setting.shapes answer.config) best.proves.cost_is;
   most = best.bound_most;
 }
-
--- ## No programme
-
-pub tune_stops : (setting : TheSetting) (fault : TuneFault) (stop : Stop) → IsCause setting fault → IsTuneStop fault stop → StopsAt (Refuses setting) stop
-tune_stops setting tune.Memory stop cause is = subst (StopsAt (Refuses setting)) (sym is) tt
-tune_stops setting (tune.TooManyCombinations number count) stop cause is = subst (StopsAt (Refuses setting)) (sym is) cause

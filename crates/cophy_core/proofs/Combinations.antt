@@ -1,19 +1,13 @@
 -- The first statement with too many combinations is one.
 use Rattle.std.proofs.Common.{◌≡◌, inl, inr, ℕ, zero, suc, ◌-◌, ◌<◌, List, [], ◌∷◌, take, slice_get, Some, sym, ap, subst, ◌∙◌, arith}
 use Rattle.std.proofs.lemmas.Bool.{cases_lt}
-use Rattle.adv_base.specs.declared.catalogue.Catalogue.{Catalogue}
 use Rattle.adv_base.specs.declared.workload.Statement.{Statement}
 use Rattle.adv_base.specs.declared.workload.block.Block.{Block}
 use Rattle.adv_base.specs.Settings.{TheSetting}
 use Rattle.gap_checker.proofs.Lists.{all-at}
-use Rattle.plan_model.proofs.Unique.{one-task}
-use Rattle.plan_model.specs.Orders.{combinations}
 use Rattle.plan_model.specs.Totals.{block_of}
 use Rattle.tuning.specs.Refusals.{HasCombinations, IsFew, AreFew, IsFirstBeyond}
-
--- a block has one count of combinations
-pub one_count : (cat : Catalogue) (block : Block) (a b : ℕ) → HasCombinations cat block a → HasCombinations cat block b → a ≡ b
-one_count cat block a b x y = sym x.count_is ∙ ap combinations (one-task cat block x.task y.task x.task_is y.task_is) ∙ y.count_is
+use Rattle.tuning.proofs.Counting.{one-count}
 
 -- what is found in a list is found in its front
 in_front : {X : Type 0} (xs : List X) (k i : ℕ) (x : X) → i < k → slice_get xs i ≡ Some x → slice_get (take k xs) i ≡ Some x
@@ -51,4 +45,4 @@ one_beyond setting n m count other x y =
     let statement : x.statement ≡ y.statement = cc in
     let reads : Some x.block ≡ Some y.block = sym x.block_is ∙ ap (λ (s : Statement). block_of s.work) statement ∙ y.block_is in
     let block : x.block ≡ y.block = cc in
-    (place, one_count setting.cat y.block count other (subst (λ (b : Block). HasCombinations setting.cat b count) block x.has) y.has)
+    (place, one-count setting.cat y.block count other (subst (λ (b : Block). HasCombinations setting.cat b count) block x.has) y.has)

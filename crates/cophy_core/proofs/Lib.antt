@@ -4,12 +4,10 @@ pub mod Lines
 pub mod Blocks
 pub mod Offered
 pub mod PriceLists
-pub mod Cached
 pub mod Advising
 pub mod Checking
 pub mod OneSetting
 pub mod Combinations
-pub mod TooMany
 pub mod OneRefusal
 pub mod Ranges
 pub mod Stopped
@@ -22,3 +20,4 @@ pub mod LeftFiles
 pub mod Headlines
 pub mod Gaps
 pub mod Grammar
+pub mod Parts

@@ -1,15 +1,12 @@
 -- Each slot of a block whose names exist has an offer, the table itself.
-use Rattle.std.proofs.Common.{◌≡◌, ℕ, ◌<◌, inl, inr, List, length, get_or, Some, slice_get, refl, arith}
+use Rattle.std.proofs.Common.{◌≡◌, ℕ, ◌<◌, inl, inr, List, length, get_or, Some, slice_get, arith}
 use Rattle.std.proofs.lemmas.Option.{slice_get_cases}
 use Rattle.adv_base.specs.declared.catalogue.Catalogue.{Catalogue}
 use Rattle.adv_base.specs.declared.catalogue.index.IndexShape.{IndexShape}
 use Rattle.adv_base.specs.declared.setting.Config.{Config}
 use Rattle.adv_base.specs.declared.workload.block.Block.{Block}
 use Rattle.adv_base.specs.Named.{NamesBlock, NamesSlot}
-use Rattle.adv_base.specs.Lookups.{slot_table}
-use Rattle.adv_base.specs.Offers.{OfferTable, offers}
-use Rattle.adv_base.specs.OfferTables.{BeginsWithTables}
-use Rattle.inum_cache.specs.Caches.{HasPlain}
+use Rattle.adv_base.specs.Offers.{offers}
 
 -- an element within a list
 there : {X : Type 0} (xs : List X) (i : ℕ) → i < length xs → (x : X) × (slice_get xs i ≡ Some x) × (get_or xs i x ≡ x)
@@ -26,12 +23,3 @@ offered cat block shapes config s names h =
     let named : NamesSlot cat slot.0 = rw slot.2 at (names.slots s slot.0 h) in
     let table = there cat.tables slot.0.table named.table in
     rw slot.1 (rw table.1 (omega arith))
-
--- where the first offer of each slot is the whole table, each has an offer with no order
-pub plain : (cat : Catalogue) (block : Block) (table : OfferTable) (s : ℕ) → NamesBlock cat block → BeginsWithTables cat block table → s < length block.slots → HasPlain table s
-plain cat block table s names tables h =
-    let slot = there block.slots s h in
-    let named : NamesSlot cat slot.0 = rw slot.2 at (names.slots s slot.0 h) in
-    let source = there cat.tables slot.0.table named.table in
-    let is : slot_table cat block s ≡ Some source.0 = rw slot.1 source.1 in
-    record { number = 0; within = tables.some s h; no_order = rw (tables.first s source.0 is) refl }

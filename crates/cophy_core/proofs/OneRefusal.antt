@@ -25,7 +25,6 @@ use Rattle.cophy_core.proofs.Combinations.{none_beyond, one_beyond}
 use Rattle.cophy_core.proofs.FilesRead.{one_each, none_long, one_long}
 use Rattle.cophy_core.proofs.Lines.{not_nothing, conf_or_fault, one_conf_fault}
 use Rattle.cophy_core.proofs.OneSetting.{one_catalogue, one_setting, few_shapes}
-use Rattle.cophy_core.proofs.TooMany.{few_of, beyond_of}
 
 -- ## The bytes that a command answers from
 
@@ -98,7 +97,7 @@ one_own (WhatIf cat load conf) inputs setting (BadConf line) (BadConf told) few 
 one_own (WhatIf cat load conf) inputs setting (BadConf line) (TooManyCombinations n count) few a b = absurd (conf_or_fault (length setting.shapes) (input inputs 2) b.config line (omega (arith, few)) b.config_is a)
 one_own (WhatIf cat load conf) inputs setting (TooManyCombinations n count) (BadConf line) few a b = absurd (conf_or_fault (length setting.shapes) (input inputs 2) a.config line (omega (arith, few)) a.config_is b)
 one_own (WhatIf cat load conf) inputs setting (TooManyCombinations n count) (TooManyCombinations m other) few a b =
-    too_many_same setting n m count other (one_beyond setting n m count other (beyond_of setting n count a.first) (beyond_of setting m other b.first))
+    too_many_same setting n m count other (one_beyond setting n m count other a.first b.first)
 one_own (WhatIf cat load conf) inputs setting (BadConf line) other few a b = absurd b
 one_own (WhatIf cat load conf) inputs setting (TooManyCombinations n count) other few a b = absurd b
 one_own (WhatIf cat load conf) inputs setting why other few a b = absurd a
@@ -125,7 +124,7 @@ one_own command inputs setting why other few a b = absurd a
 -- where it refuses it gives nothing
 refused_or_given : (command : PlainCommand) (inputs : List (List ℕ)) (setting : TheSetting) (why : Refusal) (done : Done) → length setting.shapes ≤ MOST_CANDIDATES → RefusesOver command inputs setting why → GivesOver command inputs setting done → ⊥
 refused_or_given (WhatIf cat load conf) inputs setting (BadConf line) (Priced prices) few a b = conf_or_fault (length setting.shapes) (input inputs 2) b.config line (omega (arith, few)) b.config_is a
-refused_or_given (WhatIf cat load conf) inputs setting (TooManyCombinations n count) (Priced prices) few a b = none_beyond setting n count (few_of setting.cat setting.statements b.few) (beyond_of setting n count a.first)
+refused_or_given (WhatIf cat load conf) inputs setting (TooManyCombinations n count) (Priced prices) few a b = none_beyond setting n count b.few a.first
 refused_or_given (WhatIf cat load conf) inputs setting why (Priced prices) few a b = absurd a
 refused_or_given (WhatIf cat load conf) inputs setting why done few a b = absurd b
 refused_or_given (Explain cat load conf number) inputs setting (NoStatement n count) (Explained explained) few a b = absurd (let none = a.1.beyond in let there = b.statement_is in cc)

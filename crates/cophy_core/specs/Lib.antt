@@ -8,6 +8,7 @@ pub mod Files
 pub mod Endings
 pub mod Inputs
 pub mod commands
+pub mod inner
 pub mod Answers
 pub mod Laws
 pub mod Stops

@@ -1,11 +1,10 @@
-//! Statements: by their numbers, their blocks, and what they cost in upkeep.
+//! Statements: by their numbers, and what they cost in upkeep.
 ghost use Rattle.std.specs.Prelude.{◌≡◌, ◌-◌, ◌+◌, ◌*◌, ◌≤◌, option_map, slice_get};
 ghost use Rattle.adv_base.specs.Named.{NamesWork};
 ghost use Rattle.adv_base.specs.Upkeep as upkeeps;
 ghost use Rattle.adv_base.specs.declared.limits.TheConstants.{MOST_CANDIDATES, MOST_INDEXES, MOST_UPKEEP};
-ghost use Rattle.plan_model.specs.Totals as totals;
 
-use adv_base::{Block, Config, Setting, Statement, Work};
+use adv_base::{Config, Setting, Statement};
 use hypo_indexes::{config_upkeep, kept_upkeep};
 
 /// The statement of a number, from 1.
@@ -13,18 +12,6 @@ pub(crate) fn statement_of(statements: &[Statement], number: u32) -> Option<&Sta
     ensures { option_map (λ s. s.now) result ≡ slice_get statements.now (number - 1) }
 {
     statements.get((number as usize).saturating_sub(1))
-}
-
-/// The block of a statement; an INSERT has none.
-pub(crate) fn block_of(work: &Work) -> Option<&Block>
-    ensures { option_map (λ b. b.now) result ≡ totals.block_of work.now }
-{
-    match work {
-        Work::Select(block) => Some(block),
-        Work::Update(block, _) => Some(block),
-        Work::Delete(block) => Some(block),
-        Work::Insert { .. } => None,
-    }
 }
 
 /// What a statement costs in upkeep of the indexes that exist and of a configuration's, without its weight.

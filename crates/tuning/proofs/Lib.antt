@@ -3,3 +3,4 @@ pub mod Limits
 pub mod Parting
 pub mod SlotParts
 pub mod Statements
+pub mod Counting

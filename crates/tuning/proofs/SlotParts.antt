@@ -22,7 +22,6 @@ use Rattle.plan_model.specs.declared.template.Template.{Template}
 use Rattle.plan_model.specs.BlockTask.{IsTaskOf}
 use Rattle.plan_model.specs.Orders.{interesting_orders, combinations}
 use Rattle.plan_model.specs.Totals.{no_candidates}
-use Rattle.plan_model.proofs.Unique.{one-task}
 use Rattle.interesting_orders.proofs.OrderLemmas.{interesting_orders-first, interesting_orders-differ}
 use Rattle.inum_cache.specs.declared.cache.Cache.{Cache}
 use Rattle.inum_cache.specs.Caches.{IsCacheOf, orders_of}
@@ -32,10 +31,12 @@ use Rattle.bip_model.specs.declared.slot_part.SlotPart.{SlotPart}
 use Rattle.bip_model.specs.Limits.Parts.{TemplateLimits}
 use Rattle.bip_model.specs.Values.{need}
 use Rattle.bip_model.specs.StandsFor.{given, least_given, candidates_on, AreEach, IsGrant, IsSlotPart, SomeAsksNothing}
+use Rattle.tuning.specs.Kept.{AsksNothingPast}
 use Rattle.tuning.specs.Refusals.{IsFew}
 use Rattle.tuning.specs.inner.Every.{IsEvery}
 use Rattle.tuning.specs.inner.Offered.{AreParted, HasParted, IsGrantOf, IsPriced}
 use Rattle.tuning.specs.inner.Parts.{ArePriced}
+use Rattle.tuning.proofs.Counting.{one-count}
 use Rattle.tuning.proofs.Parting.{parted, slot-table}
 use Rattle.tuning.proofs.Reading.{front-get, back-get}
 
@@ -120,6 +121,12 @@ template-limits cache slots n parts priced has count = λ i d h.
           omega (arith, needs, length_is);
     }
 
+-- no template asks anything past the task's slots
+pub asks-past : (task : Task) (cache : Cache) → IsCacheOf task cache → All (AsksNothingPast task.slots) cache.templates
+asks-past task cache is = λ k d h s past.
+    let most : length cache.choices.orders ≤ s = omega (arith, is.slots, past) in
+    (cache.fit k d h).past s most
+
 -- ## The part
 
 each-map : {A B : Type 0} (P Q : A → B → Type 0) → ((x : A) (y : B) → P x y → Q x y) → (xs : List A) (ys : List B) → AreEach P xs ys → AreEach Q xs ys
@@ -155,5 +162,5 @@ slot-part setting block task every slots orders s slot own named is offers_are c
 
 pub few-combinations : (cat : Catalogue) (block : Block) (task : Task) → IsTaskOf cat block task → combinations task ≤ MOST_COMBINATIONS → IsFew cat block
 few-combinations cat block task is few = λ count has.
-    let same : combinations has.task ≡ combinations task = ap combinations (one-task cat block has.task task has.task_is is) in
-    omega (arith, few, same, has.count_is)
+    let same : count ≡ combinations task = one-count cat block count (combinations task) has (record { task = task; task_is = is; count_is = refl }) in
+    omega (arith, few, same)

@@ -16,8 +16,8 @@ use adv_base::{Block, List, Setting, Statement, Work};
 use bip_model::{Part, Programme};
 use std::alloc::Global;
 
-/// The block of a statement; an INSERT has none.
-fn block_of(work: &Work) -> Option<&Block>
+/// The block of a statement, whose rows it reads; an INSERT has none.
+pub fn block_of(work: &Work) -> Option<&Block>
     ensures { option_map (λ b. b.now) result ≡ totals.block_of work.now }
 {
     match work {

@@ -23,9 +23,11 @@
 mod building;
 mod every;
 mod fault;
+mod laws;
 mod parts;
 mod slots;
 mod sums;
 
-pub use building::programme;
+pub use building::{block_of, programme};
 pub use fault::TuneFault;
+pub use laws::blocks_have_one_count;

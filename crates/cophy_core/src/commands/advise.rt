@@ -12,6 +12,7 @@ ghost use Rattle.cophy_core.specs.Stops.{StopsAt};
 ghost use Rattle.cophy_core.specs.commands.Advise as spec;
 
 use crate::stop::Stop;
+use crate::tuned::programme_of;
 use crate::worked::{FilePut, Worked};
 use adv_base::limits::MOST_CANDIDATES;
 use adv_base::{Config, List, NoMemory, Setting};
@@ -19,9 +20,8 @@ use bip_model::{Answer, Fix, Programme, State, shown_bounds};
 use branch_bound::{Room, search};
 use candidates::candidates;
 use certificate::{best_answers_keep_limits, standing_programmes_are_in_order, write_cert};
-use report::{Advice, Done, Refusal};
+use report::{Advice, Done};
 use std::alloc::Global;
-use tuning::{TuneFault, programme};
 
 /// The root of a search that leaves each candidate free.
 fn free_root() -> Fix
@@ -29,30 +29,6 @@ fn free_root() -> Fix
 {
     Fix {
         state: [State::Free; MOST_CANDIDATES],
-    }
-}
-
-/// The stop where a setting has no programme.
-fn tune_stop(fault: TuneFault) -> Stop
-    ensures { spec.IsTuneStop fault result }
-{
-    match fault {
-        TuneFault::Memory => Stop::Memory,
-        TuneFault::TooManyCombinations(number, count) => {
-            Stop::Refused(Refusal::TooManyCombinations(number, count))
-        }
-    }
-}
-
-/// CoPhy's programme of a setting.
-fn programme_of(alloc: Global, setting: &Setting<'_>) -> Result<Programme, Stop>
-    ensures stands { IfOk result (StandsFor (the_setting setting.now)) }
-    ensures few { IfOk result (λ _. AreFew setting.now.cat.now setting.now.statements.now) }
-    ensures stop { IfErr result (StopsAt (spec.Refuses (the_setting setting.now))) }
-{
-    match programme(alloc, setting) {
-        Ok(programme) => Ok(programme),
-        Err(fault) => Err(tune_stop(fault)),
     }
 }
 

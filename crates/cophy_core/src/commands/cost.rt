@@ -9,11 +9,12 @@ ghost use Rattle.cophy_core.specs.Causes.{most_statement_cost, IsBounded};
 ghost use Rattle.cophy_core.specs.commands.Cost as spec;
 
 use crate::planned::plan_block;
-use crate::statements::{block_of, upkeep_of};
+use crate::statements::upkeep_of;
 use crate::tally::Tally;
 use adv_base::{Config, NoMemory, Setting, Statement, Work};
 use report::{Done, Prices};
 use std::alloc::Global;
+use tuning::block_of;
 
 /// What a least plan of a statement costs under a configuration. An INSERT has none.
 fn plan_cost(

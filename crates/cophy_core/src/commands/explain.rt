@@ -9,13 +9,14 @@ ghost use Rattle.cophy_core.specs.commands.Explain as spec;
 
 use crate::planned::plan_block;
 use crate::read_conf;
-use crate::statements::{block_of, statement_of, upkeep_of};
+use crate::statements::{statement_of, upkeep_of};
 use crate::stop::Stop;
 use access_paths::labels;
 use adv_base::{Block, Bytes, Config, NoMemory, Setting, Statement};
 use plan_model::plan_text;
 use report::{Done, Explained, Refusal};
 use std::alloc::Global;
+use tuning::block_of;
 
 /// A least plan of a block with its lines, beside the upkeep of its statement.
 fn explained_block(

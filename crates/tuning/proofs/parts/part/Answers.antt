@@ -10,7 +10,8 @@ use Rattle.bip_model.specs.Limits.Parts.{TemplateLimits}
 use Rattle.bip_model.specs.StandsFor.{SomeAsksNothing}
 use Rattle.adv_base.specs.Settings.{the_setting}
 use Rattle.tuning.proofs.Parting.{has-parted}
-use Rattle.tuning.proofs.SlotParts.{asks-nothing, template-limits, slot-part}
+use Rattle.tuning.specs.Kept.{AsksNothingPast}
+use Rattle.tuning.proofs.SlotParts.{asks-nothing, asks-past, template-limits, slot-part}
 use Rattle.tuning.proofs.parts.part.Goals as goal
 
 pub slot_parts-requires-clause-parted : goal.slot_parts-requires-clause-parted
@@ -74,10 +75,12 @@ returns-clause-part_is c =
 
 pub returns-clause-kept : goal.returns-clause-kept
 returns-clause-kept c =
+    let cache = c.in_ok-cache.cache in
     let cached = c.in_ok-cache.ensures.cache in
     record {
       task = cached.task;
       task_is = cached.task_is;
+      past = subst (All (AsksNothingPast cached.task.slots)) (sym c.in_ok-templates.ensures) (asks-past cached.task cache cached.cache_is);
       kept = subst (AreKept cached.task) (sym c.in_ok-templates.ensures) cached.cache_is.kept;
       in_order = subst AreInOrder (sym c.in_ok-templates.ensures) cached.cache_is.in_order;
     }
