@@ -1,5 +1,6 @@
 use Rattle.std.proofs.Common.{◌+◌, sym, arith}
-use Rattle.sql_reader.proofs.Digits.{digit_at, one_more, too_large}
+use Rattle.std.proofs.lemmas.Str.Parse.{digit_at}
+use Rattle.sql_reader.proofs.Digits.{one_more, too_large}
 use Rattle.sql_reader.proofs.words.number_up_to.Goals as goal
 
 pub overflow_sub-digit : goal.overflow_sub-digit
