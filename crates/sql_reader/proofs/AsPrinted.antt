@@ -1,7 +1,7 @@
 -- The grammar means what it means as it is printed.
 use Rattle.std.proofs.Common.{◌≡◌, ℕ, zero, suc, true, List, refl, ap, ◌∙◌, inl, inr}
-use Rattle.sql_reader.specs.declared.kind.PieceKind.TheVariants as kinds
-use Rattle.sql_reader.specs.declared.piece.Piece.{Piece}
+use Rattle.sql_reader.specs.declared.kind.TerminalKind.TheVariants as kinds
+use Rattle.sql_reader.specs.declared.terminal.Terminal.{Terminal}
 use Rattle.sql_reader.specs.declared.seen.Seen.{Seen}
 use Rattle.sql_reader.specs.declared.parsed.Body.{Body}
 use Rattle.sql_reader.specs.declared.parsed.Body.TheVariants as bodies
@@ -54,13 +54,13 @@ module _ (d e : (x : Nesting) → Meaning (State x) (State x)) (linked : Linked 
   unfolding listed_arguments maybe_distinct printed.closed
   listed_same = then_same d e (either_same d e _ _ (take_same d e _ _) (give_same d e _)) (then_same d e (exprs_same d e linked) (take_same d e _ _))
 
-  call_there : (a : Seen) (ps : List Piece) (b : Seen) → IsOver d (Then printed.call_name call) a ps b → IsOver e printed.call a ps b
+  call_there : (a : Seen) (ps : List Terminal) (b : Seen) → IsOver d (Then printed.call_name call) a ps b → IsOver e printed.call a ps b
   unfolding call arguments star_argument printed.call printed.call_name printed.closed
   call_there a ps b (front, back, m, split, name, (front2, back2, m2, split2, open_sign, inl h)) = inl (front, back, m, split, name, (front2, back2, m2, split2, open_sign, h))
   call_there a ps b (front, back, m, split, name, (front2, back2, m2, split2, open_sign, inr (inl h))) = inr (inl (front, back, m, split, name, (front2, back2, m2, split2, open_sign, h)))
   call_there a ps b (front, back, m, split, name, (front2, back2, m2, split2, open_sign, inr (inr h))) = inr (inr (front, back, m, split, name, (front2, back2, m2, split2, open_sign, listed_same.there m2 back2 b h)))
 
-  call_back : (a : Seen) (ps : List Piece) (b : Seen) → IsOver e printed.call a ps b → IsOver d (Then printed.call_name call) a ps b
+  call_back : (a : Seen) (ps : List Terminal) (b : Seen) → IsOver e printed.call a ps b → IsOver d (Then printed.call_name call) a ps b
   unfolding call arguments star_argument printed.call printed.call_name printed.closed
   call_back a ps b (inl (front, back, m, split, name, (front2, back2, m2, split2, open_sign, h))) = (front, back, m, split, name, (front2, back2, m2, split2, open_sign, inl h))
   call_back a ps b (inr (inl (front, back, m, split, name, (front2, back2, m2, split2, open_sign, h)))) = (front, back, m, split, name, (front2, back2, m2, split2, open_sign, inr (inl h)))
@@ -164,17 +164,17 @@ module _ (d e : (x : Nesting) → Meaning (State x) (State x)) (linked : Linked 
   unfolding delete_rest delete_conditions printed.delete_rest
   delete_rest_same = then_same d e (take_same d e _ _) (then_same d e (source_same d e) (use_same d e _ _ (where_same d e linked)))
 
-  -- what follows a statement's first piece, as its body
+  -- what follows a statement's first terminal, as its body
   module _ {X : Type 0} (r s : Rule (Unit {0}) X) (body : X → Body) (same : Same d e r s) where
-    body_there : (a : Progress × Piece) (ps : List Piece) (b : Progress) →
+    body_there : (a : Progress × Terminal) (ps : List Terminal) (b : Progress) →
         IsOver d (Use (λ _. tt) (Use (λ u. u) r (λ _ x. body x)) (λ s y. with_statement s.0 s.1 y)) a ps b → IsOver e (Use (λ _. tt) s (λ s x. with_statement s.0 s.1 (body x))) a ps b
     body_there a ps b (m, (x, h, em), eb) = (x, same.there (tt {0}) ps x h, eb ∙ ap (with_statement a.0 a.1) em)
 
-    body_back : (a : Progress × Piece) (ps : List Piece) (b : Progress) →
+    body_back : (a : Progress × Terminal) (ps : List Terminal) (b : Progress) →
         IsOver e (Use (λ _. tt) s (λ s x. with_statement s.0 s.1 (body x))) a ps b → IsOver d (Use (λ _. tt) (Use (λ u. u) r (λ _ x. body x)) (λ s y. with_statement s.0 s.1 y)) a ps b
     body_back a ps b (x, h, eb) = (body x, (x, same.back (tt {0}) ps x h, refl), eb)
 
-    body_same : Same d e (Use (λ _. tt) (Use (λ u. u) r (λ _ x. body x)) (λ (s : Progress × Piece) y. with_statement s.0 s.1 y)) (Use (λ _. tt) s (λ s x. with_statement s.0 s.1 (body x)))
+    body_same : Same d e (Use (λ _. tt) (Use (λ u. u) r (λ _ x. body x)) (λ (s : Progress × Terminal) y. with_statement s.0 s.1 y)) (Use (λ _. tt) s (λ s x. with_statement s.0 s.1 (body x)))
     body_same = record { there = body_there; back = body_back }
 
   select_same : Same d e select_statement printed.select
@@ -239,8 +239,8 @@ all_linked (suc n) = next_linked n (all_linked n)
 -- rules that are the same at each level mean the same
 from_same : {A B : Type 0} {r s : Rule A B} → ((n : ℕ) → Linked (IsNested grammar n) (IsNested printed.grammar n) → Same (IsNested grammar n) (IsNested printed.grammar n) r s) →
     MeanTheSame r s
-from_same same n start pieces end =
-    ((same n (all_linked n)).there start pieces end, (same n (all_linked n)).back start pieces end)
+from_same same n start terminals end =
+    ((same n (all_linked n)).there start terminals end, (same n (all_linked n)).back start terminals end)
 
 -- each production means the same in both forms
 pub is_as_printed : IsAsPrinted

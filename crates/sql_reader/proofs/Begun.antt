@@ -1,9 +1,9 @@
 -- The statements of a workload begin at the words that begin one, and nowhere else.
 use Rattle.std.proofs.Common.{◌≡◌, ℕ, zero, suc, Bool, true, false, ◌&&◌, List, [], ◌∷◌, ◌++◌, sym, refl, ap, ◌∙◌, inl, inr, append_assoc, append-nil, if◌then◌else◌}
 use Rattle.std.proofs.lemmas.Bool.{and_parts}
-use Rattle.sql_reader.specs.declared.kind.PieceKind.{PieceKind}
-use Rattle.sql_reader.specs.declared.kind.PieceKind.TheVariants as kinds
-use Rattle.sql_reader.specs.declared.piece.Piece.{Piece}
+use Rattle.sql_reader.specs.declared.kind.TerminalKind.{TerminalKind}
+use Rattle.sql_reader.specs.declared.kind.TerminalKind.TheVariants as kinds
+use Rattle.sql_reader.specs.declared.terminal.Terminal.{Terminal}
 use Rattle.sql_reader.specs.declared.parsed.Body.{Body}
 use Rattle.sql_reader.specs.declared.parsed.Body.TheVariants as bodies
 use Rattle.sql_reader.specs.declared.parsed.ParsedStatement.{ParsedStatement}
@@ -12,12 +12,12 @@ use Rattle.sql_reader.specs.Kinds.{has, apart}
 use Rattle.sql_reader.specs.Rule.{Nesting, State, Rule, Give, Take, Then, Use, Either, Many, Nest, Conditions, Parenthesis, Call, Signed, Meaning, Turns, IsOver, IsNested}
 use Rattle.sql_reader.specs.Grammar.{levels, starts, after_name, column, null_test, quantifier, group_part, column_list, one_column, more_columns, another_column, direction, limit_part, offset_part, insert_table, insert_columns, name_list, name_as_column, more_names, another_name, set_column}
 use Rattle.sql_reader.specs.Values.{beside, place_of, weight_of, with_statement, no_statements, insert_body, update_body}
-use Rattle.sql_reader.specs.Pieces.{starts_in, places_of}
+use Rattle.sql_reader.specs.Terminals.{starts_in, places_of}
 use Rattle.sql_reader.specs.Printed as printed
 use Rattle.sql_reader.specs.Workload.{MeansStatements}
 use Rattle.sql_reader.proofs.KindSets.{not_in_other, in_wider}
 
--- no piece of the rule, outside its nested forms, is a word that begins a statement
+-- no terminal of the rule, outside its nested forms, is a word that begins a statement
 avoids : {A B : Type 0} → Rule A B → Bool
 avoids (Give f) = true
 avoids (Take kinds f) = apart kinds starts
@@ -27,10 +27,10 @@ avoids (Either kinds left right) = avoids left && avoids right
 avoids (Many kinds turn) = avoids turn
 avoids (Nest x) = true
 
-pub begun_if : (b : Bool) (p : Piece) (ps : List Piece) → has starts p.kind ≡ b → starts_in (p ∷ ps) ≡ (if b then place_of p ∷ starts_in ps else starts_in ps)
+pub begun_if : (b : Bool) (p : Terminal) (ps : List Terminal) → has starts p.kind ≡ b → starts_in (p ∷ ps) ≡ (if b then place_of p ∷ starts_in ps else starts_in ps)
 begun_if b p ps e = ap (λ (x : Bool). if x then place_of p ∷ starts_in ps else starts_in ps) e
 
-pub starts-append : (xs ys : List Piece) → starts_in (xs ++ ys) ≡ starts_in xs ++ starts_in ys
+pub starts-append : (xs ys : List Terminal) → starts_in (xs ++ ys) ≡ starts_in xs ++ starts_in ys
 starts-append [] ys = refl
 starts-append (p ∷ xs) ys = by_kind (has starts p.kind) (starts-append xs ys)
   where
@@ -39,18 +39,18 @@ starts-append (p ∷ xs) ys = by_kind (has starts p.kind) (starts-append xs ys)
     by_kind true e = ap (λ (l : List ℕ). place_of p ∷ l) e
     by_kind false e = e
 
-none_in_both : (xs ys ps : List Piece) → ps ≡ xs ++ ys → starts_in xs ≡ [] → starts_in ys ≡ [] → starts_in ps ≡ []
+none_in_both : (xs ys ps : List Terminal) → ps ≡ xs ++ ys → starts_in xs ≡ [] → starts_in ys ≡ [] → starts_in ps ≡ []
 none_in_both xs ys ps split e f = ap starts_in split ∙ starts-append xs ys ∙ ap (λ (l : List ℕ). l ++ starts_in ys) e ∙ f
 
 -- nested forms have no word that begins a statement
 abbrev Inside : ((x : Nesting) → Meaning (State x) (State x)) → Type 0
-Inside d = (x : Nesting) (a : State x) (ps : List Piece) (b : State x) → d x a ps b → starts_in ps ≡ []
+Inside d = (x : Nesting) (a : State x) (ps : List Terminal) (b : State x) → d x a ps b → starts_in ps ≡ []
 
-turns_avoid : {A : Type 0} (turn : Meaning A A) → ((a : A) (ps : List Piece) (b : A) → turn a ps b → starts_in ps ≡ []) → (n : ℕ) (a : A) (ps : List Piece) (b : A) → Turns turn n a ps b → starts_in ps ≡ []
+turns_avoid : {A : Type 0} (turn : Meaning A A) → ((a : A) (ps : List Terminal) (b : A) → turn a ps b → starts_in ps ≡ []) → (n : ℕ) (a : A) (ps : List Terminal) (b : A) → Turns turn n a ps b → starts_in ps ≡ []
 turns_avoid turn none zero a ps b (nil, same) = ap starts_in nil
 turns_avoid turn none (suc n) a ps b (front, back, m, split, h, t) = none_in_both front back ps split (none a front m h) (turns_avoid turn none n m back b t)
 
-none_over : (d : (x : Nesting) → Meaning (State x) (State x)) → Inside d → {A B : Type 0} (r : Rule A B) → avoids r ≡ true → (a : A) (ps : List Piece) (b : B) → IsOver d r a ps b → starts_in ps ≡ []
+none_over : (d : (x : Nesting) → Meaning (State x) (State x)) → Inside d → {A B : Type 0} (r : Rule A B) → avoids r ≡ true → (a : A) (ps : List Terminal) (b : B) → IsOver d r a ps b → starts_in ps ≡ []
 unfolding avoids
 none_over d inside (Give f) e a ps b (nil, same) = ap starts_in nil
 none_over d inside (Take kinds f) e a ps b (p, among, one, same) = ap starts_in one ∙ begun_if false p [] (not_in_other kinds starts p.kind e among)
@@ -97,7 +97,7 @@ places-append (x ∷ xs) ys = ap (λ (l : List ℕ). x.place ∷ l) (places-appe
 
 -- what is read adds the statements that begin in it
 abbrev Begins : Meaning Progress Progress → Type 0
-Begins is = (a : Progress) (ps : List Piece) (b : Progress) → is a ps b → places_of b.statements ≡ places_of a.statements ++ starts_in ps
+Begins is = (a : Progress) (ps : List Terminal) (b : Progress) → is a ps b → places_of b.statements ≡ places_of a.statements ++ starts_in ps
 
 begins_behind : (start middle end begun more : List ℕ) → middle ≡ start ++ begun → end ≡ middle ++ more → end ≡ start ++ (begun ++ more)
 begins_behind start middle end begun more e f = f ∙ ap (λ (l : List ℕ). l ++ more) e ∙ append_assoc start begun more
@@ -110,11 +110,11 @@ turns_begin turn begin (suc n) a ps b (front, back, m, split, h, t) =
     ∙ ap (λ (l : List ℕ). places_of a.statements ++ l) (sym (ap starts_in split ∙ starts-append front back))
 
 module _ (d : (x : Nesting) → Meaning (State x) (State x)) (inside : Inside d) where
-  one_begins : {X : Type 0} (kind : PieceKind) (r : Rule (Unit {0}) X) (body : X → Body) → ((k : PieceKind) → has (kind ∷ []) k ≡ true → has starts k ≡ true) → avoids r ≡ true →
-      Begins (IsOver d (Then (Take (kind ∷ []) beside) (Use (λ _. tt) r (λ (s : Progress × Piece) x. with_statement s.0 s.1 (body x)))))
+  one_begins : {X : Type 0} (kind : TerminalKind) (r : Rule (Unit {0}) X) (body : X → Body) → ((k : TerminalKind) → has (kind ∷ []) k ≡ true → has starts k ≡ true) → avoids r ≡ true →
+      Begins (IsOver d (Then (Take (kind ∷ []) beside) (Use (λ _. tt) r (λ (s : Progress × Terminal) x. with_statement s.0 s.1 (body x)))))
   one_begins kind r body begin e a ps b (front, back, m, split, (p, among, one, same), (x, h, made)) =
       let s : ParsedStatement = record { place = place_of p; weight = weight_of a.before p; body = body x } in
-      let is_made : b ≡ with_statement a p (body x) = made ∙ ap (λ (y : Progress × Piece). with_statement y.0 y.1 (body x)) same in
+      let is_made : b ≡ with_statement a p (body x) = made ∙ ap (λ (y : Progress × Terminal). with_statement y.0 y.1 (body x)) same in
       let nothing = none_over d inside r e (tt {0}) back x h in
       let begun : starts_in ps ≡ place_of p ∷ [] =
       ap starts_in split ∙ starts-append front back ∙ ap (λ (l : List ℕ). l ++ starts_in back) (ap starts_in one ∙ begun_if true p [] (begin p.kind among)) ∙ ap (λ (l : List ℕ). place_of p ∷ l) nothing in
@@ -174,5 +174,5 @@ module _ (d : (x : Nesting) → Meaning (State x) (State x)) (inside : Inside d)
   workload_begins = then_begins (printed.maybe printed.statement) (Many [] (Then (printed.word kinds.Semicolon) (printed.maybe printed.statement))) maybe_begins more_begin
 
 -- the statements of a workload begin at its words that begin one, in order
-pub begin_at_starts : (pieces : List Piece) (progress : Progress) → MeansStatements no_statements pieces progress → places_of progress.statements ≡ starts_in pieces
-begin_at_starts pieces progress h = workload_begins (IsNested printed.grammar levels) (inside_nested levels) no_statements pieces progress h
+pub begin_at_starts : (terminals : List Terminal) (progress : Progress) → MeansStatements no_statements terminals progress → places_of progress.statements ≡ starts_in terminals
+begin_at_starts terminals progress h = workload_begins (IsNested printed.grammar levels) (inside_nested levels) no_statements terminals progress h

@@ -1,7 +1,7 @@
 -- Readings by good rules are exact.
 use Rattle.std.proofs.Common.{◌≡◌, ℕ, zero, suc, true, not, List, [], ◌∷◌, ◌++◌, sym, refl, ap, ◌∙◌, subst, inl, inr, append-nil}
 use Rattle.std.proofs.lemmas.Bool.{and_parts}
-use Rattle.sql_reader.specs.declared.piece.Piece.{Piece}
+use Rattle.sql_reader.specs.declared.terminal.Terminal.{Terminal}
 use Rattle.sql_reader.specs.Kinds.{within}
 use Rattle.sql_reader.specs.Rule.{Nesting, State, Rule, Meaning, IsOver, Grammar, IsNested, Reading, Read, Stuck, Reader, read_over, read_nested, Borders, may_be_empty, first_of_rule, more_of_rule, closes, good}
 use Rattle.sql_reader.specs.Exact.{GoesOn, NoneGoesOn, IsExact, IsGood, IsRead, reads}
@@ -18,8 +18,8 @@ no_level borders grammar = record {
   local = λ x a front rest other same l. ap Stuck (nothing_before front rest other l);
 }
   where
-    nothing_before : (front rest other : List Piece) → front ++ rest ≡ rest → front ++ other ≡ other
-    nothing_before front rest other l = ap (λ (f : List Piece). f ++ other) (no_front front rest l)
+    nothing_before : (front rest other : List Terminal) → front ++ rest ≡ rest → front ++ other ≡ other
+    nothing_before front rest other l = ap (λ (f : List Terminal). f ++ other) (no_front front rest l)
 
 one_level : (borders : Borders) (grammar : Grammar) → IsGood borders grammar → (n : ℕ) → Sensible borders (IsNested grammar n) (read_nested grammar n) →
     Sensible borders (IsNested grammar (suc n)) (read_nested grammar (suc n))
@@ -42,12 +42,12 @@ levels_sensible borders grammar g (suc n) = one_level borders grammar g n (level
 
 module _ (borders : Borders) (deeper : (x : Nesting) → Meaning (State x) (State x)) (reader : (x : Nesting) → Reader (State x) (State x)) (s : Sensible borders deeper reader) where
   -- what is meant is read whole
-  whole : {A B : Type 0} (r : Rule A B) → good borders r ≡ true → (a : A) (ps : List Piece) (b : B) → IsOver deeper r a ps b → read_over reader r a ps ≡ Read b []
+  whole : {A B : Type 0} (r : Rule A B) → good borders r ≡ true → (a : A) (ps : List Terminal) (b : B) → IsOver deeper r a ps b → read_over reader r a ps ≡ Read b []
   whole r g a ps b h =
       ap (read_over reader r a) (sym (append-nil ps)) ∙ complete borders deeper reader s r g a b ps [] h refl
 
   -- where something is left of a reading, nothing goes on with what is there
-  none_on : {A B : Type 0} (r : Rule A B) → good borders r ≡ true → (a : A) (front : List Piece) (p : Piece) (rest : List Piece) (x : Reading B) →
+  none_on : {A B : Type 0} (r : Rule A B) → good borders r ≡ true → (a : A) (front : List Terminal) (p : Terminal) (rest : List Terminal) (x : Reading B) →
       read_over reader r a (front ++ p ∷ rest) ≡ x → left_of x ≡ p ∷ rest → NoneGoesOn (IsOver deeper r) a front (p ∷ rest)
   none_on {A} {B} r g a front p rest x e l q more b k h =
       let there = local borders deeper reader s r g a front (p ∷ rest) (q ∷ more) (sym k) (ap left_of e ∙ l) in
@@ -58,23 +58,23 @@ module _ (borders : Borders) (deeper : (x : Nesting) → Meaning (State x) (Stat
       clash (Read c old) e = cc
       clash (Stuck old) e = cc
 
-  none_at_end : {A B : Type 0} (r : Rule A B) → good borders r ≡ true → (a : A) (ps : List Piece) → read_over reader r a ps ≡ Stuck [] → NoneGoesOn (IsOver deeper r) a ps []
+  none_at_end : {A B : Type 0} (r : Rule A B) → good borders r ≡ true → (a : A) (ps : List Terminal) → read_over reader r a ps ≡ Stuck [] → NoneGoesOn (IsOver deeper r) a ps []
   none_at_end r g a ps e b h = let all = whole r g a ps b h in cc
 
-  on_from : {A B : Type 0} (r : Rule A B) → closes r ≡ true → (a : A) (front : List Piece) → Viable (IsOver deeper r) a front → GoesOn (IsOver deeper r) a front
+  on_from : {A B : Type 0} (r : Rule A B) → closes r ≡ true → (a : A) (front : List Terminal) → Viable (IsOver deeper r) a front → GoesOn (IsOver deeper r) a front
   on_from r c a front (inl e) =
       let (more, b, h) = closing borders deeper reader s r c a in
-      (more, b, subst (λ (f : List Piece). IsOver deeper r a (f ++ more) b) (sym e) h)
+      (more, b, subst (λ (f : List Terminal). IsOver deeper r a (f ++ more) b) (sym e) h)
   on_from r c a front (inr h) = h
 
-  pub exact : {A B : Type 0} (r : Rule A B) → good borders r ≡ true → closes r ≡ true → (a : A) (ps : List Piece) (x : Reading B) → read_over reader r a ps ≡ x →
+  pub exact : {A B : Type 0} (r : Rule A B) → good borders r ≡ true → closes r ≡ true → (a : A) (ps : List Terminal) (x : Reading B) → read_over reader r a ps ≡ x →
       Explains (IsOver deeper r) a ps x → IsExact (IsOver deeper r) a ps x
   exact r g c a ps (Read b []) e (front, split, h) =
-      subst (λ (f : List Piece). IsOver deeper r a f b) (sym (split ∙ append-nil front)) h
+      subst (λ (f : List Terminal). IsOver deeper r a f b) (sym (split ∙ append-nil front)) h
   exact r g c a ps (Read b (p ∷ rest)) e (front, split, h) = record {
     front = front;
     split = split;
-    before = ([], b, subst (λ (f : List Piece). IsOver deeper r a f b) (sym (append-nil front)) h);
+    before = ([], b, subst (λ (f : List Terminal). IsOver deeper r a f b) (sym (append-nil front)) h);
     none = none_on r g a front p rest (Read b (p ∷ rest)) (ap (read_over reader r a) (sym split) ∙ e) refl;
   }
   exact r g c a ps (Stuck []) e (front, split, v) = record {
@@ -90,23 +90,23 @@ module _ (borders : Borders) (deeper : (x : Nesting) → Meaning (State x) (Stat
     none = none_on r g a front p rest (Stuck (p ∷ rest)) (ap (read_over reader r a) (sym split) ∙ e) refl;
   }
 
-read_value : {B : Type 0} (b c : B) (ps : List Piece) → Read b ps ≡ Read c ps → b ≡ c
+read_value : {B : Type 0} (b c : B) (ps : List Terminal) → Read b ps ≡ Read c ps → b ≡ c
 read_value b c ps e = cc
 
 -- each reading by a good rule that closes is exact
 pub reads_exactly : (borders : Borders) (grammar : Grammar) (levels : ℕ) {A B : Type 0} (rule : Rule A B) → IsGood borders grammar →
-    good borders rule ≡ true → closes rule ≡ true → (a : A) (pieces : List Piece) →
-    IsExact (IsRead grammar levels rule) a pieces (reads grammar levels rule a pieces)
-reads_exactly borders grammar levels rule g good_rule closes_rule a pieces =
+    good borders rule ≡ true → closes rule ≡ true → (a : A) (terminals : List Terminal) →
+    IsExact (IsRead grammar levels rule) a terminals (reads grammar levels rule a terminals)
+reads_exactly borders grammar levels rule g good_rule closes_rule a terminals =
     let s = levels_sensible borders grammar g levels in
-    exact borders (IsNested grammar levels) (read_nested grammar levels) s rule good_rule closes_rule a pieces (reads grammar levels rule a pieces) refl
-    (right borders (IsNested grammar levels) (read_nested grammar levels) s rule good_rule a pieces)
+    exact borders (IsNested grammar levels) (read_nested grammar levels) s rule good_rule closes_rule a terminals (reads grammar levels rule a terminals) refl
+    (right borders (IsNested grammar levels) (read_nested grammar levels) s rule good_rule a terminals)
 
--- pieces have at most one meaning
+-- terminals have at most one meaning
 pub has_one_meaning : (borders : Borders) (grammar : Grammar) (levels : ℕ) {A B : Type 0} (rule : Rule A B) → IsGood borders grammar →
-    good borders rule ≡ true → (a : A) (pieces : List Piece) (b c : B) →
-    IsRead grammar levels rule a pieces b → IsRead grammar levels rule a pieces c → b ≡ c
-has_one_meaning borders grammar levels rule g good_rule a pieces b c hb hc =
+    good borders rule ≡ true → (a : A) (terminals : List Terminal) (b c : B) →
+    IsRead grammar levels rule a terminals b → IsRead grammar levels rule a terminals c → b ≡ c
+has_one_meaning borders grammar levels rule g good_rule a terminals b c hb hc =
     let s = levels_sensible borders grammar g levels in
-    read_value b c [] (sym (whole borders (IsNested grammar levels) (read_nested grammar levels) s rule good_rule a pieces b hb)
-    ∙ whole borders (IsNested grammar levels) (read_nested grammar levels) s rule good_rule a pieces c hc)
+    read_value b c [] (sym (whole borders (IsNested grammar levels) (read_nested grammar levels) s rule good_rule a terminals b hb)
+    ∙ whole borders (IsNested grammar levels) (read_nested grammar levels) s rule good_rule a terminals c hc)

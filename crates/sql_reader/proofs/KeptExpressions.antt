@@ -3,9 +3,9 @@ use Rattle.std.proofs.Common.{◌≡◌, ℕ, ◌+◌, ◌^◌, ◌<◌, ◌≤�
 use Rattle.std.specs.List.{list_all}
 use Rattle.std.proofs.lemmas.List.Folds.{list_all-append}
 use Rattle.std.proofs.lemmas.Bool.{le-leb}
-use Rattle.sql_reader.specs.declared.kind.PieceKind.{PieceKind}
-use Rattle.sql_reader.specs.declared.kind.PieceKind.TheVariants as kinds
-use Rattle.sql_reader.specs.declared.piece.Piece.{Piece}
+use Rattle.sql_reader.specs.declared.kind.TerminalKind.{TerminalKind}
+use Rattle.sql_reader.specs.declared.kind.TerminalKind.TheVariants as kinds
+use Rattle.sql_reader.specs.declared.terminal.Terminal.{Terminal}
 use Rattle.sql_reader.specs.declared.seen.ExprForm.TheVariants as forms
 use Rattle.sql_reader.specs.declared.seen.Seen.{Seen}
 use Rattle.sql_reader.specs.declared.parsed.Literal.{Literal}
@@ -20,8 +20,8 @@ use Rattle.sql_reader.specs.Printed as printed
 use Rattle.sql_reader.proofs.KindSets.{not_both}
 use Rattle.sql_reader.proofs.Keeps.{Known, Free, Scale, Keeps, give_keeps, take_keeps, then_keeps, use_keeps, either_keeps, many_keeps, known_keeps, free_keeps}
 
--- a piece lies in the text, and its weight was judged
-abbrev pub InText : ℕ → Piece → Type 0
+-- a terminal lies in the text, and its weight was judged
+abbrev pub InText : ℕ → Terminal → Type 0
 InText n p = (span_in n p.span ≡ true) × (is_good_weight p.mark.weight ≡ true)
 
 abbrev pub text_scale : ℕ → ((x : Nesting) → Meaning (State x) (State x)) → Scale
@@ -29,7 +29,7 @@ text_scale n d = record { weigh = λ p. 1; limit = 2 ^ 32; Good = InText n; deep
 
 -- what is known of values
 
--- at most as many as the pieces, and each passes a test
+-- at most as many as the terminals, and each passes a test
 abbrev pub Few : {X : Type 0} → (X → Bool) → ℕ → List X → Type 0
 Few f k xs = (length xs ≤ k) × (list_all f xs ≡ true)
 
@@ -77,7 +77,7 @@ pub record Alone (n before k : ℕ) (found : Seen) : Type 0 where
   pub loose : Loose n k found
   pub one : is_column found.form ≡ true → length found.uses ≡ before + 1
 
-not_column_literal : (kind : PieceKind) (number : Option ℤ) → is_column (literal_form kind number) ≡ false
+not_column_literal : (kind : TerminalKind) (number : Option ℤ) → is_column (literal_form kind number) ≡ false
 not_column_literal kinds.Whole None = refl
 not_column_literal kinds.Whole (Some m) = by_size (nat_lt (nat_abs m) (2 ^ 32))
   where
@@ -96,7 +96,7 @@ expr_known n k found room known =
     both (are_few (length found.uses) && list_all (name_in n) found.uses) (one_if_plain (is_column found.form) (length found.uses)) (few_in (name_in n) k found.uses room known.loose)
     (plain_one (is_column found.form) (length found.uses) known.one)
 
-literal_known_kind : (n : ℕ) (kind : PieceKind) (p : Piece) → span_in n p.span ≡ true → literal_in n (literal_of_kind kind p) ≡ true
+literal_known_kind : (n : ℕ) (kind : TerminalKind) (p : Terminal) → span_in n p.span ≡ true → literal_in n (literal_of_kind kind p) ≡ true
 literal_known_kind n kinds.Whole p h = by_number p.number
   where
     by_number : (number : Option ℤ) → literal_in n (whole_literal number) ≡ true
@@ -112,7 +112,7 @@ negative_known n (literals.Day m) h = h
 negative_known n (literals.Text s) h = h
 negative_known n literals.Other h = h
 
-signed_known : (n : ℕ) (sign : PieceKind) (p : Piece) → span_in n p.span ≡ true → literal_in n (signed sign p) ≡ true
+signed_known : (n : ℕ) (sign : TerminalKind) (p : Terminal) → span_in n p.span ≡ true → literal_in n (signed sign p) ≡ true
 signed_known n kinds.Minus p h = negative_known n (literal_of p) (literal_known_kind n p.kind p h)
 signed_known n _ p h = literal_known_kind n p.kind p h
 
@@ -175,7 +175,7 @@ module _ (n : ℕ) (d : (x : Nesting) → Meaning (State x) (State x)) where
   -- rules that add to a list
 
   -- a word or sign that says no more than that it stands there
-  pub word_keeps : {A : Type 0} {P : Known A} {kind : PieceKind} → ((k j : ℕ) (a : A) → k ≤ j → P k a → P j a) → Keeps c P (printed.word kind) P
+  pub word_keeps : {A : Type 0} {P : Known A} {kind : TerminalKind} → ((k j : ℕ) (a : A) → k ≤ j → P k a → P j a) → Keeps c P (printed.word kind) P
   word_keeps later = take_keeps c (λ k a p room among good known. later k (k + 1) a (omega arith) known)
 
   pub maybe_keeps : {A : Type 0} {P : Known A} {r : Rule A A} → Keeps c P r P → Keeps c P (printed.maybe r) P

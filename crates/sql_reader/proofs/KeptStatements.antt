@@ -3,10 +3,10 @@ use Rattle.std.proofs.Common.{◌≡◌, ℕ, zero, suc, ◌+◌, ◌^◌, ◌<�
 use Rattle.std.specs.List.{list_all}
 use Rattle.std.proofs.lemmas.List.Folds.{list_all-append}
 use Rattle.std.proofs.lemmas.Bool.{le-leb}
-use Rattle.sql_reader.specs.declared.piece.Piece.{Piece}
+use Rattle.sql_reader.specs.declared.terminal.Terminal.{Terminal}
 use Rattle.sql_reader.specs.declared.seen.Seen.{Seen}
 use Rattle.sql_reader.specs.declared.parsed.NameUse.{NameUse}
-use Rattle.sql_reader.specs.declared.kind.PieceKind.{PieceKind}
+use Rattle.sql_reader.specs.declared.kind.TerminalKind.{TerminalKind}
 use Rattle.sql_reader.specs.declared.parsed.Condition.{Condition}
 use Rattle.sql_reader.specs.declared.parsed.ParsedItem.{ParsedItem}
 use Rattle.sql_reader.specs.declared.parsed.ParsedOrder.{ParsedOrder}
@@ -55,11 +55,11 @@ pub record UpdateKnown (n k : ℕ) (p : UpdateParts) : Type 0 where
   pub values : Loose n k p.found
   pub conditions : Few (condition_in n) k p.conditions
 
--- the statements so far, and the first piece of the next
+-- the statements so far, and the first terminal of the next
 abbrev pub StatementsKnown : ℕ → ℕ → Progress → Type 0
 StatementsKnown n k progress = list_all (statement_in n) progress.statements ≡ true
 
-abbrev pub NextKnown : ℕ → ℕ → Progress × Piece → Type 0
+abbrev pub NextKnown : ℕ → ℕ → Progress × Terminal → Type 0
 NextKnown n k s = StatementsKnown n k s.0 × (is_good_weight s.1.mark.weight ≡ true)
 
 select_later : (n k j : ℕ) (s : ParsedSelect) → k ≤ j → SelectSoFar n k s → SelectSoFar n j s
@@ -120,7 +120,7 @@ update_known n k p room known =
     (both (names_in n p.columns) (names_in n p.found.uses && conditions_in n p.conditions) (few_in (name_in n) k p.columns room known.columns)
     (both (names_in n p.found.uses) (conditions_in n p.conditions) (few_in (name_in n) k p.found.uses room known.values) (few_in (condition_in n) k p.conditions room known.conditions)))
 
-good_weight_of : (before : ℕ) (p : Piece) → is_good_weight p.mark.weight ≡ true → is_good_weight (weight_of before p) ≡ true
+good_weight_of : (before : ℕ) (p : Terminal) → is_good_weight p.mark.weight ≡ true → is_good_weight (weight_of before p) ≡ true
 good_weight_of before p h = by_place (nat_lt before p.mark.place)
   where
     by_place : (b : Bool) → is_good_weight (if b then p.mark.weight else 1) ≡ true
@@ -132,7 +132,7 @@ and_both true b x h e = both b x h e
 and_both false b x h e = cc
 
 -- one statement more
-one_more : (n k j : ℕ) (s : Progress × Piece) (body : Body) → NextKnown n k s → body_in n body ≡ true → StatementsKnown n j (with_statement s.0 s.1 body)
+one_more : (n k j : ℕ) (s : Progress × Terminal) (body : Body) → NextKnown n k s → body_in n body ≡ true → StatementsKnown n j (with_statement s.0 s.1 body)
 one_more n k j s body known h =
     let w = weight_of s.0.before s.1 in
     list_all-append (statement_in n) s.0.statements _
@@ -415,7 +415,7 @@ module _ (n : ℕ) (d : (x : Nesting) → Meaning (State x) (State x)) (nested :
 
   -- workloads
 
-  first_keeps : {kind : PieceKind} → Keeps c (StatementsKnown n) (Take (kind ∷ []) beside) (NextKnown n)
+  first_keeps : {kind : TerminalKind} → Keeps c (StatementsKnown n) (Take (kind ∷ []) beside) (NextKnown n)
   first_keeps = take_keeps c (λ k progress p room among good known. (known, good.1))
 
   statement_keeps : Keeps c (StatementsKnown n) printed.statement (StatementsKnown n)

@@ -12,9 +12,9 @@ use Rattle.sql_tokens.specs.Weight.{weight_length}
 use Rattle.sql_tokens.specs.Span.{LiesIn}
 use Rattle.sql_tokens.proofs.Exact.{form_some}
 use Rattle.sql_tokens.proofs.Places.{lies-cut}
-use Rattle.sql_reader.specs.declared.kind.PieceKind.TheVariants as kinds
-use Rattle.sql_reader.specs.declared.piece.Piece.{Piece}
-use Rattle.sql_reader.specs.declared.piece.Mark.{Mark}
+use Rattle.sql_reader.specs.declared.kind.TerminalKind.TheVariants as kinds
+use Rattle.sql_reader.specs.declared.terminal.Terminal.{Terminal}
+use Rattle.sql_reader.specs.declared.terminal.Mark.{Mark}
 use Rattle.sql_reader.specs.declared.parsed.Body.{Body}
 use Rattle.sql_reader.specs.declared.parsed.Body.TheVariants as bodies
 use Rattle.sql_reader.specs.declared.parsed.ParsedStatement.{ParsedStatement}
@@ -26,7 +26,7 @@ use Rattle.sql_reader.specs.Grammar.{starts, levels}
 use Rattle.sql_reader.specs.Printed as printed
 use Rattle.sql_reader.specs.Values.{place_of, weight_of, with_statement, no_statements, insert_body, update_body}
 use Rattle.sql_reader.specs.Valid.{span_in, statement_in, statements_in}
-use Rattle.sql_reader.specs.Pieces.{bytes_of, ArePieces, WithToken, IsPiece, no_mark, mark_or, mark_behind, is_weight, start_behind}
+use Rattle.sql_reader.specs.Terminals.{bytes_of, AreTerminals, WithToken, IsTerminal, no_mark, mark_or, mark_behind, is_weight, start_behind}
 use Rattle.sql_reader.specs.Words.{is_good_weight, last_digits, comment_weight}
 use Rattle.sql_reader.proofs.KindSets.{in_wider}
 use Rattle.sql_reader.proofs.Keeps.{Free, Scale, Keeps, AllGood, give_keeps, take_keeps, then_keeps, use_keeps, either_keeps, many_keeps, free_keeps}
@@ -34,7 +34,7 @@ use Rattle.sql_reader.proofs.Keeps as keeps
 use Rattle.sql_reader.proofs.KeptExpressions.{InText, text_scale, both}
 use Rattle.sql_reader.proofs.KeptStatements.{workload_keeps, all_nested}
 
--- each piece lies in the text, and its weight was judged
+-- each terminal lies in the text, and its weight was judged
 
 good_mark : (mark : Mark) (place : ℕ) (bytes : List ℕ) → is_good_weight mark.weight ≡ true → is_good_weight (mark_or mark place (comment_weight bytes)).weight ≡ true
 unfolding comment_weight
@@ -49,33 +49,33 @@ span_lies text t (some, in_text) =
     both (nat_le t.span.from t.span.to) (nat_le t.span.to (length text)) (le-leb t.span.from t.span.to (omega (arith, some))) (le-leb t.span.to (length text) in_text)
 
 module _ (text : List ℕ) (d : (x : Nesting) → Meaning (State x) (State x)) where
-  piece_good : (mark : Mark) (t : Token) (p : Piece) → LiesIn text t → is_good_weight mark.weight ≡ true → IsPiece text mark t p → InText (length text) p
-  piece_good mark t p lies good is =
+  terminal_good : (mark : Mark) (t : Token) (p : Terminal) → LiesIn text t → is_good_weight mark.weight ≡ true → IsTerminal text mark t p → InText (length text) p
+  terminal_good mark t p lies good is =
       (subst (λ s. span_in (length text) s ≡ true) (sym is.span) (span_lies text t lies), subst (λ m. is_good_weight m.weight ≡ true) (sym is.mark_is) good)
 
-  good_token : (weight : Bool) (t : Token) (ts : List Token) (mark : Mark) (pieces : List Piece) →
-      ((m : Mark) (ps : List Piece) → is_good_weight m.weight ≡ true → ArePieces text ts m ps → AllGood (text_scale (length text) d) ps) →
-      LiesIn text t → is_good_weight mark.weight ≡ true → WithToken text mark t (ArePieces text ts) weight pieces → AllGood (text_scale (length text) d) pieces
-  good_token true t ts mark pieces behind lies good are = behind (mark_behind text t mark) pieces (good_mark mark (t.span.from + 1) (bytes_of text t) good) are
-  good_token false t ts mark pieces behind lies good (p, rest, split, is, are) =
-      subst (AllGood (text_scale (length text) d)) (sym split) (piece_good mark t p lies good is, behind mark rest good are)
+  good_token : (weight : Bool) (t : Token) (ts : List Token) (mark : Mark) (terminals : List Terminal) →
+      ((m : Mark) (ps : List Terminal) → is_good_weight m.weight ≡ true → AreTerminals text ts m ps → AllGood (text_scale (length text) d) ps) →
+      LiesIn text t → is_good_weight mark.weight ≡ true → WithToken text mark t (AreTerminals text ts) weight terminals → AllGood (text_scale (length text) d) terminals
+  good_token true t ts mark terminals behind lies good are = behind (mark_behind text t mark) terminals (good_mark mark (t.span.from + 1) (bytes_of text t) good) are
+  good_token false t ts mark terminals behind lies good (p, rest, split, is, are) =
+      subst (AllGood (text_scale (length text) d)) (sym split) (terminal_good mark t p lies good is, behind mark rest good are)
 
-  good_pieces : (list : List Token) → All (LiesIn text) list → (mark : Mark) (pieces : List Piece) → is_good_weight mark.weight ≡ true → ArePieces text list mark pieces →
-      AllGood (text_scale (length text) d) pieces
-  good_pieces [] lies mark pieces good are = subst (AllGood (text_scale (length text) d)) (sym are) tt
-  good_pieces (t ∷ ts) lies mark pieces good are =
-      good_token (is_weight t.kind) t ts mark pieces (good_pieces ts (All-tail (LiesIn text) t ts lies)) (All-head (LiesIn text) t ts lies) good are
+  good_terminals : (list : List Token) → All (LiesIn text) list → (mark : Mark) (terminals : List Terminal) → is_good_weight mark.weight ≡ true → AreTerminals text list mark terminals →
+      AllGood (text_scale (length text) d) terminals
+  good_terminals [] lies mark terminals good are = subst (AllGood (text_scale (length text) d)) (sym are) tt
+  good_terminals (t ∷ ts) lies mark terminals good are =
+      good_token (is_weight t.kind) t ts mark terminals (good_terminals ts (All-tail (LiesIn text) t ts lies)) (All-head (LiesIn text) t ts lies) good are
 
--- there are at most as many pieces as bytes
+-- there are at most as many terminals as bytes
 
-few_behind : (text : List ℕ) (weight : Bool) (t : Token) (ts : List Token) (mark : Mark) (pieces : List Piece) → ((m : Mark) (ps : List Piece) → ArePieces text ts m ps → length ps ≤ length ts) →
-    WithToken text mark t (ArePieces text ts) weight pieces → length pieces ≤ length (t ∷ ts)
-few_behind text true t ts mark pieces behind are = omega (arith, behind (mark_behind text t mark) pieces are)
-few_behind text false t ts mark pieces behind (p, rest, split, is, are) = omega (arith, ap length split, behind mark rest are)
+few_behind : (text : List ℕ) (weight : Bool) (t : Token) (ts : List Token) (mark : Mark) (terminals : List Terminal) → ((m : Mark) (ps : List Terminal) → AreTerminals text ts m ps → length ps ≤ length ts) →
+    WithToken text mark t (AreTerminals text ts) weight terminals → length terminals ≤ length (t ∷ ts)
+few_behind text true t ts mark terminals behind are = omega (arith, behind (mark_behind text t mark) terminals are)
+few_behind text false t ts mark terminals behind (p, rest, split, is, are) = omega (arith, ap length split, behind mark rest are)
 
-few_pieces : (text : List ℕ) (list : List Token) (mark : Mark) (pieces : List Piece) → ArePieces text list mark pieces → length pieces ≤ length list
-few_pieces text [] mark pieces are = omega (arith, ap length are)
-few_pieces text (t ∷ ts) mark pieces are = few_behind text (is_weight t.kind) t ts mark pieces (few_pieces text ts) are
+few_terminals : (text : List ℕ) (list : List Token) (mark : Mark) (terminals : List Terminal) → AreTerminals text list mark terminals → length terminals ≤ length list
+few_terminals text [] mark terminals are = omega (arith, ap length are)
+few_terminals text (t ∷ ts) mark terminals are = few_behind text (is_weight t.kind) t ts mark terminals (few_terminals text ts) are
 
 one_weight : (at : ℕ) (o : Option ℕ) → length (weight_token at o) ≤ 1
 one_weight at None = omega arith
@@ -100,15 +100,15 @@ few_tokens at (p ∷ ps) text rest (behind, split, stands, cut) =
       length-append p.bytes behind,
     )
 
-pub few : (text : List ℕ) (list : List Token) (pieces : List Piece) → AreTokens text list → ArePieces text list no_mark pieces → length pieces ≤ length text
-few text list pieces tokens are =
-    omega (arith, few_pieces text list no_mark pieces are, ap length tokens.tokens, few_tokens 0 tokens.parts text [] tokens.cut)
+pub few : (text : List ℕ) (list : List Token) (terminals : List Terminal) → AreTokens text list → AreTerminals text list no_mark terminals → length terminals ≤ length text
+few text list terminals tokens are =
+    omega (arith, few_terminals text list no_mark terminals are, ap length tokens.tokens, few_tokens 0 tokens.parts text [] tokens.cut)
 
-weight_is_length : (n : ℕ) (d : (x : Nesting) → Meaning (State x) (State x)) (ps : List Piece) → keeps.weight_of (text_scale n d) ps ≡ length ps
+weight_is_length : (n : ℕ) (d : (x : Nesting) → Meaning (State x) (State x)) (ps : List Terminal) → keeps.weight_of (text_scale n d) ps ≡ length ps
 weight_is_length n d [] = refl
 weight_is_length n d (p ∷ ps) = omega (arith, weight_is_length n d ps)
 
--- a meaning has at most as many statements as its pieces have words that begin one
+-- a meaning has at most as many statements as its terminals have words that begin one
 
 one_longer : (xs : List ParsedStatement) (x : ParsedStatement) → length (xs ++ x ∷ []) ≡ length xs + 1
 one_longer xs x = omega (arith, length-append xs (x ∷ []))
@@ -120,25 +120,25 @@ one_if false = 0
 abbrev start_scale : ℕ → ((x : Nesting) → Meaning (State x) (State x)) → Scale
 start_scale limit d = record { weigh = λ p. one_if (has starts p.kind); limit = limit; Good = λ p. Unit {0}; deeper = d }
 
-all_good : (limit : ℕ) (d : (x : Nesting) → Meaning (State x) (State x)) (ps : List Piece) → AllGood (start_scale limit d) ps
+all_good : (limit : ℕ) (d : (x : Nesting) → Meaning (State x) (State x)) (ps : List Terminal) → AllGood (start_scale limit d) ps
 all_good limit d [] = tt
 all_good limit d (p ∷ ps) = (tt, all_good limit d ps)
 
 abbrev Counted : ℕ → Progress → Type 0
 Counted k progress = length progress.statements ≤ k
 
-abbrev Next : ℕ → Progress × Piece → Type 0
+abbrev Next : ℕ → Progress × Terminal → Type 0
 Next k s = length s.0.statements + 1 ≤ k
 
 module _ (limit : ℕ) (d : (x : Nesting) → Meaning (State x) (State x)) where
   abbrev c : Scale
   c = start_scale limit d
 
-  begins_one : (k : ℕ) (p : Piece) (progress : Progress) → has starts p.kind ≡ true → Counted k progress → Next (k + one_if (has starts p.kind)) (progress, p)
+  begins_one : (k : ℕ) (p : Terminal) (progress : Progress) → has starts p.kind ≡ true → Counted k progress → Next (k + one_if (has starts p.kind)) (progress, p)
   unfolding one_if
   begins_one k p progress starts_one known = omega (arith, known, ap one_if starts_one)
 
-  one_more : (k i : ℕ) (s : Progress × Piece) (body : Body) → Next k s → Counted (k + i) (with_statement s.0 s.1 body)
+  one_more : (k i : ℕ) (s : Progress × Terminal) (body : Body) → Next k s → Counted (k + i) (with_statement s.0 s.1 body)
   one_more k i s body known = omega (arith, known, one_longer s.0.statements (record { place = place_of s.1; weight = weight_of s.0.before s.1; body = body }))
 
   statement_counted : Keeps c Counted printed.statement Counted
@@ -165,7 +165,7 @@ module _ (limit : ℕ) (d : (x : Nesting) → Meaning (State x) (State x)) where
       then_keeps c Counted maybe_counted
       (many_keeps c (then_keeps c Counted (take_keeps c (λ k progress p room among good known. omega (arith, known))) maybe_counted))
 
-starts_behind : (limit : ℕ) (d : (x : Nesting) → Meaning (State x) (State x)) (n : ℕ) (p : Piece) (ps : List Piece) (b : Bool) →
+starts_behind : (limit : ℕ) (d : (x : Nesting) → Meaning (State x) (State x)) (n : ℕ) (p : Terminal) (ps : List Terminal) (b : Bool) →
     ((m : ℕ) → start_behind m ps ≡ None → keeps.weight_of (start_scale limit d) ps ≤ m) → has starts p.kind ≡ b → start_behind n (p ∷ ps) ≡ None →
     keeps.weight_of (start_scale limit d) (p ∷ ps) ≤ n
 unfolding one_if
@@ -174,22 +174,22 @@ starts_behind limit d zero p ps false behind e none = omega (arith, ap one_if e,
 starts_behind limit d (suc n) p ps true behind e none = omega (arith, ap one_if e, behind n cc)
 starts_behind limit d (suc n) p ps false behind e none = omega (arith, ap one_if e, behind (suc n) cc)
 
-starts_at_most : (limit : ℕ) (d : (x : Nesting) → Meaning (State x) (State x)) (ps : List Piece) (n : ℕ) → start_behind n ps ≡ None → keeps.weight_of (start_scale limit d) ps ≤ n
+starts_at_most : (limit : ℕ) (d : (x : Nesting) → Meaning (State x) (State x)) (ps : List Terminal) (n : ℕ) → start_behind n ps ≡ None → keeps.weight_of (start_scale limit d) ps ≤ n
 starts_at_most limit d [] n none = omega arith
 starts_at_most limit d (p ∷ ps) n none = starts_behind limit d n p ps (has starts p.kind) (starts_at_most limit d ps) refl none
 
 -- what a text means as a workload keeps the limits
-pub limits : (text : List ℕ) (list : List Token) (pieces : List Piece) (progress : Progress) → length text < 2 ^ 32 → AreTokens text list → ArePieces text list no_mark pieces →
-    start_behind 1000 pieces ≡ None → IsRead printed.grammar levels printed.workload no_statements pieces progress →
+pub limits : (text : List ℕ) (list : List Token) (terminals : List Terminal) (progress : Progress) → length text < 2 ^ 32 → AreTokens text list → AreTerminals text list no_mark terminals →
+    start_behind 1000 terminals ≡ None → IsRead printed.grammar levels printed.workload no_statements terminals progress →
     statements_in (length text) progress.statements ≡ true
-limits text list pieces progress short tokens are no_start is =
+limits text list terminals progress short tokens are no_start is =
     let n = length text in
     let d = IsNested printed.grammar levels in
     let lies = subst (All (LiesIn text)) (sym tokens.tokens) (lies-cut tokens.parts text [] tokens.cut) in
-    let weight = keeps.weight_of (text_scale n d) pieces in
-    let kept = (workload_keeps n d (all_nested n levels)).keeps 0 weight no_statements pieces progress (omega arith)
-    (omega (arith, weight_is_length n d pieces, few text list pieces tokens are, short)) (good_pieces text d list lies no_mark pieces refl are) refl is in
-    let begun = keeps.weight_of (start_scale 1001 d) pieces in
-    let at_most = starts_at_most 1001 d pieces 1000 no_start in
-    let counted = (workload_counted 1001 d).keeps 0 begun no_statements pieces progress (omega arith) (omega (arith, at_most)) (all_good 1001 d pieces) (omega arith) is in
+    let weight = keeps.weight_of (text_scale n d) terminals in
+    let kept = (workload_keeps n d (all_nested n levels)).keeps 0 weight no_statements terminals progress (omega arith)
+    (omega (arith, weight_is_length n d terminals, few text list terminals tokens are, short)) (good_terminals text d list lies no_mark terminals refl are) refl is in
+    let begun = keeps.weight_of (start_scale 1001 d) terminals in
+    let at_most = starts_at_most 1001 d terminals 1000 no_start in
+    let counted = (workload_counted 1001 d).keeps 0 begun no_statements terminals progress (omega arith) (omega (arith, at_most)) (all_good 1001 d terminals) (omega arith) is in
     both (nat_le (length progress.statements) 1000) (list_all (statement_in n) progress.statements) (le-leb (length progress.statements) 1000 (omega (arith, counted, at_most))) kept

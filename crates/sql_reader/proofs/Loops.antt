@@ -1,8 +1,8 @@
 -- Each repetition of the grammar, turn by turn.
 use Rattle.std.proofs.Common.{◌≡◌, ℕ, zero, suc, ◌<◌, ◌≤◌, Bool, true, false, List, [], ◌∷◌, ◌++◌, length, sym, refl, ap, ◌∙◌, subst, arith, length-append, le_refl, if◌then◌else◌}
-use Rattle.sql_reader.specs.declared.kind.PieceKind.{PieceKind}
-use Rattle.sql_reader.specs.declared.kind.PieceKind.TheVariants as kinds
-use Rattle.sql_reader.specs.declared.piece.Piece.{Piece}
+use Rattle.sql_reader.specs.declared.kind.TerminalKind.{TerminalKind}
+use Rattle.sql_reader.specs.declared.kind.TerminalKind.TheVariants as kinds
+use Rattle.sql_reader.specs.declared.terminal.Terminal.{Terminal}
 use Rattle.sql_reader.specs.Rule.{Rule, Many, Reading, Read, Stuck, ◌>>=◌, begins, Reader, repeated, IsNested, read_nested, may_be_empty, good, IsOver}
 use Rattle.sql_reader.specs.declared.cursor.Unread.{Unread}
 use Rattle.sql_reader.specs.declared.cursor.Unread.TheVariants.{Memory, Here}
@@ -15,12 +15,12 @@ use Rattle.sql_reader.proofs.Exactly.{levels_sensible}
 use Rattle.sql_reader.proofs.Good.{good_grammar}
 
 -- where reading stops, it stops before what would stand behind
-stops_behind : {A B : Type 0} (stop : Unread) (rest : List Piece) (x : Reading A) (f : Reader A B) → StopsAt stop x rest → StopsAt stop (x >>= f) rest
+stops_behind : {A B : Type 0} (stop : Unread) (rest : List Terminal) (x : Reading A) (f : Reader A B) → StopsAt stop x rest → StopsAt stop (x >>= f) rest
 stops_behind Memory rest x f h = tt
 stops_behind {A} {B} Here rest x f h = ap (λ (y : Reading A). y >>= f) h
 
 -- what a rule reads that reads something leaves less
-pub takes_some : {A B : Type 0} (rule : Rule A B) → good borders rule ≡ true → may_be_empty rule ≡ false → (n : ℕ) (a : A) (ps : List Piece) (b : B) (rest : List Piece) →
+pub takes_some : {A B : Type 0} (rule : Rule A B) → good borders rule ≡ true → may_be_empty rule ≡ false → (n : ℕ) (a : A) (ps : List Terminal) (b : B) (rest : List Terminal) →
     reads grammar n rule a ps ≡ Read b rest → length rest < length ps
 takes_some {A} {B} rule g full n a ps b rest e =
     let s = levels_sensible borders grammar good_grammar n in
@@ -28,18 +28,18 @@ takes_some {A} {B} rule g full n a ps b rest e =
     subst (λ (x : Reading B). Explains (IsOver (IsNested grammar n) rule) a ps x) e (right borders (IsNested grammar n) (read_nested grammar n) s rule g a ps) in
     less meant.0 meant.1 meant.2
   where
-    less : (front : List Piece) → ps ≡ front ++ rest → IsOver (IsNested grammar n) rule a front b → length rest < length ps
+    less : (front : List Terminal) → ps ≡ front ++ rest → IsOver (IsNested grammar n) rule a front b → length rest < length ps
     less [] e h = not_both (may_be_empty rule) (empty_only borders (IsNested grammar n) (read_nested grammar n) (levels_sensible borders grammar good_grammar n) rule a b h) full
     less (p ∷ front) e h = omega (arith, ap length e, length-append front rest)
 
 -- two ways to go on that agree behind a reading
-same_behind : {A B : Type 0} (x : Reading A) (f g : Reader A B) → ((m : A) (rest : List Piece) → x ≡ Read m rest → f m rest ≡ g m rest) → (x >>= f) ≡ (x >>= g)
+same_behind : {A B : Type 0} (x : Reading A) (f g : Reader A B) → ((m : A) (rest : List Terminal) → x ≡ Read m rest → f m rest ≡ g m rest) → (x >>= f) ≡ (x >>= g)
 same_behind (Stuck rest) f g h = refl
 same_behind (Read m rest) f g h = h m rest refl
 
 -- turns that take something end, however many may be taken
-same_turns : {A : Type 0} (kinds : List PieceKind) (turn : Reader A A) → ((a : A) (ps : List Piece) (m : A) (rest : List Piece) → turn a ps ≡ Read m rest → length rest < length ps) →
-    (n n2 : ℕ) (a : A) (ps : List Piece) → length ps ≤ n → length ps ≤ n2 → repeated n kinds turn a ps ≡ repeated n2 kinds turn a ps
+same_turns : {A : Type 0} (kinds : List TerminalKind) (turn : Reader A A) → ((a : A) (ps : List Terminal) (m : A) (rest : List Terminal) → turn a ps ≡ Read m rest → length rest < length ps) →
+    (n n2 : ℕ) (a : A) (ps : List Terminal) → length ps ≤ n → length ps ≤ n2 → repeated n kinds turn a ps ≡ repeated n2 kinds turn a ps
 same_turns kinds turn less zero n2 a [] room room2 = sym (repeated_ends n2 kinds turn a [] refl)
 same_turns kinds turn less zero n2 a (p ∷ ps) room room2 = absurd (omega arith)
 same_turns kinds turn less (suc n) zero a [] room room2 = refl
@@ -50,12 +50,12 @@ same_turns {A} kinds turn less (suc n) (suc n2) a ps room room2 =
     (λ m rest e. let l = less a ps m rest e in same_turns kinds turn less n n2 m rest (omega arith) (omega arith)))
 
 -- What one turn of a repetition is, where these kinds begin one: one look ahead reads it, and it is never empty.
-pub record IsTurn {A : Type 0} (kinds : List PieceKind) (rule : Rule A A) : Type 0 where
+pub record IsTurn {A : Type 0} (kinds : List TerminalKind) (rule : Rule A A) : Type 0 where
   pub one_look : good borders rule ≡ true
   pub some : may_be_empty rule ≡ false
 
 -- one turn, and those behind it
-pub many_goes : {A : Type 0} (kinds : List PieceKind) (rule : Rule A A) → good borders rule ≡ true → may_be_empty rule ≡ false → (n : ℕ) (a : A) (ps : List Piece) → begins kinds ps ≡ true →
+pub many_goes : {A : Type 0} (kinds : List TerminalKind) (rule : Rule A A) → good borders rule ≡ true → may_be_empty rule ≡ false → (n : ℕ) (a : A) (ps : List Terminal) → begins kinds ps ≡ true →
     reads grammar n (Many kinds rule) a ps ≡ (reads grammar n rule a ps >>= reads grammar n (Many kinds rule))
 many_goes kinds rule g full n a [] k = absurd cc
 many_goes {A} kinds rule g full n a (p ∷ ps) k =
@@ -67,27 +67,27 @@ many_goes {A} kinds rule g full n a (p ∷ ps) k =
         let l = takes_some rule g full n a (p ∷ ps) m rest e in
         same_turns kinds (reads grammar n rule) (takes_some rule g full n) (length ps) (length rest) m rest (omega arith) (le_refl (length rest))
 
-module _ {A : Type 0} {kinds : List PieceKind} {rule : Rule A A} (turn : IsTurn kinds rule) (n : ℕ) where
+module _ {A : Type 0} {kinds : List TerminalKind} {rule : Rule A A} (turn : IsTurn kinds rule) (n : ℕ) where
   -- a turn leaves less
-  pub takes : (a : A) (ps : List Piece) (b : A) (rest : List Piece) → reads grammar n rule a ps ≡ Read b rest → length rest < length ps
+  pub takes : (a : A) (ps : List Terminal) (b : A) (rest : List Terminal) → reads grammar n rule a ps ≡ Read b rest → length rest < length ps
   takes a ps b rest e = takes_some rule turn.one_look turn.some n a ps b rest e
 
-  goes : (a : A) (ps : List Piece) → begins kinds ps ≡ true → reads grammar n (Many kinds rule) a ps ≡ (reads grammar n rule a ps >>= reads grammar n (Many kinds rule))
+  goes : (a : A) (ps : List Terminal) → begins kinds ps ≡ true → reads grammar n (Many kinds rule) a ps ≡ (reads grammar n rule a ps >>= reads grammar n (Many kinds rule))
   goes a ps k = many_goes kinds rule turn.one_look turn.some n a ps k
 
   -- what is left to read behind a turn is what was to be read
-  pub keep : (x : Reading A) (a : A) (ps : List Piece) (b : A) (rest : List Piece) → reads grammar n (Many kinds rule) a ps ≡ x → begins kinds ps ≡ true →
+  pub keep : (x : Reading A) (a : A) (ps : List Terminal) (b : A) (rest : List Terminal) → reads grammar n (Many kinds rule) a ps ≡ x → begins kinds ps ≡ true →
       reads grammar n rule a ps ≡ Read b rest → reads grammar n (Many kinds rule) b rest ≡ x
   keep x a ps b rest i k e = sym (goes a ps k ∙ ap (λ (y : Reading A). y >>= reads grammar n (Many kinds rule)) e) ∙ i
 
   -- where a turn stops, the repetition does
-  pub exit : (x : Reading A) (a : A) (ps : List Piece) (stop : Unread) (rest : List Piece) → reads grammar n (Many kinds rule) a ps ≡ x → begins kinds ps ≡ true →
+  pub exit : (x : Reading A) (a : A) (ps : List Terminal) (stop : Unread) (rest : List Terminal) → reads grammar n (Many kinds rule) a ps ≡ x → begins kinds ps ≡ true →
       StopsAt stop (reads grammar n rule a ps) rest → StopsAt stop x rest
   exit x a ps stop rest i k e =
       subst (λ (y : Reading A). StopsAt stop y rest) (sym (goes a ps k) ∙ i) (stops_behind stop rest (reads grammar n rule a ps) (reads grammar n (Many kinds rule)) e)
 
   -- where no other turn begins, the repetition ends
-  pub end : (x : Reading A) (a : A) (ps : List Piece) → reads grammar n (Many kinds rule) a ps ≡ x → begins kinds ps ≡ false → x ≡ Read a ps
+  pub end : (x : Reading A) (a : A) (ps : List Terminal) → reads grammar n (Many kinds rule) a ps ≡ x → begins kinds ps ≡ false → x ≡ Read a ps
   end x a ps i k = sym i ∙ repeated_ends (length ps) kinds (reads grammar n rule) a ps k
 
 -- the turns of the grammar

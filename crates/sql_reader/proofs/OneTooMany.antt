@@ -3,8 +3,8 @@ use Rattle.std.proofs.Common.{◌≡◌, ◌⊎◌, ℕ, zero, suc, ◌+◌, ◌
 use Rattle.sql_tokens.specs.declared.token.Token.{Token}
 use Rattle.sql_tokens.specs.declared.token.Span.{Span}
 use Rattle.sql_tokens.proofs.Places.{InOrder, in_order-cut}
-use Rattle.sql_reader.specs.declared.piece.Piece.{Piece}
-use Rattle.sql_reader.specs.declared.piece.Mark.{Mark}
+use Rattle.sql_reader.specs.declared.terminal.Terminal.{Terminal}
+use Rattle.sql_reader.specs.declared.terminal.Mark.{Mark}
 use Rattle.sql_reader.specs.declared.parsed.ParsedStatement.{ParsedStatement}
 use Rattle.sql_reader.specs.declared.parsed.SqlFault.{SqlFault}
 use Rattle.sql_reader.specs.declared.parsed.SqlFault.TheVariants as faults
@@ -12,104 +12,104 @@ use Rattle.sql_reader.specs.declared.parts.Progress.{Progress}
 use Rattle.sql_reader.specs.Kinds.{has}
 use Rattle.sql_reader.specs.Grammar.{starts}
 use Rattle.sql_reader.specs.Values.{place_of, no_statements}
-use Rattle.sql_reader.specs.Pieces.{ArePieces, WithToken, no_mark, is_weight, mark_behind, bad_weight, start_behind, starts_in, places_of}
+use Rattle.sql_reader.specs.Terminals.{AreTerminals, WithToken, no_mark, is_weight, mark_behind, bad_weight, start_behind, starts_in, places_of}
 use Rattle.sql_reader.specs.Workload.{MeansStatements, left_out, grammar_fault, GrammarSays, place_of_fault, earlier, IsFirstFault, HasSqlFault, BeginsOneTooMany}
 use Rattle.sql_reader.proofs.Begun.{begun_if, starts-append, begin_at_starts}
 
 -- the word behind n others that begin a statement
 
-record Found (n : ℕ) (ps : List Piece) (place : ℕ) : Type 0 where
-  front : List Piece
-  piece : Piece
-  rest : List Piece
-  split : ps ≡ front ++ piece ∷ rest
-  at_place : place_of piece ≡ place
-  is_start : has starts piece.kind ≡ true
+record Found (n : ℕ) (ps : List Terminal) (place : ℕ) : Type 0 where
+  front : List Terminal
+  terminal : Terminal
+  rest : List Terminal
+  split : ps ≡ front ++ terminal ∷ rest
+  at_place : place_of terminal ≡ place
+  is_start : has starts terminal.kind ≡ true
   count : length (starts_in front) ≡ n
 
-passed : (n : ℕ) (p : Piece) (ps : List Piece) (place : ℕ) → has starts p.kind ≡ false → Found n ps place → Found n (p ∷ ps) place
+passed : (n : ℕ) (p : Terminal) (ps : List Terminal) (place : ℕ) → has starts p.kind ≡ false → Found n ps place → Found n (p ∷ ps) place
 passed n p ps place k f = record {
   front = p ∷ f.front;
-  piece = f.piece;
+  terminal = f.terminal;
   rest = f.rest;
-  split = ap (λ (l : List Piece). p ∷ l) f.split;
+  split = ap (λ (l : List Terminal). p ∷ l) f.split;
   at_place = f.at_place;
   is_start = f.is_start;
   count = ap length (begun_if false p f.front k) ∙ f.count;
 }
 
-counted : (n : ℕ) (p : Piece) (ps : List Piece) (place : ℕ) → has starts p.kind ≡ true → Found n ps place → Found (suc n) (p ∷ ps) place
+counted : (n : ℕ) (p : Terminal) (ps : List Terminal) (place : ℕ) → has starts p.kind ≡ true → Found n ps place → Found (suc n) (p ∷ ps) place
 counted n p ps place k f = record {
   front = p ∷ f.front;
-  piece = f.piece;
+  terminal = f.terminal;
   rest = f.rest;
-  split = ap (λ (l : List Piece). p ∷ l) f.split;
+  split = ap (λ (l : List Terminal). p ∷ l) f.split;
   at_place = f.at_place;
   is_start = f.is_start;
   count = ap length (begun_if true p f.front k) ∙ ap suc f.count;
 }
 
-found_here : (p : Piece) (ps : List Piece) (place : ℕ) (c : Bool) → has starts p.kind ≡ c → (start_behind zero ps ≡ Some place → Found zero ps place) →
+found_here : (p : Terminal) (ps : List Terminal) (place : ℕ) (c : Bool) → has starts p.kind ≡ c → (start_behind zero ps ≡ Some place → Found zero ps place) →
     (if c then Some (place_of p) else start_behind zero ps) ≡ Some place → Found zero (p ∷ ps) place
-found_here p ps place true k behind e = record { front = []; piece = p; rest = ps; split = refl; at_place = cc; is_start = k; count = refl }
+found_here p ps place true k behind e = record { front = []; terminal = p; rest = ps; split = refl; at_place = cc; is_start = k; count = refl }
 found_here p ps place false k behind e = passed zero p ps place k (behind e)
 
-found_later : (n : ℕ) (p : Piece) (ps : List Piece) (place : ℕ) (c : Bool) → has starts p.kind ≡ c → (start_behind n ps ≡ Some place → Found n ps place) → (start_behind (suc n) ps ≡ Some place → Found (suc n) ps place) →
+found_later : (n : ℕ) (p : Terminal) (ps : List Terminal) (place : ℕ) (c : Bool) → has starts p.kind ≡ c → (start_behind n ps ≡ Some place → Found n ps place) → (start_behind (suc n) ps ≡ Some place → Found (suc n) ps place) →
     (if c then start_behind n ps else start_behind (suc n) ps) ≡ Some place → Found (suc n) (p ∷ ps) place
 found_later n p ps place true k one same e = counted n p ps place k (one e)
 found_later n p ps place false k one same e = passed (suc n) p ps place k (same e)
 
-find_start : (n : ℕ) (ps : List Piece) (place : ℕ) → start_behind n ps ≡ Some place → Found n ps place
+find_start : (n : ℕ) (ps : List Terminal) (place : ℕ) → start_behind n ps ≡ Some place → Found n ps place
 find_start zero [] place e = absurd cc
 find_start (suc n) [] place e = absurd cc
 find_start zero (p ∷ ps) place e = found_here p ps place (has starts p.kind) refl (find_start zero ps place) e
 find_start (suc n) (p ∷ ps) place e = found_later n p ps place (has starts p.kind) refl (find_start n ps place) (find_start (suc n) ps place) e
 
--- pieces stand in order
+-- terminals stand in order
 
-abbrev After : ℕ → List Piece → Type 0
+abbrev After : ℕ → List Terminal → Type 0
 After at [] = Unit {0}
 After at (p ∷ ps) = (at ≤ p.span.from) × After p.span.from ps
 
-after_earlier : (a b : ℕ) (ps : List Piece) → a ≤ b → After b ps → After a ps
+after_earlier : (a b : ℕ) (ps : List Terminal) → a ≤ b → After b ps → After a ps
 after_earlier a b [] l h = tt
 after_earlier a b (p ∷ ps) l h = (omega (arith, l, h.0), h.1)
 
-one_token : (text : List ℕ) (t : Token) (ts : List Token) (a to : ℕ) (mark : Mark) (ps : List Piece) (weight : Bool) → InOrder a to (t ∷ ts) →
-    ((m : Mark) (qs : List Piece) → ArePieces text ts m qs → After t.span.to qs) → WithToken text mark t (ArePieces text ts) weight ps → After a ps
+one_token : (text : List ℕ) (t : Token) (ts : List Token) (a to : ℕ) (mark : Mark) (ps : List Terminal) (weight : Bool) → InOrder a to (t ∷ ts) →
+    ((m : Mark) (qs : List Terminal) → AreTerminals text ts m qs → After t.span.to qs) → WithToken text mark t (AreTerminals text ts) weight ps → After a ps
 one_token text t ts a to mark ps true order behind are =
     after_earlier a t.span.to ps (omega (arith, order.0, order.1)) (behind (mark_behind text t mark) ps are)
 one_token text t ts a to mark ps false order behind (p, rest, split, is, are) =
     let from = ap (λ (s : Span). s.from) is.span in
     subst (After a) (sym split) (omega (arith, order.0, from), after_earlier p.span.from t.span.to rest (omega (arith, order.1, from)) (behind mark rest are))
 
-ordered : (text : List ℕ) (list : List Token) (a to : ℕ) → InOrder a to list → (mark : Mark) (ps : List Piece) → ArePieces text list mark ps → After a ps
+ordered : (text : List ℕ) (list : List Token) (a to : ℕ) → InOrder a to list → (mark : Mark) (ps : List Terminal) → AreTerminals text list mark ps → After a ps
 ordered text [] a to order mark ps are = subst (After a) (sym are) tt
 ordered text (t ∷ ts) a to order mark ps are = one_token text t ts a to mark ps (is_weight t.kind) order (ordered text ts t.span.to to order.2) are
 
-after_one : (a : ℕ) (front : List Piece) (p : Piece) (rest : List Piece) → After a (front ++ p ∷ rest) → a ≤ p.span.from
+after_one : (a : ℕ) (front : List Terminal) (p : Terminal) (rest : List Terminal) → After a (front ++ p ∷ rest) → a ≤ p.span.from
 after_one a [] p rest h = h.0
 after_one a (q ∷ front) p rest h = omega (arith, h.0, after_one q.span.from front p rest h.1)
 
--- the pieces part in front of a piece, or behind it
+-- the terminals part in front of a terminal, or behind it
 
-abbrev Behind : List Piece → List Piece → Piece → Type 0
-Behind taken front p = (middle : List Piece) × (taken ≡ front ++ p ∷ middle)
+abbrev Behind : List Terminal → List Terminal → Terminal → Type 0
+Behind taken front p = (middle : List Terminal) × (taken ≡ front ++ p ∷ middle)
 
-abbrev Before : List Piece → Piece → Type 0
-Before left p = (q : Piece) × (more : List Piece) × (left ≡ q ∷ more) × (q.span.from ≤ p.span.from)
+abbrev Before : List Terminal → Terminal → Type 0
+Before left p = (q : Terminal) × (more : List Terminal) × (left ≡ q ∷ more) × (q.span.from ≤ p.span.from)
 
-part : (taken left front : List Piece) (p : Piece) (rest : List Piece) (a : ℕ) → taken ++ left ≡ front ++ p ∷ rest → After a (front ++ p ∷ rest) → Behind taken front p ⊎ Before left p
+part : (taken left front : List Terminal) (p : Terminal) (rest : List Terminal) (a : ℕ) → taken ++ left ≡ front ++ p ∷ rest → After a (front ++ p ∷ rest) → Behind taken front p ⊎ Before left p
 part [] left [] p rest a e h = inr (p, rest, e, le_refl p.span.from)
 part [] left (q ∷ front) p rest a e h = inr (q, front ++ p ∷ rest, e, after_one q.span.from front p rest h.1)
 part (f ∷ taken) left [] p rest a e h =
     let same : f ≡ p = cc in
-    inl (taken, ap (λ (x : Piece). x ∷ taken) same)
+    inl (taken, ap (λ (x : Terminal). x ∷ taken) same)
 part (f ∷ taken) left (q ∷ front) p rest a e h =
     let same : f ≡ q = cc in
     let tails : taken ++ left ≡ front ++ p ∷ rest = cc in
     elim (part taken left front p rest q.span.from tails h.1) [
-      | inl b ↦ inl (b.0, ap (λ (l : List Piece). f ∷ l) b.1 ∙ ap (λ (x : Piece). x ∷ (front ++ p ∷ b.0)) same)
+      | inl b ↦ inl (b.0, ap (λ (l : List Terminal). f ∷ l) b.1 ∙ ap (λ (x : Terminal). x ∷ (front ++ p ∷ b.0)) same)
       | inr b ↦ inr b
     ]
 
@@ -142,16 +142,16 @@ chosen (Some f) (Some o) place never e = by_place (nat_lt (place_of_fault o) (pl
         (is_other, subst (λ (x : SqlFault). nat_lt (place_of_fault x) (place_of_fault f) ≡ true) (sym same) k)
     by_place false k = absurd (never (sym (subst (λ (c : Bool). Some (faults.TooManyStatements place) ≡ (if c then Some o else Some f)) k e)))
 
--- a fault of the grammar stands at its piece, and is another one
+-- a fault of the grammar stands at its terminal, and is another one
 
-place_of_grammar : (end : ℕ) (q : Piece) (more : List Piece) → place_of_fault (grammar_fault end (q ∷ more)) ≡ place_of q
+place_of_grammar : (end : ℕ) (q : Terminal) (more : List Terminal) → place_of_fault (grammar_fault end (q ∷ more)) ≡ place_of q
 place_of_grammar end q more = by_kind (has left_out q.kind)
   where
     by_kind : (c : Bool) → place_of_fault (if c then faults.Unsupported (place_of q) else faults.Syntax (place_of q)) ≡ place_of q
     by_kind true = refl
     by_kind false = refl
 
-other_fault : (end : ℕ) (rest : List Piece) (place : ℕ) → grammar_fault end rest ≡ faults.TooManyStatements place → ⊥
+other_fault : (end : ℕ) (rest : List Terminal) (place : ℕ) → grammar_fault end rest ≡ faults.TooManyStatements place → ⊥
 other_fault end [] place e = cc
 other_fault end (q ∷ more) place e = by_kind (has left_out q.kind) e
   where
@@ -159,7 +159,7 @@ other_fault end (q ∷ more) place e = by_kind (has left_out q.kind) e
     by_kind true h = cc
     by_kind false h = cc
 
-not_grammar : (end : ℕ) (ps : List Piece) (progress : Progress) (g : Option SqlFault) (place : ℕ) → GrammarSays end ps progress g → g ≡ Some (faults.TooManyStatements place) → ⊥
+not_grammar : (end : ℕ) (ps : List Terminal) (progress : Progress) (g : Option SqlFault) (place : ℕ) → GrammarSays end ps progress g → g ≡ Some (faults.TooManyStatements place) → ⊥
 not_grammar end ps progress None place says e = cc
 not_grammar end ps progress (Some f) place (rest, fails, is) e =
     let same : f ≡ faults.TooManyStatements place = cc in
@@ -168,26 +168,26 @@ not_grammar end ps progress (Some f) place (rest, fails, is) e =
 nat_lt_is : (a b : ℕ) → nat_lt a b ≡ true → a < b
 nat_lt_is a b h = search (tests, rules)
 
--- some workload goes on through the piece
-abbrev Through : List Piece → Piece → Type 0
-Through front p = (more : List Piece) × (progress : Progress) × MeansStatements no_statements (front ++ p ∷ more) progress
+-- some workload goes on through the terminal
+abbrev Through : List Terminal → Terminal → Type 0
+Through front p = (more : List Terminal) × (progress : Progress) × MeansStatements no_statements (front ++ p ∷ more) progress
 
-goes_through : (end : ℕ) (ps : List Piece) (progress : Progress) (g : Option SqlFault) (front : List Piece) (p : Piece) (rest : List Piece) → ps ≡ front ++ p ∷ rest → After 0 ps →
+goes_through : (end : ℕ) (ps : List Terminal) (progress : Progress) (g : Option SqlFault) (front : List Terminal) (p : Terminal) (rest : List Terminal) → ps ≡ front ++ p ∷ rest → After 0 ps →
     Later (place_of p) g → GrammarSays end ps progress g → Through front p
 goes_through end ps progress None front p rest split order later says =
-    (rest, progress, subst (λ (l : List Piece). MeansStatements no_statements l progress) split says)
+    (rest, progress, subst (λ (l : List Terminal). MeansStatements no_statements l progress) split says)
 goes_through end ps progress (Some f) front p rest split order later (left, fails, is) =
     elim (part fails.front left front p rest 0 (sym fails.split ∙ split) (subst (After 0) split order)) [
       | inl (middle, taken) ↦ go middle taken
-      | inr (q, more, begins, l) ↦ absurd (omega (arith, nat_lt_is (place_of p) (place_of_fault f) later, ap place_of_fault is, ap (λ (x : List Piece). place_of_fault (grammar_fault end x)) begins, place_of_grammar end q more, l))
+      | inr (q, more, begins, l) ↦ absurd (omega (arith, nat_lt_is (place_of p) (place_of_fault f) later, ap place_of_fault is, ap (λ (x : List Terminal). place_of_fault (grammar_fault end x)) begins, place_of_grammar end q more, l))
     ]
   where
-    go : (middle : List Piece) → fails.front ≡ front ++ p ∷ middle → Through front p
+    go : (middle : List Terminal) → fails.front ≡ front ++ p ∷ middle → Through front p
     go middle taken =
         let (more, b, means) = fails.before in (
           middle ++ more,
           b,
-          subst (λ (l : List Piece). MeansStatements no_statements l b) (ap (λ (l : List Piece). l ++ more) taken ∙ append_assoc front (p ∷ middle) more) means,
+          subst (λ (l : List Terminal). MeansStatements no_statements l b) (ap (λ (l : List Terminal). l ++ more) taken ∙ append_assoc front (p ∷ middle) more) means,
         )
 
 -- the statement whose place stands behind so many others
@@ -211,19 +211,19 @@ part_at (s ∷ xs) (l ∷ ls) x rs e =
 
 first_too_many : (text : List ℕ) (place : ℕ) → IsFirstFault text (faults.TooManyStatements place) → BeginsOneTooMany text place
 first_too_many text place (statements, says) =
-    let picked = chosen says.of_grammar _ place (not_grammar (length text + 1) says.pieces says.progress says.of_grammar place says.says) says.first in
-    let f = find_start 1000 says.pieces place (chosen_start (bad_weight text says.list) (start_behind 1000 says.pieces) place picked.0) in
+    let picked = chosen says.of_grammar _ place (not_grammar (length text + 1) says.terminals says.progress says.of_grammar place says.says) says.first in
+    let f = find_start 1000 says.terminals place (chosen_start (bad_weight text says.list) (start_behind 1000 says.terminals) place picked.0) in
     let order = subst (InOrder 0 (0 + length text)) (sym says.are_tokens.tokens) (in_order-cut says.are_tokens.parts 0 text [] says.are_tokens.cut) in
-    let through = goes_through (length text + 1) says.pieces says.progress says.of_grammar f.front f.piece f.rest f.split (ordered text says.list 0 (0 + length text) order no_mark says.pieces says.are_pieces)
+    let through = goes_through (length text + 1) says.terminals says.progress says.of_grammar f.front f.terminal f.rest f.split (ordered text says.list 0 (0 + length text) order no_mark says.terminals says.are_terminals)
     (subst (λ (n : ℕ). Later n says.of_grammar) (sym f.at_place) picked.1) says.says in
     let (more, progress, means) = through in
-    let places : places_of progress.statements ≡ starts_in f.front ++ place_of f.piece ∷ starts_in more =
-    begin_at_starts (f.front ++ f.piece ∷ more) progress means ∙ starts-append f.front (f.piece ∷ more) ∙ ap (λ (l : List ℕ). starts_in f.front ++ l) (begun_if true f.piece more f.is_start) in
-    let p = part_at progress.statements (starts_in f.front) (place_of f.piece) (starts_in more) places in
+    let places : places_of progress.statements ≡ starts_in f.front ++ place_of f.terminal ∷ starts_in more =
+    begin_at_starts (f.front ++ f.terminal ∷ more) progress means ∙ starts-append f.front (f.terminal ∷ more) ∙ ap (λ (l : List ℕ). starts_in f.front ++ l) (begun_if true f.terminal more f.is_start) in
+    let p = part_at progress.statements (starts_in f.front) (place_of f.terminal) (starts_in more) places in
     record {
       list = says.list;
       front = f.front;
-      piece = f.piece;
+      terminal = f.terminal;
       rest = f.rest;
       more = more;
       progress = progress;
@@ -231,7 +231,7 @@ first_too_many text place (statements, says) =
       statement = p.statement;
       after = p.after;
       are_tokens = says.are_tokens;
-      are_pieces = subst (λ (l : List Piece). ArePieces text says.list no_mark l) f.split says.are_pieces;
+      are_terminals = subst (λ (l : List Terminal). AreTerminals text says.list no_mark l) f.split says.are_terminals;
       at_place = f.at_place;
       goes_on = means;
       parted = p.split;

@@ -1,8 +1,8 @@
 -- Conditions mean what they mean as they are printed.
 use Rattle.std.proofs.Common.{◌≡◌, true, List, [], ◌∷◌, ◌++◌, sym, refl, ap, ◌∙◌, subst, ◌⊎◌, inl, inr}
-use Rattle.sql_reader.specs.declared.kind.PieceKind.{PieceKind}
-use Rattle.sql_reader.specs.declared.kind.PieceKind.TheVariants as kinds
-use Rattle.sql_reader.specs.declared.piece.Piece.{Piece}
+use Rattle.sql_reader.specs.declared.kind.TerminalKind.{TerminalKind}
+use Rattle.sql_reader.specs.declared.kind.TerminalKind.TheVariants as kinds
+use Rattle.sql_reader.specs.declared.terminal.Terminal.{Terminal}
 use Rattle.sql_reader.specs.declared.parsed.NameUse.{NameUse}
 use Rattle.sql_reader.specs.declared.parsed.Literal.{Literal}
 use Rattle.sql_reader.specs.declared.parsed.Compare.{Compare}
@@ -19,15 +19,15 @@ use Rattle.sql_reader.proofs.Alike.{Same, flat, flat_same, give_same, take_same,
 use Rattle.sql_reader.proofs.PrintedOperands.{name_parts, plain_is_name, date_is_name, value_same, Linked}
 
 -- the comparisons other than "="
-abbrev unequal : List PieceKind
+abbrev unequal : List TerminalKind
 unequal = kinds.NotEqual ∷ kinds.Below ∷ kinds.Above ∷ []
 
 -- what is read as "=" compares for being equal
-compares_equal : (k : PieceKind) → has (kinds.Equal ∷ []) k ≡ true → compare_of k ≡ compares.Equal
+compares_equal : (k : TerminalKind) → has (kinds.Equal ∷ []) k ≡ true → compare_of k ≡ compares.Equal
 compares_equal kinds.Equal h = refl
 compares_equal _ h = absurd cc
 
-comparison_parts : (k : PieceKind) → has comparisons k ≡ true → (has (kinds.Equal ∷ []) k ≡ true) ⊎ (has unequal k ≡ true)
+comparison_parts : (k : TerminalKind) → has comparisons k ≡ true → (has (kinds.Equal ∷ []) k ≡ true) ⊎ (has unequal k ≡ true)
 comparison_parts k h = or_cases (has (kinds.Equal ∷ []) k) (has unequal k) (sym (has-append (kinds.Equal ∷ []) unequal k) ∙ h)
 
 flat_column : flat column ≡ true
@@ -72,7 +72,7 @@ module _ (d e : (x : Nesting) → Meaning (State x) (State x)) where
   turned_same = then_same d e (take_same d e _ _) (use_same d e _ _ column_same)
 
   -- a column with a test of it is a condition
-  module _ (ps : List Piece) (b : Condition) (front back : List Piece) (m : NameUse) (split : ps ≡ front ++ back) (is_column : IsOver e column (tt {0}) front m) where
+  module _ (ps : List Terminal) (b : Condition) (front back : List Terminal) (m : NameUse) (split : ps ≡ front ++ back) (is_column : IsOver e column (tt {0}) front m) where
     compared_there : IsOver e printed.compared m back b → IsOver e printed.plain_cond (tt {0}) ps b
     unfolding printed.plain_cond
     compared_there h = inl (front, back, m, split, is_column, h)
@@ -82,7 +82,7 @@ module _ (d e : (x : Nesting) → Meaning (State x) (State x)) where
     tied_there h = inr (inr (inl (front, back, m, split, is_column, h)))
 
     -- "=" and a value
-    equal_value : (p : Piece) (rest : List Piece) (v : Literal) → has (kinds.Equal ∷ []) p.kind ≡ true → back ≡ p ∷ rest → IsOver d value (tt {0}) rest v → b ≡ Compared m compares.Equal v → IsOver e printed.plain_cond (tt {0}) ps b
+    equal_value : (p : Terminal) (rest : List Terminal) (v : Literal) → has (kinds.Equal ∷ []) p.kind ≡ true → back ≡ p ∷ rest → IsOver d value (tt {0}) rest v → b ≡ Compared m compares.Equal v → IsOver e printed.plain_cond (tt {0}) ps b
     unfolding printed.compared
     equal_value p rest v k at h eb =
         let is_value = (value_same d e).there (tt {0}) rest v h in
@@ -90,19 +90,19 @@ module _ (d e : (x : Nesting) → Meaning (State x) (State x)) where
         compared_there (put e comparisons beside_kind (Use (λ _. tt) printed.value (λ s v. Compared s.0 (compare_of s.1) v)) m back b p rest (in_wider (kinds.Equal ∷ []) comparisons p.kind refl k) at (v, is_value, same))
 
     -- "=" and a column
-    equal_column : (p q : Piece) (rest rest2 : List Piece) → has (kinds.Equal ∷ []) p.kind ≡ true → back ≡ p ∷ rest → has names q.kind ≡ true → rest ≡ q ∷ rest2 → IsOver d tied_test (m, q.span) rest2 b → IsOver e printed.plain_cond (tt {0}) ps b
+    equal_column : (p q : Terminal) (rest rest2 : List Terminal) → has (kinds.Equal ∷ []) p.kind ≡ true → back ≡ p ∷ rest → has names q.kind ≡ true → rest ≡ q ∷ rest2 → IsOver d tied_test (m, q.span) rest2 b → IsOver e printed.plain_cond (tt {0}) ps b
     unfolding printed.tied tied_test column after_name
     equal_column p q rest rest2 k at kq at2 (o, h, eb) =
         let other = put e names (λ _ p. p.span) after_name (tt {0}) rest o q rest2 kq at2 h in
         tied_there (put e (kinds.Equal ∷ []) (λ c _. c) (Use (λ _. tt) column (λ c other. Tied c other)) m back b p rest k at (o, other, eb))
 
-    equal_date : (p q : Piece) (rest rest2 : List Piece) → has (kinds.Equal ∷ []) p.kind ≡ true → back ≡ p ∷ rest → has (kinds.Date ∷ []) q.kind ≡ true → rest ≡ q ∷ rest2 → IsOver d after_equal_date (m, q.span) rest2 b → IsOver e printed.plain_cond (tt {0}) ps b
+    equal_date : (p q : Terminal) (rest rest2 : List Terminal) → has (kinds.Equal ∷ []) p.kind ≡ true → back ≡ p ∷ rest → has (kinds.Date ∷ []) q.kind ≡ true → rest ≡ q ∷ rest2 → IsOver d after_equal_date (m, q.span) rest2 b → IsOver e printed.plain_cond (tt {0}) ps b
     unfolding after_equal_date value
     equal_date p q rest rest2 k at kq at2 (inl (t, kt, et, eb)) =
         equal_value p rest (day_literal t) k at (inl (put d (kinds.Date ∷ []) (λ u _. u) (Take (kinds.Day ∷ []) (λ _ p. day_literal p)) (tt {0}) rest (day_literal t) q rest2 kq at2 (t, kt, et, refl))) eb
     equal_date p q rest rest2 k at kq at2 (inr h) = equal_column p q rest rest2 k at (date_is_name q.kind kq) at2 h
 
-    equal_there : (p : Piece) (rest : List Piece) → has (kinds.Equal ∷ []) p.kind ≡ true → back ≡ p ∷ rest → IsOver d equal_test m rest b → IsOver e printed.plain_cond (tt {0}) ps b
+    equal_there : (p : Terminal) (rest : List Terminal) → has (kinds.Equal ∷ []) p.kind ≡ true → back ≡ p ∷ rest → IsOver d equal_test m rest b → IsOver e printed.plain_cond (tt {0}) ps b
     unfolding equal_test value
     equal_there p rest k at (inl h) =
         let (q, rest2, kq, at2, h2) = took d (kinds.Date ∷ []) beside_span after_equal_date m rest b h in
@@ -131,25 +131,25 @@ module _ (d e : (x : Nesting) → Meaning (State x) (State x)) where
     column_there (inr (inr (inr (inr (inr h))))) = inr (inr (inr (inr (inr (inr (front, back, m, split, is_column, null_same.there m back b h))))))
 
   -- a test behind the name of its column
-  name_there : (ps : List Piece) (b : Condition) (p : Piece) (rest : List Piece) → has names p.kind ≡ true → ps ≡ p ∷ rest → IsOver d after_test_name p.span rest b → IsOver e printed.plain_cond (tt {0}) ps b
+  name_there : (ps : List Terminal) (b : Condition) (p : Terminal) (rest : List Terminal) → has names p.kind ≡ true → ps ≡ p ∷ rest → IsOver d after_test_name p.span rest b → IsOver e printed.plain_cond (tt {0}) ps b
   unfolding after_test_name column after_name
   name_there ps b p rest k at (front, back, m, split, h, t) =
       let is_column = put e names (λ _ p. p.span) after_name (tt {0}) (p ∷ front) m p front k refl h in
-      column_there ps b (p ∷ front) back m (at ∙ ap (λ (x : List Piece). p ∷ x) split) is_column t
+      column_there ps b (p ∷ front) back m (at ∙ ap (λ (x : List Terminal). p ∷ x) split) is_column t
 
-  value_there : (ps : List Piece) (b : Condition) (front back : List Piece) (v : Literal) → ps ≡ front ++ back → IsOver d value (tt {0}) front v → IsOver d turned_test v back b → IsOver e printed.plain_cond (tt {0}) ps b
+  value_there : (ps : List Terminal) (b : Condition) (front back : List Terminal) (v : Literal) → ps ≡ front ++ back → IsOver d value (tt {0}) front v → IsOver d turned_test v back b → IsOver e printed.plain_cond (tt {0}) ps b
   unfolding printed.plain_cond
   value_there ps b front back v split h t = inr (inl (front, back, v, split, (value_same d e).there (tt {0}) front v h, turned_same.there v back b t))
 
-  date_there : (ps : List Piece) (b : Condition) (p : Piece) (rest : List Piece) → has (kinds.Date ∷ []) p.kind ≡ true → ps ≡ p ∷ rest → IsOver d after_test_date p.span rest b → IsOver e printed.plain_cond (tt {0}) ps b
+  date_there : (ps : List Terminal) (b : Condition) (p : Terminal) (rest : List Terminal) → has (kinds.Date ∷ []) p.kind ≡ true → ps ≡ p ∷ rest → IsOver d after_test_date p.span rest b → IsOver e printed.plain_cond (tt {0}) ps b
   unfolding after_test_date value
   date_there ps b p rest k at (inl h) =
       let (q, rest2, kq, at2, t) = took d (kinds.Day ∷ []) (λ _ p. day_literal p) turned_test p.span rest b h in
       let is_value = put d (kinds.Date ∷ []) (λ u _. u) (Take (kinds.Day ∷ []) (λ _ p. day_literal p)) (tt {0}) (p ∷ q ∷ []) (day_literal q) p (q ∷ []) k refl (q, kq, refl, refl) in
-      value_there ps b (p ∷ q ∷ []) rest2 (day_literal q) (at ∙ ap (λ (x : List Piece). p ∷ x) at2) (inl is_value) t
+      value_there ps b (p ∷ q ∷ []) rest2 (day_literal q) (at ∙ ap (λ (x : List Terminal). p ∷ x) at2) (inl is_value) t
   date_there ps b p rest k at (inr h) = name_there ps b p rest (date_is_name p.kind k) at h
 
-  test_there : (a : Unit {0}) (ps : List Piece) (b : Condition) → IsOver d plain_condition a ps b → IsOver e printed.plain_cond a ps b
+  test_there : (a : Unit {0}) (ps : List Terminal) (b : Condition) → IsOver d plain_condition a ps b → IsOver e printed.plain_cond a ps b
   unfolding plain_condition value
   test_there a ps b (inl h) =
       let (p, rest, k, at, h2) = took d (kinds.Date ∷ []) (λ _ p. p.span) after_test_date (tt {0}) ps b h in
@@ -160,7 +160,7 @@ module _ (d e : (x : Nesting) → Meaning (State x) (State x)) where
   test_there a ps b (inr (inr (front, back, v, split, h, t))) = value_there ps b front back v split (inr h) t
 
   -- what stands behind the name of a column, in a test
-  behind_name : (ps : List Piece) (b : Condition) (p : Piece) (rest : List Piece) → has names p.kind ≡ true → ps ≡ p ∷ rest → IsOver d after_test_name p.span rest b → IsOver d plain_condition (tt {0}) ps b
+  behind_name : (ps : List Terminal) (b : Condition) (p : Terminal) (rest : List Terminal) → has names p.kind ≡ true → ps ≡ p ∷ rest → IsOver d after_test_name p.span rest b → IsOver d plain_condition (tt {0}) ps b
   unfolding plain_condition after_test_date
   behind_name ps b p rest k at h =
       elim (name_parts p.kind k) [
@@ -168,14 +168,14 @@ module _ (d e : (x : Nesting) → Meaning (State x) (State x)) where
         | inr date ↦ inl (put d (kinds.Date ∷ []) (λ _ p. p.span) after_test_date (tt {0}) ps b p rest date at (inr h))
       ]
 
-  column_back : (ps : List Piece) (b : Condition) (front back : List Piece) (m : NameUse) → ps ≡ front ++ back → IsOver e column (tt {0}) front m → IsOver d column_test m back b → IsOver d plain_condition (tt {0}) ps b
+  column_back : (ps : List Terminal) (b : Condition) (front back : List Terminal) (m : NameUse) → ps ≡ front ++ back → IsOver e column (tt {0}) front m → IsOver d column_test m back b → IsOver d plain_condition (tt {0}) ps b
   unfolding column after_name after_test_name
   column_back ps b front back m split h t =
       let (p, rest, k, at, h2) = took e names (λ _ p. p.span) after_name (tt {0}) front m h in
-      behind_name ps b p (rest ++ back) k (split ∙ ap (λ (x : List Piece). x ++ back) at) (rest, back, m, refl, h2, t)
+      behind_name ps b p (rest ++ back) k (split ∙ ap (λ (x : List Terminal). x ++ back) at) (rest, back, m, refl, h2, t)
 
   -- "=" and a value, behind a column
-  equal_value_back : (m : NameUse) (rest : List Piece) (v : Literal) (b : Condition) → IsOver d value (tt {0}) rest v → b ≡ Compared m compares.Equal v → IsOver d equal_test m rest b
+  equal_value_back : (m : NameUse) (rest : List Terminal) (v : Literal) (b : Condition) → IsOver d value (tt {0}) rest v → b ≡ Compared m compares.Equal v → IsOver d equal_test m rest b
   unfolding value equal_test after_equal_date
   equal_value_back m rest v b (inl h) eb =
       let (q, rest2, k, at, t) = took d (kinds.Date ∷ []) (λ u _. u) (Take (kinds.Day ∷ []) (λ _ p. day_literal p)) (tt {0}) rest v h in
@@ -183,7 +183,7 @@ module _ (d e : (x : Nesting) → Meaning (State x) (State x)) where
       inl (put d (kinds.Date ∷ []) beside_span after_equal_date m rest b q rest2 k at (inl (p, kp, ep, eb ∙ ap (Compared m compares.Equal) ev)))
   equal_value_back m rest v b (inr h) eb = inr (inr (v, h, eb))
 
-  compared_back : (m : NameUse) (ps : List Piece) (b : Condition) → IsOver e printed.compared m ps b → IsOver d column_test m ps b
+  compared_back : (m : NameUse) (ps : List Terminal) (b : Condition) → IsOver e printed.compared m ps b → IsOver d column_test m ps b
   unfolding printed.compared column_test unequal_test
   compared_back m ps b h =
       let (p, rest, k, at, t) = took e comparisons beside_kind (Use (λ _. tt) printed.value (λ s v. Compared s.0 (compare_of s.1) v)) m ps b h in
@@ -197,7 +197,7 @@ module _ (d e : (x : Nesting) → Meaning (State x) (State x)) where
       ]
 
   -- "=" and a column, behind a column
-  equal_column_back : (m : NameUse) (rest : List Piece) (b : Condition) (q : Piece) (rest2 : List Piece) → has names q.kind ≡ true → rest ≡ q ∷ rest2 → IsOver d tied_test (m, q.span) rest2 b → IsOver d equal_test m rest b
+  equal_column_back : (m : NameUse) (rest : List Terminal) (b : Condition) (q : Terminal) (rest2 : List Terminal) → has names q.kind ≡ true → rest ≡ q ∷ rest2 → IsOver d tied_test (m, q.span) rest2 b → IsOver d equal_test m rest b
   unfolding equal_test after_equal_date
   equal_column_back m rest b q rest2 k at h =
       elim (name_parts q.kind k) [
@@ -205,7 +205,7 @@ module _ (d e : (x : Nesting) → Meaning (State x) (State x)) where
         | inr date ↦ inl (put d (kinds.Date ∷ []) beside_span after_equal_date m rest b q rest2 date at (inr h))
       ]
 
-  tied_back : (m : NameUse) (ps : List Piece) (b : Condition) → IsOver e printed.tied m ps b → IsOver d column_test m ps b
+  tied_back : (m : NameUse) (ps : List Terminal) (b : Condition) → IsOver e printed.tied m ps b → IsOver d column_test m ps b
   unfolding printed.tied column_test column after_name tied_test
   tied_back m ps b h =
       let (p, rest, k, at, t) = took e (kinds.Equal ∷ []) (λ c _. c) (Use (λ _. tt) column (λ c other. Tied c other)) m ps b h in
@@ -213,17 +213,17 @@ module _ (d e : (x : Nesting) → Meaning (State x) (State x)) where
       let (q, rest2, kq, at2, h2) = took e names (λ _ p. p.span) after_name (tt {0}) rest o ho in
       inl (put d (kinds.Equal ∷ []) (λ c _. c) equal_test m ps b p rest k at (equal_column_back m rest b q rest2 kq at2 (o, h2, eb)))
 
-  value_back : (ps : List Piece) (b : Condition) (front back : List Piece) (v : Literal) → ps ≡ front ++ back → IsOver d value (tt {0}) front v → IsOver d turned_test v back b → IsOver d plain_condition (tt {0}) ps b
+  value_back : (ps : List Terminal) (b : Condition) (front back : List Terminal) (v : Literal) → ps ≡ front ++ back → IsOver d value (tt {0}) front v → IsOver d turned_test v back b → IsOver d plain_condition (tt {0}) ps b
   unfolding value plain_condition after_test_date
   value_back ps b front back v split (inl h) t =
       let (p, rest, k, at, u) = took d (kinds.Date ∷ []) (λ u _. u) (Take (kinds.Day ∷ []) (λ _ p. day_literal p)) (tt {0}) front v h in
       let (q, kq, eq, ev) = u in
-      let whole : ps ≡ p ∷ (q ∷ back) = split ∙ ap (λ (x : List Piece). x ++ back) at ∙ ap (λ (x : List Piece). p ∷ (x ++ back)) eq in
+      let whole : ps ≡ p ∷ (q ∷ back) = split ∙ ap (λ (x : List Terminal). x ++ back) at ∙ ap (λ (x : List Terminal). p ∷ (x ++ back)) eq in
       let day = put d (kinds.Day ∷ []) (λ _ p. day_literal p) turned_test p.span (q ∷ back) b q back kq refl (subst (λ (x : Literal). IsOver d turned_test x back b) ev t) in
       inl (put d (kinds.Date ∷ []) (λ _ p. p.span) after_test_date (tt {0}) ps b p (q ∷ back) k whole (inl day))
   value_back ps b front back v split (inr h) t = inr (inr (front, back, v, split, h, t))
 
-  test_back : (a : Unit {0}) (ps : List Piece) (b : Condition) → IsOver e printed.plain_cond a ps b → IsOver d plain_condition a ps b
+  test_back : (a : Unit {0}) (ps : List Terminal) (b : Condition) → IsOver e printed.plain_cond a ps b → IsOver d plain_condition a ps b
   unfolding printed.plain_cond column_test
   test_back a ps b (inl (front, back, m, split, h, t)) = column_back ps b front back m split h (compared_back m back b t)
   test_back a ps b (inr (inl (front, back, v, split, h, t))) = value_back ps b front back v split ((value_same d e).back (tt {0}) front v h) (turned_same.back v back b t)

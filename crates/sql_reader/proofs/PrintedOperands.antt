@@ -1,9 +1,9 @@
 -- Names, values and expressions mean what they mean as they are printed.
 use Rattle.std.proofs.Common.{◌≡◌, true, List, [], ◌∷◌, ◌++◌, Option, sym, refl, ap, ◌∙◌, subst, ◌⊎◌, inl, inr}
 use Rattle.sql_tokens.specs.declared.token.Span.{Span}
-use Rattle.sql_reader.specs.declared.kind.PieceKind.{PieceKind}
-use Rattle.sql_reader.specs.declared.kind.PieceKind.TheVariants as kinds
-use Rattle.sql_reader.specs.declared.piece.Piece.{Piece}
+use Rattle.sql_reader.specs.declared.kind.TerminalKind.{TerminalKind}
+use Rattle.sql_reader.specs.declared.kind.TerminalKind.TheVariants as kinds
+use Rattle.sql_reader.specs.declared.terminal.Terminal.{Terminal}
 use Rattle.sql_reader.specs.declared.seen.Seen.{Seen}
 use Rattle.sql_reader.specs.declared.parsed.NameUse.{NameUse}
 use Rattle.sql_reader.specs.declared.parsed.Literal.{Literal}
@@ -16,13 +16,13 @@ use Rattle.sql_reader.proofs.KindSets.{or_cases, in_wider, has-append}
 use Rattle.sql_reader.proofs.Alike.{Same, give_same, take_same, then_same, use_same, many_same, took, put}
 
 -- a name is DATE or another
-pub name_parts : (k : PieceKind) → has names k ≡ true → (has plain_names k ≡ true) ⊎ (has (kinds.Date ∷ []) k ≡ true)
+pub name_parts : (k : TerminalKind) → has names k ≡ true → (has plain_names k ≡ true) ⊎ (has (kinds.Date ∷ []) k ≡ true)
 name_parts k h = or_cases (has plain_names k) (has (kinds.Date ∷ []) k) (sym (has-append plain_names (kinds.Date ∷ []) k) ∙ h)
 
-pub plain_is_name : (k : PieceKind) → has plain_names k ≡ true → has names k ≡ true
+pub plain_is_name : (k : TerminalKind) → has plain_names k ≡ true → has names k ≡ true
 plain_is_name k h = in_wider plain_names names k refl h
 
-pub date_is_name : (k : PieceKind) → has (kinds.Date ∷ []) k ≡ true → has names k ≡ true
+pub date_is_name : (k : TerminalKind) → has (kinds.Date ∷ []) k ≡ true → has names k ≡ true
 date_is_name k h = in_wider (kinds.Date ∷ []) names k refl h
 
 -- What the nested forms mean is the same, but that a call is printed with its name.
@@ -33,17 +33,17 @@ pub record Linked (d e : (x : Nesting) → Meaning (State x) (State x)) : Type 0
   pub signed : Same d e (Nest Signed) (Nest Signed)
 
 module _ (d e : (x : Nesting) → Meaning (State x) (State x)) where
-  alias_there : (a : Unit {0}) (ps : List Piece) (b : Option Span) → IsOver d alias a ps b → IsOver e printed.alias a ps b
+  alias_there : (a : Unit {0}) (ps : List Terminal) (b : Option Span) → IsOver d alias a ps b → IsOver e printed.alias a ps b
   unfolding alias printed.alias
   alias_there a ps b (inl (front, back, m, split, h, k)) = inl (front, back, m, split, inl h, k)
   alias_there a ps b (inr (inl h)) = inl ([], ps, a, refl, inr (refl, refl), h)
   alias_there a ps b (inr (inr h)) = inr h
 
-  alias_back : (a : Unit {0}) (ps : List Piece) (b : Option Span) → IsOver e printed.alias a ps b → IsOver d alias a ps b
+  alias_back : (a : Unit {0}) (ps : List Terminal) (b : Option Span) → IsOver e printed.alias a ps b → IsOver d alias a ps b
   unfolding alias printed.alias
   alias_back a ps b (inl (front, back, m, split, inl h, k)) = inl (front, back, m, split, h, k)
   alias_back a ps b (inl (front, back, m, split, inr (ef, em), (p, k, eb, e2))) =
-      inr (inl (p, k, split ∙ ap (λ (x : List Piece). x ++ back) ef ∙ eb, e2))
+      inr (inl (p, k, split ∙ ap (λ (x : List Terminal). x ++ back) ef ∙ eb, e2))
   alias_back a ps b (inr h) = inr (inr h)
 
   -- [[AS] name]
@@ -55,13 +55,13 @@ module _ (d e : (x : Nesting) → Meaning (State x) (State x)) where
   unfolding source printed.source
   source_same = then_same d e (take_same d e _ _) (use_same d e _ _ alias_same)
 
-  value_there : (a : Unit {0}) (ps : List Piece) (b : Literal) → IsOver d value a ps b → IsOver e printed.value a ps b
+  value_there : (a : Unit {0}) (ps : List Terminal) (b : Literal) → IsOver d value a ps b → IsOver e printed.value a ps b
   unfolding value plain_value printed.value printed.literal
   value_there a ps b (inl h) = inl (inr h)
   value_there a ps b (inr (inl h)) = inr h
   value_there a ps b (inr (inr h)) = inl (inl h)
 
-  value_back : (a : Unit {0}) (ps : List Piece) (b : Literal) → IsOver e printed.value a ps b → IsOver d value a ps b
+  value_back : (a : Unit {0}) (ps : List Terminal) (b : Literal) → IsOver e printed.value a ps b → IsOver d value a ps b
   unfolding value plain_value printed.value printed.literal
   value_back a ps b (inl (inl h)) = inr (inr h)
   value_back a ps b (inl (inr h)) = inl h
@@ -72,7 +72,7 @@ module _ (d e : (x : Nesting) → Meaning (State x) (State x)) where
   value_same = record { there = value_there; back = value_back }
 
 -- a name and what stands behind it begin an operand
-pub named_operand : (d : (x : Nesting) → Meaning (State x) (State x)) (a : Seen) (ps : List Piece) (b : Seen) (p : Piece) (rest : List Piece) →
+pub named_operand : (d : (x : Nesting) → Meaning (State x) (State x)) (a : Seen) (ps : List Terminal) (b : Seen) (p : Terminal) (rest : List Terminal) →
     has names p.kind ≡ true → ps ≡ p ∷ rest → IsOver d after_operand_name (a, p) rest b → IsOver d operand a ps b
 unfolding operand after_operand_date
 named_operand d a ps b p rest k split h =
@@ -83,7 +83,7 @@ named_operand d a ps b p rest k split h =
 
 module _ (d e : (x : Nesting) → Meaning (State x) (State x)) (linked : Linked d e) where
   -- what stands behind the name of an operand makes it a column or a call
-  name_there : (a : Seen) (ps : List Piece) (b : Seen) (p : Piece) (rest : List Piece) → has names p.kind ≡ true → ps ≡ p ∷ rest → IsOver d after_operand_name (a, p) rest b →
+  name_there : (a : Seen) (ps : List Terminal) (b : Seen) (p : Terminal) (rest : List Terminal) → has names p.kind ≡ true → ps ≡ p ∷ rest → IsOver d after_operand_name (a, p) rest b →
       IsOver e (Either [] (Use (λ _. tt) column with_use) (Nest Call)) a ps b
   unfolding after_operand_name called_name column after_name printed.call_name
   name_there a ps b p rest k split (inl h) =
@@ -97,14 +97,14 @@ module _ (d e : (x : Nesting) → Meaning (State x) (State x)) (linked : Linked 
   name_there a ps b p rest k split (inr (inr (en, eb))) =
       inl (plain_column p.span, put e names (λ _ p. p.span) after_name (tt {0}) ps (plain_column p.span) p rest k split (inr (en, refl)), eb)
 
-  date_there : (a : Seen) (ps : List Piece) (b : Seen) (p : Piece) (rest : List Piece) → has (kinds.Date ∷ []) p.kind ≡ true → ps ≡ p ∷ rest → IsOver d after_operand_date (a, p) rest b →
+  date_there : (a : Seen) (ps : List Terminal) (b : Seen) (p : Terminal) (rest : List Terminal) → has (kinds.Date ∷ []) p.kind ≡ true → ps ≡ p ∷ rest → IsOver d after_operand_date (a, p) rest b →
       IsOver e printed.prim a ps b
   unfolding after_operand_date printed.prim printed.literal_operand
   date_there a ps b p rest k split (inl h) =
       inr (inr (inl (inr (put e (kinds.Date ∷ []) (λ a _. a) (Take (kinds.Day ∷ []) (λ found _. not_alone found)) a ps b p rest k split h))))
   date_there a ps b p rest k split (inr h) = inr (inr (inr (name_there a ps b p rest (date_is_name p.kind k) split h)))
 
-  prim_there : (a : Seen) (ps : List Piece) (b : Seen) → IsOver d operand a ps b → IsOver e printed.prim a ps b
+  prim_there : (a : Seen) (ps : List Terminal) (b : Seen) → IsOver d operand a ps b → IsOver e printed.prim a ps b
   unfolding operand other_operand printed.prim printed.literal_operand
   prim_there a ps b (inl h) =
       let (p, rest, k, split, h2) = took d (kinds.Date ∷ []) beside after_operand_date a ps b h in
@@ -117,7 +117,7 @@ module _ (d e : (x : Nesting) → Meaning (State x) (State x)) (linked : Linked 
   prim_there a ps b (inr (inr (inr (inr h)))) = inr (inr (inl (inl h)))
 
   -- what stands behind the name of a column, in an operand
-  behind_name : (a : Seen) (p : Piece) (rest : List Piece) (m : NameUse) (b : Seen) → IsOver e after_name p.span rest m → b ≡ with_use a m → IsOver d after_operand_name (a, p) rest b
+  behind_name : (a : Seen) (p : Terminal) (rest : List Terminal) (m : NameUse) (b : Seen) → IsOver e after_name p.span rest m → b ≡ with_use a m → IsOver d after_operand_name (a, p) rest b
   unfolding after_operand_name called_name after_name
   behind_name a p rest m b (inl h) eb =
       let (q, rest2, kq, split2, t) = took e (kinds.Point ∷ []) (λ s _. s) (Take names (λ s n. column_of_source s n.span)) p.span rest m h in
@@ -125,19 +125,19 @@ module _ (d e : (x : Nesting) → Meaning (State x) (State x)) (linked : Linked 
       inl (put d (kinds.Point ∷ []) (λ s _. s) (Take names (λ s n. with_use s.0 (column_of_source s.1.span n.span))) (a, p) rest b q rest2 kq split2 (n, kn, en, eb ∙ ap (with_use a) em))
   behind_name a p rest m b (inr (en, em)) eb = inr (inr (en, eb ∙ ap (with_use a) em))
 
-  column_back : (a : Seen) (ps : List Piece) (b : Seen) → IsOver e (Use (λ _. tt) column with_use) a ps b → IsOver d operand a ps b
+  column_back : (a : Seen) (ps : List Terminal) (b : Seen) → IsOver e (Use (λ _. tt) column with_use) a ps b → IsOver d operand a ps b
   unfolding column
   column_back a ps b (m, h, eb) =
       let (p, rest, k, split, h2) = took e names (λ _ p. p.span) after_name (tt {0}) ps m h in
       named_operand d a ps b p rest k split (behind_name a p rest m b h2 eb)
 
-  call_back : (a : Seen) (ps : List Piece) (b : Seen) → IsOver e (Nest Call) a ps b → IsOver d operand a ps b
+  call_back : (a : Seen) (ps : List Terminal) (b : Seen) → IsOver e (Nest Call) a ps b → IsOver d operand a ps b
   unfolding printed.call_name after_operand_name called_name
   call_back a ps b h =
       let (p, rest, k, split, h2) = took d names (λ found p. called found p.kind) (Nest Call) a ps b (linked.calls.back a ps b h) in
       named_operand d a ps b p rest k split (inr (inl (b, h2, refl)))
 
-  prim_back : (a : Seen) (ps : List Piece) (b : Seen) → IsOver e printed.prim a ps b → IsOver d operand a ps b
+  prim_back : (a : Seen) (ps : List Terminal) (b : Seen) → IsOver e printed.prim a ps b → IsOver d operand a ps b
   unfolding operand after_operand_date other_operand printed.prim printed.literal_operand
   prim_back a ps b (inl h) = inr (inr (inr (inl (linked.signed.back a ps b h))))
   prim_back a ps b (inr (inl h)) = inr (inr (inl (linked.parentheses.back a ps b h)))

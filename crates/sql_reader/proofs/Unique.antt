@@ -6,47 +6,47 @@ use Rattle.sql_tokens.specs.declared.token_list.TokenFault.TheVariants as tokens
 use Rattle.sql_tokens.specs.Cut.{HasFault}
 use Rattle.sql_tokens.proofs.OneCut.{one_list}
 use Rattle.sql_tokens.proofs.Reached.{no_fault, one_fault}
-use Rattle.sql_reader.specs.declared.piece.Piece.{Piece}
+use Rattle.sql_reader.specs.declared.terminal.Terminal.{Terminal}
 use Rattle.sql_reader.specs.declared.parsed.ParsedStatement.{ParsedStatement}
 use Rattle.sql_reader.specs.declared.parsed.SqlFault.{SqlFault}
 use Rattle.sql_reader.specs.declared.parsed.SqlFault.TheVariants as faults
 use Rattle.sql_reader.specs.declared.parts.Progress.{Progress}
 use Rattle.sql_reader.specs.Grammar.{grammar, borders, levels, workload}
 use Rattle.sql_reader.specs.Values.{no_statements}
-use Rattle.sql_reader.specs.Pieces.{ArePieces, no_mark, bad_weight, start_behind}
+use Rattle.sql_reader.specs.Terminals.{AreTerminals, no_mark, bad_weight, start_behind}
 use Rattle.sql_reader.specs.Workload.{MeansStatements, grammar_fault, GrammarSays, place_of_fault, earlier, first_fault, Says, IsWorkload, IsFirstFault, HasSqlFault}
 use Rattle.sql_reader.proofs.Exactly.{has_one_meaning}
 use Rattle.sql_reader.proofs.Good.{good_workload, good_grammar}
 use Rattle.sql_reader.proofs.Outcome.{means_read}
-use Rattle.sql_reader.proofs.Same.{one_pieces, one_failure, meant_or_fails}
+use Rattle.sql_reader.proofs.Same.{one_terminals, one_failure, meant_or_fails}
 
--- the grammar has one fault for pieces, or none
-one_grammar_fault : (end : ℕ) (pieces : List Piece) (p q : Progress) (f g : Option SqlFault) → GrammarSays end pieces p f → GrammarSays end pieces q g → f ≡ g
-one_grammar_fault end pieces p q None None a b = refl
-one_grammar_fault end pieces p q None (Some g) a (rest, fails, e) = absurd (meant_or_fails MeansStatements no_statements pieces rest p a fails)
-one_grammar_fault end pieces p q (Some f) None (rest, fails, e) b = absurd (meant_or_fails MeansStatements no_statements pieces rest q b fails)
-one_grammar_fault end pieces p q (Some f) (Some g) (rest, fails, e) (behind, fails_too, e_too) =
-    ap Some (e ∙ ap (grammar_fault end) (one_failure MeansStatements no_statements pieces rest behind fails fails_too) ∙ sym e_too)
+-- the grammar has one fault for terminals, or none
+one_grammar_fault : (end : ℕ) (terminals : List Terminal) (p q : Progress) (f g : Option SqlFault) → GrammarSays end terminals p f → GrammarSays end terminals q g → f ≡ g
+one_grammar_fault end terminals p q None None a b = refl
+one_grammar_fault end terminals p q None (Some g) a (rest, fails, e) = absurd (meant_or_fails MeansStatements no_statements terminals rest p a fails)
+one_grammar_fault end terminals p q (Some f) None (rest, fails, e) b = absurd (meant_or_fails MeansStatements no_statements terminals rest q b fails)
+one_grammar_fault end terminals p q (Some f) (Some g) (rest, fails, e) (behind, fails_too, e_too) =
+    ap Some (e ∙ ap (grammar_fault end) (one_failure MeansStatements no_statements terminals rest behind fails fails_too) ∙ sym e_too)
 
-one_pieces_of : (text : List ℕ) (s t : List ParsedStatement) (f g : Option SqlFault) (x : Says text s f) (y : Says text t g) → x.pieces ≡ y.pieces
-one_pieces_of text s t f g x y =
+one_terminals_of : (text : List ℕ) (s t : List ParsedStatement) (f g : Option SqlFault) (x : Says text s f) (y : Says text t g) → x.terminals ≡ y.terminals
+one_terminals_of text s t f g x y =
     let tokens = one_list text x.list y.list x.are_tokens y.are_tokens in
-    one_pieces text y.list no_mark x.pieces y.pieces (subst (λ (l : List Token). ArePieces text l no_mark x.pieces) tokens x.are_pieces) y.are_pieces
+    one_terminals text y.list no_mark x.terminals y.terminals (subst (λ (l : List Token). AreTerminals text l no_mark x.terminals) tokens x.are_terminals) y.are_terminals
 
 one_of_grammar : (text : List ℕ) (s t : List ParsedStatement) (f g : Option SqlFault) (x : Says text s f) (y : Says text t g) → x.of_grammar ≡ y.of_grammar
 one_of_grammar text s t f g x y =
-    one_grammar_fault (length text + 1) y.pieces x.progress y.progress x.of_grammar y.of_grammar
-    (subst (λ (ps : List Piece). GrammarSays (length text + 1) ps x.progress x.of_grammar) (one_pieces_of text s t f g x y) x.says) y.says
+    one_grammar_fault (length text + 1) y.terminals x.progress y.progress x.of_grammar y.of_grammar
+    (subst (λ (ps : List Terminal). GrammarSays (length text + 1) ps x.progress x.of_grammar) (one_terminals_of text s t f g x y) x.says) y.says
 
 -- a text with tokens has one first fault, or none
 pub one_first : (text : List ℕ) (s t : List ParsedStatement) (f g : Option SqlFault) → Says text s f → Says text t g → f ≡ g
 one_first text s t f g x y =
     let tokens = one_list text x.list y.list x.are_tokens y.are_tokens in
-    let pieces = one_pieces_of text s t f g x y in
+    let terminals = one_terminals_of text s t f g x y in
     let of_grammar = one_of_grammar text s t f g x y in
-    x.first ∙ ap (λ (l : List Token). first_fault text l x.pieces x.of_grammar) tokens
-    ∙ ap (λ (ps : List Piece). first_fault text y.list ps x.of_grammar) pieces
-    ∙ ap (λ (o : Option SqlFault). first_fault text y.list y.pieces o) of_grammar ∙ sym y.first
+    x.first ∙ ap (λ (l : List Token). first_fault text l x.terminals x.of_grammar) tokens
+    ∙ ap (λ (ps : List Terminal). first_fault text y.list ps x.of_grammar) terminals
+    ∙ ap (λ (o : Option SqlFault). first_fault text y.list y.terminals o) of_grammar ∙ sym y.first
 
 no_earlier : (f g : Option SqlFault) → None ≡ earlier f g → f ≡ None
 no_earlier None g e = refl
@@ -69,31 +69,31 @@ not_mapped f None e = refl
 not_mapped f (Some n) e = cc
 
 -- with no fault there is none of each kind
-module _ (text : List ℕ) (list : List Token) (pieces : List Piece) (fault : Option SqlFault) (none : None ≡ first_fault text list pieces fault) where
+module _ (text : List ℕ) (list : List Token) (terminals : List Terminal) (fault : Option SqlFault) (none : None ≡ first_fault text list terminals fault) where
   pub no_grammar_fault : fault ≡ None
   no_grammar_fault = no_earlier fault _ none
 
-  no_late : None ≡ earlier (option_map faults.BadWeight (bad_weight text list)) (option_map faults.TooManyStatements (start_behind 1000 pieces))
+  no_late : None ≡ earlier (option_map faults.BadWeight (bad_weight text list)) (option_map faults.TooManyStatements (start_behind 1000 terminals))
   no_late = sym (none_later fault _ none)
 
-  pub no_start : start_behind 1000 pieces ≡ None
-  no_start = not_mapped faults.TooManyStatements (start_behind 1000 pieces) (none_later _ _ no_late)
+  pub no_start : start_behind 1000 terminals ≡ None
+  no_start = not_mapped faults.TooManyStatements (start_behind 1000 terminals) (none_later _ _ no_late)
 
 -- with no fault the grammar has none
-means : (text : List ℕ) (s : List ParsedStatement) (x : Says text s None) → MeansStatements no_statements x.pieces x.progress
+means : (text : List ℕ) (s : List ParsedStatement) (x : Says text s None) → MeansStatements no_statements x.terminals x.progress
 means text s x =
-    subst (λ (o : Option SqlFault). GrammarSays (length text + 1) x.pieces x.progress o) (no_earlier x.of_grammar _ x.first) x.says
+    subst (λ (o : Option SqlFault). GrammarSays (length text + 1) x.terminals x.progress o) (no_earlier x.of_grammar _ x.first) x.says
 
--- pieces have one meaning
-pub one_progress : (start : Progress) (pieces : List Piece) (p q : Progress) → MeansStatements start pieces p → MeansStatements start pieces q → p ≡ q
-one_progress start pieces p q a b =
-    has_one_meaning borders grammar levels workload good_grammar good_workload start pieces p q (means_read start pieces p a) (means_read start pieces q b)
+-- terminals have one meaning
+pub one_progress : (start : Progress) (terminals : List Terminal) (p q : Progress) → MeansStatements start terminals p → MeansStatements start terminals q → p ≡ q
+one_progress start terminals p q a b =
+    has_one_meaning borders grammar levels workload good_grammar good_workload start terminals p q (means_read start terminals p a) (means_read start terminals q b)
 
 -- a text is a workload of one list of statements
 pub one_workload : (text : List ℕ) (s t : List ParsedStatement) → IsWorkload text s → IsWorkload text t → s ≡ t
 one_workload text s t x y =
-    let meant = subst (λ (ps : List Piece). MeansStatements no_statements ps x.progress) (one_pieces_of text s t None None x y) (means text s x) in
-    let same = one_progress no_statements y.pieces x.progress y.progress meant (means text t y) in
+    let meant = subst (λ (ps : List Terminal). MeansStatements no_statements ps x.progress) (one_terminals_of text s t None None x y) (means text s x) in
+    let same = one_progress no_statements y.terminals x.progress y.progress meant (means text t y) in
     x.same ∙ ap (λ (p : Progress). p.statements) same ∙ sym y.same
 
 some_or_none : (text : List ℕ) (s : List ParsedStatement) (e : SqlFault) → IsWorkload text s → IsFirstFault text e → ⊥

@@ -2,9 +2,9 @@
 -- tells its alternatives apart. The comment of a rule is the production, or the part of one, that it stands for.
 use Rattle.std.specs.Prelude.{ℕ, ◌+◌, true, false, List, [], ◌∷◌, ◌++◌, Option, Some, None}
 use Rattle.sql_tokens.specs.declared.token.Span.{Span}
-use Rattle.sql_reader.specs.declared.kind.PieceKind.{PieceKind}
-use Rattle.sql_reader.specs.declared.kind.PieceKind.TheVariants as kinds
-use Rattle.sql_reader.specs.declared.piece.Piece.{Piece}
+use Rattle.sql_reader.specs.declared.kind.TerminalKind.{TerminalKind}
+use Rattle.sql_reader.specs.declared.kind.TerminalKind.TheVariants as kinds
+use Rattle.sql_reader.specs.declared.terminal.Terminal.{Terminal}
 use Rattle.sql_reader.specs.declared.seen.Seen.{Seen}
 use Rattle.sql_reader.specs.declared.parsed.NameUse.{NameUse}
 use Rattle.sql_reader.specs.declared.parsed.ParsedItem.{ParsedItem}
@@ -25,31 +25,31 @@ use Rattle.sql_reader.specs.Rule.{Nesting, Rule, Give, Take, Then, Use, Either, 
 use Rattle.sql_reader.specs.Values.{plain_column, column_of_source, day_literal, literal_of, signed, compare_of, turned, nothing_found, with_form, not_alone, with_use, with_star, called, beside, beside_kind, beside_span, with_distinct, with_source, with_conditions, with_group, with_having, with_order, with_items, with_values, with_row, with_insert_columns, with_set_columns, with_set_values, with_update_conditions, conditions_of, group_of, order_of, items_of, values_of, insert_columns_of, set_columns_of, set_values_of, update_conditions_of, literal_form, expr_of, empty_select, empty_insert, insert_body, empty_update, update_body, with_statement}
 
 -- name = Word that isn't reserved | Quoted
-abbrev pub names : List PieceKind
+abbrev pub names : List TerminalKind
 names = kinds.Name ∷ kinds.Aggregate ∷ kinds.Date ∷ []
 
 -- the names but for DATE
-abbrev pub plain_names : List PieceKind
+abbrev pub plain_names : List TerminalKind
 plain_names = kinds.Name ∷ kinds.Aggregate ∷ []
 
--- the literals of one piece
-abbrev pub literals : List PieceKind
+-- the literals of one terminal
+abbrev pub literals : List TerminalKind
 literals = kinds.Whole ∷ kinds.Decimal ∷ kinds.Text ∷ kinds.Day ∷ kinds.Null ∷ kinds.Question ∷ []
 
 -- "+" | "-"
-abbrev pub signs : List PieceKind
+abbrev pub signs : List TerminalKind
 signs = kinds.Plus ∷ kinds.Minus ∷ []
 
 -- "+" | "-" | "*" | "/" | "%" | "||"
-abbrev pub operators : List PieceKind
+abbrev pub operators : List TerminalKind
 operators = kinds.Plus ∷ kinds.Minus ∷ kinds.Star ∷ kinds.Operator ∷ []
 
 -- compare = "=" | "<>" | "!=" | "<" | "<=" | ">" | ">="
-abbrev pub comparisons : List PieceKind
+abbrev pub comparisons : List TerminalKind
 comparisons = kinds.Equal ∷ kinds.NotEqual ∷ kinds.Below ∷ kinds.Above ∷ []
 
 -- the words with which statements begin
-abbrev pub starts : List PieceKind
+abbrev pub starts : List TerminalKind
 starts = kinds.Select ∷ kinds.Insert ∷ kinds.Update ∷ kinds.Delete ∷ []
 
 -- column, behind its first name: [ "." name ]
@@ -68,7 +68,7 @@ alias = Either (kinds.As ∷ []) (Then (Take (kinds.As ∷ []) (λ u _. u)) (Tak
 unfoldable pub source : Rule (Unit {0}) Source
 source = Then (Take names (λ _ p. p.span)) (Use (λ _. tt) alias (λ table other. record { table = table; alias = other }))
 
--- value, but for DATE: ("+" | "-") (Whole | Decimal), or one piece
+-- value, but for DATE: ("+" | "-") (Whole | Decimal), or one terminal
 unfoldable pub plain_value : Rule (Unit {0}) Literal
 plain_value = Either signs (Then (Take signs (λ _ p. p.kind)) (Take (kinds.Whole ∷ kinds.Decimal ∷ []) (λ sign p. signed sign p))) (Take literals (λ _ p. literal_of p))
 
@@ -77,15 +77,15 @@ unfoldable pub value : Rule (Unit {0}) Literal
 value = Either (kinds.Date ∷ []) (Then (Take (kinds.Date ∷ []) (λ u _. u)) (Take (kinds.Day ∷ []) (λ _ p. day_literal p))) plain_value
 
 -- a name in an expression: the parentheses of a call, or the end of a column
-unfoldable pub called_name : Rule (Seen × Piece) Seen
+unfoldable pub called_name : Rule (Seen × Terminal) Seen
 called_name = Either (kinds.Open ∷ []) (Use (λ s. called s.0 s.1.kind) (Nest Call) (λ _ found. found)) (Give (λ s. with_use s.0 (plain_column s.1.span)))
 
 -- behind a name in an expression: "." name, a call, or nothing
-unfoldable pub after_operand_name : Rule (Seen × Piece) Seen
+unfoldable pub after_operand_name : Rule (Seen × Terminal) Seen
 after_operand_name = Either (kinds.Point ∷ []) (Then (Take (kinds.Point ∷ []) (λ s _. s)) (Take names (λ s p. with_use s.0 (column_of_source s.1.span p.span)))) called_name
 
 -- behind DATE in an expression: a date, or what stands behind a name
-unfoldable pub after_operand_date : Rule (Seen × Piece) Seen
+unfoldable pub after_operand_date : Rule (Seen × Terminal) Seen
 after_operand_date = Either (kinds.Day ∷ []) (Take (kinds.Day ∷ []) (λ s _. not_alone s.0)) after_operand_name
 
 -- prim, where it begins with no name
@@ -241,15 +241,15 @@ unfoldable pub rest_of_item : Rule Seen ParsedItem
 rest_of_item = Then operations (Use (λ _. tt) alias (λ found name. items.Made (expr_of found) name))
 
 -- behind name ".": "*", or name and the rest of an expression
-unfoldable pub after_item_point : Rule Piece ParsedItem
+unfoldable pub after_item_point : Rule Terminal ParsedItem
 after_item_point = Either (kinds.Star ∷ []) (Take (kinds.Star ∷ []) (λ name _. items.SlotStar name.span)) (Then (Take names (λ name p. with_use nothing_found (column_of_source name.span p.span))) rest_of_item)
 
 -- an item behind its first name
-unfoldable pub after_item_name : Rule Piece ParsedItem
+unfoldable pub after_item_name : Rule Terminal ParsedItem
 after_item_name = Either (kinds.Point ∷ []) (Then (Take (kinds.Point ∷ []) (λ name _. name)) after_item_point) (Then (Use (λ name. (nothing_found, name)) called_name (λ _ found. found)) rest_of_item)
 
 -- an item behind DATE
-unfoldable pub after_item_date : Rule Piece ParsedItem
+unfoldable pub after_item_date : Rule Terminal ParsedItem
 after_item_date = Either (kinds.Day ∷ []) (Then (Take (kinds.Day ∷ []) (λ _ _. nothing_found)) rest_of_item) after_item_name
 
 -- an item that begins with no name
@@ -552,13 +552,13 @@ grammar Call = call
 grammar Signed = signed_operand
 
 -- with which kinds a nested form begins, and with which it may go on where it could end too
-abbrev pub first_of_nesting : Nesting → List PieceKind
+abbrev pub first_of_nesting : Nesting → List TerminalKind
 first_of_nesting Conditions = kinds.Open ∷ []
 first_of_nesting Parenthesis = kinds.Open ∷ []
 first_of_nesting Call = kinds.Open ∷ []
 first_of_nesting Signed = signs
 
-abbrev pub more_of_nesting : Nesting → List PieceKind
+abbrev pub more_of_nesting : Nesting → List TerminalKind
 more_of_nesting Conditions = []
 more_of_nesting Parenthesis = []
 more_of_nesting Call = []

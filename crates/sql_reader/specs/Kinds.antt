@@ -1,11 +1,11 @@
 -- Sets of kinds, as lists.
 use Rattle.std.specs.Prelude.{ℕ, Bool, true, ◌&&◌, not, ◌==◌, List, [], ◌∷◌}
 use Rattle.std.specs.List.{list_any}
-use Rattle.sql_reader.specs.declared.kind.PieceKind.{PieceKind}
-use Rattle.sql_reader.specs.declared.kind.PieceKind.TheVariants as kinds
+use Rattle.sql_reader.specs.declared.kind.TerminalKind.{TerminalKind}
+use Rattle.sql_reader.specs.declared.kind.TerminalKind.TheVariants as kinds
 
 -- the number of a kind
-abbrev pub code_of : PieceKind → ℕ
+abbrev pub code_of : TerminalKind → ℕ
 code_of kinds.All = 0
 code_of kinds.And = 1
 code_of kinds.As = 2
@@ -60,15 +60,15 @@ code_of kinds.Text = 50
 code_of kinds.Day = 51
 
 -- the kind is one of these
-abbrev pub has : List PieceKind → PieceKind → Bool
+abbrev pub has : List TerminalKind → TerminalKind → Bool
 has js k = list_any (λ j. code_of j == code_of k) js
 
 -- no kind is in both
-abbrev pub apart : List PieceKind → List PieceKind → Bool
+abbrev pub apart : List TerminalKind → List TerminalKind → Bool
 apart [] ks = true
 apart (j ∷ js) ks = not (has ks j) && apart js ks
 
 -- each of these kinds is among the others
-abbrev pub within : List PieceKind → List PieceKind → Bool
+abbrev pub within : List TerminalKind → List TerminalKind → Bool
 within [] ks = true
 within (j ∷ js) ks = has ks j && within js ks

@@ -1,10 +1,10 @@
 pub mod Exact
 pub mod Grammar
 pub mod Kinds
-pub mod Pieces
 pub mod Printed
 pub mod inner
 pub mod Rule
+pub mod Terminals
 pub mod Valid
 pub mod Values
 pub mod Words

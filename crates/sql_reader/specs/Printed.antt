@@ -3,9 +3,9 @@
 -- Grammar mean, by which workloads are read. Rules that are printed as they are read are those of Grammar.
 use Rattle.std.specs.Prelude.{ℕ, ◌+◌, ◌↔◌, List, [], ◌∷◌, ◌++◌, Option, Some, None}
 use Rattle.sql_tokens.specs.declared.token.Span.{Span}
-use Rattle.sql_reader.specs.declared.kind.PieceKind.{PieceKind}
-use Rattle.sql_reader.specs.declared.kind.PieceKind.TheVariants as kinds
-use Rattle.sql_reader.specs.declared.piece.Piece.{Piece}
+use Rattle.sql_reader.specs.declared.kind.TerminalKind.{TerminalKind}
+use Rattle.sql_reader.specs.declared.kind.TerminalKind.TheVariants as kinds
+use Rattle.sql_reader.specs.declared.terminal.Terminal.{Terminal}
 use Rattle.sql_reader.specs.declared.seen.Seen.{Seen}
 use Rattle.sql_reader.specs.declared.parsed.NameUse.{NameUse}
 use Rattle.sql_reader.specs.declared.parsed.ParsedItem.{ParsedItem}
@@ -48,7 +48,7 @@ abbrev pub any : {A : Type 0} → Rule A A → Rule A A
 any rule = Many [] rule
 
 -- a word or sign that says no more than that it stands there
-abbrev pub word : {A : Type 0} → PieceKind → Rule A A
+abbrev pub word : {A : Type 0} → TerminalKind → Rule A A
 word kind = Take (kind ∷ []) (λ a _. a)
 
 -- rule { "," rule }
@@ -74,7 +74,7 @@ unfoldable pub source : Rule (Unit {0}) Source
 source = Take names (λ _ p. p.span) ▸ also alias (λ table other. record { table = table; alias = other })
 
 -- literal = Whole | Decimal | Text | DATE Text | NULL | "?"
--- A Text that holds a date is of a kind of its own, Day. The literals of one piece are taken together.
+-- A Text that holds a date is of a kind of its own, Day. The literals of one terminal are taken together.
 unfoldable pub literal : Rule (Unit {0}) Literal
 literal =
     Take literals (λ _ p. literal_of p)
@@ -264,7 +264,7 @@ update_rest =
 unfoldable pub delete_rest : Rule (Unit {0}) Body
 delete_rest = word kinds.From ▸ source ▸ Use (λ _. []) where_conds (λ x all. bodies.Delete x all)
 
--- Workloads. The first piece of a statement gives its place and weight.
+-- Workloads. The first terminal of a statement gives its place and weight.
 
 -- select = SELECT [ALL | DISTINCT] ..
 unfoldable pub select : Rule Progress Progress
@@ -300,12 +300,12 @@ grammar Parenthesis = parenthesis
 grammar Call = call
 grammar Signed = signed_prim
 
--- A rule by which workloads are read and a printed one say the same: the same pieces lead from the same start to the
+-- A rule by which workloads are read and a printed one say the same: the same terminals lead from the same start to the
 -- same end, however many levels may nest.
 abbrev pub MeanTheSame : {A B : Type 0} → Rule A B → Rule A B → Type 0
 MeanTheSame {A} {B} read printed =
-    (levels : ℕ) (start : A) (pieces : List Piece) (end : B) →
-    IsRead factored.grammar levels read start pieces end ↔ IsRead grammar levels printed start pieces end
+    (levels : ℕ) (start : A) (terminals : List Terminal) (end : B) →
+    IsRead factored.grammar levels read start terminals end ↔ IsRead grammar levels printed start terminals end
 
 -- Workloads are read by the grammar that is printed: where a production is read by another rule than it is printed by,
 -- both mean the same.

@@ -1,9 +1,9 @@
 -- What the productions of the grammar give.
 use Rattle.std.specs.Prelude.{ℕ, ℤ, pos, neg_ℤ, ◌+◌, ◌^◌, Bool, true, false, ◌||◌, nat_lt, nat_abs, if◌then◌else◌, List, [], ◌∷◌, ◌++◌, Option, Some, None}
 use Rattle.sql_tokens.specs.declared.token.Span.{Span}
-use Rattle.sql_reader.specs.declared.kind.PieceKind.{PieceKind}
-use Rattle.sql_reader.specs.declared.kind.PieceKind.TheVariants as kinds
-use Rattle.sql_reader.specs.declared.piece.Piece.{Piece}
+use Rattle.sql_reader.specs.declared.kind.TerminalKind.{TerminalKind}
+use Rattle.sql_reader.specs.declared.kind.TerminalKind.TheVariants as kinds
+use Rattle.sql_reader.specs.declared.terminal.Terminal.{Terminal}
 use Rattle.sql_reader.specs.declared.seen.ExprForm.{ExprForm}
 use Rattle.sql_reader.specs.declared.seen.ExprForm.TheVariants as forms
 use Rattle.sql_reader.specs.declared.seen.Seen.{Seen}
@@ -39,21 +39,21 @@ abbrev pub number_or : ℤ → Option ℤ → ℤ
 number_or d None = d
 number_or d (Some n) = n
 
-abbrev pub day_literal : Piece → Literal
+abbrev pub day_literal : Terminal → Literal
 day_literal p = literals.Day (number_or (pos 0) p.number)
 
 abbrev pub whole_literal : Option ℤ → Literal
 whole_literal None = literals.Other
 whole_literal (Some n) = literals.Whole n
 
--- the literal that one piece is: a text that holds a date is a text where no DATE stands before it
-abbrev pub literal_of_kind : PieceKind → Piece → Literal
+-- the literal that one terminal is: a text that holds a date is a text where no DATE stands before it
+abbrev pub literal_of_kind : TerminalKind → Terminal → Literal
 literal_of_kind kinds.Whole p = whole_literal p.number
 literal_of_kind kinds.Text p = literals.Text p.span
 literal_of_kind kinds.Day p = literals.Text p.span
 literal_of_kind _ p = literals.Other
 
-abbrev pub literal_of : Piece → Literal
+abbrev pub literal_of : Terminal → Literal
 literal_of p = literal_of_kind p.kind p
 
 abbrev pub negative : Literal → Literal
@@ -61,13 +61,13 @@ negative (literals.Whole n) = literals.Whole (neg_ℤ n)
 negative l = l
 
 -- a number behind a sign
-abbrev pub signed : PieceKind → Piece → Literal
+abbrev pub signed : TerminalKind → Terminal → Literal
 signed kinds.Minus p = negative (literal_of p)
 signed _ p = literal_of p
 
 -- comparisons
 
-abbrev pub compare_of : PieceKind → Compare
+abbrev pub compare_of : TerminalKind → Compare
 compare_of kinds.Equal = compares.Equal
 compare_of kinds.NotEqual = compares.NotEqual
 compare_of kinds.Below = compares.Below
@@ -97,12 +97,12 @@ with_use found name = record found { uses = found.uses ++ name ∷ []; form = fo
 abbrev pub with_star : Seen → Seen
 with_star found = record found { stars = found.stars + 1 }
 
-abbrev pub is_aggregate : PieceKind → Bool
+abbrev pub is_aggregate : TerminalKind → Bool
 is_aggregate kinds.Aggregate = true
 is_aggregate _ = false
 
 -- a call of this name begins
-abbrev pub called : Seen → PieceKind → Seen
+abbrev pub called : Seen → TerminalKind → Seen
 called found kind = record found { aggregate = found.aggregate || is_aggregate kind }
 
 -- a whole number is an ordinal where it is below 2^32
@@ -110,7 +110,7 @@ abbrev pub number_form : Option ℤ → ExprForm
 number_form None = forms.Other
 number_form (Some n) = if nat_lt (nat_abs n) (2 ^ 32) then forms.Number (nat_abs n) else forms.Other
 
-abbrev pub literal_form : PieceKind → Option ℤ → ExprForm
+abbrev pub literal_form : TerminalKind → Option ℤ → ExprForm
 literal_form kinds.Whole number = number_form number
 literal_form _ number = forms.Other
 
@@ -142,16 +142,16 @@ empty_update source = record { source = source; columns = []; found = nothing_fo
 abbrev pub update_body : UpdateParts → Body
 update_body parts = bodies.Update parts.source parts.columns parts.found.uses parts.conditions
 
--- the place of a piece's first byte, from 1
-abbrev pub place_of : Piece → ℕ
+-- the place of a terminal's first byte, from 1
+abbrev pub place_of : Terminal → ℕ
 place_of p = p.span.from + 1
 
--- the weight of the statement that begins with this piece: that of the last weight comment before it, where that
+-- the weight of the statement that begins with this terminal: that of the last weight comment before it, where that
 -- stands behind the first token of the statement before
-abbrev pub weight_of : ℕ → Piece → ℕ
+abbrev pub weight_of : ℕ → Terminal → ℕ
 weight_of before p = if nat_lt before p.mark.place then p.mark.weight else 1
 
-abbrev pub with_statement : Progress → Piece → Body → Progress
+abbrev pub with_statement : Progress → Terminal → Body → Progress
 with_statement progress p body = record {
   statements = progress.statements ++ (record { place = place_of p; weight = weight_of progress.before p; body = body }) ∷ [];
   before = place_of p;
@@ -165,10 +165,10 @@ no_statements = record { statements = []; before = 0 }
 abbrev pub beside : {A B : Type 0} → A → B → A × B
 beside a b = (a, b)
 
-abbrev pub beside_kind : {A : Type 0} → A → Piece → A × PieceKind
+abbrev pub beside_kind : {A : Type 0} → A → Terminal → A × TerminalKind
 beside_kind a p = (a, p.kind)
 
-abbrev pub beside_span : {A : Type 0} → A → Piece → A × Span
+abbrev pub beside_span : {A : Type 0} → A → Terminal → A × Span
 beside_span a p = (a, p.span)
 
 -- the parts of statements

@@ -5,16 +5,16 @@ use Rattle.std.specs.List.{list_all, suffix_len}
 use Rattle.std.specs.Str.Parse.{digits_value}
 use Rattle.std.specs.Str.{str_eq_ignore_ascii_case}
 use Rattle.adv_base.specs.Days.{day_number}
-use Rattle.sql_reader.specs.declared.kind.PieceKind.{PieceKind}
-use Rattle.sql_reader.specs.declared.kind.PieceKind.TheVariants as kinds
+use Rattle.sql_reader.specs.declared.kind.TerminalKind.{TerminalKind}
+use Rattle.sql_reader.specs.declared.kind.TerminalKind.TheVariants as kinds
 use Rattle.sql_reader.specs.declared.words.Word.{Word}
 
 -- a word that the grammar knows, and its kind
 abbrev pub Entry : Type 0
-Entry = List ℕ × PieceKind
+Entry = List ℕ × TerminalKind
 
 -- the kind of the first of these words that the bytes are, in any case of letters
-abbrev pub kind_in : List Entry → List ℕ → Option PieceKind
+abbrev pub kind_in : List Entry → List ℕ → Option TerminalKind
 kind_in [] bytes = None
 kind_in (w ∷ ws) bytes = if str_eq_ignore_ascii_case bytes w.0 then Some w.1 else kind_in ws bytes
 
@@ -38,12 +38,12 @@ abbrev pub entries : List Word → List Entry
 entries [] = []
 entries (w ∷ ws) = (w.0.now, w.1) ∷ entries ws
 
-abbrev pub kind_or : PieceKind → Option PieceKind → PieceKind
+abbrev pub kind_or : TerminalKind → Option TerminalKind → TerminalKind
 kind_or other None = other
 kind_or other (Some k) = k
 
 -- a word: one that the grammar knows, or a name
-unfoldable pub word_kind : List ℕ → PieceKind
+unfoldable pub word_kind : List ℕ → TerminalKind
 word_kind bytes = kind_or kinds.Name (kind_in known bytes)
 
 -- the bytes between the quotes
@@ -51,16 +51,16 @@ abbrev pub inside : List ℕ → List ℕ
 inside bytes = slice_range bytes 1 (length bytes - 1)
 
 -- a name that is an aggregate or not
-abbrev pub aggregate_or_name : Option PieceKind → PieceKind
+abbrev pub aggregate_or_name : Option TerminalKind → TerminalKind
 aggregate_or_name (Some kinds.Aggregate) = kinds.Aggregate
 aggregate_or_name _ = kinds.Name
 
 -- a quoted name: an aggregate, or another name
-unfoldable pub quoted_kind : List ℕ → PieceKind
+unfoldable pub quoted_kind : List ℕ → TerminalKind
 quoted_kind bytes = aggregate_or_name (kind_in known (inside bytes))
 
 -- a symbol, by its first byte and, for `<`, its second
-unfoldable pub symbol_kind : ℕ → ℕ → PieceKind
+unfoldable pub symbol_kind : ℕ → ℕ → TerminalKind
 symbol_kind first second =
     if first == 40 then kinds.Open
     else (if first == 41 then kinds.Close

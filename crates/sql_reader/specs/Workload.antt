@@ -3,9 +3,9 @@ use Rattle.std.specs.Prelude.{◌≡◌, ℕ, ◌+◌, nat_lt, List, [], ◌∷�
 use Rattle.sql_tokens.specs.declared.token.Token.{Token}
 use Rattle.sql_tokens.specs.declared.token_list.TokenFault.TheVariants as tokens
 use Rattle.sql_tokens.specs.Cut.{AreTokens, HasFault}
-use Rattle.sql_reader.specs.declared.kind.PieceKind.{PieceKind}
-use Rattle.sql_reader.specs.declared.kind.PieceKind.TheVariants as kinds
-use Rattle.sql_reader.specs.declared.piece.Piece.{Piece}
+use Rattle.sql_reader.specs.declared.kind.TerminalKind.{TerminalKind}
+use Rattle.sql_reader.specs.declared.kind.TerminalKind.TheVariants as kinds
+use Rattle.sql_reader.specs.declared.terminal.Terminal.{Terminal}
 use Rattle.sql_reader.specs.declared.parsed.ParsedStatement.{ParsedStatement}
 use Rattle.sql_reader.specs.declared.parsed.SqlFault.{SqlFault}
 use Rattle.sql_reader.specs.declared.parsed.SqlFault.TheVariants as faults
@@ -16,32 +16,32 @@ use Rattle.sql_reader.specs.Exact.{IsRead, FailsAt}
 use Rattle.sql_reader.specs.Grammar.{levels}
 use Rattle.sql_reader.specs.Printed.{grammar, workload}
 use Rattle.sql_reader.specs.Values.{place_of, no_statements}
-use Rattle.sql_reader.specs.Pieces.{ArePieces, no_mark, bad_weight, start_behind}
+use Rattle.sql_reader.specs.Terminals.{AreTerminals, no_mark, bad_weight, start_behind}
 
--- pieces, and the statements that they are by the grammar as it is printed
+-- terminals, and the statements that they are by the grammar as it is printed
 abbrev pub MeansStatements : Meaning Progress Progress
-MeansStatements start pieces progress = IsRead grammar levels workload start pieces progress
+MeansStatements start terminals progress = IsRead grammar levels workload start terminals progress
 
 -- the kinds of words at which the fault is Unsupported
-abbrev pub left_out : List PieceKind
+abbrev pub left_out : List TerminalKind
 left_out = kinds.LeftOut ∷ kinds.Not ∷ kinds.Select ∷ []
 
--- the fault where the grammar fails before these pieces, with the place of the end of the text
-abbrev pub grammar_fault : ℕ → List Piece → SqlFault
+-- the fault where the grammar fails before these terminals, with the place of the end of the text
+abbrev pub grammar_fault : ℕ → List Terminal → SqlFault
 grammar_fault end [] = faults.Syntax end
 grammar_fault end (p ∷ rest) = if has left_out p.kind then faults.Unsupported (place_of p) else faults.Syntax (place_of p)
 
--- the fault of pieces that are left behind a workload
-abbrev pub fault_behind : ℕ → List Piece → Option SqlFault
+-- the fault of terminals that are left behind a workload
+abbrev pub fault_behind : ℕ → List Terminal → Option SqlFault
 fault_behind end [] = None
 fault_behind end (p ∷ rest) = Some (grammar_fault end (p ∷ rest))
 
--- what the grammar says of pieces: their statements and no fault, or the fault at the first piece at which no
+-- what the grammar says of terminals: their statements and no fault, or the fault at the first terminal at which no
 -- workload goes on
-abbrev pub GrammarSays : ℕ → List Piece → Progress → Option SqlFault → Type 0
-GrammarSays end pieces progress None = MeansStatements no_statements pieces progress
-GrammarSays end pieces progress (Some fault) =
-    (rest : List Piece) × FailsAt MeansStatements no_statements pieces rest × (fault ≡ grammar_fault end rest)
+abbrev pub GrammarSays : ℕ → List Terminal → Progress → Option SqlFault → Type 0
+GrammarSays end terminals progress None = MeansStatements no_statements terminals progress
+GrammarSays end terminals progress (Some fault) =
+    (rest : List Terminal) × FailsAt MeansStatements no_statements terminals rest × (fault ≡ grammar_fault end rest)
 
 -- the place of a fault
 abbrev pub place_of_fault : SqlFault → ℕ
@@ -59,21 +59,21 @@ earlier None other = other
 earlier (Some fault) None = Some fault
 earlier (Some fault) (Some other) = if nat_lt (place_of_fault other) (place_of_fault fault) then Some other else Some fault
 
--- the first fault of a text with these tokens and pieces, where the grammar has this one
-abbrev pub first_fault : List ℕ → List Token → List Piece → Option SqlFault → Option SqlFault
-first_fault text list pieces fault =
-    earlier fault (earlier (option_map faults.BadWeight (bad_weight text list)) (option_map faults.TooManyStatements (start_behind 1000 pieces)))
+-- the first fault of a text with these tokens and terminals, where the grammar has this one
+abbrev pub first_fault : List ℕ → List Token → List Terminal → Option SqlFault → Option SqlFault
+first_fault text list terminals fault =
+    earlier fault (earlier (option_map faults.BadWeight (bad_weight text list)) (option_map faults.TooManyStatements (start_behind 1000 terminals)))
 
 -- what a text with tokens says: its statements, or its first fault
 pub record Says (text : List ℕ) (statements : List ParsedStatement) (fault : Option SqlFault) : Type 0 where
   pub list : List Token
-  pub pieces : List Piece
+  pub terminals : List Terminal
   pub progress : Progress
   pub of_grammar : Option SqlFault
   pub are_tokens : AreTokens text list
-  pub are_pieces : ArePieces text list no_mark pieces
-  pub says : GrammarSays (length text + 1) pieces progress of_grammar
-  pub first : fault ≡ first_fault text list pieces of_grammar
+  pub are_terminals : AreTerminals text list no_mark terminals
+  pub says : GrammarSays (length text + 1) terminals progress of_grammar
+  pub first : fault ≡ first_fault text list terminals of_grammar
   pub same : statements ≡ progress.statements
 
 -- the text is a workload of these statements
@@ -94,22 +94,22 @@ HasSqlFault text (faults.Unsupported place) = IsFirstFault text (faults.Unsuppor
 HasSqlFault text (faults.BadWeight place) = IsFirstFault text (faults.BadWeight place)
 HasSqlFault text (faults.TooManyStatements place) = IsFirstFault text (faults.TooManyStatements place)
 
--- A workload goes on through this piece of the text, and it begins the 1001st of its statements. The piece stands at
--- this place.
+-- A workload goes on through this terminal of the text, and it begins the 1001st of its statements. The terminal stands
+-- at this place.
 pub record BeginsOneTooMany (text : List ℕ) (place : ℕ) : Type 0 where
   pub list : List Token
-  pub front : List Piece
-  pub piece : Piece
-  pub rest : List Piece
-  pub more : List Piece
+  pub front : List Terminal
+  pub terminal : Terminal
+  pub rest : List Terminal
+  pub more : List Terminal
   pub progress : Progress
   pub before : List ParsedStatement
   pub statement : ParsedStatement
   pub after : List ParsedStatement
   pub are_tokens : AreTokens text list
-  pub are_pieces : ArePieces text list no_mark (front ++ piece ∷ rest)
-  pub at_place : place_of piece ≡ place
-  pub goes_on : MeansStatements no_statements (front ++ piece ∷ more) progress
+  pub are_terminals : AreTerminals text list no_mark (front ++ terminal ∷ rest)
+  pub at_place : place_of terminal ≡ place
+  pub goes_on : MeansStatements no_statements (front ++ terminal ∷ more) progress
   pub parted : progress.statements ≡ before ++ statement ∷ after
   pub thousand : length before ≡ 1000
   pub begins : statement.place ≡ place

@@ -7,7 +7,7 @@ ghost use Rattle.std.specs.Prelude.{◌≡◌, IfOk};
 use crate::cursor::{Cursor, GrammarReader, Unread};
 use crate::list::push;
 use crate::name::NAMES;
-use crate::{Body, InsertParts, NameUse, PieceKind, Seen, Source, UpdateParts};
+use crate::{Body, InsertParts, NameUse, Seen, Source, TerminalKind, UpdateParts};
 use adv_base::List;
 use std::alloc::Global;
 
@@ -33,7 +33,7 @@ impl GrammarReader {
     fn another_name(self, cursor: &mut Cursor<'_>, all: &mut List<NameUse>) -> Result<(), Unread>
         ensures { AddsBy rule.another_name all.old self cursor.old result all.new cursor.new }
     {
-        cursor.take(&[PieceKind::Comma])?;
+        cursor.take(&[TerminalKind::Comma])?;
         self.name_as_column(cursor, all)
     }
 
@@ -41,7 +41,7 @@ impl GrammarReader {
     fn more_names(self, cursor: &mut Cursor<'_>, all: &mut List<NameUse>) -> Result<(), Unread>
         ensures { AddsBy rule.more_names all.old self cursor.old result all.new cursor.new }
     {
-        'turns: while cursor.begins(&[PieceKind::Comma]) {
+        'turns: while cursor.begins(&[TerminalKind::Comma]) {
             self.another_name(cursor, all)?;
         }
         Ok(())
@@ -61,12 +61,12 @@ impl GrammarReader {
     fn insert_columns(self, cursor: &mut Cursor<'_>, all: &mut List<NameUse>) -> Result<(), Unread>
         ensures { AddsBy rule.insert_columns all.old self cursor.old result all.new cursor.new }
     {
-        if !cursor.begins(&[PieceKind::Open]) {
+        if !cursor.begins(&[TerminalKind::Open]) {
             return Ok(());
         }
-        cursor.take(&[PieceKind::Open])?;
+        cursor.take(&[TerminalKind::Open])?;
         self.name_list(cursor, all)?;
-        cursor.take(&[PieceKind::Close])?;
+        cursor.take(&[TerminalKind::Close])?;
         Ok(())
     }
 
@@ -91,9 +91,9 @@ impl GrammarReader {
         ensures rows { room.Spends parts.old.rows cursor.old parts.new.rows cursor.new }
         ensures stars { room.Spends parts.old.found.stars cursor.old parts.new.found.stars cursor.new }
     {
-        cursor.take(&[PieceKind::Open])?;
+        cursor.take(&[TerminalKind::Open])?;
         self.row_values(cursor, parts)?;
-        cursor.take(&[PieceKind::Close])?;
+        cursor.take(&[TerminalKind::Close])?;
         parts.rows += 1;
         Ok(())
     }
@@ -107,7 +107,7 @@ impl GrammarReader {
         ensures rows { room.Spends parts.old.rows cursor.old parts.new.rows cursor.new }
         ensures stars { room.Spends parts.old.found.stars cursor.old parts.new.found.stars cursor.new }
     {
-        cursor.take(&[PieceKind::Comma])?;
+        cursor.take(&[TerminalKind::Comma])?;
         self.row(cursor, parts)
     }
 
@@ -119,7 +119,7 @@ impl GrammarReader {
         ensures rows { room.Spends parts.old.rows cursor.old parts.new.rows cursor.new }
         ensures stars { room.Spends parts.old.found.stars cursor.old parts.new.found.stars cursor.new }
     {
-        'turns: while cursor.begins(&[PieceKind::Comma]) {
+        'turns: while cursor.begins(&[TerminalKind::Comma]) {
             self.another_row(cursor, parts)?;
         }
         Ok(())
@@ -145,7 +145,7 @@ impl GrammarReader {
         ensures rows { IfOk result (λ parts. parts.rows ≡ 0) }
         ensures stars { IfOk result (λ parts. parts.found.stars ≡ 0) }
     {
-        cursor.take(&[PieceKind::Into])?;
+        cursor.take(&[TerminalKind::Into])?;
         let table = cursor.take(&NAMES)?;
         Ok(InsertParts {
             table: table.span,
@@ -162,7 +162,7 @@ impl GrammarReader {
     {
         let mut parts = self.insert_table(alloc, cursor)?;
         self.insert_columns(cursor, &mut parts.columns)?;
-        cursor.take(&[PieceKind::Values])?;
+        cursor.take(&[TerminalKind::Values])?;
         self.rows(cursor, &mut parts)?;
         Ok(parts)
     }
@@ -175,7 +175,7 @@ impl GrammarReader {
         ensures room { room.Spends parts.old.found.stars cursor.old parts.new.found.stars cursor.new }
     {
         self.name_as_column(cursor, &mut parts.columns)?;
-        cursor.take(&[PieceKind::Equal])?;
+        cursor.take(&[TerminalKind::Equal])?;
         Ok(())
     }
 
@@ -201,7 +201,7 @@ impl GrammarReader {
         ensures reads { AddsBy rule.another_assignment parts.old self cursor.old result parts.new cursor.new }
         ensures room { room.Spends parts.old.found.stars cursor.old parts.new.found.stars cursor.new }
     {
-        cursor.take(&[PieceKind::Comma])?;
+        cursor.take(&[TerminalKind::Comma])?;
         self.assignment(cursor, parts)
     }
 
@@ -215,7 +215,7 @@ impl GrammarReader {
         ensures reads { AddsBy rule.more_assignments parts.old self cursor.old result parts.new cursor.new }
         ensures room { room.Spends parts.old.found.stars cursor.old parts.new.found.stars cursor.new }
     {
-        'turns: while cursor.begins(&[PieceKind::Comma]) {
+        'turns: while cursor.begins(&[TerminalKind::Comma]) {
             self.another_assignment(cursor, parts)?;
         }
         Ok(())
@@ -253,7 +253,7 @@ impl GrammarReader {
         ensures { ReadsBy rule.update_rest tt self cursor.old result cursor.new }
     {
         let mut parts = self.update_source(alloc, cursor)?;
-        cursor.take(&[PieceKind::Set])?;
+        cursor.take(&[TerminalKind::Set])?;
         self.assignments(cursor, &mut parts)?;
         self.where_conditions(cursor, &mut parts.conditions)?;
         Ok(parts)
@@ -264,7 +264,7 @@ impl GrammarReader {
     pub fn delete_rest(self, alloc: Global, cursor: &mut Cursor<'_>) -> Result<Body, Unread>
         ensures { ReadsBy rule.delete_rest tt self cursor.old result cursor.new }
     {
-        cursor.take(&[PieceKind::From])?;
+        cursor.take(&[TerminalKind::From])?;
         let source = self.source(cursor)?;
         self.delete_conditions(alloc, cursor, source)
     }

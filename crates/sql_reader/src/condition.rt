@@ -9,7 +9,7 @@ use crate::cursor::{Cursor, GrammarReader, Unread};
 use crate::list::push;
 use crate::literal::COMPARISONS;
 use crate::name::PLAIN_NAMES;
-use crate::{Compare, Condition, Literal, NameUse, PieceKind};
+use crate::{Compare, Condition, Literal, NameUse, TerminalKind};
 use adv_base::List;
 use sql_tokens::Span;
 
@@ -48,8 +48,8 @@ impl GrammarReader {
     ) -> Result<Condition, Unread>
         ensures { ReadsBy rule.after_equal_date (column, first) self cursor.old result cursor.new }
     {
-        if cursor.begins(&[PieceKind::Day]) {
-            let day = cursor.take(&[PieceKind::Day])?;
+        if cursor.begins(&[TerminalKind::Day]) {
+            let day = cursor.take(&[TerminalKind::Day])?;
             return Ok(Condition::Compared(column, Compare::Equal, day.day()));
         }
         self.tied_test(cursor, column, first)
@@ -60,8 +60,8 @@ impl GrammarReader {
     pub fn equal_test(self, cursor: &mut Cursor<'_>, column: NameUse) -> Result<Condition, Unread>
         ensures { ReadsBy rule.equal_test column self cursor.old result cursor.new }
     {
-        if cursor.begins(&[PieceKind::Date]) {
-            let first = cursor.take(&[PieceKind::Date])?;
+        if cursor.begins(&[TerminalKind::Date]) {
+            let first = cursor.take(&[TerminalKind::Date])?;
             return self.after_equal_date(cursor, column, first.span);
         }
         if cursor.begins(&PLAIN_NAMES) {
@@ -77,7 +77,11 @@ impl GrammarReader {
     pub fn unequal_test(self, cursor: &mut Cursor<'_>, column: NameUse) -> Result<Condition, Unread>
         ensures { ReadsBy rule.unequal_test column self cursor.old result cursor.new }
     {
-        let comparison = cursor.take(&[PieceKind::NotEqual, PieceKind::Below, PieceKind::Above])?;
+        let comparison = cursor.take(&[
+            TerminalKind::NotEqual,
+            TerminalKind::Below,
+            TerminalKind::Above,
+        ])?;
         let value = self.value(cursor)?;
         Ok(Condition::Compared(column, comparison.kind.compare(), value))
     }
@@ -87,9 +91,9 @@ impl GrammarReader {
     pub fn between_test(self, cursor: &mut Cursor<'_>, column: NameUse) -> Result<Condition, Unread>
         ensures { ReadsBy rule.between_test column self cursor.old result cursor.new }
     {
-        cursor.take(&[PieceKind::Between])?;
+        cursor.take(&[TerminalKind::Between])?;
         let low = self.value(cursor)?;
-        cursor.take(&[PieceKind::And])?;
+        cursor.take(&[TerminalKind::And])?;
         let high = self.value(cursor)?;
         Ok(Condition::Between(column, low, high))
     }
@@ -101,7 +105,7 @@ impl GrammarReader {
         ensures reads { AddsBy rule.in_value count.old self cursor.old result count.new cursor.new }
         ensures room { room.Spends count.old cursor.old count.new cursor.new }
     {
-        cursor.take(&[PieceKind::Comma])?;
+        cursor.take(&[TerminalKind::Comma])?;
         self.value(cursor)?;
         *count += 1;
         Ok(())
@@ -113,7 +117,7 @@ impl GrammarReader {
         ensures reads { AddsBy rule.more_in_values count.old self cursor.old result count.new cursor.new }
         ensures room { room.Spends count.old cursor.old count.new cursor.new }
     {
-        'turns: while cursor.begins(&[PieceKind::Comma]) {
+        'turns: while cursor.begins(&[TerminalKind::Comma]) {
             self.in_value(cursor, count)?;
         }
         Ok(())
@@ -135,10 +139,10 @@ impl GrammarReader {
     pub fn in_test(self, cursor: &mut Cursor<'_>, column: NameUse) -> Result<Condition, Unread>
         ensures { ReadsBy rule.in_test column self cursor.old result cursor.new }
     {
-        cursor.take(&[PieceKind::In])?;
-        cursor.take(&[PieceKind::Open])?;
+        cursor.take(&[TerminalKind::In])?;
+        cursor.take(&[TerminalKind::Open])?;
         let count = self.in_values(cursor)?;
-        cursor.take(&[PieceKind::Close])?;
+        cursor.take(&[TerminalKind::Close])?;
         Ok(Condition::OneOf(column, count))
     }
 
@@ -147,7 +151,7 @@ impl GrammarReader {
     pub fn like_test(self, cursor: &mut Cursor<'_>, column: NameUse) -> Result<Condition, Unread>
         ensures { ReadsBy rule.like_test column self cursor.old result cursor.new }
     {
-        cursor.take(&[PieceKind::Like])?;
+        cursor.take(&[TerminalKind::Like])?;
         self.value(cursor)?;
         Ok(Condition::Like(column))
     }
@@ -157,13 +161,13 @@ impl GrammarReader {
     pub fn null_test(self, cursor: &mut Cursor<'_>, column: NameUse) -> Result<Condition, Unread>
         ensures { ReadsBy rule.null_test column self cursor.old result cursor.new }
     {
-        cursor.take(&[PieceKind::Is])?;
-        if cursor.begins(&[PieceKind::Not]) {
-            cursor.take(&[PieceKind::Not])?;
-            cursor.take(&[PieceKind::Null])?;
+        cursor.take(&[TerminalKind::Is])?;
+        if cursor.begins(&[TerminalKind::Not]) {
+            cursor.take(&[TerminalKind::Not])?;
+            cursor.take(&[TerminalKind::Null])?;
             return Ok(Condition::NotNull(column));
         }
-        cursor.take(&[PieceKind::Null])?;
+        cursor.take(&[TerminalKind::Null])?;
         Ok(Condition::IsNull(column))
     }
 
@@ -172,20 +176,24 @@ impl GrammarReader {
     pub fn column_test(self, cursor: &mut Cursor<'_>, column: NameUse) -> Result<Condition, Unread>
         ensures { ReadsBy rule.column_test column self cursor.old result cursor.new }
     {
-        if cursor.begins(&[PieceKind::Equal]) {
-            cursor.take(&[PieceKind::Equal])?;
+        if cursor.begins(&[TerminalKind::Equal]) {
+            cursor.take(&[TerminalKind::Equal])?;
             return self.equal_test(cursor, column);
         }
-        if cursor.begins(&[PieceKind::NotEqual, PieceKind::Below, PieceKind::Above]) {
+        if cursor.begins(&[
+            TerminalKind::NotEqual,
+            TerminalKind::Below,
+            TerminalKind::Above,
+        ]) {
             return self.unequal_test(cursor, column);
         }
-        if cursor.begins(&[PieceKind::Between]) {
+        if cursor.begins(&[TerminalKind::Between]) {
             return self.between_test(cursor, column);
         }
-        if cursor.begins(&[PieceKind::In]) {
+        if cursor.begins(&[TerminalKind::In]) {
             return self.in_test(cursor, column);
         }
-        if cursor.begins(&[PieceKind::Like]) {
+        if cursor.begins(&[TerminalKind::Like]) {
             return self.like_test(cursor, column);
         }
         self.null_test(cursor, column)
@@ -205,8 +213,8 @@ impl GrammarReader {
     pub fn after_test_date(self, cursor: &mut Cursor<'_>, first: Span) -> Result<Condition, Unread>
         ensures { ReadsBy rule.after_test_date first self cursor.old result cursor.new }
     {
-        if cursor.begins(&[PieceKind::Day]) {
-            let day = cursor.take(&[PieceKind::Day])?;
+        if cursor.begins(&[TerminalKind::Day]) {
+            let day = cursor.take(&[TerminalKind::Day])?;
             return self.turned_test(cursor, day.day());
         }
         self.after_test_name(cursor, first)
@@ -217,8 +225,8 @@ impl GrammarReader {
     pub fn test(self, cursor: &mut Cursor<'_>) -> Result<Condition, Unread>
         ensures { ReadsBy rule.plain_condition tt self cursor.old result cursor.new }
     {
-        if cursor.begins(&[PieceKind::Date]) {
-            let first = cursor.take(&[PieceKind::Date])?;
+        if cursor.begins(&[TerminalKind::Date]) {
+            let first = cursor.take(&[TerminalKind::Date])?;
             return self.after_test_date(cursor, first.span);
         }
         if cursor.begins(&PLAIN_NAMES) {
@@ -235,7 +243,7 @@ impl GrammarReader {
     fn condition(self, cursor: &mut Cursor<'_>, all: &mut List<Condition>) -> Result<(), Unread>
         ensures { AddsBy rule.condition all.old self cursor.old result all.new cursor.new }
     {
-        if cursor.begins(&[PieceKind::Open]) {
+        if cursor.begins(&[TerminalKind::Open]) {
             return self.deeper_conditions(cursor, all);
         }
         let condition = self.test(cursor)?;
@@ -248,7 +256,7 @@ impl GrammarReader {
     fn and_condition(self, cursor: &mut Cursor<'_>, all: &mut List<Condition>) -> Result<(), Unread>
         ensures { AddsBy rule.and_condition all.old self cursor.old result all.new cursor.new }
     {
-        cursor.take(&[PieceKind::And])?;
+        cursor.take(&[TerminalKind::And])?;
         self.condition(cursor, all)
     }
 
@@ -261,7 +269,7 @@ impl GrammarReader {
     ) -> Result<(), Unread>
         ensures { AddsBy rule.more_conditions all.old self cursor.old result all.new cursor.new }
     {
-        'turns: while cursor.begins(&[PieceKind::And]) {
+        'turns: while cursor.begins(&[TerminalKind::And]) {
             self.and_condition(cursor, all)?;
         }
         Ok(())
@@ -291,9 +299,9 @@ impl GrammarReader {
     ) -> Result<(), Unread>
         ensures { AddsBy rule.nested_conditions all.old self cursor.old result all.new cursor.new }
     {
-        cursor.take(&[PieceKind::Open])?;
+        cursor.take(&[TerminalKind::Open])?;
         self.conditions(cursor, all)?;
-        cursor.take(&[PieceKind::Close])?;
+        cursor.take(&[TerminalKind::Close])?;
         Ok(())
     }
 
@@ -325,10 +333,10 @@ impl GrammarReader {
     ) -> Result<(), Unread>
         ensures { AddsBy rule.where_conditions all.old self cursor.old result all.new cursor.new }
     {
-        if !cursor.begins(&[PieceKind::Where]) {
+        if !cursor.begins(&[TerminalKind::Where]) {
             return Ok(());
         }
-        cursor.take(&[PieceKind::Where])?;
+        cursor.take(&[TerminalKind::Where])?;
         self.conditions(cursor, all)
     }
 }

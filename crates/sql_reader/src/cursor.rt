@@ -1,21 +1,21 @@
-//! A place in the pieces of a text.
+//! A place in the terminals of a text.
 ghost use Rattle.sql_reader.specs.Kinds.{has};
 ghost use Rattle.std.specs.Prelude.{◌≡◌, ◌<◌, ◌^◌, length};
 
-use crate::{Piece, PieceKind};
+use crate::{Terminal, TerminalKind};
 
-/// Why reading stops: there is no memory, or nothing goes on with the next piece.
+/// Why reading stops: there is no memory, or nothing goes on with the next terminal.
 #[derive(Clone, Copy)]
 pub enum Unread {
     Memory,
     Here,
 }
 
-/// The pieces that are left.
+/// The terminals that are left.
 #[derive(Drop)]
 pub struct Cursor<'a> {
-    pub rest: &'a [Piece],
-    /// There are fewer pieces than bytes.
+    pub rest: &'a [Terminal],
+    /// There are fewer terminals than bytes.
     pub ghost short: { length rest.now < 2 ^ 32 },
 }
 
@@ -26,7 +26,7 @@ pub struct GrammarReader {
 }
 
 /// Whether a kind is one of these.
-pub fn has(kinds: &[PieceKind], kind: PieceKind) -> bool
+pub fn has(kinds: &[TerminalKind], kind: TerminalKind) -> bool
     ensures { result ≡ has kinds.now kind }
 {
     let code = kind.code();
@@ -36,30 +36,30 @@ pub fn has(kinds: &[PieceKind], kind: PieceKind) -> bool
 impl Cursor<'_> {
     ghost use Rattle.sql_reader.specs.inner.Reads.{Gives, same};
     ghost use Rattle.sql_reader.specs.inner.Room as room;
-    ghost use Rattle.sql_reader.specs.Rule.{begins, piece_of};
+    ghost use Rattle.sql_reader.specs.Rule.{begins, terminal_of};
 
-    /// Whether the next piece is of one of these kinds.
-    pub fn begins(&self, kinds: &[PieceKind]) -> bool
+    /// Whether the next terminal is of one of these kinds.
+    pub fn begins(&self, kinds: &[TerminalKind]) -> bool
         ensures { result ≡ begins kinds.now self.now.rest.now }
     {
         match self.rest.first() {
-            Some(piece) => has(kinds, piece.kind),
+            Some(terminal) => has(kinds, terminal.kind),
             None => false,
         }
     }
 
-    /// Takes one piece of these kinds.
-    pub fn take(&mut self, kinds: &[PieceKind]) -> Result<Piece, Unread>
-        ensures reads { Gives same result (piece_of kinds.now self.old.rest.now) self.new }
+    /// Takes one terminal of these kinds.
+    pub fn take(&mut self, kinds: &[TerminalKind]) -> Result<Terminal, Unread>
+        ensures reads { Gives same result (terminal_of kinds.now self.old.rest.now) self.new }
         ensures left { room.TakesSome result self.old self.new }
     {
-        let Some((piece, rest)) = self.rest.split_first() else {
+        let Some((terminal, rest)) = self.rest.split_first() else {
             return Err(Unread::Here);
         };
-        if !has(kinds, piece.kind) {
+        if !has(kinds, terminal.kind) {
             return Err(Unread::Here);
         }
         self.rest = rest;
-        Ok(*piece)
+        Ok(*terminal)
     }
 }

@@ -11,26 +11,26 @@ use crate::cursor::{Cursor, GrammarReader, Unread};
 use crate::list::push;
 use crate::literal::{LITERALS, SIGNS};
 use crate::name::{NAMES, PLAIN_NAMES};
-use crate::{Expr, ExprForm, NameUse, Piece, PieceKind, Seen};
+use crate::{Expr, ExprForm, NameUse, Seen, Terminal, TerminalKind};
 use adv_base::List;
 use sql_tokens::Span;
 use std::alloc::Global;
 
 /// The operators between two operands.
-pub const OPERATORS: [PieceKind; 4] = [
-    PieceKind::Plus,
-    PieceKind::Minus,
-    PieceKind::Star,
-    PieceKind::Operator,
+pub const OPERATORS: [TerminalKind; 4] = [
+    TerminalKind::Plus,
+    TerminalKind::Minus,
+    TerminalKind::Star,
+    TerminalKind::Operator,
 ];
 
-impl Piece {
+impl Terminal {
     /// The form of an expression that is this literal alone.
     pub fn form(self) -> ExprForm
         ensures { result ≡ values.literal_form self.kind self.number }
     {
         match self.kind {
-            PieceKind::Whole => match self.number {
+            TerminalKind::Whole => match self.number {
                 Some(number) => number_form(number),
                 None => ExprForm::Other,
             },
@@ -49,13 +49,13 @@ fn number_form(number: i64) -> ExprForm
     }
 }
 
-impl PieceKind {
+impl TerminalKind {
     /// Whether the kind is the name of an aggregate function.
     pub fn is_aggregate(self) -> bool
         ensures { result ≡ values.is_aggregate self }
     {
         match self {
-            PieceKind::Aggregate => true,
+            TerminalKind::Aggregate => true,
             _ => false,
         }
     }
@@ -131,13 +131,13 @@ impl GrammarReader {
         self,
         cursor: &mut Cursor<'_>,
         found: &mut Seen,
-        name: Piece,
+        name: Terminal,
     ) -> Result<(), Unread>
         requires { room.Fits found.old.stars cursor.old }
         ensures reads { AddsBy rule.called_name (found.old, name) self cursor.old result found.new cursor.new }
         ensures room { room.Spends found.old.stars cursor.old found.new.stars cursor.new }
     {
-        if cursor.begins(&[PieceKind::Open]) {
+        if cursor.begins(&[TerminalKind::Open]) {
             found.aggregate = found.aggregate || name.kind.is_aggregate();
             return self.nested_call(cursor, found);
         }
@@ -154,16 +154,16 @@ impl GrammarReader {
         self,
         cursor: &mut Cursor<'_>,
         found: &mut Seen,
-        name: Piece,
+        name: Terminal,
     ) -> Result<(), Unread>
         requires { room.Fits found.old.stars cursor.old }
         ensures reads { AddsBy rule.after_operand_name (found.old, name) self cursor.old result found.new cursor.new }
         ensures room { room.Spends found.old.stars cursor.old found.new.stars cursor.new }
     {
-        if !cursor.begins(&[PieceKind::Point]) {
+        if !cursor.begins(&[TerminalKind::Point]) {
             return self.called_name(cursor, found, name);
         }
-        cursor.take(&[PieceKind::Point])?;
+        cursor.take(&[TerminalKind::Point])?;
         let second = cursor.take(&NAMES)?;
         found.add_use(NameUse {
             qualifier: Some(name.span),
@@ -178,16 +178,16 @@ impl GrammarReader {
         self,
         cursor: &mut Cursor<'_>,
         found: &mut Seen,
-        name: Piece,
+        name: Terminal,
     ) -> Result<(), Unread>
         requires { room.Fits found.old.stars cursor.old }
         ensures reads { AddsBy rule.after_operand_date (found.old, name) self cursor.old result found.new cursor.new }
         ensures room { room.Spends found.old.stars cursor.old found.new.stars cursor.new }
     {
-        if !cursor.begins(&[PieceKind::Day]) {
+        if !cursor.begins(&[TerminalKind::Day]) {
             return self.after_operand_name(cursor, found, name);
         }
-        cursor.take(&[PieceKind::Day])?;
+        cursor.take(&[TerminalKind::Day])?;
         found.form = ExprForm::Other;
         Ok(())
     }
@@ -200,7 +200,7 @@ impl GrammarReader {
         ensures reads { AddsBy rule.other_operand found.old self cursor.old result found.new cursor.new }
         ensures room { room.Spends found.old.stars cursor.old found.new.stars cursor.new }
     {
-        if cursor.begins(&[PieceKind::Open]) {
+        if cursor.begins(&[TerminalKind::Open]) {
             return self.nested_parenthesis(cursor, found);
         }
         if cursor.begins(&SIGNS) {
@@ -219,8 +219,8 @@ impl GrammarReader {
         ensures reads { AddsBy rule.operand found.old self cursor.old result found.new cursor.new }
         ensures room { room.Spends found.old.stars cursor.old found.new.stars cursor.new }
     {
-        if cursor.begins(&[PieceKind::Date]) {
-            let name = cursor.take(&[PieceKind::Date])?;
+        if cursor.begins(&[TerminalKind::Date]) {
+            let name = cursor.take(&[TerminalKind::Date])?;
             return self.after_operand_date(cursor, found, name);
         }
         if cursor.begins(&PLAIN_NAMES) {
@@ -277,7 +277,7 @@ impl GrammarReader {
         ensures reads { AddsBy rule.another_expression found.old self cursor.old result found.new cursor.new }
         ensures room { room.Spends found.old.stars cursor.old found.new.stars cursor.new }
     {
-        cursor.take(&[PieceKind::Comma])?;
+        cursor.take(&[TerminalKind::Comma])?;
         self.expression(cursor, found)
     }
 
@@ -288,7 +288,7 @@ impl GrammarReader {
         ensures reads { AddsBy rule.more_expressions found.old self cursor.old result found.new cursor.new }
         ensures room { room.Spends found.old.stars cursor.old found.new.stars cursor.new }
     {
-        'turns: while cursor.begins(&[PieceKind::Comma]) {
+        'turns: while cursor.begins(&[TerminalKind::Comma]) {
             self.another_expression(cursor, found)?;
         }
         Ok(())
@@ -313,9 +313,9 @@ impl GrammarReader {
         ensures reads { AddsBy rule.star_argument found.old self cursor.old result found.new cursor.new }
         ensures room { room.Spends found.old.stars cursor.old found.new.stars cursor.new }
     {
-        cursor.take(&[PieceKind::Star])?;
+        cursor.take(&[TerminalKind::Star])?;
         found.stars += 1;
-        cursor.take(&[PieceKind::Close])?;
+        cursor.take(&[TerminalKind::Close])?;
         found.form = ExprForm::Other;
         Ok(())
     }
@@ -327,10 +327,10 @@ impl GrammarReader {
         ensures reads { AddsBy rule.maybe_distinct found.now self cursor.old result found.now cursor.new }
         ensures room { room.Spends found.now.stars cursor.old found.now.stars cursor.new }
     {
-        if !cursor.begins(&[PieceKind::Distinct]) {
+        if !cursor.begins(&[TerminalKind::Distinct]) {
             return Ok(());
         }
-        cursor.take(&[PieceKind::Distinct])?;
+        cursor.take(&[TerminalKind::Distinct])?;
         Ok(())
     }
 
@@ -344,7 +344,7 @@ impl GrammarReader {
     {
         self.maybe_distinct(cursor, found)?;
         self.expressions(cursor, found)?;
-        cursor.take(&[PieceKind::Close])?;
+        cursor.take(&[TerminalKind::Close])?;
         found.form = ExprForm::Other;
         Ok(())
     }
@@ -357,12 +357,12 @@ impl GrammarReader {
         ensures reads { AddsBy rule.arguments found.old self cursor.old result found.new cursor.new }
         ensures room { room.Spends found.old.stars cursor.old found.new.stars cursor.new }
     {
-        if cursor.begins(&[PieceKind::Close]) {
-            cursor.take(&[PieceKind::Close])?;
+        if cursor.begins(&[TerminalKind::Close]) {
+            cursor.take(&[TerminalKind::Close])?;
             found.form = ExprForm::Other;
             return Ok(());
         }
-        if cursor.begins(&[PieceKind::Star]) {
+        if cursor.begins(&[TerminalKind::Star]) {
             return self.star_argument(cursor, found);
         }
         self.listed_arguments(cursor, found)
@@ -376,7 +376,7 @@ impl GrammarReader {
         ensures reads { AddsBy rule.call found.old self cursor.old result found.new cursor.new }
         ensures room { room.Spends found.old.stars cursor.old found.new.stars cursor.new }
     {
-        cursor.take(&[PieceKind::Open])?;
+        cursor.take(&[TerminalKind::Open])?;
         self.arguments(cursor, found)
     }
 
@@ -388,9 +388,9 @@ impl GrammarReader {
         ensures reads { AddsBy rule.parenthesis found.old self cursor.old result found.new cursor.new }
         ensures room { room.Spends found.old.stars cursor.old found.new.stars cursor.new }
     {
-        cursor.take(&[PieceKind::Open])?;
+        cursor.take(&[TerminalKind::Open])?;
         self.expression(cursor, found)?;
-        cursor.take(&[PieceKind::Close])?;
+        cursor.take(&[TerminalKind::Close])?;
         found.form = ExprForm::Other;
         Ok(())
     }

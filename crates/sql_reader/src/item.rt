@@ -7,7 +7,7 @@ ghost use Rattle.std.specs.Prelude.{◌≡◌};
 use crate::cursor::{Cursor, GrammarReader, Unread};
 use crate::list::push;
 use crate::name::{NAMES, PLAIN_NAMES};
-use crate::{NameUse, ParsedItem, Piece, PieceKind, Seen};
+use crate::{NameUse, ParsedItem, Seen, Terminal, TerminalKind};
 use adv_base::List;
 use std::alloc::Global;
 
@@ -32,12 +32,12 @@ impl GrammarReader {
         self,
         alloc: Global,
         cursor: &mut Cursor<'_>,
-        name: Piece,
+        name: Terminal,
     ) -> Result<ParsedItem, Unread>
         ensures { ReadsBy rule.after_item_point name self cursor.old result cursor.new }
     {
-        if cursor.begins(&[PieceKind::Star]) {
-            cursor.take(&[PieceKind::Star])?;
+        if cursor.begins(&[TerminalKind::Star]) {
+            cursor.take(&[TerminalKind::Star])?;
             return Ok(ParsedItem::SlotStar(name.span));
         }
         let second = cursor.take(&NAMES)?;
@@ -55,12 +55,12 @@ impl GrammarReader {
         self,
         alloc: Global,
         cursor: &mut Cursor<'_>,
-        name: Piece,
+        name: Terminal,
     ) -> Result<ParsedItem, Unread>
         ensures { ReadsBy rule.after_item_name name self cursor.old result cursor.new }
     {
-        if cursor.begins(&[PieceKind::Point]) {
-            cursor.take(&[PieceKind::Point])?;
+        if cursor.begins(&[TerminalKind::Point]) {
+            cursor.take(&[TerminalKind::Point])?;
             return self.after_item_point(alloc, cursor, name);
         }
         let mut found = Seen::new(alloc);
@@ -74,12 +74,12 @@ impl GrammarReader {
         self,
         alloc: Global,
         cursor: &mut Cursor<'_>,
-        name: Piece,
+        name: Terminal,
     ) -> Result<ParsedItem, Unread>
         ensures { ReadsBy rule.after_item_date name self cursor.old result cursor.new }
     {
-        if cursor.begins(&[PieceKind::Day]) {
-            cursor.take(&[PieceKind::Day])?;
+        if cursor.begins(&[TerminalKind::Day]) {
+            cursor.take(&[TerminalKind::Day])?;
             return self.rest_of_item(cursor, Seen::new(alloc));
         }
         self.after_item_name(alloc, cursor, name)
@@ -100,12 +100,12 @@ impl GrammarReader {
     fn item_value(self, alloc: Global, cursor: &mut Cursor<'_>) -> Result<ParsedItem, Unread>
         ensures { ReadsBy rule.item_value tt self cursor.old result cursor.new }
     {
-        if cursor.begins(&[PieceKind::Star]) {
-            cursor.take(&[PieceKind::Star])?;
+        if cursor.begins(&[TerminalKind::Star]) {
+            cursor.take(&[TerminalKind::Star])?;
             return Ok(ParsedItem::Star);
         }
-        if cursor.begins(&[PieceKind::Date]) {
-            let name = cursor.take(&[PieceKind::Date])?;
+        if cursor.begins(&[TerminalKind::Date]) {
+            let name = cursor.take(&[TerminalKind::Date])?;
             return self.after_item_date(alloc, cursor, name);
         }
         if cursor.begins(&PLAIN_NAMES) {
@@ -139,7 +139,7 @@ impl GrammarReader {
     ) -> Result<(), Unread>
         ensures { AddsBy rule.another_item all.old self cursor.old result all.new cursor.new }
     {
-        cursor.take(&[PieceKind::Comma])?;
+        cursor.take(&[TerminalKind::Comma])?;
         self.one_item(alloc, cursor, all)
     }
 
@@ -152,7 +152,7 @@ impl GrammarReader {
     ) -> Result<(), Unread>
         ensures { AddsBy rule.more_items all.old self cursor.old result all.new cursor.new }
     {
-        'turns: while cursor.begins(&[PieceKind::Comma]) {
+        'turns: while cursor.begins(&[TerminalKind::Comma]) {
             self.another_item(alloc, cursor, all)?;
         }
         Ok(())

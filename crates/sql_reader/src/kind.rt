@@ -1,9 +1,9 @@
-//! The kinds of pieces that the grammar tells apart.
+//! The kinds of terminals that the grammar tells apart.
 
 /// What the grammar sees of a token: a reserved word, a symbol, a name or a literal. Tokens that the
 /// grammar treats alike share a kind.
 #[derive(Clone, Copy)]
-pub enum PieceKind {
+pub enum TerminalKind {
     All,
     And,
     As,
@@ -72,7 +72,7 @@ pub enum PieceKind {
     Day,
 }
 
-impl PieceKind {
+impl TerminalKind {
     ghost use Rattle.std.specs.Prelude.{◌≡◌};
     ghost use Rattle.sql_reader.specs.Kinds.{code_of};
 

@@ -1,5 +1,5 @@
 //! Laws of the grammar.
-ghost use Rattle.sql_reader.specs.Pieces.{places_of, starts_in};
+ghost use Rattle.sql_reader.specs.Terminals.{places_of, starts_in};
 ghost use Rattle.sql_reader.specs.Printed.{IsAsPrinted};
 ghost use Rattle.sql_reader.specs.Values.{no_statements};
 ghost use Rattle.sql_reader.specs.Workload.{BeginsOneTooMany, HasSqlFault, IsWorkload, MeansStatements};
@@ -7,13 +7,13 @@ ghost use Rattle.sql_reader.specs.declared.parsed.ParsedStatement.{ParsedStateme
 ghost use Rattle.sql_reader.specs.declared.parsed.SqlFault.{SqlFault};
 ghost use Rattle.sql_reader.specs.declared.parsed.SqlFault.TheVariants.{TooManyStatements};
 ghost use Rattle.sql_reader.specs.declared.parts.Progress.{Progress};
-ghost use Rattle.sql_reader.specs.declared.piece.Piece.{Piece};
+ghost use Rattle.sql_reader.specs.declared.terminal.Terminal.{Terminal};
 ghost use Rattle.std.specs.Prelude.{◌≡◌, List, ℕ};
 
-/// Each list of pieces has at most one meaning as a workload.
+/// Each list of terminals has at most one meaning as a workload.
 pub fn one_meaning()
-    ensures { (start : Progress) (pieces : List Piece) (first second : Progress) →
-        MeansStatements start pieces first → MeansStatements start pieces second → first ≡ second }
+    ensures { (start : Progress) (terminals : List Terminal) (first second : Progress) →
+        MeansStatements start terminals first → MeansStatements start terminals second → first ≡ second }
 {}
 
 /// A text has one answer: it is a workload of one list of statements, or it has one fault, and not both.
@@ -26,8 +26,8 @@ pub fn one_answer()
 /// The statements of a workload begin at its words that begin one, in order. So the 1001st of these words is the
 /// first token of the 1001st statement of each workload that goes on through it.
 pub fn statements_begin()
-    ensures { (pieces : List Piece) (progress : Progress) →
-        MeansStatements no_statements pieces progress → places_of progress.statements ≡ starts_in pieces }
+    ensures { (terminals : List Terminal) (progress : Progress) →
+        MeansStatements no_statements terminals progress → places_of progress.statements ≡ starts_in terminals }
 {}
 
 /// Too many statements are at the first token of the 1001st statement of a workload that goes on through it.

@@ -1,13 +1,13 @@
 //! The statements of a workload, read by the grammar: a text below 2^32 bytes goes in, and out come its statements or
 //! its first fault.
 //!
-//! `read_workload` makes a text's tokens into pieces, which is what the grammar looks at, and reads these by rules that
-//! `specs/Grammar` lists, with one piece of look ahead. Names stay spans of the text: whether a table or a column is
-//! there is left to the crate above.
+//! `read_workload` makes a text's tokens into terminals, which is what the grammar looks at, and reads these by rules
+//! that `specs/Grammar` lists, with one terminal of look ahead. Names stay spans of the text: whether a table or a
+//! column is there is left to the crate above.
 //!
 //! `Parsed` is a text with its statements. A `ParsedStatement` has a `Body`, which for a SELECT is a `ParsedSelect` of
 //! `ParsedItem`s, `Source`s, `Condition`s and `ParsedOrder`s; an `Expr` and a `NameUse` say what columns are used, a
-//! `Compare` and a `Literal` what a test compares with. A `SqlFault` says why a text is no workload. `Piece` and the
+//! `Compare` and a `Literal` what a test compares with. A `SqlFault` says why a text is no workload. `Terminal` and the
 //! types beside it are public because the rules speak of them. The other functions are laws of the grammar.
 //!
 //! ```rust
@@ -32,15 +32,15 @@ mod name;
 mod parsed;
 mod parsed_text;
 mod parts;
-mod piece;
 mod scan;
 mod seen;
 mod select;
 mod statement;
+mod terminal;
 mod words;
 mod workload;
 
-pub use kind::PieceKind;
+pub use kind::TerminalKind;
 pub use law::{as_printed, one_answer, one_meaning, one_too_many, statements_begin};
 pub use parsed::{
     Body, Compare, Condition, Expr, Literal, NameUse, ParsedItem, ParsedOrder, ParsedSelect,
@@ -48,6 +48,6 @@ pub use parsed::{
 };
 pub use parsed_text::Parsed;
 pub use parts::{InsertParts, Progress, UpdateParts};
-pub use piece::{Mark, Piece};
 pub use seen::{ExprForm, Seen};
+pub use terminal::{Mark, Terminal};
 pub use workload::read_workload;

@@ -6,27 +6,27 @@ ghost use Rattle.sql_reader.specs.Values as values;
 ghost use Rattle.std.specs.Prelude.{◌≡◌, pos, neg_ℤ, ◌<ℤ◌, ◌^◌};
 
 use crate::cursor::{Cursor, GrammarReader, Unread};
-use crate::{Compare, Literal, Piece, PieceKind};
+use crate::{Compare, Literal, Terminal, TerminalKind};
 
-/// The literals of one piece.
-pub const LITERALS: [PieceKind; 6] = [
-    PieceKind::Whole,
-    PieceKind::Decimal,
-    PieceKind::Text,
-    PieceKind::Day,
-    PieceKind::Null,
-    PieceKind::Question,
+/// The literals of one terminal.
+pub const LITERALS: [TerminalKind; 6] = [
+    TerminalKind::Whole,
+    TerminalKind::Decimal,
+    TerminalKind::Text,
+    TerminalKind::Day,
+    TerminalKind::Null,
+    TerminalKind::Question,
 ];
 
 /// The signs.
-pub const SIGNS: [PieceKind; 2] = [PieceKind::Plus, PieceKind::Minus];
+pub const SIGNS: [TerminalKind; 2] = [TerminalKind::Plus, TerminalKind::Minus];
 
 /// The comparisons.
-pub const COMPARISONS: [PieceKind; 4] = [
-    PieceKind::Equal,
-    PieceKind::NotEqual,
-    PieceKind::Below,
-    PieceKind::Above,
+pub const COMPARISONS: [TerminalKind; 4] = [
+    TerminalKind::Equal,
+    TerminalKind::NotEqual,
+    TerminalKind::Below,
+    TerminalKind::Above,
 ];
 
 /// The number with its sign turned.
@@ -37,28 +37,28 @@ fn negated(number: i64) -> i64
     -number
 }
 
-impl Piece {
-    /// The literal that the piece is, where no DATE stands before it.
+impl Terminal {
+    /// The literal that the terminal is, where no DATE stands before it.
     pub fn literal(self) -> Literal
         ensures { result ≡ values.literal_of self }
     {
         match self.kind {
-            PieceKind::Whole => match self.number {
+            TerminalKind::Whole => match self.number {
                 Some(number) => Literal::Whole(number),
                 None => Literal::Other,
             },
-            PieceKind::Text | PieceKind::Day => Literal::Text(self.span),
+            TerminalKind::Text | TerminalKind::Day => Literal::Text(self.span),
             _ => Literal::Other,
         }
     }
 
-    /// The literal that the piece is behind a sign.
-    pub fn signed_literal(self, sign: PieceKind) -> Literal
+    /// The literal that the terminal is behind a sign.
+    pub fn signed_literal(self, sign: TerminalKind) -> Literal
         ensures { result ≡ values.signed sign self }
     {
         match sign {
-            PieceKind::Minus => match self.kind {
-                PieceKind::Whole => match self.number {
+            TerminalKind::Minus => match self.kind {
+                TerminalKind::Whole => match self.number {
                     Some(number) => Literal::Whole(negated(number)),
                     None => Literal::Other,
                 },
@@ -68,7 +68,7 @@ impl Piece {
         }
     }
 
-    /// The day that the piece holds, behind DATE.
+    /// The day that the terminal holds, behind DATE.
     pub fn day(self) -> Literal
         ensures { result ≡ values.day_literal self }
     {
@@ -76,15 +76,15 @@ impl Piece {
     }
 }
 
-impl PieceKind {
+impl TerminalKind {
     /// The comparison that the kind is.
     pub fn compare(self) -> Compare
         ensures { result ≡ values.compare_of self }
     {
         match self {
-            PieceKind::Equal => Compare::Equal,
-            PieceKind::NotEqual => Compare::NotEqual,
-            PieceKind::Below => Compare::Below,
+            TerminalKind::Equal => Compare::Equal,
+            TerminalKind::NotEqual => Compare::NotEqual,
+            TerminalKind::Below => Compare::Below,
             _ => Compare::Above,
         }
     }
@@ -113,11 +113,11 @@ impl GrammarReader {
     {
         if cursor.begins(&SIGNS) {
             let sign = cursor.take(&SIGNS)?;
-            let number = cursor.take(&[PieceKind::Whole, PieceKind::Decimal])?;
+            let number = cursor.take(&[TerminalKind::Whole, TerminalKind::Decimal])?;
             return Ok(number.signed_literal(sign.kind));
         }
-        let piece = cursor.take(&LITERALS)?;
-        Ok(piece.literal())
+        let terminal = cursor.take(&LITERALS)?;
+        Ok(terminal.literal())
     }
 
     /// A value.
@@ -126,9 +126,9 @@ impl GrammarReader {
         ensures reads { ReadsBy rule.value tt self cursor.old result cursor.new }
         ensures left { room.TakesSome result cursor.old cursor.new }
     {
-        if cursor.begins(&[PieceKind::Date]) {
-            cursor.take(&[PieceKind::Date])?;
-            let day = cursor.take(&[PieceKind::Day])?;
+        if cursor.begins(&[TerminalKind::Date]) {
+            cursor.take(&[TerminalKind::Date])?;
+            let day = cursor.take(&[TerminalKind::Day])?;
             return Ok(day.day());
         }
         self.plain_value(cursor)

@@ -4,14 +4,18 @@ ghost use Rattle.sql_reader.specs.inner.Reads.{ReadsBy};
 ghost use Rattle.std.specs.Prelude.{◌≡◌};
 
 use crate::cursor::{Cursor, GrammarReader, Unread};
-use crate::{NameUse, PieceKind, Source};
+use crate::{NameUse, Source, TerminalKind};
 use sql_tokens::Span;
 
 /// The kinds of names.
-pub const NAMES: [PieceKind; 3] = [PieceKind::Name, PieceKind::Aggregate, PieceKind::Date];
+pub const NAMES: [TerminalKind; 3] = [
+    TerminalKind::Name,
+    TerminalKind::Aggregate,
+    TerminalKind::Date,
+];
 
 /// The names but for DATE.
-pub const PLAIN_NAMES: [PieceKind; 2] = [PieceKind::Name, PieceKind::Aggregate];
+pub const PLAIN_NAMES: [TerminalKind; 2] = [TerminalKind::Name, TerminalKind::Aggregate];
 
 impl GrammarReader {
     /// A column, behind its first name.
@@ -19,13 +23,13 @@ impl GrammarReader {
     pub fn after_name(self, cursor: &mut Cursor<'_>, first: Span) -> Result<NameUse, Unread>
         ensures { ReadsBy rule.after_name first self cursor.old result cursor.new }
     {
-        if !cursor.begins(&[PieceKind::Point]) {
+        if !cursor.begins(&[TerminalKind::Point]) {
             return Ok(NameUse {
                 qualifier: None,
                 name: first,
             });
         }
-        cursor.take(&[PieceKind::Point])?;
+        cursor.take(&[TerminalKind::Point])?;
         let second = cursor.take(&NAMES)?;
         Ok(NameUse {
             qualifier: Some(first),
@@ -47,8 +51,8 @@ impl GrammarReader {
     pub fn alias(self, cursor: &mut Cursor<'_>) -> Result<Option<Span>, Unread>
         ensures { ReadsBy rule.alias tt self cursor.old result cursor.new }
     {
-        if cursor.begins(&[PieceKind::As]) {
-            cursor.take(&[PieceKind::As])?;
+        if cursor.begins(&[TerminalKind::As]) {
+            cursor.take(&[TerminalKind::As])?;
             let name = cursor.take(&NAMES)?;
             return Ok(Some(name.span));
         }

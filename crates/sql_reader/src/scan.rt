@@ -1,5 +1,5 @@
-//! Makes the pieces of a text from its tokens.
-ghost use Rattle.sql_reader.specs.Pieces as pieces;
+//! Makes the terminals of a text from its tokens.
+ghost use Rattle.sql_reader.specs.Terminals as terminals;
 ghost use Rattle.sql_reader.specs.declared.cursor.Unread.TheVariants.{Memory};
 ghost use Rattle.sql_tokens.specs.Span.{LiesIn};
 ghost use Rattle.std.specs.Option.{ForSome};
@@ -9,7 +9,7 @@ use crate::cursor::{Unread, has};
 use crate::list::{push, with_room};
 use crate::statement::STARTS;
 use crate::words::{comment_weight, quoted_kind, symbol_kind, text_day, whole_number, word_kind};
-use crate::{Mark, Piece, PieceKind};
+use crate::{Mark, Terminal, TerminalKind};
 use adv_base::List;
 use sql_tokens::{Token, TokenKind};
 use std::alloc::Global;
@@ -17,38 +17,38 @@ use std::alloc::Global;
 /// The bytes of a token.
 fn bytes_of(text: &[u8], token: Token) -> &[u8]
     requires { LiesIn text.now token }
-    ensures { result.now ≡ pieces.bytes_of text.now token }
+    ensures { result.now ≡ terminals.bytes_of text.now token }
 {
     &text[token.span.from as usize..token.span.to as usize]
 }
 
 /// The kind of a token and its number.
-fn classify(kind: TokenKind, bytes: &[u8]) -> (PieceKind, Option<i64>)
+fn classify(kind: TokenKind, bytes: &[u8]) -> (TerminalKind, Option<i64>)
     requires { 1 ≤ length bytes.now }
-    ensures kind { result.0 ≡ pieces.kind_of kind bytes.now }
-    ensures number { result.1 ≡ pieces.number_of kind bytes.now }
+    ensures kind { result.0 ≡ terminals.kind_of kind bytes.now }
+    ensures number { result.1 ≡ terminals.number_of kind bytes.now }
     ensures least { ForSome result.1 (λ n. neg_ℤ (pos (10 ^ 18)) <ℤ n) }
     ensures most { ForSome result.1 (λ n. n <ℤ pos (10 ^ 18)) }
 {
     match kind {
         TokenKind::Word => (word_kind(bytes), None),
         TokenKind::Quoted => (quoted_kind(bytes), None),
-        TokenKind::Whole => (PieceKind::Whole, whole_number(bytes)),
-        TokenKind::Decimal => (PieceKind::Decimal, None),
+        TokenKind::Whole => (TerminalKind::Whole, whole_number(bytes)),
+        TokenKind::Decimal => (TerminalKind::Decimal, None),
         TokenKind::Text => classify_text(text_day(bytes)),
         TokenKind::Symbol => (symbol_kind(bytes[0], second(bytes)), None),
-        TokenKind::Weight => (PieceKind::LeftOut, None),
+        TokenKind::Weight => (TerminalKind::LeftOut, None),
     }
 }
 
 /// A text, with its day where it holds one.
-fn classify_text(day: Option<i64>) -> (PieceKind, Option<i64>)
-    ensures kind { result.0 ≡ pieces.kind_of_text day }
+fn classify_text(day: Option<i64>) -> (TerminalKind, Option<i64>)
+    ensures kind { result.0 ≡ terminals.kind_of_text day }
     ensures number { result.1 ≡ day }
 {
     match day {
-        Some(number) => (PieceKind::Day, Some(number)),
-        None => (PieceKind::Text, None),
+        Some(number) => (TerminalKind::Day, Some(number)),
+        None => (TerminalKind::Text, None),
     }
 }
 
@@ -59,14 +59,14 @@ fn second(bytes: &[u8]) -> u8
     if bytes.len() > 1 { bytes[1] } else { 0 }
 }
 
-/// The piece that a token is.
-fn piece(text: &[u8], token: Token, mark: Mark) -> Piece
+/// The terminal that a token is.
+fn terminal(text: &[u8], token: Token, mark: Mark) -> Terminal
     requires lies { LiesIn text.now token }
     requires short { length text.now < 2 ^ 32 }
-    ensures { pieces.IsPiece text.now mark token result }
+    ensures { terminals.IsTerminal text.now mark token result }
 {
     let (kind, number) = classify(token.kind, bytes_of(text, token));
-    Piece {
+    Terminal {
         kind,
         span: token.span,
         number,
@@ -77,7 +77,7 @@ fn piece(text: &[u8], token: Token, mark: Mark) -> Piece
 /// The mark behind a weight comment.
 fn mark_behind(text: &[u8], token: Token, mark: Mark) -> Mark
     requires { LiesIn text.now token }
-    ensures { result ≡ pieces.mark_behind text.now token mark }
+    ensures { result ≡ terminals.mark_behind text.now token mark }
 {
     match comment_weight(bytes_of(text, token)) {
         Some(weight) => Mark {
@@ -88,24 +88,24 @@ fn mark_behind(text: &[u8], token: Token, mark: Mark) -> Mark
     }
 }
 
-/// Adds a token: a weight comment as the mark, every other as a piece.
-fn add(text: &[u8], token: Token, mark: &mut Mark, list: &mut List<Piece>) -> Result<(), Unread>
+/// Adds a token: a weight comment as the mark, every other as a terminal.
+fn add(text: &[u8], token: Token, mark: &mut Mark, list: &mut List<Terminal>) -> Result<(), Unread>
     requires lies { LiesIn text.now token }
     requires short { length text.now < 2 ^ 32 }
-    ensures ok { OnOk result (pieces.AddsToken text.now token mark.old list.old (pieces.is_weight token.kind) mark.new list.new) }
+    ensures ok { OnOk result (terminals.AddsToken text.now token mark.old list.old (terminals.is_weight token.kind) mark.new list.new) }
     ensures err { IfErr result (λ stop. stop ≡ Memory) }
 {
     if is_weight(token.kind) {
         *mark = mark_behind(text, token, *mark);
         return Ok(());
     }
-    let made = piece(text, token, *mark);
+    let made = terminal(text, token, *mark);
     push(list, made)
 }
 
 /// Whether the kind is that of weight comments.
 fn is_weight(kind: TokenKind) -> bool
-    ensures { result ≡ pieces.is_weight kind }
+    ensures { result ≡ terminals.is_weight kind }
 {
     match kind {
         TokenKind::Weight => true,
@@ -113,11 +113,11 @@ fn is_weight(kind: TokenKind) -> bool
     }
 }
 
-/// The pieces of a text with these tokens.
-pub fn scan(alloc: Global, text: &[u8], tokens: &[Token]) -> Result<List<Piece>, Unread>
+/// The terminals of a text with these tokens.
+pub fn scan(alloc: Global, text: &[u8], tokens: &[Token]) -> Result<List<Terminal>, Unread>
     requires lies { All (LiesIn text.now) tokens.now }
     requires short { length text.now < 2 ^ 32 }
-    ensures ok { IfOk result (λ list. pieces.ArePieces text.now tokens.now pieces.no_mark list) }
+    ensures ok { IfOk result (λ list. terminals.AreTerminals text.now tokens.now terminals.no_mark list) }
     ensures err { IfErr result (λ stop. stop ≡ Memory) }
 {
     let mut list = with_room(alloc, tokens.len())?;
@@ -134,7 +134,7 @@ pub fn scan(alloc: Global, text: &[u8], tokens: &[Token]) -> Result<List<Piece>,
 /// Whether a token is a weight comment without a weight.
 fn is_bad_weight(text: &[u8], token: Token) -> bool
     requires { LiesIn text.now token }
-    ensures { result ≡ pieces.is_bad_weight text.now token }
+    ensures { result ≡ terminals.is_bad_weight text.now token }
 {
     match token.kind {
         TokenKind::Weight => match comment_weight(bytes_of(text, token)) {
@@ -148,7 +148,7 @@ fn is_bad_weight(text: &[u8], token: Token) -> bool
 /// The place of the first weight comment whose number isn't 1 to 10^6.
 pub fn bad_weight(text: &[u8], tokens: &[Token]) -> Option<u64>
     requires { All (LiesIn text.now) tokens.now }
-    ensures { result ≡ pieces.bad_weight text.now tokens.now }
+    ensures { result ≡ terminals.bad_weight text.now tokens.now }
 {
     'turns: for token in tokens {
         if is_bad_weight(text, *token) {
@@ -159,14 +159,14 @@ pub fn bad_weight(text: &[u8], tokens: &[Token]) -> Option<u64>
 }
 
 /// The place of the first word of the 1001st statement.
-pub fn start_behind_1000(list: &[Piece]) -> Option<u64>
-    ensures { result ≡ pieces.start_behind 1000 list.now }
+pub fn start_behind_1000(list: &[Terminal]) -> Option<u64>
+    ensures { result ≡ terminals.start_behind 1000 list.now }
 {
     let mut left: u32 = 1000;
-    'turns: for piece in list {
-        if has(&STARTS, piece.kind) {
+    'turns: for terminal in list {
+        if has(&STARTS, terminal.kind) {
             if left == 0 {
-                return Some(piece.span.place());
+                return Some(terminal.span.place());
             }
             left -= 1;
         }

@@ -7,7 +7,7 @@ ghost use Rattle.std.specs.Prelude.{◌≡◌};
 use crate::cursor::{Cursor, GrammarReader, Unread};
 use crate::list::push;
 use crate::literal::COMPARISONS;
-use crate::{NameUse, ParsedOrder, ParsedSelect, PieceKind, Seen};
+use crate::{NameUse, ParsedOrder, ParsedSelect, Seen, TerminalKind};
 use adv_base::List;
 use std::alloc::Global;
 
@@ -36,14 +36,14 @@ impl GrammarReader {
     fn quantifier(self, cursor: &mut Cursor<'_>, select: &mut ParsedSelect) -> Result<(), Unread>
         ensures { AddsBy rule.quantifier select.old self cursor.old result select.new cursor.new }
     {
-        if cursor.begins(&[PieceKind::All]) {
-            cursor.take(&[PieceKind::All])?;
+        if cursor.begins(&[TerminalKind::All]) {
+            cursor.take(&[TerminalKind::All])?;
             return Ok(());
         }
-        if !cursor.begins(&[PieceKind::Distinct]) {
+        if !cursor.begins(&[TerminalKind::Distinct]) {
             return Ok(());
         }
-        cursor.take(&[PieceKind::Distinct])?;
+        cursor.take(&[TerminalKind::Distinct])?;
         select.distinct = true;
         Ok(())
     }
@@ -62,10 +62,10 @@ impl GrammarReader {
     fn join_word(self, cursor: &mut Cursor<'_>, select: &ParsedSelect) -> Result<(), Unread>
         ensures { AddsBy rule.join_word select.now self cursor.old result select.now cursor.new }
     {
-        if cursor.begins(&[PieceKind::Inner]) {
-            cursor.take(&[PieceKind::Inner])?;
+        if cursor.begins(&[TerminalKind::Inner]) {
+            cursor.take(&[TerminalKind::Inner])?;
         }
-        cursor.take(&[PieceKind::Join])?;
+        cursor.take(&[TerminalKind::Join])?;
         Ok(())
     }
 
@@ -74,7 +74,7 @@ impl GrammarReader {
     fn on_part(self, cursor: &mut Cursor<'_>, select: &mut ParsedSelect) -> Result<(), Unread>
         ensures { AddsBy rule.on_part select.old self cursor.old result select.new cursor.new }
     {
-        cursor.take(&[PieceKind::On])?;
+        cursor.take(&[TerminalKind::On])?;
         self.conditions(cursor, &mut select.conditions)
     }
 
@@ -97,8 +97,8 @@ impl GrammarReader {
     ) -> Result<(), Unread>
         ensures { AddsBy rule.another_source select.old self cursor.old result select.new cursor.new }
     {
-        if cursor.begins(&[PieceKind::Comma]) {
-            cursor.take(&[PieceKind::Comma])?;
+        if cursor.begins(&[TerminalKind::Comma]) {
+            cursor.take(&[TerminalKind::Comma])?;
             return self.one_source(cursor, select);
         }
         self.joined_source(cursor, select)
@@ -108,7 +108,11 @@ impl GrammarReader {
     fn more_sources(self, cursor: &mut Cursor<'_>, select: &mut ParsedSelect) -> Result<(), Unread>
         ensures { AddsBy rule.more_sources select.old self cursor.old result select.new cursor.new }
     {
-        'turns: while cursor.begins(&[PieceKind::Comma, PieceKind::Inner, PieceKind::Join]) {
+        'turns: while cursor.begins(&[
+            TerminalKind::Comma,
+            TerminalKind::Inner,
+            TerminalKind::Join,
+        ]) {
             self.another_source(cursor, select)?;
         }
         Ok(())
@@ -145,7 +149,7 @@ impl GrammarReader {
     fn another_column(self, cursor: &mut Cursor<'_>, all: &mut List<NameUse>) -> Result<(), Unread>
         ensures { AddsBy rule.another_column all.old self cursor.old result all.new cursor.new }
     {
-        cursor.take(&[PieceKind::Comma])?;
+        cursor.take(&[TerminalKind::Comma])?;
         self.one_column(cursor, all)
     }
 
@@ -153,7 +157,7 @@ impl GrammarReader {
     fn more_columns(self, cursor: &mut Cursor<'_>, all: &mut List<NameUse>) -> Result<(), Unread>
         ensures { AddsBy rule.more_columns all.old self cursor.old result all.new cursor.new }
     {
-        'turns: while cursor.begins(&[PieceKind::Comma]) {
+        'turns: while cursor.begins(&[TerminalKind::Comma]) {
             self.another_column(cursor, all)?;
         }
         Ok(())
@@ -173,11 +177,11 @@ impl GrammarReader {
     fn group_part(self, cursor: &mut Cursor<'_>, select: &mut ParsedSelect) -> Result<(), Unread>
         ensures { AddsBy rule.group_part select.old self cursor.old result select.new cursor.new }
     {
-        if !cursor.begins(&[PieceKind::Group]) {
+        if !cursor.begins(&[TerminalKind::Group]) {
             return Ok(());
         }
-        cursor.take(&[PieceKind::Group])?;
-        cursor.take(&[PieceKind::By])?;
+        cursor.take(&[TerminalKind::Group])?;
+        cursor.take(&[TerminalKind::By])?;
         self.column_list(cursor, &mut select.group)
     }
 
@@ -200,7 +204,7 @@ impl GrammarReader {
         ensures reads { AddsBy rule.another_having_test found.old self cursor.old result found.new cursor.new }
         ensures room { room.Spends found.old.stars cursor.old found.new.stars cursor.new }
     {
-        cursor.take(&[PieceKind::And])?;
+        cursor.take(&[TerminalKind::And])?;
         self.having_test(cursor, found)
     }
 
@@ -210,7 +214,7 @@ impl GrammarReader {
         ensures reads { AddsBy rule.more_having_tests found.old self cursor.old result found.new cursor.new }
         ensures room { room.Spends found.old.stars cursor.old found.new.stars cursor.new }
     {
-        'turns: while cursor.begins(&[PieceKind::And]) {
+        'turns: while cursor.begins(&[TerminalKind::And]) {
             self.another_having_test(cursor, found)?;
         }
         Ok(())
@@ -237,10 +241,10 @@ impl GrammarReader {
     ) -> Result<(), Unread>
         ensures { AddsBy rule.having_part select.old self cursor.old result select.new cursor.new }
     {
-        if !cursor.begins(&[PieceKind::Having]) {
+        if !cursor.begins(&[TerminalKind::Having]) {
             return Ok(());
         }
-        cursor.take(&[PieceKind::Having])?;
+        cursor.take(&[TerminalKind::Having])?;
         let mut found = Seen::new(alloc);
         self.having_tests(cursor, &mut found)?;
         select.having = found.into_uses();
@@ -252,11 +256,11 @@ impl GrammarReader {
     fn direction(self, cursor: &mut Cursor<'_>, found: Seen) -> Result<ParsedOrder, Unread>
         ensures { ReadsBy rule.direction found self cursor.old result cursor.new }
     {
-        let down = cursor.begins(&[PieceKind::Desc]);
+        let down = cursor.begins(&[TerminalKind::Desc]);
         if down {
-            cursor.take(&[PieceKind::Desc])?;
-        } else if cursor.begins(&[PieceKind::Asc]) {
-            cursor.take(&[PieceKind::Asc])?;
+            cursor.take(&[TerminalKind::Desc])?;
+        } else if cursor.begins(&[TerminalKind::Asc]) {
+            cursor.take(&[TerminalKind::Asc])?;
         }
         Ok(ParsedOrder {
             expr: found.expr(),
@@ -298,7 +302,7 @@ impl GrammarReader {
     ) -> Result<(), Unread>
         ensures { AddsBy rule.another_order all.old self cursor.old result all.new cursor.new }
     {
-        cursor.take(&[PieceKind::Comma])?;
+        cursor.take(&[TerminalKind::Comma])?;
         self.one_order(alloc, cursor, all)
     }
 
@@ -311,7 +315,7 @@ impl GrammarReader {
     ) -> Result<(), Unread>
         ensures { AddsBy rule.more_orders all.old self cursor.old result all.new cursor.new }
     {
-        'turns: while cursor.begins(&[PieceKind::Comma]) {
+        'turns: while cursor.begins(&[TerminalKind::Comma]) {
             self.another_order(alloc, cursor, all)?;
         }
         Ok(())
@@ -341,11 +345,11 @@ impl GrammarReader {
     ) -> Result<(), Unread>
         ensures { AddsBy rule.order_part select.old self cursor.old result select.new cursor.new }
     {
-        if !cursor.begins(&[PieceKind::Order]) {
+        if !cursor.begins(&[TerminalKind::Order]) {
             return Ok(());
         }
-        cursor.take(&[PieceKind::Order])?;
-        cursor.take(&[PieceKind::By])?;
+        cursor.take(&[TerminalKind::Order])?;
+        cursor.take(&[TerminalKind::By])?;
         self.order_list(alloc, cursor, &mut select.order)
     }
 
@@ -354,9 +358,9 @@ impl GrammarReader {
     fn offset_part(self, cursor: &mut Cursor<'_>) -> Result<(), Unread>
         ensures { ReadsBy rule.offset_part tt self cursor.old result cursor.new }
     {
-        if cursor.begins(&[PieceKind::Offset]) {
-            cursor.take(&[PieceKind::Offset])?;
-            cursor.take(&[PieceKind::Whole, PieceKind::Question])?;
+        if cursor.begins(&[TerminalKind::Offset]) {
+            cursor.take(&[TerminalKind::Offset])?;
+            cursor.take(&[TerminalKind::Whole, TerminalKind::Question])?;
         }
         Ok(())
     }
@@ -366,11 +370,11 @@ impl GrammarReader {
     fn limit_part(self, cursor: &mut Cursor<'_>) -> Result<(), Unread>
         ensures { ReadsBy rule.limit_part tt self cursor.old result cursor.new }
     {
-        if !cursor.begins(&[PieceKind::Limit]) {
+        if !cursor.begins(&[TerminalKind::Limit]) {
             return Ok(());
         }
-        cursor.take(&[PieceKind::Limit])?;
-        cursor.take(&[PieceKind::Whole, PieceKind::Question])?;
+        cursor.take(&[TerminalKind::Limit])?;
+        cursor.take(&[TerminalKind::Whole, TerminalKind::Question])?;
         self.offset_part(cursor)
     }
 
@@ -379,7 +383,7 @@ impl GrammarReader {
     fn from_part(self, cursor: &mut Cursor<'_>, select: &mut ParsedSelect) -> Result<(), Unread>
         ensures { AddsBy rule.from_part select.old self cursor.old result select.new cursor.new }
     {
-        cursor.take(&[PieceKind::From])?;
+        cursor.take(&[TerminalKind::From])?;
         self.source_list(cursor, select)
     }
 

@@ -8,20 +8,20 @@ ghost use Rattle.sql_reader.specs.declared.cursor.Unread.TheVariants.{Memory};
 
 use crate::cursor::{Cursor, GrammarReader, Unread};
 use crate::list::push;
-use crate::{Body, ParsedStatement, Piece, PieceKind, Progress};
+use crate::{Body, ParsedStatement, Progress, Terminal, TerminalKind};
 use std::alloc::Global;
 
 /// The words with which statements begin.
-pub const STARTS: [PieceKind; 4] = [
-    PieceKind::Select,
-    PieceKind::Insert,
-    PieceKind::Update,
-    PieceKind::Delete,
+pub const STARTS: [TerminalKind; 4] = [
+    TerminalKind::Select,
+    TerminalKind::Insert,
+    TerminalKind::Update,
+    TerminalKind::Delete,
 ];
 
 impl Progress {
-    /// Adds the statement that begins with this piece.
-    fn add(&mut self, first: Piece, body: Body) -> Result<(), Unread>
+    /// Adds the statement that begins with this terminal.
+    fn add(&mut self, first: Terminal, body: Body) -> Result<(), Unread>
         ensures ok { OnOk result (self.new ≡ values.with_statement self.old first body) }
         ensures err { IfErr result (λ stop. stop ≡ Memory) }
     {
@@ -64,7 +64,7 @@ impl GrammarReader {
     ) -> Result<(), Unread>
         ensures { AddsBy rule.select_statement progress.old self cursor.old result progress.new cursor.new }
     {
-        let first = cursor.take(&[PieceKind::Select])?;
+        let first = cursor.take(&[TerminalKind::Select])?;
         let body = self.select(alloc, cursor)?;
         progress.add(first, body)
     }
@@ -79,7 +79,7 @@ impl GrammarReader {
     ) -> Result<(), Unread>
         ensures { AddsBy rule.insert_statement progress.old self cursor.old result progress.new cursor.new }
     {
-        let first = cursor.take(&[PieceKind::Insert])?;
+        let first = cursor.take(&[TerminalKind::Insert])?;
         let body = self.insert(alloc, cursor)?;
         progress.add(first, body)
     }
@@ -94,7 +94,7 @@ impl GrammarReader {
     ) -> Result<(), Unread>
         ensures { AddsBy rule.update_statement progress.old self cursor.old result progress.new cursor.new }
     {
-        let first = cursor.take(&[PieceKind::Update])?;
+        let first = cursor.take(&[TerminalKind::Update])?;
         let body = self.update(alloc, cursor)?;
         progress.add(first, body)
     }
@@ -109,7 +109,7 @@ impl GrammarReader {
     ) -> Result<(), Unread>
         ensures { AddsBy rule.delete_statement progress.old self cursor.old result progress.new cursor.new }
     {
-        let first = cursor.take(&[PieceKind::Delete])?;
+        let first = cursor.take(&[TerminalKind::Delete])?;
         let body = self.delete_rest(alloc, cursor)?;
         progress.add(first, body)
     }
@@ -124,13 +124,13 @@ impl GrammarReader {
     ) -> Result<(), Unread>
         ensures { AddsBy rule.statement progress.old self cursor.old result progress.new cursor.new }
     {
-        if cursor.begins(&[PieceKind::Select]) {
+        if cursor.begins(&[TerminalKind::Select]) {
             return self.select_statement(alloc, cursor, progress);
         }
-        if cursor.begins(&[PieceKind::Insert]) {
+        if cursor.begins(&[TerminalKind::Insert]) {
             return self.insert_statement(alloc, cursor, progress);
         }
-        if cursor.begins(&[PieceKind::Update]) {
+        if cursor.begins(&[TerminalKind::Update]) {
             return self.update_statement(alloc, cursor, progress);
         }
         self.delete_statement(alloc, cursor, progress)
@@ -162,7 +162,7 @@ impl GrammarReader {
     ) -> Result<(), Unread>
         ensures { AddsBy rule.another_statement progress.old self cursor.old result progress.new cursor.new }
     {
-        cursor.take(&[PieceKind::Semicolon])?;
+        cursor.take(&[TerminalKind::Semicolon])?;
         self.maybe_statement(alloc, cursor, progress)
     }
 
@@ -175,7 +175,7 @@ impl GrammarReader {
     ) -> Result<(), Unread>
         ensures { AddsBy rule.more_statements progress.old self cursor.old result progress.new cursor.new }
     {
-        'turns: while cursor.begins(&[PieceKind::Semicolon]) {
+        'turns: while cursor.begins(&[TerminalKind::Semicolon]) {
             self.another_statement(alloc, cursor, progress)?;
         }
         Ok(())

@@ -7,67 +7,67 @@ ghost use Rattle.std.specs.List.{list_all};
 ghost use Rattle.std.specs.Str.{str_eq_ignore_ascii_case};
 ghost use Rattle.std.specs.Str.Parse.{AllDigits, digits_value};
 
-use crate::PieceKind;
+use crate::TerminalKind;
 use adv_base::day_of;
 
 /// A word that the grammar knows, in capital letters, and its kind.
 #[derive(Clone, Copy)]
-pub struct Word(pub &'static [u8], pub PieceKind);
+pub struct Word(pub &'static [u8], pub TerminalKind);
 
 /// The words that the grammar knows: the reserved ones, the aggregates and DATE.
 const WORDS: [Word; 52] = [
-    Word(b"ALL", PieceKind::All),
-    Word(b"AND", PieceKind::And),
-    Word(b"AS", PieceKind::As),
-    Word(b"ASC", PieceKind::Asc),
-    Word(b"BETWEEN", PieceKind::Between),
-    Word(b"BY", PieceKind::By),
-    Word(b"CASE", PieceKind::LeftOut),
-    Word(b"CROSS", PieceKind::LeftOut),
-    Word(b"DELETE", PieceKind::Delete),
-    Word(b"DESC", PieceKind::Desc),
-    Word(b"DISTINCT", PieceKind::Distinct),
-    Word(b"EXCEPT", PieceKind::LeftOut),
-    Word(b"EXISTS", PieceKind::LeftOut),
-    Word(b"FROM", PieceKind::From),
-    Word(b"FULL", PieceKind::LeftOut),
-    Word(b"GROUP", PieceKind::Group),
-    Word(b"HAVING", PieceKind::Having),
-    Word(b"IN", PieceKind::In),
-    Word(b"INNER", PieceKind::Inner),
-    Word(b"INSERT", PieceKind::Insert),
-    Word(b"INTERSECT", PieceKind::LeftOut),
-    Word(b"INTO", PieceKind::Into),
-    Word(b"IS", PieceKind::Is),
-    Word(b"JOIN", PieceKind::Join),
-    Word(b"LEFT", PieceKind::LeftOut),
-    Word(b"LIKE", PieceKind::Like),
-    Word(b"LIMIT", PieceKind::Limit),
-    Word(b"NATURAL", PieceKind::LeftOut),
-    Word(b"NOT", PieceKind::Not),
-    Word(b"NULL", PieceKind::Null),
-    Word(b"OFFSET", PieceKind::Offset),
-    Word(b"ON", PieceKind::On),
-    Word(b"OR", PieceKind::LeftOut),
-    Word(b"ORDER", PieceKind::Order),
-    Word(b"OUTER", PieceKind::LeftOut),
-    Word(b"OVER", PieceKind::LeftOut),
-    Word(b"RETURNING", PieceKind::LeftOut),
-    Word(b"RIGHT", PieceKind::LeftOut),
-    Word(b"SELECT", PieceKind::Select),
-    Word(b"SET", PieceKind::Set),
-    Word(b"UNION", PieceKind::LeftOut),
-    Word(b"UPDATE", PieceKind::Update),
-    Word(b"USING", PieceKind::LeftOut),
-    Word(b"VALUES", PieceKind::Values),
-    Word(b"WHERE", PieceKind::Where),
-    Word(b"WITH", PieceKind::LeftOut),
-    Word(b"COUNT", PieceKind::Aggregate),
-    Word(b"SUM", PieceKind::Aggregate),
-    Word(b"MIN", PieceKind::Aggregate),
-    Word(b"MAX", PieceKind::Aggregate),
-    Word(b"AVG", PieceKind::Aggregate),
-    Word(b"DATE", PieceKind::Date),
+    Word(b"ALL", TerminalKind::All),
+    Word(b"AND", TerminalKind::And),
+    Word(b"AS", TerminalKind::As),
+    Word(b"ASC", TerminalKind::Asc),
+    Word(b"BETWEEN", TerminalKind::Between),
+    Word(b"BY", TerminalKind::By),
+    Word(b"CASE", TerminalKind::LeftOut),
+    Word(b"CROSS", TerminalKind::LeftOut),
+    Word(b"DELETE", TerminalKind::Delete),
+    Word(b"DESC", TerminalKind::Desc),
+    Word(b"DISTINCT", TerminalKind::Distinct),
+    Word(b"EXCEPT", TerminalKind::LeftOut),
+    Word(b"EXISTS", TerminalKind::LeftOut),
+    Word(b"FROM", TerminalKind::From),
+    Word(b"FULL", TerminalKind::LeftOut),
+    Word(b"GROUP", TerminalKind::Group),
+    Word(b"HAVING", TerminalKind::Having),
+    Word(b"IN", TerminalKind::In),
+    Word(b"INNER", TerminalKind::Inner),
+    Word(b"INSERT", TerminalKind::Insert),
+    Word(b"INTERSECT", TerminalKind::LeftOut),
+    Word(b"INTO", TerminalKind::Into),
+    Word(b"IS", TerminalKind::Is),
+    Word(b"JOIN", TerminalKind::Join),
+    Word(b"LEFT", TerminalKind::LeftOut),
+    Word(b"LIKE", TerminalKind::Like),
+    Word(b"LIMIT", TerminalKind::Limit),
+    Word(b"NATURAL", TerminalKind::LeftOut),
+    Word(b"NOT", TerminalKind::Not),
+    Word(b"NULL", TerminalKind::Null),
+    Word(b"OFFSET", TerminalKind::Offset),
+    Word(b"ON", TerminalKind::On),
+    Word(b"OR", TerminalKind::LeftOut),
+    Word(b"ORDER", TerminalKind::Order),
+    Word(b"OUTER", TerminalKind::LeftOut),
+    Word(b"OVER", TerminalKind::LeftOut),
+    Word(b"RETURNING", TerminalKind::LeftOut),
+    Word(b"RIGHT", TerminalKind::LeftOut),
+    Word(b"SELECT", TerminalKind::Select),
+    Word(b"SET", TerminalKind::Set),
+    Word(b"UNION", TerminalKind::LeftOut),
+    Word(b"UPDATE", TerminalKind::Update),
+    Word(b"USING", TerminalKind::LeftOut),
+    Word(b"VALUES", TerminalKind::Values),
+    Word(b"WHERE", TerminalKind::Where),
+    Word(b"WITH", TerminalKind::LeftOut),
+    Word(b"COUNT", TerminalKind::Aggregate),
+    Word(b"SUM", TerminalKind::Aggregate),
+    Word(b"MIN", TerminalKind::Aggregate),
+    Word(b"MAX", TerminalKind::Aggregate),
+    Word(b"AVG", TerminalKind::Aggregate),
+    Word(b"DATE", TerminalKind::Date),
 ];
 
 /// Whether a word is spelled so, in any case of letters.
@@ -78,7 +78,7 @@ fn is_spelled(word: &[u8], spelled: &[u8]) -> bool
 }
 
 /// The kind of the first of these words that this is, in any case of letters.
-fn look_up(table: &[Word], word: &[u8]) -> Option<PieceKind>
+fn look_up(table: &[Word], word: &[u8]) -> Option<TerminalKind>
     ensures { result ≡ words.kind_in (words.entries table.now) word.now }
 {
     let Some((entry, rest)) = table.split_first() else {
@@ -92,10 +92,10 @@ fn look_up(table: &[Word], word: &[u8]) -> Option<PieceKind>
 
 /// The kind of a word: that of a word that the grammar knows, or a name.
 #[tactic(auto, unfolding(crate::specs::Words::word_kind))]
-pub fn word_kind(word: &[u8]) -> PieceKind
+pub fn word_kind(word: &[u8]) -> TerminalKind
     ensures { result ≡ words.word_kind word.now }
 {
-    look_up(&WORDS, word).unwrap_or(PieceKind::Name)
+    look_up(&WORDS, word).unwrap_or(TerminalKind::Name)
 }
 
 /// The bytes between the quotes.
@@ -110,42 +110,42 @@ fn inside(bytes: &[u8]) -> &[u8]
 
 /// The kind of a quoted name: an aggregate, or another name.
 #[tactic(auto, unfolding(crate::specs::Words::quoted_kind))]
-pub fn quoted_kind(bytes: &[u8]) -> PieceKind
+pub fn quoted_kind(bytes: &[u8]) -> TerminalKind
     ensures { result ≡ words.quoted_kind bytes.now }
 {
     match look_up(&WORDS, inside(bytes)) {
-        Some(PieceKind::Aggregate) => PieceKind::Aggregate,
-        _ => PieceKind::Name,
+        Some(TerminalKind::Aggregate) => TerminalKind::Aggregate,
+        _ => TerminalKind::Name,
     }
 }
 
 /// The kind of a symbol, by its first byte and, for `<`, its second.
 #[tactic(auto, unfolding(crate::specs::Words::symbol_kind))]
-pub fn symbol_kind(first: u8, second: u8) -> PieceKind
+pub fn symbol_kind(first: u8, second: u8) -> TerminalKind
     ensures { result ≡ words.symbol_kind first second }
 {
     match first {
-        b'(' => PieceKind::Open,
-        b')' => PieceKind::Close,
-        b',' => PieceKind::Comma,
-        b'.' => PieceKind::Point,
-        b';' => PieceKind::Semicolon,
-        b'*' => PieceKind::Star,
-        b'+' => PieceKind::Plus,
-        b'-' => PieceKind::Minus,
-        b'=' => PieceKind::Equal,
+        b'(' => TerminalKind::Open,
+        b')' => TerminalKind::Close,
+        b',' => TerminalKind::Comma,
+        b'.' => TerminalKind::Point,
+        b';' => TerminalKind::Semicolon,
+        b'*' => TerminalKind::Star,
+        b'+' => TerminalKind::Plus,
+        b'-' => TerminalKind::Minus,
+        b'=' => TerminalKind::Equal,
         b'<' => {
             if second == b'>' {
-                PieceKind::NotEqual
+                TerminalKind::NotEqual
             } else {
-                PieceKind::Below
+                TerminalKind::Below
             }
         }
-        b'!' => PieceKind::NotEqual,
-        b'>' => PieceKind::Above,
-        b'?' => PieceKind::Question,
-        b'$' => PieceKind::Question,
-        _ => PieceKind::Operator,
+        b'!' => TerminalKind::NotEqual,
+        b'>' => TerminalKind::Above,
+        b'?' => TerminalKind::Question,
+        b'$' => TerminalKind::Question,
+        _ => TerminalKind::Operator,
     }
 }
 

@@ -1,5 +1,5 @@
 //! Reads a workload.
-ghost use Rattle.sql_reader.specs.Pieces.{ArePieces, bad_weight, no_mark, start_behind};
+ghost use Rattle.sql_reader.specs.Terminals.{AreTerminals, bad_weight, no_mark, start_behind};
 ghost use Rattle.sql_reader.specs.Values.{no_statements};
 ghost use Rattle.sql_reader.specs.Valid.{statements_in};
 ghost use Rattle.sql_reader.specs.Workload as workload;
@@ -11,13 +11,17 @@ ghost use Rattle.std.specs.Prelude.{◌≡◌, ◌+◌, ◌<◌, ◌^◌, ◌⊎
 
 use crate::cursor::{Cursor, GrammarReader, Unread, has};
 use crate::scan::{bad_weight, scan, start_behind_1000};
-use crate::{Parsed, ParsedStatement, Piece, PieceKind, Progress, SqlFault};
+use crate::{Parsed, ParsedStatement, Progress, SqlFault, Terminal, TerminalKind};
 use adv_base::List;
 use sql_tokens::{TokenFault, Tokens, tokens};
 use std::alloc::Global;
 
 /// The kinds of words that begin a form that is left out.
-const LEFT_OUT: [PieceKind; 3] = [PieceKind::LeftOut, PieceKind::Not, PieceKind::Select];
+const LEFT_OUT: [TerminalKind; 3] = [
+    TerminalKind::LeftOut,
+    TerminalKind::Not,
+    TerminalKind::Select,
+];
 
 /// How many levels nest.
 const LEVELS: u8 = 200;
@@ -51,15 +55,15 @@ impl SqlFault {
     }
 }
 
-/// The fault where the grammar fails before these pieces, with the place of the end of the text.
-fn grammar_fault(end: u64, rest: &[Piece]) -> SqlFault
+/// The fault where the grammar fails before these terminals, with the place of the end of the text.
+fn grammar_fault(end: u64, rest: &[Terminal]) -> SqlFault
     ensures { result ≡ workload.grammar_fault end rest.now }
 {
     match rest.first() {
         None => SqlFault::Syntax(end),
-        Some(piece) => {
-            let place = piece.span.place();
-            if has(&LEFT_OUT, piece.kind) {
+        Some(terminal) => {
+            let place = terminal.span.place();
+            if has(&LEFT_OUT, terminal.kind) {
                 SqlFault::Unsupported(place)
             } else {
                 SqlFault::Syntax(place)
@@ -87,11 +91,11 @@ fn earlier(first: Option<SqlFault>, second: Option<SqlFault>) -> Option<SqlFault
     }
 }
 
-/// What the grammar says of pieces: their statements, or its fault.
-fn read_pieces(
+/// What the grammar says of terminals: their statements, or its fault.
+fn read_terminals(
     alloc: Global,
     end: u64,
-    list: &[Piece],
+    list: &[Terminal],
 ) -> Result<(Progress, Option<SqlFault>), Unread>
     requires { length list.now < 2 ^ 32 }
     ensures ok { IfOk result (λ r. workload.GrammarSays end list.now r.0 r.1) }
@@ -113,8 +117,8 @@ fn read_pieces(
     }
 }
 
-/// The fault where reading stops before these pieces, unless it was for want of memory.
-fn stop_fault(end: u64, rest: &[Piece], stop: Unread) -> Result<SqlFault, Unread>
+/// The fault where reading stops before these terminals, unless it was for want of memory.
+fn stop_fault(end: u64, rest: &[Terminal], stop: Unread) -> Result<SqlFault, Unread>
     ensures ok { IfOk result (λ fault. (stop ≡ Here) × (fault ≡ workload.grammar_fault end rest.now)) }
     ensures err { IfErr result (λ stop. stop ≡ Memory) }
 {
@@ -124,8 +128,8 @@ fn stop_fault(end: u64, rest: &[Piece], stop: Unread) -> Result<SqlFault, Unread
     }
 }
 
-/// The fault of pieces that are left behind a workload.
-fn fault_behind(end: u64, rest: &[Piece]) -> Option<SqlFault>
+/// The fault of terminals that are left behind a workload.
+fn fault_behind(end: u64, rest: &[Terminal]) -> Option<SqlFault>
     ensures { result ≡ workload.fault_behind end rest.now }
 {
     if rest.is_empty() {
@@ -134,8 +138,8 @@ fn fault_behind(end: u64, rest: &[Piece]) -> Option<SqlFault>
     Some(grammar_fault(end, rest))
 }
 
-/// The first fault of a text with these tokens and pieces, where the grammar has this one.
-fn first_fault(tokens: &Tokens<'_>, list: &[Piece], fault: Option<SqlFault>) -> Option<SqlFault>
+/// The first fault of a text with these tokens and terminals, where the grammar has this one.
+fn first_fault(tokens: &Tokens<'_>, list: &[Terminal], fault: Option<SqlFault>) -> Option<SqlFault>
     ensures { result ≡ workload.first_fault tokens.now.text.now tokens.now.list list.now fault }
 {
     let weight = match bad_weight(tokens.text, tokens.list.as_slice()) {
@@ -159,16 +163,16 @@ fn parsed<'a>(text: &'a [u8], statements: List<ParsedStatement>) -> Parsed<'a>
     Parsed { text, statements }
 }
 
-/// What a text says with these tokens and pieces, of which the grammar says this.
+/// What a text says with these tokens and terminals, of which the grammar says this.
 fn conclude<'a>(
     tokens: Tokens<'a>,
-    list: &[Piece],
+    list: &[Terminal],
     progress: Progress,
     fault: Option<SqlFault>,
 ) -> Result<Parsed<'a>, SqlFault>
     requires tokens { AreTokens tokens.text.now tokens.list }
     requires short { length tokens.text.now < 2 ^ 32 }
-    requires pieces { ArePieces tokens.text.now tokens.list no_mark list.now }
+    requires terminals { AreTerminals tokens.text.now tokens.list no_mark list.now }
     requires says { workload.GrammarSays (length tokens.text.now + 1) list.now progress fault }
     ensures same_text { IfOk result (λ parsed. parsed.text.now ≡ tokens.entry.text.now) }
     ensures found { IfOk result (λ parsed. workload.Says tokens.entry.text.now parsed.statements None) }
@@ -197,10 +201,10 @@ fn read_tokens<'a>(alloc: Global, tokens: Tokens<'a>) -> Result<Parsed<'a>, SqlF
 {
     match scan(alloc, tokens.text, tokens.list.as_slice()) {
         Ok(list) => {
-            let pieces = list.as_slice();
+            let terminals = list.as_slice();
             let end = tokens.text.len() as u64 + 1;
-            match read_pieces(alloc, end, pieces) {
-                Ok((progress, fault)) => conclude(tokens, pieces, progress, fault),
+            match read_terminals(alloc, end, terminals) {
+                Ok((progress, fault)) => conclude(tokens, terminals, progress, fault),
                 Err(_) => Err(SqlFault::Memory),
             }
         }

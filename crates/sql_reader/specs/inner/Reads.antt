@@ -1,6 +1,6 @@
 -- What a reader of the code has in common with the reading of a rule.
 use Rattle.std.specs.Prelude.{◌≡◌, List, [], ◌∷◌, ◌++◌, Result, Ok, Err}
-use Rattle.sql_reader.specs.declared.piece.Piece.{Piece}
+use Rattle.sql_reader.specs.declared.terminal.Terminal.{Terminal}
 use Rattle.sql_reader.specs.declared.cursor.Cursor.{Cursor}
 use Rattle.sql_reader.specs.declared.cursor.GrammarReader.{GrammarReader}
 use Rattle.sql_reader.specs.declared.cursor.Unread.{Unread}
@@ -12,12 +12,12 @@ use Rattle.sql_reader.specs.Grammar.{grammar}
 abbrev pub same : {X : Type 0} → X → X
 same x = x
 
--- reading stops before these pieces
-abbrev pub StopsAt : {Y : Type 0} → Unread → Reading Y → List Piece → Type 0
+-- reading stops before these terminals
+abbrev pub StopsAt : {Y : Type 0} → Unread → Reading Y → List Terminal → Type 0
 StopsAt Memory reading rest = Unit {0}
 StopsAt Here reading rest = reading ≡ Stuck rest
 
--- What a function returned, seen by view, and the pieces that it left are what the reading gives, unless there was
+-- What a function returned, seen by view, and the terminals that it left are what the reading gives, unless there was
 -- no memory.
 abbrev pub Gives : {X Y : Type 0} → (X → Y) → Result X Unread → Reading Y → Cursor → Type 0
 Gives view (Ok x) reading new = reading ≡ Read (view x) new.rest.now

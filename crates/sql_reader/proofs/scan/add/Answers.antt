@@ -1,12 +1,12 @@
 use Rattle.std.proofs.Common.{sym, ◌∙◌}
-use Rattle.sql_reader.proofs.Steps.{add_mark, add_piece, add_stop}
+use Rattle.sql_reader.proofs.Steps.{add_mark, add_terminal, add_stop}
 use Rattle.sql_reader.proofs.scan.add.Goals as goal
 
 pub returns : goal.returns
 returns c =
     record {
-      ok = add_piece c.args.text.now c.args.token c.args.mark.now c.args.list.now c.piece-made.result c.push.result c.push.new.list _ (sym c.is_weight.ensures ∙ c.if-is_weight.false) c.piece-made.ensures c.push.ensures;
-      err = add_stop c.args.list.now c.piece-made.result c.push.result c.push.new.list c.push.ensures;
+      ok = add_terminal c.args.text.now c.args.token c.args.mark.now c.args.list.now c.terminal-made.result c.push.result c.push.new.list _ (sym c.is_weight.ensures ∙ c.if-is_weight.false) c.terminal-made.ensures c.push.ensures;
+      err = add_stop c.args.list.now c.terminal-made.result c.push.result c.push.new.list c.push.ensures;
     }
 
 pub returns-then-is_weight : goal.returns-then-is_weight

@@ -1,5 +1,5 @@
 use Rattle.std.proofs.Common.{◌≡◌, drop}
-use Rattle.sql_reader.specs.Pieces.{bad_weight}
+use Rattle.sql_reader.specs.Terminals.{bad_weight}
 use Rattle.sql_reader.proofs.scan.bad_weight.Given as goal
 
 -- none is found so far

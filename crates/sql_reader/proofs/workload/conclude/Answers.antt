@@ -9,10 +9,10 @@ pub parsed-requires-clause-within : goal.parsed-requires-clause-within
 parsed-requires-clause-within c =
     let text = c.args.tokens.text.now in
     let list = c.args.tokens.list in
-    let pieces = c.args.list.now in
+    let terminals = c.args.list.now in
     let none = c.in-None.ensures in
-    limits text list pieces c.args.progress c.requires.short c.requires.tokens c.requires.pieces (no_start text list pieces c.args.fault none)
-    (subst (λ (o : Option SqlFault). GrammarSays (length text + 1) pieces c.args.progress o) (no_grammar_fault text list pieces c.args.fault none) c.requires.says)
+    limits text list terminals c.args.progress c.requires.short c.requires.tokens c.requires.terminals (no_start text list terminals c.args.fault none)
+    (subst (λ (o : Option SqlFault). GrammarSays (length text + 1) terminals c.args.progress o) (no_grammar_fault text list terminals c.args.fault none) c.requires.says)
 
 pub returns : goal.returns
 returns c =
@@ -20,11 +20,11 @@ returns c =
       same_text = c.parsed.ensures.text;
       found = record {
         list = c.args.tokens.list;
-        pieces = c.args.list.now;
+        terminals = c.args.list.now;
         progress = c.args.progress;
         of_grammar = c.args.fault;
         are_tokens = c.requires.tokens;
-        are_pieces = c.requires.pieces;
+        are_terminals = c.requires.terminals;
         says = c.requires.says;
         first = c.in-None.ensures;
         same = c.parsed.ensures.statements;
@@ -41,11 +41,11 @@ returns-in-Some c =
         c.args.progress.statements,
         record {
           list = c.args.tokens.list;
-          pieces = c.args.list.now;
+          terminals = c.args.list.now;
           progress = c.args.progress;
           of_grammar = c.args.fault;
           are_tokens = c.requires.tokens;
-          are_pieces = c.requires.pieces;
+          are_terminals = c.requires.terminals;
           says = c.requires.says;
           first = c.in-Some.ensures;
           same = refl;

@@ -62,7 +62,7 @@ decreases-parenthesis l = 20 * l.self.levels + 10
 abbrev pub decreases-signed_operand : goal.decreases-signed_operand
 decreases-signed_operand l = 20 * l.self.levels + 7
 
--- what is left to read is what was to be read, and at most as many were counted as pieces were taken
+-- what is left to read is what was to be read, and at most as many were counted as terminals were taken
 abbrev pub invariant-operations-turns : goal.invariant-operations-turns
 invariant-operations-turns l =
     record {
@@ -73,7 +73,7 @@ invariant-operations-turns l =
 abbrev pub decreases-operations-turns : goal.decreases-operations-turns
 decreases-operations-turns l = length l.cursor.rest.now
 
--- what is left to read is what was to be read, and at most as many were counted as pieces were taken
+-- what is left to read is what was to be read, and at most as many were counted as terminals were taken
 abbrev pub invariant-more_expressions-turns : goal.invariant-more_expressions-turns
 invariant-more_expressions-turns l =
     record {

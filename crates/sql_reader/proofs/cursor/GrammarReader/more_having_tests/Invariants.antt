@@ -4,7 +4,7 @@ use Rattle.sql_reader.specs.inner.Room.{Spends}
 use Rattle.sql_reader.specs.Grammar as rule
 use Rattle.sql_reader.proofs.cursor.GrammarReader.more_having_tests.Given as goal
 
--- what is left to read is what was to be read, and at most as many were counted as pieces were taken
+-- what is left to read is what was to be read, and at most as many were counted as terminals were taken
 abbrev pub invariant-turns : goal.invariant-turns
 invariant-turns l =
     record {

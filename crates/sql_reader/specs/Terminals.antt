@@ -1,12 +1,12 @@
--- The pieces of a text, and its faults beside those of the grammar.
+-- The terminals of a text, and its faults beside those of the grammar.
 use Rattle.std.specs.Prelude.{◌≡◌, ℕ, ℤ, zero, suc, ◌+◌, Bool, true, false, List, [], ◌∷◌, ◌++◌, slice_index, slice_range, Option, Some, None, if◌then◌else◌}
 use Rattle.sql_tokens.specs.declared.token.Token.{Token}
 use Rattle.sql_tokens.specs.declared.token.TokenKind.{TokenKind}
 use Rattle.sql_tokens.specs.declared.token.TokenKind.TheVariants as token
-use Rattle.sql_reader.specs.declared.kind.PieceKind.{PieceKind}
-use Rattle.sql_reader.specs.declared.kind.PieceKind.TheVariants as kinds
-use Rattle.sql_reader.specs.declared.piece.Piece.{Piece}
-use Rattle.sql_reader.specs.declared.piece.Mark.{Mark}
+use Rattle.sql_reader.specs.declared.kind.TerminalKind.{TerminalKind}
+use Rattle.sql_reader.specs.declared.kind.TerminalKind.TheVariants as kinds
+use Rattle.sql_reader.specs.declared.terminal.Terminal.{Terminal}
+use Rattle.sql_reader.specs.declared.terminal.Mark.{Mark}
 use Rattle.sql_reader.specs.declared.parsed.ParsedStatement.{ParsedStatement}
 use Rattle.sql_reader.specs.Kinds.{has}
 use Rattle.sql_reader.specs.Grammar.{starts}
@@ -17,12 +17,12 @@ use Rattle.sql_reader.specs.Words.{word_kind, quoted_kind, symbol_kind, whole_nu
 abbrev pub bytes_of : List ℕ → Token → List ℕ
 bytes_of text t = slice_range text t.span.from t.span.to
 
-abbrev pub kind_of_text : Option ℤ → PieceKind
+abbrev pub kind_of_text : Option ℤ → TerminalKind
 kind_of_text None = kinds.Text
 kind_of_text (Some day) = kinds.Day
 
--- the kind of a token with these bytes; a weight comment is no piece
-abbrev pub kind_of : TokenKind → List ℕ → PieceKind
+-- the kind of a token with these bytes; a weight comment is no terminal
+abbrev pub kind_of : TokenKind → List ℕ → TerminalKind
 kind_of token.Word bytes = word_kind bytes
 kind_of token.Quoted bytes = quoted_kind bytes
 kind_of token.Whole bytes = kinds.Whole
@@ -36,8 +36,8 @@ number_of token.Whole bytes = whole_number bytes
 number_of token.Text bytes = text_day bytes
 number_of _ bytes = None
 
--- the piece that a token is, behind the weight comment that the mark names
-pub record IsPiece (text : List ℕ) (mark : Mark) (t : Token) (p : Piece) : Type 0 where
+-- the terminal that a token is, behind the weight comment that the mark names
+pub record IsTerminal (text : List ℕ) (mark : Mark) (t : Token) (p : Terminal) : Type 0 where
   pub kind : p.kind ≡ kind_of t.kind (bytes_of text t)
   pub span : p.span ≡ t.span
   pub number : p.number ≡ number_of t.kind (bytes_of text t)
@@ -58,20 +58,20 @@ abbrev pub is_weight : TokenKind → Bool
 is_weight token.Weight = true
 is_weight _ = false
 
--- one token more: a weight comment is the mark of the tokens behind it, every other token is a piece
-abbrev pub WithToken : List ℕ → Mark → Token → (Mark → List Piece → Type 0) → Bool → List Piece → Type 0
-WithToken text mark t behind true pieces = behind (mark_behind text t mark) pieces
-WithToken text mark t behind false pieces = (p : Piece) × (rest : List Piece) × (pieces ≡ p ∷ rest) × IsPiece text mark t p × behind mark rest
+-- one token more: a weight comment is the mark of the tokens behind it, every other token is a terminal
+abbrev pub WithToken : List ℕ → Mark → Token → (Mark → List Terminal → Type 0) → Bool → List Terminal → Type 0
+WithToken text mark t behind true terminals = behind (mark_behind text t mark) terminals
+WithToken text mark t behind false terminals = (p : Terminal) × (rest : List Terminal) × (terminals ≡ p ∷ rest) × IsTerminal text mark t p × behind mark rest
 
--- the tokens are these pieces and weight comments, behind the weight comment that the mark names
-abbrev pub ArePieces : List ℕ → List Token → Mark → List Piece → Type 0
-ArePieces text [] mark pieces = pieces ≡ []
-ArePieces text (t ∷ ts) mark pieces = WithToken text mark t (ArePieces text ts) (is_weight t.kind) pieces
+-- the tokens are these terminals and weight comments, behind the weight comment that the mark names
+abbrev pub AreTerminals : List ℕ → List Token → Mark → List Terminal → Type 0
+AreTerminals text [] mark terminals = terminals ≡ []
+AreTerminals text (t ∷ ts) mark terminals = WithToken text mark t (AreTerminals text ts) (is_weight t.kind) terminals
 
--- a token was added to the mark and the pieces before it
-abbrev pub AddsToken : List ℕ → Token → Mark → List Piece → Bool → Mark → List Piece → Type 0
-AddsToken text t mark pieces true new_mark new = (new_mark ≡ mark_behind text t mark) × (new ≡ pieces)
-AddsToken text t mark pieces false new_mark new = (new_mark ≡ mark) × (p : Piece) × IsPiece text mark t p × (new ≡ pieces ++ p ∷ [])
+-- a token was added to the mark and the terminals before it
+abbrev pub AddsToken : List ℕ → Token → Mark → List Terminal → Bool → Mark → List Terminal → Type 0
+AddsToken text t mark terminals true new_mark new = (new_mark ≡ mark_behind text t mark) × (new ≡ terminals)
+AddsToken text t mark terminals false new_mark new = (new_mark ≡ mark) × (p : Terminal) × IsTerminal text mark t p × (new ≡ terminals ++ p ∷ [])
 
 -- a weight comment without a weight
 abbrev pub lacks_weight : TokenKind → Option ℕ → Bool
@@ -87,9 +87,9 @@ bad_weight text [] = None
 bad_weight text (t ∷ ts) = if is_bad_weight text t then Some (t.span.from + 1) else bad_weight text ts
 
 -- the places of the words with which statements begin
-abbrev pub starts_in : List Piece → List ℕ
+abbrev pub starts_in : List Terminal → List ℕ
 starts_in [] = []
-starts_in (p ∷ pieces) = if has starts p.kind then place_of p ∷ starts_in pieces else starts_in pieces
+starts_in (p ∷ terminals) = if has starts p.kind then place_of p ∷ starts_in terminals else starts_in terminals
 
 -- the places at which statements begin
 abbrev pub places_of : List ParsedStatement → List ℕ
@@ -97,7 +97,7 @@ places_of [] = []
 places_of (s ∷ statements) = s.place ∷ places_of statements
 
 -- the place of the first word with which statements begin that stands behind n others
-abbrev pub start_behind : ℕ → List Piece → Option ℕ
+abbrev pub start_behind : ℕ → List Terminal → Option ℕ
 start_behind n [] = None
-start_behind zero (p ∷ pieces) = if has starts p.kind then Some (place_of p) else start_behind zero pieces
-start_behind (suc n) (p ∷ pieces) = if has starts p.kind then start_behind n pieces else start_behind (suc n) pieces
+start_behind zero (p ∷ terminals) = if has starts p.kind then Some (place_of p) else start_behind zero terminals
+start_behind (suc n) (p ∷ terminals) = if has starts p.kind then start_behind n terminals else start_behind (suc n) terminals

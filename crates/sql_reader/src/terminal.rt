@@ -1,9 +1,9 @@
-//! The pieces of a text: its tokens as the grammar sees them.
+//! The terminals of a text: its tokens as the grammar sees them.
 
 ghost use Rattle.std.specs.Prelude.{pos, neg_ℤ, ◌<◌, ◌<ℤ◌, ◌^◌};
 ghost use Rattle.std.specs.Option.{ForSome};
 
-use crate::PieceKind;
+use crate::TerminalKind;
 use sql_tokens::Span;
 
 /// The last weight comment before a token: its place in the text, 0 where there is none, and its weight.
@@ -13,11 +13,11 @@ pub struct Mark {
     pub weight: u32,
 }
 
-/// A token as the grammar sees it. `number` is the number of a whole number of at most 18 digits, and
-/// the day of a text that holds a date, in days since 1970-01-01.
+/// A terminal symbol of the grammar: a token as it sees it. `number` is the number of a whole number of at most 18
+/// digits, and the day of a text that holds a date, in days since 1970-01-01.
 #[derive(Clone, Copy)]
-pub struct Piece {
-    pub kind: PieceKind,
+pub struct Terminal {
+    pub kind: TerminalKind,
     pub span: Span,
     pub number: Option<i64>,
     pub mark: Mark,

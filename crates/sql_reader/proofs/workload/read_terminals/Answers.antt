@@ -4,7 +4,7 @@ use Rattle.sql_reader.specs.Exact.{reads}
 use Rattle.sql_reader.specs.Grammar.{grammar, workload}
 use Rattle.sql_reader.specs.Rule.{Read, Stuck}
 use Rattle.sql_reader.proofs.Outcome.{says_read, says_stuck, stuck_from}
-use Rattle.sql_reader.proofs.workload.read_pieces.Goals as goal
+use Rattle.sql_reader.proofs.workload.read_terminals.Goals as goal
 
 pub returns-in-Ok : goal.returns-in-Ok
 returns-in-Ok c =
