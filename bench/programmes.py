@@ -12,22 +12,22 @@ TABLES = 20
 SEED = 1
 STATEMENTS = (20, 100, 500)
 HEADS = ("statements", "candidates", "parts", "templates", "grants", "programme ms", "bound us", "terms us", "carry us",
-         "total us", "improve us", "ascend us")
-WIDTHS = (10, 10, 5, 9, 6, 12, 8, 8, 8, 8, 10, 9)
+         "total us", "carried us", "improve us", "ascend us")
+WIDTHS = (10, 10, 5, 9, 6, 12, 8, 8, 8, 8, 10, 10, 9)
 # What is hoped for at the most statements, in microseconds.
 GOALS = {"bound": 20, "carried": 5, "round": 40}
 
 
 def unmet(told: dict[str, int]) -> list[str]:
-    """The goals that the nanoseconds of a line don't meet. A carried bound is carried terms and their total."""
-    times = {"bound": told["bound"], "carried": told["carry"] + told["total"], "round": told.get("ascend", told["improve"])}
+    """The goals that the nanoseconds of a line don't meet. A carried bound is one of `bound_by`, where one candidate changes."""
+    times = {"bound": told["bound"], "carried": told["carried"], "round": told.get("ascend", told["improve"])}
     return [f"{name}: {times[name] / 1000:.1f} us in the place of {most}"
             for name, most in GOALS.items() if times[name] > 1000 * most]
 
 
 def print_line(told: dict[str, int]) -> None:
     counts = [told[name] for name in ("statements", "candidates", "parts", "templates", "grants")]
-    calls = [told[name] / 1000 for name in ("bound", "terms", "carry", "total", "improve")]
+    calls = [told[name] / 1000 for name in ("bound", "terms", "carry", "total", "carried", "improve")]
     ascend = f"{told['ascend'] / 1000:.1f}" if "ascend" in told else "-"
     print_row((*counts, f"{told['programme'] / 1e6:.1f}", *(f"{it:.1f}" for it in calls), ascend), WIDTHS)
 

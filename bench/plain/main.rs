@@ -4,7 +4,7 @@
 use adv_base::*;
 use bip_model::*;
 use branch_bound::{Room, search};
-use lagrange_bound::{Ascent, Pace, Terms, ascend, bound, carry, improve, rent, terms, total};
+use lagrange_bound::{Ascent, Ledger, Pace, Terms, Users, ascend, bound, bound_by, carry, improve, open_ledger, rent, terms, total};
 use std::hint::black_box;
 use shim::{Global, Vec as V};
 use shim::Instant;
@@ -97,6 +97,14 @@ fn programme(setting: &Setting, rounds: u64) {
     terms(p, budget, &free(), &mult, &mut old);
     let c = fastest(rounds, || { for i in 0..n { carry(p, budget, &free(), &without(i), &mult, &old, &mut into); } n as u32 });
     let s = fastest(rounds, || { for _ in 0..n { black_box(total(p, budget, &free(), &mult, &old)); } n as u32 });
+    let users = Users::new(Global, p).ok().unwrap();
+    let mut ledger = Ledger::new(Global, p).ok().unwrap();
+    open_ledger(p, &mult, &mut ledger);
+    bound_by(p, &users, budget, &free(), &mult, &mut ledger);
+    let k = fastest(rounds, || {
+        for i in 0..n { for fix in [without(i), free()] { black_box(bound_by(p, &users, budget, &fix, &mult, &mut ledger)); } }
+        2 * n as u32
+    });
     let i = fastest(rounds, || { let mut from = zeros(p); improve(p, budget, &free(), &mut from, &mut spare, 41); 41 });
     let mut scratch = Ascent::new(Global, p).ok().unwrap();
     let target = value(p, &Config::none());
@@ -106,7 +114,7 @@ fn programme(setting: &Setting, rounds: u64) {
         300
     });
     println!("{}", counts(setting, p));
-    println!("programme {made} bound {b} terms {t} carry {c} total {s} improve {i} ascend {a}");
+    println!("programme {made} bound {b} terms {t} carry {c} total {s} carried {k} improve {i} ascend {a}");
 }
 fn print_search(p: &Programme, budget: u64, nodes: u32) {
     let t = Instant::now();

@@ -1,13 +1,13 @@
 -- Searches of lists for an element that passes a test.
-use Rattle.std.proofs.Common.{◌≡◌, ◌∙◌, ◌≢◌, ◌⊎◌, inl, inr, ℕ, zero, suc, ◌+◌, ◌<◌, ◌≤◌, Bool, true, false, cond, ◌||◌, List, [], ◌∷◌, length, get_or, drop, refl, sym, ap, arith, add-one, get_or-set_other}
-use Rattle.std.specs.Prelude.{Option, Some, None, slice_get}
+use Rattle.std.proofs.Common.{◌≡◌, ◌∙◌, ◌≢◌, ◌⊎◌, inl, inr, ℕ, suc, ◌+◌, ◌<◌, ◌≤◌, Bool, false, cond, ◌||◌, List, [], ◌∷◌, length, get_or, refl, sym, ap, arith, add-one, get_or-set_other}
+use Rattle.std.specs.Prelude.{Some, slice_get}
 use Rattle.std.specs.List.{list_any}
 use Rattle.std.proofs.lemmas.Bool.{cases_lt}
 use Rattle.std.proofs.Math.ListN.{set}
 use Rattle.std.proofs.lemmas.List.{get_or-set_same}
 use Rattle.std.proofs.lemmas.Option.{slice_get_within}
 use Rattle.bip_model.specs.declared.programme.Programme.{Programme}
-use Rattle.bip_model.specs.Candidates.{is_cheaper, has_cheaper, is_useful, useful_below}
+use Rattle.bip_model.specs.Candidates.{is_useful, useful_below}
 
 -- no element below an index passes
 abbrev pub NoneBelow : {X : Type 0} → (X → Bool) → List X → ℕ → Type 0
@@ -29,40 +29,6 @@ none-all test xs n below past = fails test xs (λ k x found. below k x (omega (a
     fails : {X : Type 0} (test : X → Bool) (xs : List X) → ((k : ℕ) (x : X) → slice_get xs k ≡ Some x → test x ≡ false) → list_any test xs ≡ false
     fails test [] each = refl
     fails test (x ∷ xs) each = ap (λ (b : Bool). b || list_any test xs) (each 0 x refl) ∙ fails test xs (λ k y found. each (suc k) y found)
-
--- ## Prices
-
-pub cheaper-past : (prices others : List (Option ℕ)) (n : ℕ) → (length prices ≤ n) ⊎ (length others ≤ n) → has_cheaper (drop n prices) (drop n others) ≡ false
-cheaper-past [] others zero past = refl
-cheaper-past (p ∷ prices) [] zero past = refl
-cheaper-past (p ∷ prices) (o ∷ others) zero past = absurd (elim past [ inl a ↦ omega (arith, a) | inr b ↦ omega (arith, b) ])
-cheaper-past [] others (suc n) past = refl
-cheaper-past (p ∷ prices) [] (suc n) past = none (drop n prices)
-  where
-    none : (ps : List (Option ℕ)) → has_cheaper ps [] ≡ false
-    none [] = refl
-    none (x ∷ ps) = refl
-cheaper-past (p ∷ prices) (o ∷ others) (suc n) past =
-    cheaper-past prices others n (elim past [ inl a ↦ inl (omega (arith, a)) | inr b ↦ inr (omega (arith, b)) ])
-
--- what is left at a place is what stands there, and what is left behind it
-pub cheaper-at : (prices others : List (Option ℕ)) (n : ℕ) → n < length prices → n < length others →
-    has_cheaper (drop n prices) (drop n others) ≡ (is_cheaper (get_or prices n None) (get_or others n None) || has_cheaper (drop (suc n) prices) (drop (suc n) others))
-cheaper-at [] others n within beside = absurd (omega (arith, within))
-cheaper-at (p ∷ prices) [] n within beside = absurd (omega (arith, beside))
-cheaper-at (p ∷ prices) (o ∷ others) zero within beside = refl
-cheaper-at (p ∷ prices) (o ∷ others) (suc n) within beside = cheaper-at prices others n (omega (arith, within)) (omega (arith, beside))
-
-pub cheaper-found : (prices others : List (Option ℕ)) (n : ℕ) → n < length prices → n < length others → has_cheaper (drop n prices) (drop n others) ≡ has_cheaper prices others →
-    is_cheaper (get_or prices n None) (get_or others n None) ≡ true → true ≡ has_cheaper prices others
-cheaper-found prices others n within beside left found =
-    ap (λ (b : Bool). b || has_cheaper (drop (suc n) prices) (drop (suc n) others)) (sym found) ∙ sym (cheaper-at prices others n within beside) ∙ left
-
-pub cheaper-next : (prices others : List (Option ℕ)) (n : ℕ) → n < length prices → n < length others → has_cheaper (drop n prices) (drop n others) ≡ has_cheaper prices others →
-    is_cheaper (get_or prices n None) (get_or others n None) ≡ false → has_cheaper (drop (n + 1) prices) (drop (n + 1) others) ≡ has_cheaper prices others
-cheaper-next prices others n within beside left fails =
-    ap (λ (k : ℕ). has_cheaper (drop k prices) (drop k others)) (add-one n)
-    ∙ ap (λ (b : Bool). b || has_cheaper (drop (suc n) prices) (drop (suc n) others)) (sym fails) ∙ sym (cheaper-at prices others n within beside) ∙ left
 
 -- ## How many are useful
 

@@ -7,7 +7,7 @@ ghost use Rattle.branch_bound.specs.Rooms.{IsRoomFor};
 ghost use Rattle.branch_bound.specs.Sides as sides;
 ghost use Rattle.bip_model.specs.Views.{AreMultipliers};
 ghost use Rattle.lagrange_bound.specs.Bounds as bounds;
-ghost use Rattle.lagrange_bound.specs.Ledgers.{HasRoom};
+ghost use Rattle.lagrange_bound.specs.Ledgers.{AreUsers, HasRoom};
 ghost use Rattle.branch_bound.specs.inner.Climbs as climbs;
 ghost use Rattle.branch_bound.specs.inner.Proposals as proposals;
 ghost use Rattle.branch_bound.specs.inner.Runs as runs;
@@ -29,7 +29,7 @@ use crate::useful::useful_of;
 use adv_base::List;
 use adv_base::limits::MOST_CANDIDATES;
 use bip_model::{Answer, Fix, Multipliers, Node, Programme, value};
-use lagrange_bound::{Ledger, Pace, ascend, improve};
+use lagrange_bound::{Ledger, Pace, Users, ascend, improve};
 
 /// The rounds in which the multipliers of the root are improved: each tries the rent multipliers of one price of a page.
 const ROUNDS: u32 = 41;
@@ -162,6 +162,7 @@ fn explored(
     zeros: &Multipliers,
     sets: &[Multipliers],
     plan: &[Step],
+    users: &Users,
     known: &Costed,
     tree: &mut Vec<Node>,
     ledgers: &mut [Ledger],
@@ -172,6 +173,7 @@ fn explored(
     requires zeros { AreMultipliers task.now.programme.now zeros.now }
     requires sets { All (AreMultipliers task.now.programme.now) sets.now }
     requires few { length sets.now ≤ MOST_SETS }
+    requires users { AreUsers task.now.programme.now users.now }
     requires empty { tree.old.items ≡ [] }
     requires room { nodes ≤ vec_capacity tree.old }
     requires ledgers { All (HasRoom task.now.programme.now) ledgers.old }
@@ -188,6 +190,7 @@ fn explored(
         sets,
         useful: task.useful,
         plan,
+        users,
     };
     let before = started(known);
     explore(
@@ -250,6 +253,7 @@ pub fn search(programme: &Programme, root: &Fix, budget: u64, nodes: u32, room: 
         mut sets,
         mut hands,
         mut plan,
+        users,
         mut ledgers,
     } = room;
     let useful = useful_of(programme, budget);
@@ -269,6 +273,7 @@ pub fn search(programme: &Programme, root: &Fix, budget: u64, nodes: u32, room: 
         &zeros,
         sets.as_slice(),
         plan.as_slice(),
+        &users,
         &known,
         &mut tree,
         ledgers.as_mut_slice(),

@@ -163,6 +163,7 @@ pub(crate) fn lag(frame: &Frame<'_>, fix: &Fix, set: u8, ledgers: &mut [Ledger])
     let own = own_set(frame, set);
     bound_by(
         frame.programme,
+        frame.users,
         frame.budget,
         fix,
         own,

@@ -15,15 +15,16 @@ use crate::plan::{MOST_STEPS, Step};
 use adv_base::NoMemory;
 use adv_base::limits::{MOST_ENTRIES, MOST_SETS};
 use bip_model::{Multipliers, Node, Programme, grant_count};
-use lagrange_bound::{Ascent, Ledger};
+use lagrange_bound::{Ascent, Ledger, Users};
 use std::alloc::Global;
 
 /// All the memory that a search takes, in bytes: 4 for each node of its budget; 8 for each grant of the programme in each set of
 /// multipliers, of which there are zeros, one that is worked on and as many as `set_limit` says, so that these are at most
-/// 1500000 numbers or one set; 264 for each part and 113 thousand in each of as many guides and one more; 32 for each part and
-/// five thousand in each of 17 ledgers; for an ascent 42 for each grant, 32 for each part, and 16 for each template, for each order of each
-/// slot and for each price of a grant below what exists; and half a million for the plan. With a million nodes, 1000 parts of
-/// 4096 templates, and 512000 grants of 9 prices each, that is 195 million.
+/// 1500000 numbers or one set; 264 for each part and 113 thousand in each of as many guides and one more; 17 for each part
+/// and 21 thousand in each of 17 ledgers; 8 for each part and 256 thousand for the parts that each candidate can make cheaper;
+/// for an ascent 42 for each grant, 40 for each part, and 16 for each template, for each order of each slot and for each price
+/// of a grant below what exists; and half a million for the plan. With a million nodes, 1000 parts of 4096 templates, and
+/// 512000 grants of 9 prices each, that is 195 million.
 #[derive(Drop)]
 pub struct Room {
     pub(crate) tree: Vec<Node>,
@@ -32,6 +33,7 @@ pub struct Room {
     pub(crate) sets: Vec<Multipliers>,
     pub(crate) hands: Hands,
     pub(crate) plan: Vec<Step>,
+    pub(crate) users: Users,
     pub(crate) ledgers: Vec<Ledger>,
 }
 
@@ -143,6 +145,7 @@ impl Room {
         let first = fresh(alloc, programme)?;
         let hands = fresh_hands(alloc, programme)?;
         let plan = Vec::with_capacity(alloc, MOST_STEPS)?;
+        let users = Users::new(alloc, programme)?;
         let ledgers = fresh_ledgers(alloc, programme, MOST_SETS + 1)?;
         Ok(Room {
             tree,
@@ -151,6 +154,7 @@ impl Room {
             sets,
             hands,
             plan,
+            users,
             ledgers,
         })
     }

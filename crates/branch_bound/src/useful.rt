@@ -6,38 +6,13 @@ ghost use Rattle.bip_model.specs.Candidates as candidates;
 
 use adv_base::limits::MOST_CANDIDATES;
 use bip_model::{Grant, Part, Programme, SlotPart};
+use lagrange_bound::has_cheaper;
 
 /// The useful candidates of a programme, a flag for each, and how many they are.
 #[derive(Clone, Copy)]
 pub(crate) struct Useful {
     pub flags: [bool; MOST_CANDIDATES],
     pub count: u32,
-}
-
-/// Whether a price is below another, or stands where there is no other.
-fn is_cheaper(price: Option<u64>, other: Option<u64>) -> bool
-    ensures { result ≡ candidates.is_cheaper price other }
-{
-    match (price, other) {
-        (None, _) => false,
-        (Some(_), None) => true,
-        (Some(price), Some(other)) => price < other,
-    }
-}
-
-/// Whether some price of a list is cheaper than that in its place.
-fn has_cheaper(prices: &[Option<u64>], base: &[Option<u64>]) -> bool
-    ensures { result ≡ candidates.has_cheaper prices.now base.now }
-{
-    for o in 0..prices.len() {
-        if o >= base.len() {
-            return false;
-        }
-        if is_cheaper(prices[o], base[o]) {
-            return true;
-        }
-    }
-    false
 }
 
 /// Whether a grant is of the candidate of this number, and gives some order for less than all that exists.

@@ -1,5 +1,5 @@
 -- Laws of plan costs that are kept from node to node.
-use Rattle.std.proofs.Common.{◌≡◌, ◌∙◌, inl, inr, ℕ, zero, suc, ◌+◌, ◌*◌, ◌^◌, ◌<◌, ◌≤◌, Bool, true, false, not, List, [], ◌∷◌, ◌++◌, length, get_or, take, drop, fold, min, All, refl, sym, ap, subst, append-nil, append_assoc, arith}
+use Rattle.std.proofs.Common.{◌≡◌, ◌∙◌, inl, inr, ℕ, zero, suc, ◌+◌, ◌*◌, ◌^◌, ◌<◌, ◌≤◌, ◌⊎◌, Bool, true, false, not, List, [], ◌∷◌, ◌++◌, length, get_or, take, drop, fold, min, All, refl, sym, ap, subst, append-nil, append_assoc, arith}
 use Rattle.std.specs.Prelude.{Option, Some, None, if◌then◌else◌, slice_get, slice_set, slice_index_or, option_and_then, unwrap_or}
 use Rattle.std.specs.Option.{ForSome, option_map}
 use Rattle.std.proofs.lemmas.Bool.{false≢true}
@@ -15,8 +15,10 @@ use Rattle.bip_model.specs.declared.grant.Grant.{Grant}
 use Rattle.bip_model.specs.declared.part.Part.{Part}
 use Rattle.bip_model.specs.declared.slot_part.SlotPart.{SlotPart}
 use Rattle.bip_model.specs.Limits.Parts.{TemplateLimits}
+use Rattle.bip_model.specs.Candidates.{is_cheaper, has_cheaper}
 use Rattle.bip_model.specs.Values.{MOST_PLAN, lesser, plus, price_of, granted, need, part_grants}
 use Rattle.lagrange_bound.specs.Rented.{asked, least_asked, rented_price, grants_before, needed_price, cost_below, template_cost, least_cost, rented_cost, plan_costs}
+use Rattle.lagrange_bound.proofs.CheaperPrices.{cheaper-nowhere, lesser-self, lesser-below, asked-idle}
 use Rattle.lagrange_bound.proofs.RentedPrices.{AreRents, IsPrice, drop-rents, rented_price-price}
 
 -- ## One part more
@@ -101,24 +103,52 @@ pub all-more : {X : Type 0} (P : X → Type 0) (xs : List X) (i : ℕ) (x : X) �
 all-more P xs i x within is before here =
     subst (All P) (sym (take_more xs i x within)) (all-append P (take i xs) (get_or xs i x ∷ []) before (all-one P (get_or xs i x) (subst P is here)))
 
-asked-same : (from to : Config) (o : ℕ) (best : Option ℕ) (grants : List Grant) (rents : List ℕ) → AreAlike from to grants → least_asked from o best grants rents ≡ least_asked to o best grants rents
-asked-same from to o best [] rents alike = refl
-asked-same from to o best (grant ∷ grants) [] alike = refl
-asked-same from to o best (grant ∷ grants) (rent ∷ rents) alike =
-    let here : has_candidate from grant.candidate ≡ has_candidate to grant.candidate = All-head (λ (g : Grant). has_candidate from g.candidate ≡ has_candidate to g.candidate) grant grants alike in
-    let rest : AreAlike from to grants = All-tail (λ (g : Grant). has_candidate from g.candidate ≡ has_candidate to g.candidate) grant grants alike in
-    ap (λ (b : Bool). least_asked from o (lesser best (option_map (λ price. price + rent) (if b then price_of grant.prices o else None))) grants rents) here
-    ∙ asked-same from to o (lesser best (asked to o grant rent)) grants rents rest
+-- at a slot they are so for a grant, or it gives no order for less than what exists
+abbrev pub IsSettled : Config → Config → List (Option ℕ) → Grant → Type 0
+IsSettled from to base grant = (has_candidate from grant.candidate ≡ has_candidate to grant.candidate) ⊎ (has_cheaper grant.prices base ≡ false)
 
-needed-same : (from to : Config) (slots : List SlotPart) (rents : List ℕ) (template : Template) (s : ℕ) → SlotsAlike from to slots → needed_price from slots rents template s ≡ needed_price to slots rents template s
-needed-same from to slots rents template s alike =
+abbrev pub SlotsSettled : Config → Config → List SlotPart → Type 0
+SlotsSettled from to slots = All (λ slot. All (IsSettled from to slot.base) slot.grants) slots
+
+OneEach : List (Option ℕ) → List Grant → Type 0
+OneEach base grants = All (λ grant. length grant.prices ≡ length base) grants
+
+asked-settled : (from to : Config) (o : ℕ) (best : Option ℕ) (base : List (Option ℕ)) (grants : List Grant) (rents : List ℕ) → All (IsSettled from to base) grants → OneEach base grants →
+    lesser best (price_of base o) ≡ best → least_asked from o best grants rents ≡ least_asked to o best grants rents
+unfolding OneEach
+asked-settled from to o best base [] rents settled each low = refl
+asked-settled from to o best base (grant ∷ grants) [] settled each low = refl
+asked-settled from to o best base (grant ∷ grants) (rent ∷ rents) settled each low =
+    elim (All-head (IsSettled from to base) grant grants settled) [
+      | inl here ↦
+          ap (λ (b : Bool). least_asked from o (lesser best (option_map (λ price. price + rent) (if b then price_of grant.prices o else None))) grants rents) here
+          ∙ asked-settled from to o (lesser best (asked to o grant rent)) base grants rents rest others (lesser-below best (price_of base o) (asked to o grant rent) low)
+      | inr none ↦
+          let idle : is_cheaper (price_of grant.prices o) (price_of base o) ≡ false =
+          cheaper-nowhere grant.prices base o (All-head (λ (g : Grant). length g.prices ≡ length base) grant grants each) none in
+          ap (λ (a : Option ℕ). least_asked from o a grants rents) (asked-idle from o best (price_of base o) grant rent low idle)
+          ∙ asked-settled from to o best base grants rents rest others low
+          ∙ ap (λ (a : Option ℕ). least_asked to o a grants rents) (sym (asked-idle to o best (price_of base o) grant rent low idle))
+    ]
+  where
+    rest : All (IsSettled from to base) grants
+    rest = All-tail (IsSettled from to base) grant grants settled
+
+    others : OneEach base grants
+    others = All-tail (λ (g : Grant). length g.prices ≡ length base) grant grants each
+
+needed-settled : (from to : Config) (slots : List SlotPart) (rents : List ℕ) (template : Template) (s : ℕ) → SlotsSettled from to slots →
+    needed_price from slots rents template s ≡ needed_price to slots rents template s
+unfolding OneEach
+needed-settled from to slots rents template s settled =
     elim (slice_get_cases slots s).1 [
       | inl there ↦
           let slot : SlotPart = there.0 in
           let front : List ℕ = drop (grants_before slots s) rents in
-          let own : AreAlike from to (slice_index_or slots s slot).grants = alike s slot there.1 in
+          let own : All (IsSettled from to (slice_index_or slots s slot).base) (slice_index_or slots s slot).grants = settled s slot there.1 in
           let same : rented_price from slot front (need template s) ≡ rented_price to slot front (need template s) =
-          asked-same from to (need template s) (price_of slot.base (need template s)) slot.grants front (moved (slice_index_or slots s slot) slot there.3 own) in
+          asked-settled from to (need template s) (price_of slot.base (need template s)) slot.base slot.grants front (moved (slice_index_or slots s slot) slot there.3 own) slot.limits.one_each
+          (lesser-self (price_of slot.base (need template s))) in
           ap (option_and_then (λ (x : SlotPart). rented_price from x front (need template s))) there.2 ∙ same
           ∙ sym (ap (option_and_then (λ (x : SlotPart). rented_price to x front (need template s))) there.2)
       | inr past ↦
@@ -127,26 +157,29 @@ needed-same from to slots rents template s alike =
           ∙ sym (ap (option_and_then (λ (x : SlotPart). rented_price to x front (need template s))) past.1)
     ]
   where
-    moved : (x y : SlotPart) → x ≡ y → AreAlike from to x.grants → AreAlike from to y.grants
-    moved x y same are = subst (λ (z : SlotPart). AreAlike from to z.grants) same are
+    moved : (x y : SlotPart) → x ≡ y → All (IsSettled from to x.base) x.grants → All (IsSettled from to y.base) y.grants
+    moved x y same are = subst (λ (z : SlotPart). All (IsSettled from to z.base) z.grants) same are
 
-below-same : (from to : Config) (slots : List SlotPart) (rents : List ℕ) (template : Template) (n : ℕ) → SlotsAlike from to slots → cost_below from slots rents template n ≡ cost_below to slots rents template n
+below-settled : (from to : Config) (slots : List SlotPart) (rents : List ℕ) (template : Template) (n : ℕ) → SlotsSettled from to slots → cost_below from slots rents template n ≡ cost_below to slots rents template n
 unfolding cost_below
-below-same from to slots rents template zero alike = refl
-below-same from to slots rents template (suc n) alike =
-    ap (λ (a : Option ℕ). plus a (needed_price from slots rents template n)) (below-same from to slots rents template n alike)
-    ∙ ap (plus (cost_below to slots rents template n)) (needed-same from to slots rents template n alike)
+below-settled from to slots rents template zero settled = refl
+below-settled from to slots rents template (suc n) settled =
+    ap (λ (a : Option ℕ). plus a (needed_price from slots rents template n)) (below-settled from to slots rents template n settled)
+    ∙ ap (plus (cost_below to slots rents template n)) (needed-settled from to slots rents template n settled)
 
-least-same : (from to : Config) (slots : List SlotPart) (rents : List ℕ) (best : Option ℕ) (templates : List Template) → SlotsAlike from to slots →
+least-settled : (from to : Config) (slots : List SlotPart) (rents : List ℕ) (best : Option ℕ) (templates : List Template) → SlotsSettled from to slots →
     fold (λ best template. lesser best (template_cost from slots rents template)) best templates ≡ fold (λ best template. lesser best (template_cost to slots rents template)) best templates
-least-same from to slots rents best [] alike = refl
-least-same from to slots rents best (template ∷ templates) alike =
-    ap (λ (o : Option ℕ). fold (λ best template. lesser best (template_cost from slots rents template)) (lesser best o) templates) (below-same from to slots rents template (length slots) alike)
-    ∙ least-same from to slots rents (lesser best (template_cost to slots rents template)) templates alike
+least-settled from to slots rents best [] settled = refl
+least-settled from to slots rents best (template ∷ templates) settled =
+    ap (λ (o : Option ℕ). fold (λ best template. lesser best (template_cost from slots rents template)) (lesser best o) templates) (below-settled from to slots rents template (length slots) settled)
+    ∙ least-settled from to slots rents (lesser best (template_cost to slots rents template)) templates settled
+
+pub rented_cost-settled : (from to : Config) (part : Part) (rents : List ℕ) → SlotsSettled from to part.slots → rented_cost from part rents ≡ rented_cost to part rents
+unfolding rented_cost
+rented_cost-settled from to part rents settled = ap (λ (o : Option ℕ). unwrap_or o 0) (least-settled from to part.slots rents None part.templates settled)
 
 pub rented_cost-same : (from to : Config) (part : Part) (rents : List ℕ) → SlotsAlike from to part.slots → rented_cost from part rents ≡ rented_cost to part rents
-unfolding rented_cost
-rented_cost-same from to part rents alike = ap (λ (o : Option ℕ). unwrap_or o 0) (least-same from to part.slots rents None part.templates alike)
+rented_cost-same from to part rents alike = rented_cost-settled from to part rents (λ s d within k e inside. inl (alike s d within k e inside))
 
 -- ## No cost is too great
 

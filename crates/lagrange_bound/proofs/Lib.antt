@@ -5,5 +5,7 @@ pub mod RentPlaces
 pub mod StandingRents
 pub mod StandingValue
 pub mod CoveredRents
+pub mod CheaperPrices
 pub mod CarriedCosts
+pub mod MarkedCosts
 pub mod WrittenRents

@@ -55,7 +55,7 @@ pub fn terms(
 }
 
 /// Whether one of two holds alone.
-fn one_alone(a: bool, b: bool) -> bool
+pub(crate) fn one_alone(a: bool, b: bool) -> bool
     ensures { result ≡ (if a then not b else b) }
 {
     if a { !b } else { b }
@@ -107,7 +107,7 @@ fn carried_cost(
 }
 
 /// Writes the plan cost of each part where the candidates that may be used change.
-pub(crate) fn carry_costs(
+fn carry_costs(
     parts: &[Part],
     from: &Config,
     to: &Config,

@@ -1,5 +1,5 @@
 //! Bounds under one set of multipliers, carried from node to node.
-ghost use Rattle.std.specs.Prelude.{◌≡◌, ◌+◌, ◌*◌, ◌<◌, ◌≤◌, ◌^◌, ℕ, suc, All, IfOk, length, slice_index_or};
+ghost use Rattle.std.specs.Prelude.{◌≡◌, ◌+◌, ◌*◌, ◌<◌, ◌≤◌, ℕ, suc, All, IfOk, slice_index_or};
 ghost use Rattle.adv_base.specs.declared.limits.TheConstants.{MOST_CANDIDATES, MOST_ROWS, MOST_STATEMENTS, MOST_WEIGHT};
 ghost use Rattle.bip_model.specs.Values as values;
 ghost use Rattle.bip_model.specs.Views.{AreMultipliers};
@@ -9,33 +9,42 @@ ghost use Rattle.lagrange_bound.specs.inner.Limits as limits;
 
 use crate::bounds::rounded_up;
 use crate::candidates::{available, earned_in_all, paid_in_all};
-use crate::carrying::{carry_costs, weighted_costs, write_costs};
+use crate::carrying::{weighted_costs, write_costs};
 use crate::earnings::{Earned, earned_rents};
+use crate::marked::Marked;
+use crate::marking::mark_changed;
+use crate::pricing::{NO_ROWS, Rows};
+use crate::repricing::price_marked;
+use crate::users::Users;
 use adv_base::limits::MOST_CANDIDATES;
 use adv_base::{Config, NoMemory};
 use bip_model::{Fix, Multipliers, Programme};
 use std::alloc::Global;
-use std::mem;
 
 /// What is kept of the bounds under one set of multipliers: the candidates that may be used at the node where it stands, what
-/// the plan of each part costs there, room for as many costs, and what the rents of each candidate bring in.
+/// the plan of each part costs there, the sum of weight times cost, a mark for each part, rows to price one with, and what the
+/// rents of each candidate bring in.
 #[derive(Drop)]
 pub struct Ledger {
     pub config: Config,
     pub least: Vec<u128>,
-    pub other: Vec<u128>,
-    pub earned: [u128; MOST_CANDIDATES],
+    pub plans: u128,
+    pub marks: Vec<bool>,
+    pub rows: Rows,
+    pub earned: Earned,
 }
 
 impl Ledger {
-    /// A ledger that stands nowhere: twice 16 bytes for each part. Want of memory is the one error.
+    /// A ledger that stands nowhere: 17 bytes for each part. Want of memory is the one error.
     pub fn new(alloc: Global, programme: &Programme) -> Result<Ledger, NoMemory>
         ensures { IfOk result (ledgers.HasRoom programme.now) }
     {
         Ok(Ledger {
             config: Config::none(),
             least: vec![in alloc; 0; programme.parts.len()]?,
-            other: vec![in alloc; 0; programme.parts.len()]?,
+            plans: 0,
+            marks: vec![in alloc; false; programme.parts.len()]?,
+            rows: NO_ROWS,
             earned: [0; MOST_CANDIDATES],
         })
     }
@@ -51,7 +60,9 @@ pub fn open_ledger(programme: &Programme, multipliers: &Multipliers, ledger: &mu
     let parts = programme.parts.as_slice();
     let rents = multipliers.lambda.as_slice();
     let config = Config::none();
-    write_costs(parts, &config, rents, ledger.least.as_mut_slice());
+    let least = ledger.least.as_mut_slice();
+    write_costs(parts, &config, rents, least);
+    ledger.plans = weighted_costs(parts, least);
     ledger.config = config;
     ledger.earned = earned_rents(parts, rents);
 }
@@ -81,34 +92,49 @@ fn value_with(
 
 /// Carries a ledger to where other candidates may be used.
 #[tactic(auto, unfolding(bip_model::specs::Values::grant_count))]
-fn moved(programme: &Programme, multipliers: &Multipliers, config: &Config, ledger: &mut Ledger)
+fn moved(
+    programme: &Programme,
+    users: &Users,
+    multipliers: &Multipliers,
+    config: &Config,
+    ledger: &mut Ledger,
+)
+    requires users { ledgers.AreUsers programme.now users.now }
     requires multipliers { AreMultipliers programme.now multipliers.now }
     requires ledger { ledgers.IsLedger programme.now multipliers.now ledger.old }
     ensures ledger { ledgers.IsLedger programme.now multipliers.now ledger.new }
     ensures config { ledger.new.config ≡ config.now }
 {
-    carry_costs(
-        programme.parts.as_slice(),
-        &ledger.config,
+    let flags = users.flags.as_slice();
+    let marks = ledger.marks.as_mut_slice();
+    mark_changed(flags, &ledger.config, config, marks);
+    let parts = programme.parts.as_slice();
+    let starts = users.starts.as_slice();
+    let rents = multipliers.lambda.as_slice();
+    let task = Marked {
+        parts,
+        starts,
+        rents,
         config,
-        multipliers.lambda.as_slice(),
-        ledger.least.as_slice(),
-        ledger.other.as_mut_slice(),
-    );
-    mem::swap(&mut ledger.least, &mut ledger.other);
+        marks,
+    };
+    let least = ledger.least.as_mut_slice();
+    ledger.plans = price_marked(&task, ledger.plans, least, &mut ledger.rows);
     ledger.config = *config;
 }
 
-/// The Lagrangian value of a node, as `bound` tells it, to which a ledger is carried: parts are priced anew where one of their
-/// grants is of a candidate that may be used either there or where the ledger stood. Takes no memory.
+/// The Lagrangian value of a node, as `bound` tells it, to which a ledger is carried: a part is priced anew where a candidate
+/// that can make it cheaper may be used either there or where the ledger stood. Takes no memory.
 #[tactic(auto, unfolding(crate::specs::Bounds::lagrangian))]
 pub fn bound_by(
     programme: &Programme,
+    users: &Users,
     budget: u64,
     fix: &Fix,
     multipliers: &Multipliers,
     ledger: &mut Ledger,
 ) -> i128
+    requires users { ledgers.AreUsers programme.now users.now }
     requires budget { budget ≤ MOST_ROWS }
     requires multipliers { AreMultipliers programme.now multipliers.now }
     requires ledger { ledgers.IsLedger programme.now multipliers.now ledger.old }
@@ -116,7 +142,13 @@ pub fn bound_by(
     ensures ledger { ledgers.IsLedger programme.now multipliers.now ledger.new }
 {
     let config = available(programme, budget, fix);
-    moved(programme, multipliers, &config, ledger);
-    let plans = weighted_costs(programme.parts.as_slice(), ledger.least.as_slice());
-    value_with(programme, budget, fix, multipliers, plans, &ledger.earned)
+    moved(programme, users, multipliers, &config, ledger);
+    value_with(
+        programme,
+        budget,
+        fix,
+        multipliers,
+        ledger.plans,
+        &ledger.earned,
+    )
 }

@@ -5,9 +5,22 @@
 //! budget's price, bounds every fitting configuration below the node. `bound` tells that number from a programme alone;
 //! `specs/` says which number it is, and a law that it is the Lagrangian value of every setting for which the programme
 //! stands. `rent` makes multipliers under which no candidate earns more than it costs, `improve` picks the best of these, and
-//! `ascend` raises multipliers further, with a scratch that is made once.
-//! `terms`, `carry` and `total` are the parts of a bound, so that a search can keep what doesn't change; a `Ledger` keeps it from
-//! node to node.
+//! `ascend` raises multipliers further, with a scratch that is made once. `terms`, `carry` and `total` are the parts of a bound,
+//! and `bound_by` carries one from node to node. Costs are in thousandths of a sequential page read, sizes in pages.
+//!
+//! `Terms` are what the plan of each part costs at a node. A `Ledger` keeps these in place under one set of multipliers, and
+//! the `Users` of a programme say which parts each candidate can make cheaper, and so have to be priced anew where it comes
+//! or goes. An `Ascent` has the memory of ascents, and a `Pace` says how many rounds one has, and how long its steps are.
+//!
+//! ```rust
+//! // Statements of weights 10 and 11, which cost 80000 each, and 13000 and 14000 with candidates 1 and 2, of 3 and 4 pages.
+//! let root = Fix { state: [State::Free; 256] };
+//! let mut multipliers = Multipliers::zero(alloc, &programme)?;
+//! assert_eq!(rt; bound(&programme, 4, &root, &multipliers), 284000); // 10 * 13000 + 11 * 14000
+//! // A page at 2^17 thousandths: a use of the first pays 3 * 2^17 / 10, one of the second 4 * 2^17 / 11.
+//! rent(&programme, 8589934592, &mut multipliers);
+//! assert_eq!(rt; bound(&programme, 4, &root, &multipliers), 677204); // 10 * 52321 + 11 * 61662 - 4 * 2^17
+//! ```
 #![tactic(auto)]
 
 mod ascending;
@@ -19,8 +32,12 @@ mod improving;
 mod kept;
 mod laws;
 mod ledger;
+mod marked;
+mod marking;
 mod pricing;
+mod repricing;
 mod sharing;
+mod users;
 
 pub use ascending::{Ascent, Pace, ascend};
 pub use bounds::bound;
@@ -30,3 +47,4 @@ pub use kept::Terms;
 pub use laws::{lagrangian_is_it, rents_are_covered};
 pub use ledger::{Ledger, bound_by, open_ledger};
 pub use sharing::rent;
+pub use users::{Users, has_cheaper};

@@ -1,9 +1,16 @@
-use Rattle.std.proofs.Common.{◌∙◌, ◌≤◌, ℕ, List, All, sym, subst}
+use Rattle.std.proofs.Common.{◌≤◌, ℕ, List, All, length, sym, subst, arith}
+use Rattle.bip_model.specs.declared.part.Part.{Part}
 use Rattle.bip_model.specs.Values.{MOST_PLAN}
 use Rattle.lagrange_bound.proofs.CarriedCosts.{plan_costs-most}
+use Rattle.lagrange_bound.proofs.MarkedCosts.{weighted-most}
 use Rattle.lagrange_bound.proofs.ledger.bound_by.Goals as goal
 
-pub weighted_costs-plans-requires-clause-limit : goal.weighted_costs-plans-requires-clause-limit
-weighted_costs-plans-requires-clause-limit c =
-    subst (λ (costs : List ℕ). All (λ cost. cost ≤ MOST_PLAN) costs) (sym (c.as_slice-2.ensures.value ∙ c.moved.ensures.ledger.costs))
-    (plan_costs-most c.moved.new.ledger.config c.args.programme.now.parts c.args.multipliers.now.lambda c.requires.multipliers.rents_most)
+pub value_with-requires-clause-plans : goal.value_with-requires-clause-plans
+value_with-requires-clause-plans c =
+    let parts : List Part = c.args.programme.now.parts in
+    let most : All (λ cost. cost ≤ MOST_PLAN) c.moved.new.ledger.least.items =
+    subst (λ (costs : List ℕ). All (λ cost. cost ≤ MOST_PLAN) costs) (sym c.moved.ensures.ledger.costs)
+    (plan_costs-most c.moved.new.ledger.config parts c.args.multipliers.now.lambda c.requires.multipliers.rents_most) in
+    let all = weighted-most parts c.moved.new.ledger.least.items most in
+    let few : length parts ≤ 1000 = c.args.programme.now.limits.parts_most in
+    omega (arith, all, few, c.moved.ensures.ledger.plans)
