@@ -141,18 +141,18 @@ class Wrapper(unittest.TestCase):
         self.assertIn(b"proving cophy_cli (2 of 2), 0 min 0", ran.stderr)
         self.assertIn(b"built, in 0 min 0", ran.stderr)
         called = self.copy.called()
-        self.assertRegex(called[0], r"^rt lib --jobs \d+ in adv_base$")
-        self.assertRegex(called[1], r"^rt run --jobs \d+ -- cost ")
+        self.assertEqual(called[0], "rt lib in adv_base")
+        self.assertTrue(called[1].startswith("rt run -- cost "))
         self.assertEqual(called[2], "program cost a b")
 
-    def test_crates_are_proved_after_those_below_and_only_where_they_are_needed(self) -> None:
-        lines = ["cophy_cli: top", "top: left right", "apart: base", "left: base jiff", "right: base", "base: jiff"]
-        (self.copy.root / "crates.txt").write_text("\n".join(lines) + "\n")
+    def test_only_crates_that_the_program_stands_on_are_proved(self) -> None:
+        lines = ["base: jiff", "apart: base", "left: base", "right: base", "top: right left", "cophy_cli: top"]
+        (self.copy.root / "crates.txt").write_text("# Lowest first.\n" + "\n".join(lines) + "\n")
         for crate in ("base", "left", "right", "top", "apart"):
             (self.copy.root / "crates" / crate).mkdir()
-        self.copy.call("cost", "a", "b", FAKE_SECONDS="0.3")
+        self.copy.call("cost", "a", "b")
         called = [it.split()[-1] for it in self.copy.called() if it.startswith("rt lib")]
-        self.assertEqual((called[0], sorted(called[1:3]), called[3:]), ("base", ["left", "right"], ["top"]))
+        self.assertEqual(called, ["base", "left", "right", "top"])
 
     def test_a_second_call_builds_nothing(self) -> None:
         self.copy.call("cost", "a", "b")
@@ -167,13 +167,13 @@ class Wrapper(unittest.TestCase):
         source.touch()
         os.utime(source, (2**31, 2**31))
         self.copy.call("cost", "a", "b")
-        self.assertRegex(self.copy.called()[0], r"^rt lib --jobs \d+ in adv_base$")
+        self.assertEqual(self.copy.called()[0], "rt lib in adv_base")
 
     def test_a_failed_build_ends_with_70_and_prints_nothing(self) -> None:
         ran = self.copy.call("cost", "a", "b", FAKE_RT="1")
         self.assertEqual((ran.returncode, ran.stdout), (70, b""))
         self.assertIn(b"the build failed", ran.stderr)
-        self.assertRegex("; ".join(self.copy.called()), r"^rt lib --jobs \d+ in adv_base$")
+        self.assertEqual(self.copy.called(), ["rt lib in adv_base"])
         self.assertFalse((self.copy.root / "out" / "built").exists())
 
     def test_without_rt_it_says_what_to_install(self) -> None:
@@ -187,7 +187,7 @@ class Wrapper(unittest.TestCase):
 
     def test_on_a_terminal_progress_is_one_line_that_is_written_over(self) -> None:
         shown = self._on_terminal("cost", "a", "b", FAKE_SECONDS="1.2")
-        self.assertRegex(shown, rb"\r\x1b\[Kcophy: proving adv_base \(1 of 2\), 0 min 01 s so far")
+        self.assertRegex(shown, rb"\rcophy: proving adv_base \(1 of 2\), 0 min 01 s so far")
 
     def test_on_a_terminal_there_are_hints_unless_they_are_off(self) -> None:
         self.copy.build()
