@@ -70,6 +70,7 @@ class Copy:
         return {
             **kept,
             "PATH": f"{self.folder / 'bin'}:{kept['PATH']}",
+            "COPHY_JOBS": "1",
             "FAKE_CALLS": str(self.calls),
             "FAKE_TEXT": "",
             "FAKE_PROGRAM": str(self.folder / "program"),
@@ -153,6 +154,24 @@ class Wrapper(unittest.TestCase):
         self.copy.call("cost", "a", "b")
         called = [it.split()[-1] for it in self.copy.called() if it.startswith("rt lib")]
         self.assertEqual(called, ["base", "left", "right", "top"])
+
+    def test_several_crates_are_proved_at_once_where_that_is_asked_or_the_machine_allows(self) -> None:
+        ran = self.copy.call("cost", "a", "b", COPHY_JOBS="4", FAKE_TEXT="done\\n")
+        self.assertEqual((ran.returncode, ran.stdout), (0, b"done\n"))
+        self.assertIn(b"proving 2 crates, at most 4 at once, 0 min 0", ran.stderr)
+        self.assertIn(b"proving cophy_cli (2 of 2), 0 min 0", ran.stderr)
+        called = self.copy.called()
+        self.assertEqual(called[0], "rt all check --jobs 4 in cophy_cli")
+        self.assertTrue(called[1].startswith("rt run -- cost "))
+        self.assertEqual(called[2], "program cost a b")
+
+    def test_a_word_that_is_no_number_of_jobs_is_passed_over(self) -> None:
+        for jobs in ("0", "four", "-1", "100", ""):
+            with self.subTest(jobs=jobs):
+                (self.copy.root / "out" / "built").unlink(missing_ok=True)
+                self.copy.call("cost", "a", "b", COPHY_JOBS=jobs)
+                self.assertIn(self.copy.called()[0].split()[1], ("lib", "all"))
+                self.assertNotIn(f"--jobs {jobs} ", self.copy.called()[0])
 
     def test_a_second_call_builds_nothing(self) -> None:
         self.copy.call("cost", "a", "b")
@@ -428,6 +447,7 @@ class Completion(unittest.TestCase):
                 "bench",
                 "unproved",
                 "COPHY_HINTS",
+                "COPHY_JOBS",
             ):
                 with self.subTest(file=file, word=word):
                     self.assertIn(word, text)
