@@ -7,8 +7,8 @@ ghost use Rattle.lagrange_bound.specs.Bounds as bounds;
 ghost use Rattle.lagrange_bound.specs.Ledgers as ledgers;
 ghost use Rattle.lagrange_bound.specs.inner.Limits as limits;
 
-use crate::bounds::rounded_up;
-use crate::candidates::{available, earned_in_all, paid_in_all};
+use crate::bounds::value_of_plans;
+use crate::candidates::available;
 use crate::carrying::{weighted_costs, write_costs};
 use crate::earnings::{Earned, earned_rents};
 use crate::marked::Marked;
@@ -67,29 +67,6 @@ pub fn open_ledger(programme: &Programme, multipliers: &Multipliers, ledger: &mu
     ledger.earned = earned_rents(parts, rents);
 }
 
-/// The Lagrangian value of a node, where the weighted costs of plans are so much and the rents bring in so much.
-#[tactic(auto, unfolding(crate::specs::Bounds::value_of_plans))]
-fn value_with(
-    programme: &Programme,
-    budget: u64,
-    fix: &Fix,
-    multipliers: &Multipliers,
-    plans: u128,
-    rents: &Earned,
-) -> i128
-    requires budget { budget ≤ MOST_ROWS }
-    requires multipliers { AreMultipliers programme.now multipliers.now }
-    requires plans { plans ≤ MOST_STATEMENTS * (MOST_WEIGHT * values.MOST_PLAN) }
-    requires rents { (a : ℕ) → a < MOST_CANDIDATES → slice_index_or rents.now a 0 ≡ bounds.part_rents (suc a) programme.now.parts multipliers.now.lambda }
-    requires most { All (λ sum. sum ≤ limits.MOST_RENTS) rents.now }
-    ensures { result ≡ bounds.value_of_plans programme.now budget fix.now multipliers.now plans }
-{
-    let more = 65536 * (plans + programme.kept) + paid_in_all(programme, fix, multipliers);
-    let less = earned_in_all(programme, budget, fix, multipliers, rents)
-        + multipliers.mu * budget as u128;
-    rounded_up(more, less)
-}
-
 /// Carries a ledger to where other candidates may be used.
 #[tactic(auto, unfolding(bip_model::specs::Values::grant_count))]
 fn moved(
@@ -143,7 +120,7 @@ pub fn bound_by(
 {
     let config = available(programme, budget, fix);
     moved(programme, users, multipliers, &config, ledger);
-    value_with(
+    value_of_plans(
         programme,
         budget,
         fix,
