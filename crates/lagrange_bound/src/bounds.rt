@@ -15,7 +15,7 @@ use adv_base::limits::MOST_CANDIDATES;
 use bip_model::{Fix, Multipliers, Part, Programme};
 
 /// A difference of parts of 65536, in whole numbers, rounded up.
-pub(crate) fn rounded_up(more: u128, less: u128) -> i128
+fn rounded_up(more: u128, less: u128) -> i128
     requires more_fits { more < 2 ^ 126 }
     requires less_fits { less < 2 ^ 126 }
     ensures { result ≡ bounds.rounded_up more less }
@@ -25,9 +25,9 @@ pub(crate) fn rounded_up(more: u128, less: u128) -> i128
 
 /// The sum of weight times plan cost, and what the rents of each candidate bring in.
 #[derive(Clone, Copy)]
-pub(crate) struct Sums {
-    pub plans: u128,
-    pub earned: Earned,
+struct Sums {
+    plans: u128,
+    earned: Earned,
 }
 
 /// Both sums of parts, in one walk over their grants.
