@@ -4,7 +4,7 @@
 use adv_base::*;
 use bip_model::*;
 use branch_bound::{Room, search};
-use lagrange_bound::{Ascent, Ledger, Pace, Terms, Users, ascend, bound, bound_by, carry, improve, open_ledger, rent, terms, total};
+use lagrange_bound::{Ascent, CheaperParts, Ledger, Pace, Terms, ascend, bound, bound_by, carry, improve, open_ledger, rent, terms, total};
 use std::hint::black_box;
 use shim::{Global, Vec as V};
 use shim::Instant;
@@ -97,12 +97,12 @@ fn programme(setting: &Setting, rounds: u64) {
     terms(p, budget, &free(), &mult, &mut old);
     let c = fastest(rounds, || { for i in 0..n { carry(p, budget, &free(), &without(i), &mult, &old, &mut into); } n as u32 });
     let s = fastest(rounds, || { for _ in 0..n { black_box(total(p, budget, &free(), &mult, &old)); } n as u32 });
-    let users = Users::new(Global, p).ok().unwrap();
+    let cheaper = CheaperParts::new(Global, p).ok().unwrap();
     let mut ledger = Ledger::new(Global, p).ok().unwrap();
     open_ledger(p, &mult, &mut ledger);
-    bound_by(p, &users, budget, &free(), &mult, &mut ledger);
+    bound_by(p, &cheaper, budget, &free(), &mult, &mut ledger);
     let k = fastest(rounds, || {
-        for i in 0..n { for fix in [without(i), free()] { black_box(bound_by(p, &users, budget, &fix, &mult, &mut ledger)); } }
+        for i in 0..n { for fix in [without(i), free()] { black_box(bound_by(p, &cheaper, budget, &fix, &mult, &mut ledger)); } }
         2 * n as u32
     });
     let i = fastest(rounds, || { let mut from = zeros(p); improve(p, budget, &free(), &mut from, &mut spare, 41); 41 });

@@ -1,6 +1,6 @@
 -- Laws of plan costs that are kept from node to node.
 use Rattle.std.proofs.Common.{◌≡◌, ◌∙◌, inl, inr, ℕ, zero, suc, ◌+◌, ◌*◌, ◌^◌, ◌<◌, ◌≤◌, ◌⊎◌, Bool, true, false, not, List, [], ◌∷◌, ◌++◌, length, get_or, take, drop, fold, min, All, refl, sym, ap, subst, append-nil, append_assoc, arith}
-use Rattle.std.specs.Prelude.{Option, Some, None, if◌then◌else◌, slice_get, slice_set, slice_index_or, option_and_then, unwrap_or}
+use Rattle.std.specs.Prelude.{Option, Some, None, if◌then◌else◌, slice_set, slice_index_or, option_and_then, unwrap_or}
 use Rattle.std.specs.Option.{ForSome, option_map}
 use Rattle.std.proofs.lemmas.Bool.{false≢true}
 use Rattle.std.proofs.lemmas.List.{drop_all, drop_more, drop-drop, take_all, take_more, take_more_set}
@@ -9,17 +9,16 @@ use Rattle.std.proofs.lemmas.Option.{slice_get_cases}
 use Rattle.adv_base.specs.declared.limits.TheConstants.{MOST_PRICE, MOST_RENT}
 use Rattle.adv_base.specs.declared.setting.Config.{Config}
 use Rattle.adv_base.specs.Configs.{has_candidate}
-use Rattle.plan_model.specs.declared.plan.TheConstants.{MOST_COST}
 use Rattle.plan_model.specs.declared.template.Template.{Template}
 use Rattle.bip_model.specs.declared.grant.Grant.{Grant}
 use Rattle.bip_model.specs.declared.part.Part.{Part}
 use Rattle.bip_model.specs.declared.slot_part.SlotPart.{SlotPart}
 use Rattle.bip_model.specs.Limits.Parts.{TemplateLimits}
 use Rattle.bip_model.specs.Candidates.{is_cheaper, has_cheaper}
-use Rattle.bip_model.specs.Values.{MOST_PLAN, lesser, plus, price_of, granted, need, part_grants}
+use Rattle.bip_model.specs.Values.{MOST_PLAN, lesser, plus, price_of, need, part_grants}
 use Rattle.lagrange_bound.specs.Rented.{asked, least_asked, rented_price, grants_before, needed_price, cost_below, template_cost, least_cost, rented_cost, plan_costs}
 use Rattle.lagrange_bound.proofs.CheaperPrices.{cheaper-nowhere, lesser-self, lesser-below, asked-idle}
-use Rattle.lagrange_bound.proofs.RentedPrices.{AreRents, IsPrice, drop-rents, rented_price-price}
+use Rattle.lagrange_bound.proofs.RentedPrices.{AreRents, drop-rents, rented_price-price}
 
 -- ## One part more
 

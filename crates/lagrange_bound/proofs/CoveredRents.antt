@@ -1,5 +1,5 @@
 -- Under rent multipliers no candidate earns more than it costs.
-use Rattle.std.proofs.Common.{◌≡◌, ◌∙◌, inl, inr, ℕ, zero, suc, ◌+◌, ◌-◌, ◌*◌, ◌/◌, ◌<◌, ◌≤◌, ◌==◌, Bool, true, false, cond, List, [], ◌∷◌, ◌++◌, length, drop, map, min, refl, sym, ap, subst, append-nil, append_assoc, length-append, arith}
+use Rattle.std.proofs.Common.{◌≡◌, ◌∙◌, inl, inr, ℕ, suc, ◌+◌, ◌-◌, ◌*◌, ◌/◌, ◌≤◌, ◌==◌, Bool, cond, List, [], ◌∷◌, ◌++◌, length, drop, map, min, refl, sym, ap, subst, append-nil, append_assoc, length-append, arith}
 use Rattle.std.specs.Prelude.{if◌then◌else◌, count_by, sum_by}
 use Rattle.std.specs.List.{flat_map}
 use Rattle.std.proofs.Math.Nat.{mul-add, mul-le-mul_left, mul_left_comm, mul_assoc, mul-div-le, div-zero, le_of_mul-le-mul_left, mul_comm}

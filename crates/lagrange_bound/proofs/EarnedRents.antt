@@ -1,6 +1,6 @@
 -- Laws of what rents bring in.
-use Rattle.std.proofs.Common.{◌≡◌, ◌∙◌, inl, inr, ℕ, zero, suc, ◌+◌, ◌-◌, ◌*◌, ◌<◌, ◌≤◌, ◌==◌, Bool, true, false, List, [], ◌∷◌, length, get_or, drop, replicate, refl, sym, ap, subst, arith}
-use Rattle.std.specs.Prelude.{if◌then◌else◌, slice_index_or, slice_set, sum_by}
+use Rattle.std.proofs.Common.{◌≡◌, ◌∙◌, inl, inr, ℕ, zero, suc, ◌+◌, ◌-◌, ◌*◌, ◌<◌, ◌≤◌, ◌==◌, Bool, true, false, List, [], ◌∷◌, length, get_or, take, drop, replicate, refl, sym, ap, arith}
+use Rattle.std.specs.Prelude.{if◌then◌else◌, slice_index_or, slice_set}
 use Rattle.std.proofs.Math.Nat.{mul-add, mul-le-mul}
 use Rattle.std.proofs.lemmas.Bool.{cases_eq, eq-eqb, ne_eqb}
 use Rattle.std.proofs.lemmas.List.{drop_more, drop-drop, get_or-set_same, get_or-set_other}
@@ -49,42 +49,48 @@ part_rents-most a (part ∷ parts) rents are =
 
 -- ## Steps
 
--- the next grant and its rent, before the rest
-grant_rents-drop : (a : ℕ) (grants : List Grant) (rents : List ℕ) (at i : ℕ) (d : Grant) → i < length grants → at + i < length rents →
-    grant_rents a (drop i grants) (drop (at + i) rents)
-    ≡ (if (get_or grants i d).candidate == a then get_or rents (at + i) 0 else 0) + grant_rents a (drop (i + 1) grants) (drop (at + (i + 1)) rents)
-grant_rents-drop a grants rents at i d within inside =
-    let next : at + i + 1 ≡ at + (i + 1) = omega arith in
-    ap (λ (gs : List Grant). grant_rents a gs (drop (at + i) rents)) (drop_more grants i d within)
-    ∙ ap (grant_rents a (get_or grants i d ∷ drop (i + 1) grants)) (drop_more rents (at + i) 0 inside)
-    ∙ ap (λ (n : ℕ). (if (get_or grants i d).candidate == a then get_or rents (at + i) 0 else 0) + grant_rents a (drop (i + 1) grants) (drop n rents)) next
+-- rents past those of the grants don't count
+grant_rents-take : (a : ℕ) (grants : List Grant) (rents : List ℕ) → grant_rents a grants (take (length grants) rents) ≡ grant_rents a grants rents
+grant_rents-take a [] rents = refl
+grant_rents-take a (grant ∷ grants) [] = refl
+grant_rents-take a (grant ∷ grants) (rent ∷ rents) = ap (λ (n : ℕ). (if grant.candidate == a then rent else 0) + n) (grant_rents-take a grants rents)
 
-pub earned-step : (grants : List Grant) (rents earned : List ℕ) (at i : ℕ) (d : Grant) (weight a whole : ℕ) → i < length grants → at + i < length rents → (get_or grants i d).candidate - 1 < length earned →
-    get_or earned a 0 + weight * grant_rents (suc a) (drop i grants) (drop (at + i) rents) ≡ whole →
-    slice_index_or (slice_set earned ((get_or grants i d).candidate - 1) (slice_index_or earned ((get_or grants i d).candidate - 1) 0 + weight * slice_index_or rents (at + i) 0)) a 0
-    + weight * grant_rents (suc a) (drop (i + 1) grants) (drop (at + (i + 1)) rents) ≡ whole
-earned-step grants rents earned at i d weight a whole within inside fits before =
+pub grant_rents-own : (a n : ℕ) (grants : List Grant) (rents : List ℕ) → n ≡ length grants → grant_rents a grants (take n rents) ≡ grant_rents a grants rents
+grant_rents-own a n grants rents few = ap (λ (k : ℕ). grant_rents a grants (take k rents)) few ∙ grant_rents-take a grants rents
+
+-- the next grant and its rent, before the rest
+grant_rents-drop : (a : ℕ) (grants : List Grant) (rents : List ℕ) (i : ℕ) (d : Grant) → i < length grants → i < length rents →
+    grant_rents a (drop i grants) (drop i rents) ≡ (if (get_or grants i d).candidate == a then get_or rents i 0 else 0) + grant_rents a (drop (i + 1) grants) (drop (i + 1) rents)
+grant_rents-drop a grants rents i d within inside =
+    ap (λ (gs : List Grant). grant_rents a gs (drop i rents)) (drop_more grants i d within)
+    ∙ ap (grant_rents a (get_or grants i d ∷ drop (i + 1) grants)) (drop_more rents i 0 inside)
+
+pub earned-step : (grants : List Grant) (rents earned : List ℕ) (i : ℕ) (d : Grant) (weight a whole : ℕ) → i < length grants → i < length rents → (get_or grants i d).candidate - 1 < length earned →
+    get_or earned a 0 + weight * grant_rents (suc a) (drop i grants) (drop i rents) ≡ whole →
+    slice_index_or (slice_set earned ((get_or grants i d).candidate - 1) (slice_index_or earned ((get_or grants i d).candidate - 1) 0 + weight * slice_index_or rents i 0)) a 0
+    + weight * grant_rents (suc a) (drop (i + 1) grants) (drop (i + 1) rents) ≡ whole
+earned-step grants rents earned i d weight a whole within inside fits before =
     let grant : Grant = get_or grants i d in
     let some : 1 ≤ grant.candidate = grant.limits.least in
-    let rent : ℕ = get_or rents (at + i) 0 in
-    let rest : ℕ = grant_rents (suc a) (drop (i + 1) grants) (drop (at + (i + 1)) rents) in
-    let old : grant_rents (suc a) (drop i grants) (drop (at + i) rents) ≡ (if grant.candidate == suc a then rent else 0) + rest = grant_rents-drop (suc a) grants rents at i d within inside in
-    let put : ℕ = slice_index_or earned (grant.candidate - 1) 0 + weight * slice_index_or rents (at + i) 0 in
+    let rent : ℕ = get_or rents i 0 in
+    let rest : ℕ = grant_rents (suc a) (drop (i + 1) grants) (drop (i + 1) rents) in
+    let old : grant_rents (suc a) (drop i grants) (drop i rents) ≡ (if grant.candidate == suc a then rent else 0) + rest = grant_rents-drop (suc a) grants rents i d within inside in
+    let put : ℕ = slice_index_or earned (grant.candidate - 1) 0 + weight * slice_index_or rents i 0 in
     elim (cases_eq (grant.candidate - 1) a) [
       | inl same ↦
           let named : grant.candidate ≡ suc a = omega (arith, same, some) in
           let test : (grant.candidate == suc a) ≡ true = eq-eqb grant.candidate (suc a) named in
-          let full : grant_rents (suc a) (drop i grants) (drop (at + i) rents) ≡ rent + rest = old ∙ ap (λ (b : Bool). (if b then rent else 0) + rest) test in
+          let full : grant_rents (suc a) (drop i grants) (drop i rents) ≡ rent + rest = old ∙ ap (λ (b : Bool). (if b then rent else 0) + rest) test in
           let split : weight * (rent + rest) ≡ weight * rent + weight * rest = mul-add weight rent rest in
-          let joined : weight * grant_rents (suc a) (drop i grants) (drop (at + i) rents) ≡ weight * rent + weight * rest = ap (λ (n : ℕ). weight * n) full ∙ split in
+          let joined : weight * grant_rents (suc a) (drop i grants) (drop i rents) ≡ weight * rent + weight * rest = ap (λ (n : ℕ). weight * n) full ∙ split in
           let new : slice_index_or (slice_set earned (grant.candidate - 1) put) a 0 ≡ put = ap (λ (k : ℕ). slice_index_or (slice_set earned (grant.candidate - 1) put) k 0) (sym same) ∙ get_or-set_same earned (grant.candidate - 1) put 0 fits in
           let kept : slice_index_or earned (grant.candidate - 1) 0 ≡ get_or earned a 0 = ap (λ (k : ℕ). get_or earned k 0) same in
           omega (arith, joined, new, kept, before)
       | inr other ↦
           let test : (grant.candidate == suc a) ≡ false = ne_eqb grant.candidate (suc a) (λ e. other (omega (arith, e))) in
           let plain : 0 + rest ≡ rest = omega arith in
-          let full : grant_rents (suc a) (drop i grants) (drop (at + i) rents) ≡ rest = old ∙ ap (λ (b : Bool). (if b then rent else 0) + rest) test ∙ plain in
-          let joined : weight * grant_rents (suc a) (drop i grants) (drop (at + i) rents) ≡ weight * rest = ap (λ (n : ℕ). weight * n) full in
+          let full : grant_rents (suc a) (drop i grants) (drop i rents) ≡ rest = old ∙ ap (λ (b : Bool). (if b then rent else 0) + rest) test ∙ plain in
+          let joined : weight * grant_rents (suc a) (drop i grants) (drop i rents) ≡ weight * rest = ap (λ (n : ℕ). weight * n) full in
           let new : slice_index_or (slice_set earned (grant.candidate - 1) put) a 0 ≡ get_or earned a 0 = get_or-set_other earned (grant.candidate - 1) a put 0 (λ e. other (sym e)) in
           omega (arith, joined, new, before)
     ]

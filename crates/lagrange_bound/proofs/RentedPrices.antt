@@ -1,10 +1,10 @@
 -- Laws of the least prices of orders where candidates pay rents, and of what templates cost.
-use Rattle.std.proofs.Common.{◌≡◌, ◌∙◌, inl, inr, ℕ, zero, suc, ◌+◌, ◌<◌, ◌≤◌, ◌==◌, Bool, true, false, List, [], ◌∷◌, length, fold, take, drop, get_or, min, All, refl, sym, ap, subst, arith}
-use Rattle.std.specs.Prelude.{Option, Some, None, if◌then◌else◌, slice_get, slice_index_or, slice_set, option_and_then, sum_by}
+use Rattle.std.proofs.Common.{◌≡◌, ◌∙◌, inl, inr, ℕ, zero, suc, ◌+◌, ◌<◌, ◌≤◌, ◌==◌, false, List, [], ◌∷◌, length, fold, take, drop, get_or, min, All, refl, sym, ap, subst, arith}
+use Rattle.std.specs.Prelude.{Option, Some, None, slice_get, slice_index_or, slice_set, option_and_then}
 use Rattle.std.specs.Option.{ForSome, option_map}
 use Rattle.std.proofs.lemmas.Bool.{cases_lt, ne_eqb}
 use Rattle.std.proofs.lemmas.Grind.{common_steps}
-use Rattle.std.proofs.lemmas.List.{get_or-drop, drop-drop}
+use Rattle.std.proofs.lemmas.List.{drop-drop}
 use Rattle.std.proofs.lemmas.List.Elements.{All-head, All-tail}
 use Rattle.std.proofs.lemmas.List.Sums.{fold_more}
 use Rattle.std.proofs.lemmas.Option.{slice_get_cases}
@@ -109,22 +109,31 @@ least_asked-more config o best grants rents i grant rent within inside is there 
     let next : i + 1 ≡ suc i = omega arith in
     ap (λ (n : ℕ). least_asked config o best (take n grants) rents) next ∙ least_asked-suc config o best grants rents i grant rent within inside is there
 
-pub asked-step : (config : Config) (slot : SlotPart) (grants : List Grant) (rents : List ℕ) (at i o : ℕ) (grant : Grant) (rent old new : ℕ) → AreRents rents →
-    i < length grants → at + i < length rents → grant ≡ get_or grants i grant → rent ≡ get_or rents (at + i) 0 →
-    old ≡ word (least_asked config o (price_of slot.base o) (take i grants) (drop at rents)) →
+pub asked-step : (config : Config) (slot : SlotPart) (grants : List Grant) (rents : List ℕ) (i o : ℕ) (grant : Grant) (rent old new : ℕ) → AreRents rents →
+    i < length grants → i < length rents → grant ≡ get_or grants i grant → rent ≡ get_or rents i 0 →
+    old ≡ word (least_asked config o (price_of slot.base o) (take i grants) rents) →
     new ≡ min old (word (asked config o grant rent)) →
-    new ≡ word (least_asked config o (price_of slot.base o) (take (i + 1) grants) (drop at rents))
-asked-step config slot grants rents at i o grant rent old new are within inside is there before after =
+    new ≡ word (least_asked config o (price_of slot.base o) (take (i + 1) grants) rents)
+asked-step config slot grants rents i o grant rent old new are within inside is there before after =
     let start : Option ℕ = price_of slot.base o in
-    let so_far : Option ℕ = least_asked config o start (take i grants) (drop at rents) in
-    let own : rent ≡ get_or (drop at rents) i 0 = there ∙ sym (get_or-drop at rents i 0) in
-    let few : i < length (drop at rents) = grind (arith, common_steps) in
-    let most : rent ≤ MOST_RENT = subst (λ (r : ℕ). r ≤ MOST_RENT) (sym there) (are (at + i) 0 inside) in
-    let more = least_asked-more config o start grants (drop at rents) i grant rent within few is own in
+    let so_far : Option ℕ = least_asked config o start (take i grants) rents in
+    let most : rent ≤ MOST_RENT = subst (λ (r : ℕ). r ≤ MOST_RENT) (sym there) (are i 0 inside) in
+    let more = least_asked-more config o start grants rents i grant rent within inside is there in
     let joined : word (lesser so_far (asked config o grant rent)) ≡ min (word so_far) (word (asked config o grant rent)) =
     word-lesser so_far (asked config o grant rent)
-    (least_asked-price config o start (take i grants) (drop at rents) (base-price slot o) (drop-rents at rents are)) (asked-price config o grant rent most) in
+    (least_asked-price config o start (take i grants) rents (base-price slot o) are) (asked-price config o grant rent most) in
     after ∙ ap (λ (n : ℕ). min n (word (asked config o grant rent))) before ∙ sym joined ∙ ap word (sym more)
+
+-- rents past those of the grants don't count
+least_asked-take : (config : Config) (o : ℕ) (best : Option ℕ) (grants : List Grant) (rents : List ℕ) → least_asked config o best grants (take (length grants) rents) ≡ least_asked config o best grants rents
+least_asked-take config o best [] rents = refl
+least_asked-take config o best (grant ∷ grants) [] = refl
+least_asked-take config o best (grant ∷ grants) (rent ∷ rents) = least_asked-take config o (lesser best (asked config o grant rent)) grants rents
+
+-- a row of a slot by its own rents is one by all from there on
+pub row-own : (config : Config) (slot : SlotPart) (rents : List ℕ) (n : ℕ) (row : List ℕ) → n ≡ length slot.grants → IsRow config slot (take n rents) row → IsRow config slot rents row
+row-own config slot rents n row few is = λ o below.
+    is o below ∙ ap (λ (k : ℕ). word (rented_price config slot (take k rents) o)) few ∙ ap word (least_asked-take config o (price_of slot.base o) slot.grants rents)
 
 -- a grant of a slot has a price for each order
 pub one-each : (slot : SlotPart) (grants : List Grant) (i : ℕ) (grant : Grant) → grants ≡ slot.grants → i < length grants → grant ≡ get_or grants i grant → length grant.prices ≡ length slot.base

@@ -1,10 +1,10 @@
 -- In a programme that stands for a setting, the cost of a part where candidates pay rents is that of a least plan of its
 -- block with these rents.
 use Rattle.std.proofs.Common.{◌≡◌, ◌∙◌, inl, inr, ℕ, zero, suc, ◌+◌, ◌<◌, ◌≤◌, ◌==◌, Bool, true, false, List, [], ◌∷◌, ◌++◌, length, All, fold, map, take, drop, refl, sym, ap, subst, arith}
-use Rattle.std.specs.Prelude.{Option, Some, None, if◌then◌else◌, filter, slice_get, slice_index_or, option_and_then, unwrap_or, sum_by}
+use Rattle.std.specs.Prelude.{Option, Some, None, if◌then◌else◌, filter, slice_get, slice_index_or, option_and_then, unwrap_or}
 use Rattle.std.specs.List.{enumerate_from}
-use Rattle.std.specs.Option.{option_map, option_map_or}
-use Rattle.std.proofs.lemmas.Bool.{cases_Bool, cases_lt}
+use Rattle.std.specs.Option.{option_map}
+use Rattle.std.proofs.lemmas.Bool.{cases_lt}
 use Rattle.std.proofs.lemmas.List.{drop-drop, get_or-map, length-map, map-append}
 use Rattle.std.proofs.lemmas.List.Sums.{fold-append, sum_by-cons}
 use Rattle.std.proofs.lemmas.Option.{slice_get_cases}
@@ -21,7 +21,7 @@ use Rattle.adv_base.specs.Items.{Order, is_same_order}
 use Rattle.adv_base.specs.Laws.{IsRent}
 use Rattle.adv_base.specs.Lookups.{table_at}
 use Rattle.adv_base.specs.Named.{NamesBlock}
-use Rattle.adv_base.specs.Offers.{Offer, OfferTable, Path, Heap, Existing, Candidate, candidate_path, numbered_on, path_offer, charged_path_offer, index_offer, offers_on, offers_of, offers, charged_offers_on, charged_offers_of, charged_offers}
+use Rattle.adv_base.specs.Offers.{Offer, OfferTable, Path, Heap, Existing, candidate_path, numbered_on, path_offer, charged_path_offer, index_offer, offers_on, offers_of, offers, charged_offers_on, charged_offers_of, charged_offers}
 use Rattle.adv_base.specs.Settings.{TheSetting}
 use Rattle.adv_base.proofs.Begins.{begins_nil}
 use Rattle.adv_base.proofs.ConfigLaws.{chosen-none}
@@ -37,7 +37,7 @@ use Rattle.bip_model.specs.declared.grant.Grant.{Grant}
 use Rattle.bip_model.specs.declared.slot_part.SlotPart.{SlotPart}
 use Rattle.bip_model.specs.declared.part.Part.{Part}
 use Rattle.bip_model.specs.Limits.Parts.{TemplateLimits}
-use Rattle.bip_model.specs.Values.{lesser, plus, price_of, granted, need}
+use Rattle.bip_model.specs.Values.{lesser, plus, price_of, need}
 use Rattle.bip_model.specs.StandsFor.{given, least_given, candidates_on, AreEach, IsGrant, IsSlotPart, Blocked, IsPart}
 use Rattle.bip_model.proofs.Least.{IsSome, least-made, least-most, least-filter, least-map}
 use Rattle.bip_model.proofs.Standing.{chosen-on, gives-given, given-least, least-given}

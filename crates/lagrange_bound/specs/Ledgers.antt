@@ -10,14 +10,14 @@ use Rattle.lagrange_bound.specs.Rented.{plan_costs, weighted_costs}
 use Rattle.lagrange_bound.specs.inner.Limits.{MOST_RENTS}
 use Rattle.lagrange_bound.specs.inner.Marks.{AreNoted}
 use Rattle.lagrange_bound.specs.declared.ledger.Ledger.{Ledger}
-use Rattle.lagrange_bound.specs.declared.users.Users.{Users}
+use Rattle.lagrange_bound.specs.declared.cheaper.CheaperParts.{CheaperParts}
 
 -- the flag of each candidate is on for each part that it can make cheaper, and each part has the place of its first grant
-pub record AreUsers (programme : Programme) (users : Users) : Type 0 where
-  pub flags_each : length users.flags.items ≡ MOST_CANDIDATES * MOST_STATEMENTS
-  pub starts_each : length users.starts.items ≡ length programme.parts
-  pub starts_are : (i : ℕ) → i < length programme.parts → slice_index_or users.starts.items i 0 ≡ sum_by part_grants (take i programme.parts)
-  pub noted : (i : ℕ) (part : Part) → slice_get programme.parts i ≡ Some part → All (AreNoted users.flags.items i) part.slots
+pub record AreCheaperParts (programme : Programme) (cheaper : CheaperParts) : Type 0 where
+  pub flags_each : length cheaper.flags.items ≡ MOST_CANDIDATES * MOST_STATEMENTS
+  pub starts_each : length cheaper.starts.items ≡ length programme.parts
+  pub starts_are : (i : ℕ) → i < length programme.parts → slice_index_or cheaper.starts.items i 0 ≡ sum_by part_grants (take i programme.parts)
+  pub noted : (i : ℕ) (part : Part) → slice_get programme.parts i ≡ Some part → All (AreNoted cheaper.flags.items i) part.slots
 
 -- a ledger has a place for each part, twice
 pub record HasRoom (programme : Programme) (ledger : Ledger) : Type 0 where

@@ -1,6 +1,6 @@
 -- The rent multipliers of a page price: what each candidate costs at that price is shared by its uses, so that none costs
 -- less than its rents bring in.
-use Rattle.std.specs.Prelude.{ℕ, zero, suc, ◌+◌, ◌-◌, ◌*◌, ◌/◌, ◌^◌, ◌==◌, min, List, map, sum_by, count_by, slice_index_or}
+use Rattle.std.specs.Prelude.{ℕ, zero, suc, ◌-◌, ◌*◌, ◌/◌, ◌^◌, ◌==◌, min, List, map, sum_by, count_by}
 use Rattle.std.specs.List.{flat_map}
 use Rattle.adv_base.specs.declared.limits.TheConstants.{MOST_RENT}
 use Rattle.bip_model.specs.declared.grant.Grant.{Grant}

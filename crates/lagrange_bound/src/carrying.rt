@@ -9,6 +9,7 @@ ghost use Rattle.lagrange_bound.specs.Rented as rented;
 
 use crate::bounds::value_of_plans;
 use crate::candidates::available;
+use crate::earnings::earned_rents;
 use crate::kept::Terms;
 use crate::pricing::{NO_ROWS, Rows, part_grants, rented_cost};
 use adv_base::Config;
@@ -177,7 +178,7 @@ pub(crate) fn weighted_costs(parts: &[Part], costs: &[u128]) -> u128
 }
 
 /// The Lagrangian value of a node, as `bound` tells it, from the terms there. Takes no memory.
-#[tactic(auto, unfolding(crate::specs::Bounds::lagrangian))]
+#[tactic(auto, unfolding(crate::specs::Bounds::lagrangian, bip_model::specs::Values::grant_count))]
 pub fn total(
     programme: &Programme,
     budget: u64,
@@ -193,5 +194,6 @@ pub fn total(
     let parts = programme.parts.as_slice();
     let costs = at.least.as_slice();
     let plans = weighted_costs(parts, costs);
-    value_of_plans(programme, budget, fix, multipliers, plans)
+    let rents = earned_rents(parts, multipliers.lambda.as_slice());
+    value_of_plans(programme, budget, fix, multipliers, plans, &rents)
 }

@@ -5,36 +5,44 @@ ghost use Rattle.bip_model.specs.Values as values;
 ghost use Rattle.lagrange_bound.specs.Bounds as bounds;
 ghost use Rattle.lagrange_bound.specs.inner.Limits as limits;
 
-use crate::pricing::part_grants;
 use adv_base::limits::MOST_CANDIDATES;
 use bip_model::{Grant, Part, SlotPart};
 
 /// What the rents of each candidate bring in, by weight.
 pub(crate) type Earned = [u128; MOST_CANDIDATES];
 
-/// Adds the weighted rents of grants, which begin at `at`.
-fn earn_grants(grants: &[Grant], rents: &[u64], at: usize, weight: u32, earned: &mut Earned)
-    requires room { at + length grants.now ≤ length rents.now }
-    requires fits { (a : ℕ) → a < MOST_CANDIDATES → slice_index_or earned.old a 0 + weight * bounds.grant_rents (suc a) grants.now (drop at rents.now) ≤ limits.MOST_RENTS }
-    ensures { (a : ℕ) → a < MOST_CANDIDATES → slice_index_or earned.new a 0 ≡ slice_index_or earned.old a 0 + weight * bounds.grant_rents (suc a) grants.now (drop at rents.now) }
+/// Adds the weighted rents of grants. The place of a candidate is told by a byte.
+fn earn_grants(grants: &[Grant], rents: &[u64], weight: u32, earned: &mut Earned)
+    requires room { length grants.now ≤ length rents.now }
+    requires fits { (a : ℕ) → a < MOST_CANDIDATES → slice_index_or earned.old a 0 + weight * bounds.grant_rents (suc a) grants.now rents.now ≤ limits.MOST_RENTS }
+    ensures { (a : ℕ) → a < MOST_CANDIDATES → slice_index_or earned.new a 0 ≡ slice_index_or earned.old a 0 + weight * bounds.grant_rents (suc a) grants.now rents.now }
 {
     for i in 0..grants.len() {
-        let a = grants[i].candidate as usize - 1;
-        earned[a] += weight as u128 * rents[at + i] as u128;
+        let a = (grants[i].candidate - 1) as u8 as usize;
+        earned[a] += weight as u128 * rents[i] as u128;
     }
 }
 
-/// Adds the weighted rents of the grants of slots, which begin at `at`.
-fn earn_slots(slots: &[SlotPart], rents: &[u64], at: usize, weight: u32, earned: &mut Earned)
+/// Adds the weighted rents of the grants of slots, which begin at `at`, and answers where the next ones begin.
+pub(crate) fn earn_slots(
+    slots: &[SlotPart],
+    rents: &[u64],
+    at: usize,
+    weight: u32,
+    earned: &mut Earned,
+) -> usize
     requires room { at + sum_by (λ slot. length slot.grants) slots.now ≤ length rents.now }
     requires fits { (a : ℕ) → a < MOST_CANDIDATES → slice_index_or earned.old a 0 + weight * bounds.slot_rents (suc a) slots.now (drop at rents.now) ≤ limits.MOST_RENTS }
-    ensures { (a : ℕ) → a < MOST_CANDIDATES → slice_index_or earned.new a 0 ≡ slice_index_or earned.old a 0 + weight * bounds.slot_rents (suc a) slots.now (drop at rents.now) }
+    ensures next { result ≡ at + sum_by (λ slot. length slot.grants) slots.now }
+    ensures earned { (a : ℕ) → a < MOST_CANDIDATES → slice_index_or earned.new a 0 ≡ slice_index_or earned.old a 0 + weight * bounds.slot_rents (suc a) slots.now (drop at rents.now) }
 {
     let mut next = at;
     for slot in slots {
-        earn_grants(slot.grants.as_slice(), rents, next, weight, earned);
-        next += slot.grants.len();
+        let end = next + slot.grants.len();
+        earn_grants(slot.grants.as_slice(), &rents[next..end], weight, earned);
+        next = end;
     }
+    next
 }
 
 /// What the rents of parts bring in for each candidate.
@@ -48,8 +56,7 @@ pub(crate) fn earned_rents(parts: &[Part], rents: &[u64]) -> Earned
     let mut earned = [0; MOST_CANDIDATES];
     let mut at = 0;
     for part in parts {
-        earn_slots(part.slots.as_slice(), rents, at, part.weight, &mut earned);
-        at += part_grants(part);
+        at = earn_slots(part.slots.as_slice(), rents, at, part.weight, &mut earned);
     }
     earned
 }

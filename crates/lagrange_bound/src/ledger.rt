@@ -7,15 +7,15 @@ ghost use Rattle.lagrange_bound.specs.Bounds as bounds;
 ghost use Rattle.lagrange_bound.specs.Ledgers as ledgers;
 ghost use Rattle.lagrange_bound.specs.inner.Limits as limits;
 
-use crate::bounds::rounded_up;
-use crate::candidates::{available, earned_in_all, paid_in_all};
+use crate::bounds::value_of_plans;
+use crate::candidates::available;
 use crate::carrying::{weighted_costs, write_costs};
+use crate::cheaper::CheaperParts;
 use crate::earnings::{Earned, earned_rents};
 use crate::marked::Marked;
 use crate::marking::mark_changed;
 use crate::pricing::{NO_ROWS, Rows};
 use crate::repricing::price_marked;
-use crate::users::Users;
 use adv_base::limits::MOST_CANDIDATES;
 use adv_base::{Config, NoMemory};
 use bip_model::{Fix, Multipliers, Programme};
@@ -67,49 +67,26 @@ pub fn open_ledger(programme: &Programme, multipliers: &Multipliers, ledger: &mu
     ledger.earned = earned_rents(parts, rents);
 }
 
-/// The Lagrangian value of a node, where the weighted costs of plans are so much and the rents bring in so much.
-#[tactic(auto, unfolding(crate::specs::Bounds::value_of_plans))]
-fn value_with(
-    programme: &Programme,
-    budget: u64,
-    fix: &Fix,
-    multipliers: &Multipliers,
-    plans: u128,
-    rents: &Earned,
-) -> i128
-    requires budget { budget ≤ MOST_ROWS }
-    requires multipliers { AreMultipliers programme.now multipliers.now }
-    requires plans { plans ≤ MOST_STATEMENTS * (MOST_WEIGHT * values.MOST_PLAN) }
-    requires rents { (a : ℕ) → a < MOST_CANDIDATES → slice_index_or rents.now a 0 ≡ bounds.part_rents (suc a) programme.now.parts multipliers.now.lambda }
-    requires most { All (λ sum. sum ≤ limits.MOST_RENTS) rents.now }
-    ensures { result ≡ bounds.value_of_plans programme.now budget fix.now multipliers.now plans }
-{
-    let more = 65536 * (plans + programme.kept) + paid_in_all(programme, fix, multipliers);
-    let less = earned_in_all(programme, budget, fix, multipliers, rents)
-        + multipliers.mu * budget as u128;
-    rounded_up(more, less)
-}
-
 /// Carries a ledger to where other candidates may be used.
 #[tactic(auto, unfolding(bip_model::specs::Values::grant_count))]
 fn moved(
     programme: &Programme,
-    users: &Users,
+    cheaper: &CheaperParts,
     multipliers: &Multipliers,
     config: &Config,
     ledger: &mut Ledger,
 )
-    requires users { ledgers.AreUsers programme.now users.now }
+    requires cheaper { ledgers.AreCheaperParts programme.now cheaper.now }
     requires multipliers { AreMultipliers programme.now multipliers.now }
     requires ledger { ledgers.IsLedger programme.now multipliers.now ledger.old }
     ensures ledger { ledgers.IsLedger programme.now multipliers.now ledger.new }
     ensures config { ledger.new.config ≡ config.now }
 {
-    let flags = users.flags.as_slice();
+    let flags = cheaper.flags.as_slice();
     let marks = ledger.marks.as_mut_slice();
     mark_changed(flags, &ledger.config, config, marks);
     let parts = programme.parts.as_slice();
-    let starts = users.starts.as_slice();
+    let starts = cheaper.starts.as_slice();
     let rents = multipliers.lambda.as_slice();
     let task = Marked {
         parts,
@@ -128,13 +105,13 @@ fn moved(
 #[tactic(auto, unfolding(crate::specs::Bounds::lagrangian))]
 pub fn bound_by(
     programme: &Programme,
-    users: &Users,
+    cheaper: &CheaperParts,
     budget: u64,
     fix: &Fix,
     multipliers: &Multipliers,
     ledger: &mut Ledger,
 ) -> i128
-    requires users { ledgers.AreUsers programme.now users.now }
+    requires cheaper { ledgers.AreCheaperParts programme.now cheaper.now }
     requires budget { budget ≤ MOST_ROWS }
     requires multipliers { AreMultipliers programme.now multipliers.now }
     requires ledger { ledgers.IsLedger programme.now multipliers.now ledger.old }
@@ -142,8 +119,8 @@ pub fn bound_by(
     ensures ledger { ledgers.IsLedger programme.now multipliers.now ledger.new }
 {
     let config = available(programme, budget, fix);
-    moved(programme, users, multipliers, &config, ledger);
-    value_with(
+    moved(programme, cheaper, multipliers, &config, ledger);
+    value_of_plans(
         programme,
         budget,
         fix,

@@ -9,8 +9,8 @@
 //! and `bound_by` carries one from node to node. Costs are in thousandths of a sequential page read, sizes in pages.
 //!
 //! `Terms` are what the plan of each part costs at a node. A `Ledger` keeps these in place under one set of multipliers, and
-//! the `Users` of a programme say which parts each candidate can make cheaper, and so have to be priced anew where it comes
-//! or goes. An `Ascent` has the memory of ascents, and a `Pace` says how many rounds one has, and how long its steps are.
+//! the `CheaperParts` of a programme say which parts each candidate can make cheaper, and so have to be priced anew where it
+//! comes or goes. An `Ascent` has the memory of ascents, and a `Pace` says how many rounds one has, and how long its steps are.
 //!
 //! ```rust
 //! // Statements of weights 10 and 11, which cost 80000 each, and 13000 and 14000 with candidates 1 and 2, of 3 and 4 pages.
@@ -27,6 +27,7 @@ mod ascending;
 mod bounds;
 mod candidates;
 mod carrying;
+mod cheaper;
 mod earnings;
 mod improving;
 mod kept;
@@ -37,14 +38,13 @@ mod marking;
 mod pricing;
 mod repricing;
 mod sharing;
-mod users;
 
 pub use ascending::{Ascent, Pace, ascend};
 pub use bounds::bound;
 pub use carrying::{carry, terms, total};
+pub use cheaper::{CheaperParts, has_cheaper};
 pub use improving::improve;
 pub use kept::Terms;
 pub use laws::{lagrangian_is_it, rents_are_covered};
 pub use ledger::{Ledger, bound_by, open_ledger};
 pub use sharing::rent;
-pub use users::{Users, has_cheaper};

@@ -1,6 +1,7 @@
 //! What plans cost where each use of a candidate pays a rent.
 ghost use Rattle.std.specs.Prelude.{◌≡◌, ℕ, ◌+◌, ◌*◌, ◌<◌, ◌≤◌, All, drop, length, min, sum_by, slice_index_or};
 ghost use Rattle.std.specs.Option.{ForSome, option_map};
+ghost use Rattle.adv_base.specs.Configs.{has_candidate};
 ghost use Rattle.adv_base.specs.declared.limits.TheConstants.{MOST_CANDIDATES, MOST_PRICE, MOST_RENT, MOST_SLOTS, MOST_STATEMENTS, MOST_WEIGHT};
 ghost use Rattle.plan_model.specs.declared.plan.TheConstants.{MOST_COST};
 ghost use Rattle.bip_model.specs.Limits.Grants.{ArePrices};
@@ -36,61 +37,101 @@ fn word(price: Option<u64>) -> u64
     }
 }
 
-/// A price with a rent, as a word.
-fn raised(price: Option<u64>, rent: u64) -> u64
+/// Whether the candidate of a grant may be used. Its place is told by a byte.
+fn is_open(grant: &Grant, config: &Config) -> bool
+    ensures { result ≡ has_candidate config.now grant.now.candidate }
+{
+    config.on[(grant.candidate - 1) as u8 as usize]
+}
+
+/// The lesser of two prices, of which the second has a rent on top, as words.
+fn lowered(least: u64, price: Option<u64>, rent: u64) -> u64
     requires price { ForSome price (λ p. p ≤ MOST_PRICE) }
     requires rent { rent ≤ MOST_RENT }
-    ensures { result ≡ words.word (option_map (λ p. p + rent) price) }
+    ensures { result ≡ min least (words.word (option_map (λ p. p + rent) price)) }
 {
     match price {
-        Some(price) => price + rent,
-        None => NO_PRICE,
+        Some(price) => least.min(price + rent),
+        None => least,
     }
 }
 
-/// Puts a slot's existing prices into the front of a row.
-fn write_base(base: &[Option<u64>], row: &mut Row)
-    requires fits { length base.now ≤ 256 }
-    ensures { (o : ℕ) → o < length base.now → slice_index_or row.new o 0 ≡ words.word (values.price_of base.now o) }
-{
-    for o in 0..base.len() {
-        row[o] = word(base[o]);
-    }
-}
-
-/// Lowers the front of a row to the prices of a grant with a rent, where these are less.
-fn lower_row(prices: &[Option<u64>], rent: u64, row: &mut Row)
-    requires fits { length prices.now ≤ 256 }
-    requires prices { ArePrices prices.now }
+/// The lesser of a price and what a grant asks for an order.
+fn lower_one(grant: &Grant, o: usize, rent: u64, config: &Config, least: u64) -> u64
+    requires order { o < length grant.now.prices }
     requires rent { rent ≤ MOST_RENT }
-    ensures { (o : ℕ) → o < length prices.now → slice_index_or row.new o 0 ≡ min (slice_index_or row.old o 0) (words.word (option_map (λ p. p + rent) (values.price_of prices.now o))) }
+    ensures { result ≡ min least (words.word (rented.asked config.now o grant.now rent)) }
 {
-    for o in 0..prices.len() {
-        row[o] = row[o].min(raised(prices[o], rent));
+    if !is_open(grant, config) {
+        return least;
     }
+    lowered(least, grant.prices.as_slice()[o], rent)
 }
 
-/// Lowers the front of a row to what a grant asks, where its candidate may be used.
-fn grant_row(grant: &Grant, rent: u64, config: &Config, row: &mut Row)
-    requires fits { length grant.now.prices ≤ 256 }
+/// The same for an order and the next.
+fn lower_two(grant: &Grant, o: usize, rent: u64, config: &Config, least: (u64, u64)) -> (u64, u64)
+    requires order { o + 1 < length grant.now.prices }
     requires rent { rent ≤ MOST_RENT }
-    ensures { (o : ℕ) → o < length grant.now.prices → slice_index_or row.new o 0 ≡ min (slice_index_or row.old o 0) (words.word (rented.asked config.now o grant.now rent)) }
+    ensures first { result.0 ≡ min least.0 (words.word (rented.asked config.now o grant.now rent)) }
+    ensures second { result.1 ≡ min least.1 (words.word (rented.asked config.now (o + 1) grant.now rent)) }
 {
-    if config.has(grant.candidate) {
-        lower_row(grant.prices.as_slice(), rent, row);
+    if !is_open(grant, config) {
+        return least;
     }
+    let prices = &grant.prices.as_slice()[o..o + 2];
+    (
+        lowered(least.0, prices[0], rent),
+        lowered(least.1, prices[1], rent),
+    )
 }
 
-/// Puts the least price of each order of a slot into a row; the rents of its grants stand at `at`.
-fn write_row(slot: &SlotPart, config: &Config, rents: &[u64], at: usize, row: &mut Row)
-    requires room { at + length slot.now.grants ≤ length rents.now }
+/// The least price of an order at a slot.
+fn least_of_one(slot: &SlotPart, o: usize, config: &Config, rents: &[u64]) -> u64
+    requires order { o < length slot.now.base }
+    requires room { length slot.now.grants ≤ length rents.now }
     requires most { All (λ rent. rent ≤ MOST_RENT) rents.now }
-    ensures { words.IsRow config.now slot.now (drop at rents.now) row.new }
+    ensures { result ≡ words.word (rented.rented_price config.now slot.now rents.now o) }
 {
-    write_base(slot.base.as_slice(), row);
     let grants = slot.grants.as_slice();
+    let mut least = word(slot.base.as_slice()[o]);
     for i in 0..grants.len() {
-        grant_row(&grants[i], rents[at + i], config, row);
+        least = lower_one(&grants[i], o, rents[i], config, least);
+    }
+    least
+}
+
+/// The same of an order and the next.
+fn least_of_two(slot: &SlotPart, o: usize, config: &Config, rents: &[u64]) -> (u64, u64)
+    requires order { o + 1 < length slot.now.base }
+    requires room { length slot.now.grants ≤ length rents.now }
+    requires most { All (λ rent. rent ≤ MOST_RENT) rents.now }
+    ensures first { result.0 ≡ words.word (rented.rented_price config.now slot.now rents.now o) }
+    ensures second { result.1 ≡ words.word (rented.rented_price config.now slot.now rents.now (o + 1)) }
+{
+    let grants = slot.grants.as_slice();
+    let base = slot.base.as_slice();
+    let mut least = (word(base[o]), word(base[o + 1]));
+    for i in 0..grants.len() {
+        least = lower_two(&grants[i], o, rents[i], config, least);
+    }
+    least
+}
+
+/// Puts the least price of each order of a slot into a row, two orders at a time, since most grants have more than one.
+fn write_row(slot: &SlotPart, config: &Config, rents: &[u64], row: &mut Row)
+    requires room { length slot.now.grants ≤ length rents.now }
+    requires most { All (λ rent. rent ≤ MOST_RENT) rents.now }
+    ensures { words.IsRow config.now slot.now rents.now row.new }
+{
+    let orders = slot.base.len();
+    for pair in 0..orders / 2 {
+        let o = 2 * pair;
+        let (first, second) = least_of_two(slot, o, config, rents);
+        row[o] = first;
+        row[o + 1] = second;
+    }
+    if orders % 2 == 1 {
+        row[orders - 1] = least_of_one(slot, orders - 1, config, rents);
     }
 }
 
@@ -103,8 +144,10 @@ fn write_rows(slots: &[SlotPart], config: &Config, rents: &[u64], at: usize, row
 {
     let mut next = at;
     for s in 0..slots.len() {
-        write_row(&slots[s], config, rents, next, &mut rows[s]);
-        next += slots[s].grants.len();
+        let slot = &slots[s];
+        let end = next + slot.grants.len();
+        write_row(slot, config, &rents[next..end], &mut rows[s]);
+        next = end;
     }
 }
 
@@ -188,22 +231,4 @@ pub(crate) fn part_grants(part: &Part) -> usize
         count += slot.grants.len();
     }
     count
-}
-
-/// The sum of weight times plan cost.
-pub(crate) fn weighted_plans(parts: &[Part], config: &Config, rents: &[u64]) -> u128
-    requires few { length parts.now ≤ MOST_STATEMENTS }
-    requires one_each { length rents.now ≡ sum_by values.part_grants parts.now }
-    requires limit { All (λ rent. rent ≤ MOST_RENT) rents.now }
-    ensures exact { result ≡ rented.weighted_costs parts.now (rented.plan_costs config.now parts.now rents.now) }
-    ensures most { result ≤ MOST_STATEMENTS * (MOST_WEIGHT * values.MOST_PLAN) }
-{
-    let mut rows = NO_ROWS;
-    let mut sum = 0;
-    let mut at = 0;
-    for part in parts {
-        sum += part.weight as u128 * rented_cost(part, config, rents, at, &mut rows);
-        at += part_grants(part);
-    }
-    sum
 }

@@ -79,7 +79,7 @@ impl SlotReader<'_> {
     fn base(&self, alloc: Global, orders: &[List<Item>]) -> Result<List<Option<u64>>, NoMemory>
         ensures { IfOk result (reads.AreBases self.now orders.now) }
     {
-        let mut prices = Vec::new(alloc);
+        let mut prices = Vec::with_capacity(alloc, orders.len())?;
         for order in orders {
             prices.push(self.base_price(order.as_slice()))?;
         }
@@ -96,7 +96,7 @@ impl SlotReader<'_> {
         requires { offer < length (reads.offers_of self.now) }
         ensures { IfOk result (λ prices. prices ≡ map (λ order. stands.given order (reads.offer_at self.now offer)) orders.now) }
     {
-        let mut prices = Vec::new(alloc);
+        let mut prices = Vec::with_capacity(alloc, orders.len())?;
         for order in orders {
             prices.push(self.given(offer, order.as_slice()))?;
         }
@@ -148,8 +148,9 @@ impl SlotReader<'_> {
         requires { reads.HasParted self.now }
         ensures { IfOk result (reads.AreGrants self.now orders.now) }
     {
-        let mut grants = Vec::new(alloc);
-        for offer in 0..self.offers.count(self.slot) {
+        let count = self.offers.count(self.slot);
+        let mut grants = Vec::with_capacity(alloc, count as usize)?;
+        for offer in 0..count {
             self.push_grant(alloc, offer, orders, &mut grants)?;
         }
         Ok(List { items: grants })

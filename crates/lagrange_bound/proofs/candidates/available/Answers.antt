@@ -1,5 +1,4 @@
-use Rattle.std.proofs.Common.{◌≡◌, ◌∙◌, ℕ, suc, ◌-◌, ◌<◌, Bool, List, sym, ap, arith}
-use Rattle.adv_base.specs.declared.setting.Config.{Config}
+use Rattle.std.proofs.Common.{◌≡◌, ◌∙◌, ℕ, suc, ◌-◌, Bool, List, sym, ap, arith}
 use Rattle.lagrange_bound.specs.Bounds.{may_use, state_at, fits_beside}
 use Rattle.lagrange_bound.proofs.AvailableCandidates.{config-is}
 use Rattle.lagrange_bound.proofs.candidates.available.Goals as goal

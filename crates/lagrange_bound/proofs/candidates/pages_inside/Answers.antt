@@ -1,4 +1,4 @@
-use Rattle.std.proofs.Common.{◌≡◌, ◌∙◌, ◌+◌, ◌<◌, ◌≤◌, ℕ, List, length, get_or, map, drop, sum, ap, arith, rules}
+use Rattle.std.proofs.Common.{◌≡◌, ◌<◌, ◌≤◌, ℕ, List, length, get_or, map, sum, ap, arith, rules}
 use Rattle.adv_base.specs.Configs.{chosen}
 use Rattle.adv_base.specs.declared.limits.TheConstants.{MOST_INDEX_PAGES}
 use Rattle.bip_model.specs.declared.fix.State.TheVariants.{Free}

@@ -1,6 +1,5 @@
-use Rattle.std.proofs.Common.{◌≡◌, ◌∙◌, ◌<◌, ◌≤◌, List, length, get_or, sym, ap, subst}
+use Rattle.std.proofs.Common.{◌≡◌, ◌∙◌, ◌<◌, ◌≤◌, List, length, get_or, ap, subst}
 use Rattle.std.proofs.lemmas.List.{take_all}
-use Rattle.bip_model.specs.declared.grant.Grant.{Grant}
 use Rattle.bip_model.specs.declared.slot_part.SlotPart.{SlotPart}
 use Rattle.lagrange_bound.proofs.CarriedCosts.{AreAlike, SlotsAlike, all-more}
 use Rattle.lagrange_bound.proofs.carrying.differs.Goals as goal

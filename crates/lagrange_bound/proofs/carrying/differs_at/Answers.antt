@@ -1,4 +1,4 @@
-use Rattle.std.proofs.Common.{◌≡◌, List, All, subst}
+use Rattle.std.proofs.Common.{◌≡◌, subst}
 use Rattle.std.proofs.lemmas.List.{take_all}
 use Rattle.adv_base.specs.Configs.{has_candidate}
 use Rattle.bip_model.specs.declared.grant.Grant.{Grant}

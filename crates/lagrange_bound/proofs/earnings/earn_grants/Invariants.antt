@@ -8,6 +8,6 @@ invariant-loop-i l =
     record {
       count : length l.earned ≡ 256;
       rest : (a : ℕ) → a < MOST_CANDIDATES →
-          slice_index_or l.earned a 0 + l.weight * bounds.grant_rents (suc a) (drop l.i l.grants) (drop (l.at + l.i) l.rents)
-          ≡ slice_index_or l.initial.earned a 0 + l.weight * bounds.grant_rents (suc a) l.grants (drop l.at l.rents);
+          slice_index_or l.earned a 0 + l.weight * bounds.grant_rents (suc a) (drop l.i l.grants) (drop l.i l.rents)
+          ≡ slice_index_or l.initial.earned a 0 + l.weight * bounds.grant_rents (suc a) l.grants l.rents;
     }

@@ -1,15 +1,14 @@
-use Rattle.std.proofs.Common.{◌≡◌, ◌*◌, ◌<◌, ◌≤◌, ℕ, suc, get_or, refl, arith}
+use Rattle.std.proofs.Common.{◌≡◌, ◌<◌, suc, get_or, refl, arith}
 use Rattle.std.proofs.lemmas.List.{get_or_default}
 use Rattle.lagrange_bound.specs.Bounds.{part_rents}
-use Rattle.lagrange_bound.specs.inner.Limits.{MOST_RENTS}
 use Rattle.lagrange_bound.proofs.EarnedRents.{part_rents-most, parts-step, nothing-yet}
 use Rattle.lagrange_bound.proofs.earnings.earned_rents.Goals as goal
 
 pub loop-part-init : goal.loop-part-init
 loop-part-init c = record { count = refl; place = refl; rest = λ a below. nothing-yet 256 a (part_rents (suc a) c.args.parts.now c.args.rents.now) }
 
-pub earn_slots-requires-clause-fits : goal.earn_slots-requires-clause-fits
-earn_slots-requires-clause-fits c = λ a below.
+pub earn_slots-at-requires-clause-fits : goal.earn_slots-at-requires-clause-fits
+earn_slots-at-requires-clause-fits c = λ a below.
     let step =
     parts-step c.args.parts.now c.args.rents.now c.loop-part.at c.loop-part.part-index c.part-item.result c.as_slice.result.now a (get_or c.loop-part.earned a 0) _ c.loop-part-test.true c.part-item.is c.as_slice.ensures
     (c.loop-part.invariant.rest a below) in

@@ -5,8 +5,8 @@ use Rattle.lagrange_bound.proofs.CarriedCosts.{plan_costs-most}
 use Rattle.lagrange_bound.proofs.MarkedCosts.{weighted-most}
 use Rattle.lagrange_bound.proofs.ledger.bound_by.Goals as goal
 
-pub value_with-requires-clause-plans : goal.value_with-requires-clause-plans
-value_with-requires-clause-plans c =
+pub value_of_plans-requires-clause-plans : goal.value_of_plans-requires-clause-plans
+value_of_plans-requires-clause-plans c =
     let parts : List Part = c.args.programme.now.parts in
     let most : All (λ cost. cost ≤ MOST_PLAN) c.moved.new.ledger.least.items =
     subst (λ (costs : List ℕ). All (λ cost. cost ≤ MOST_PLAN) costs) (sym c.moved.ensures.ledger.costs)

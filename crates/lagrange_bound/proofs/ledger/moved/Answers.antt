@@ -26,5 +26,5 @@ price_marked-ledger-requires c =
           unmarked-priced c.as_slice-flags.result.now c.mark_changed.new.marks c.args.ledger.now.config c.args.config.now parts c.as_slice-parts.result.now rents c.as_slice-rents.result.now
           c.as_mut_slice-least.result.now (length c.as_mut_slice-marks.result.now) k c.as_slice-parts.ensures c.as_slice-rents.ensures is c.mark_changed.ensures.marked
           (omega (arith, marks_long, c.requires.ledger.marks))
-          (λ i part found. subst (λ (flags : List Bool). All (AreNoted flags i) part.slots) (sym c.as_slice-flags.ensures.value) (c.requires.users.noted i part found)) none;
+          (λ i part found. subst (λ (flags : List Bool). All (AreNoted flags i) part.slots) (sym c.as_slice-flags.ensures.value) (c.requires.cheaper.noted i part found)) none;
     }

@@ -1,4 +1,4 @@
-use Rattle.std.proofs.Common.{◌≡◌, ◌∙◌, ◌+◌, ◌==◌, suc, List, get_or, ap, arith}
+use Rattle.std.proofs.Common.{◌∙◌, ◌+◌, ◌==◌, suc, List, get_or, ap}
 use Rattle.std.specs.Prelude.{count_by}
 use Rattle.bip_model.specs.declared.grant.Grant.{Grant}
 use Rattle.lagrange_bound.specs.Rents.{slot_uses}

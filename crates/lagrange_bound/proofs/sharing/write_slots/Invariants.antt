@@ -1,4 +1,4 @@
-use Rattle.std.proofs.Common.{◌≡◌, ◌+◌, ◌++◌, length, take}
+use Rattle.std.proofs.Common.{◌≡◌, ◌+◌, ◌++◌, take}
 use Rattle.std.specs.List.{flat_map}
 use Rattle.lagrange_bound.specs.Rented.{grants_before}
 use Rattle.lagrange_bound.specs.Rents.{slot_list}

@@ -6,7 +6,7 @@ use Rattle.tuning.proofs.Reading.{bases-none, bases-more}
 use Rattle.tuning.proofs.slots.SlotReader.base.Goals as goal
 
 pub loop-order-init : goal.loop-order-init
-loop-order-init c = rw c.new-prices.ensures.items (bases-none c.args.self.now.offers.now.slots.items c.args.self.now.slot)
+loop-order-init c = rw c.in_ok-prices.ensures.items (bases-none c.args.self.now.offers.now.slots.items c.args.self.now.slot)
 
 pub loop-order-preserved : goal.loop-order-preserved
 loop-order-preserved c =

@@ -3,7 +3,7 @@ use Rattle.std.proofs.lemmas.List.{take_all}
 use Rattle.bip_model.specs.declared.slot_part.SlotPart.{SlotPart}
 use Rattle.lagrange_bound.specs.inner.Marks.{AreNoted}
 use Rattle.lagrange_bound.proofs.MarkedCosts.{slots-more}
-use Rattle.lagrange_bound.proofs.users.note_part.Goals as goal
+use Rattle.lagrange_bound.proofs.cheaper.note_part.Goals as goal
 
 pub loop-s-preserved : goal.loop-s-preserved
 loop-s-preserved c =

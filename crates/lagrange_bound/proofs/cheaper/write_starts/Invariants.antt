@@ -2,7 +2,7 @@ use Rattle.std.proofs.Common.{◌≡◌, ℕ, ◌*◌, ◌<◌, ◌≤◌, lengt
 use Rattle.std.specs.Prelude.{sum_by}
 use Rattle.adv_base.specs.declared.limits.TheConstants.{MOST_CANDIDATES, MOST_SLOTS}
 use Rattle.bip_model.specs.Values.{part_grants}
-use Rattle.lagrange_bound.proofs.users.write_starts.Given as goal
+use Rattle.lagrange_bound.proofs.cheaper.write_starts.Given as goal
 
 abbrev pub invariant-loop-i : goal.invariant-loop-i
 invariant-loop-i l =

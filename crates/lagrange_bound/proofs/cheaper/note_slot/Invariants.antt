@@ -1,6 +1,6 @@
 use Rattle.std.proofs.Common.{◌≡◌, All, length, take}
 use Rattle.lagrange_bound.specs.inner.Marks.{Keeps, IsNoted}
-use Rattle.lagrange_bound.proofs.users.note_slot.Given as goal
+use Rattle.lagrange_bound.proofs.cheaper.note_slot.Given as goal
 
 abbrev pub invariant-loop-k : goal.invariant-loop-k
 invariant-loop-k l =

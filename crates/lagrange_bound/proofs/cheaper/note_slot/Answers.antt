@@ -3,7 +3,7 @@ use Rattle.std.proofs.lemmas.List.{take_all}
 use Rattle.bip_model.specs.declared.grant.Grant.{Grant}
 use Rattle.lagrange_bound.specs.inner.Marks.{IsNoted}
 use Rattle.lagrange_bound.proofs.MarkedCosts.{noted-more}
-use Rattle.lagrange_bound.proofs.users.note_slot.Goals as goal
+use Rattle.lagrange_bound.proofs.cheaper.note_slot.Goals as goal
 
 pub loop-k-preserved : goal.loop-k-preserved
 loop-k-preserved c =

@@ -1,6 +1,6 @@
 use Rattle.std.proofs.Common.{◌≡◌, All, length, take}
 use Rattle.lagrange_bound.specs.inner.Marks.{Keeps, AreNoted}
-use Rattle.lagrange_bound.proofs.users.note_part.Given as goal
+use Rattle.lagrange_bound.proofs.cheaper.note_part.Given as goal
 
 abbrev pub invariant-loop-s : goal.invariant-loop-s
 invariant-loop-s l =

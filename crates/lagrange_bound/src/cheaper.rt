@@ -16,7 +16,7 @@ use std::alloc::Global;
 /// For each candidate 1000 flags, of which that of a part is on where the candidate gives some order of a slot of it for less
 /// than all that exists; and for each part how many grants stand before its own. Made once for a programme.
 #[derive(Drop)]
-pub struct Users {
+pub struct CheaperParts {
     pub flags: Vec<bool>,
     pub starts: Vec<usize>,
 }
@@ -115,16 +115,16 @@ fn write_starts(parts: &[Part], starts: &mut [usize])
     }
 }
 
-impl Users {
-    /// The users of a programme: 256000 bytes, and 8 for each part. Want of memory is the one error.
-    pub fn new(alloc: Global, programme: &Programme) -> Result<Users, NoMemory>
-        ensures { IfOk result (ledgers.AreUsers programme.now) }
+impl CheaperParts {
+    /// Those of a programme: 256000 bytes, and 8 for each part. Want of memory is the one error.
+    pub fn new(alloc: Global, programme: &Programme) -> Result<CheaperParts, NoMemory>
+        ensures { IfOk result (ledgers.AreCheaperParts programme.now) }
     {
         let parts = programme.parts.as_slice();
         let mut flags = vec![in alloc; false; MOST_CANDIDATES * MOST_STATEMENTS]?;
         let mut starts = vec![in alloc; 0; parts.len()]?;
         note_parts(parts, flags.as_mut_slice());
         write_starts(parts, starts.as_mut_slice());
-        Ok(Users { flags, starts })
+        Ok(CheaperParts { flags, starts })
     }
 }

@@ -5,7 +5,7 @@ use Rattle.std.proofs.lemmas.List.{with_items_is}
 use Rattle.bip_model.specs.declared.part.Part.{Part}
 use Rattle.bip_model.specs.Values.{part_grants}
 use Rattle.lagrange_bound.specs.inner.Marks.{AreNoted}
-use Rattle.lagrange_bound.proofs.users.Users.new.Goals as goal
+use Rattle.lagrange_bound.proofs.cheaper.CheaperParts.new.Goals as goal
 
 pub write_starts-requires-clause-few : goal.write_starts-requires-clause-few
 write_starts-requires-clause-few c = subst (λ (parts : List Part). length parts ≤ 1000) (sym c.as_slice-parts.ensures) c.args.programme.now.limits.parts_most

@@ -2,7 +2,7 @@ use Rattle.std.proofs.Common.{◌≡◌, ℕ, ◌<◌, All, length}
 use Rattle.std.specs.Prelude.{Some, slice_get}
 use Rattle.bip_model.specs.declared.part.Part.{Part}
 use Rattle.lagrange_bound.specs.inner.Marks.{AreNoted}
-use Rattle.lagrange_bound.proofs.users.note_parts.Given as goal
+use Rattle.lagrange_bound.proofs.cheaper.note_parts.Given as goal
 
 abbrev pub invariant-loop-i : goal.invariant-loop-i
 invariant-loop-i l =
