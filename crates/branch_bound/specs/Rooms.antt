@@ -5,7 +5,7 @@ use Rattle.adv_base.specs.declared.limits.TheConstants.{MOST_ENTRIES, MOST_SETS}
 use Rattle.bip_model.specs.declared.programme.Programme.{Programme}
 use Rattle.bip_model.specs.Values.{grant_count}
 use Rattle.bip_model.specs.Views.{AreMultipliers}
-use Rattle.lagrange_bound.specs.Ledgers.{AreUsers, HasRoom}
+use Rattle.lagrange_bound.specs.Ledgers.{AreCheaperParts, HasRoom}
 use Rattle.branch_bound.specs.declared.room.Room.{Room}
 use Rattle.branch_bound.specs.inner.Proposals.{AreHands}
 
@@ -26,6 +26,6 @@ pub record IsRoomFor (programme : Programme) (nodes : ℕ) (room : Room) : Type 
   pub zeros_fit : AreMultipliers programme room.zeros
   pub first_fits : AreMultipliers programme room.first
   pub hands_fit : AreHands programme room.hands
-  pub users_are : AreUsers programme room.users
+  pub users_are : AreCheaperParts programme room.users
   pub ledgers_room : All (HasRoom programme) room.ledgers.items
   pub ledgers_most : MOST_SETS < length room.ledgers.items

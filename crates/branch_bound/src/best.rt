@@ -7,7 +7,7 @@ ghost use Rattle.branch_bound.specs.Rooms.{IsRoomFor};
 ghost use Rattle.branch_bound.specs.Sides as sides;
 ghost use Rattle.bip_model.specs.Views.{AreMultipliers};
 ghost use Rattle.lagrange_bound.specs.Bounds as bounds;
-ghost use Rattle.lagrange_bound.specs.Ledgers.{AreUsers, HasRoom};
+ghost use Rattle.lagrange_bound.specs.Ledgers.{AreCheaperParts, HasRoom};
 ghost use Rattle.branch_bound.specs.inner.Climbs as climbs;
 ghost use Rattle.branch_bound.specs.inner.Proposals as proposals;
 ghost use Rattle.branch_bound.specs.inner.Runs as runs;
@@ -29,7 +29,7 @@ use crate::useful::useful_of;
 use adv_base::List;
 use adv_base::limits::MOST_CANDIDATES;
 use bip_model::{Answer, Fix, Multipliers, Node, Programme, value};
-use lagrange_bound::{Ledger, Pace, Users, ascend, improve};
+use lagrange_bound::{CheaperParts, Ledger, Pace, ascend, improve};
 
 /// The rounds in which the multipliers of the root are improved: each tries the rent multipliers of one price of a page.
 const ROUNDS: u32 = 41;
@@ -162,7 +162,7 @@ fn explored(
     zeros: &Multipliers,
     sets: &[Multipliers],
     plan: &[Step],
-    users: &Users,
+    users: &CheaperParts,
     known: &Costed,
     tree: &mut Vec<Node>,
     ledgers: &mut [Ledger],
@@ -173,7 +173,7 @@ fn explored(
     requires zeros { AreMultipliers task.now.programme.now zeros.now }
     requires sets { All (AreMultipliers task.now.programme.now) sets.now }
     requires few { length sets.now ≤ MOST_SETS }
-    requires users { AreUsers task.now.programme.now users.now }
+    requires users { AreCheaperParts task.now.programme.now users.now }
     requires empty { tree.old.items ≡ [] }
     requires room { nodes ≤ vec_capacity tree.old }
     requires ledgers { All (HasRoom task.now.programme.now) ledgers.old }

@@ -2,12 +2,12 @@
 ghost use Rattle.std.specs.Prelude.{◌≤◌, All, length};
 ghost use Rattle.adv_base.specs.declared.limits.TheConstants.{MOST_NODES, MOST_ROWS, MOST_SETS};
 ghost use Rattle.bip_model.specs.Views.{AreMultipliers};
-ghost use Rattle.lagrange_bound.specs.Ledgers.{AreUsers};
+ghost use Rattle.lagrange_bound.specs.Ledgers.{AreCheaperParts};
 
 use crate::plan::Step;
 use adv_base::limits::MOST_CANDIDATES;
 use bip_model::{Multipliers, Programme};
-use lagrange_bound::Users;
+use lagrange_bound::CheaperParts;
 
 /// The programme, a budget of pages and one of nodes, the set of zeros and the other sets of multipliers, which candidates
 /// are useful, the plan, and which parts each can make cheaper: a branch is on the candidate that the plan proposes, else on
@@ -21,11 +21,11 @@ pub(crate) struct Frame<'a> {
     pub sets: &'a [Multipliers],
     pub useful: &'a [bool; MOST_CANDIDATES],
     pub plan: &'a [Step],
-    pub users: &'a Users,
+    pub users: &'a CheaperParts,
     pub ghost budget_most: { budget ≤ MOST_ROWS },
     pub ghost nodes_most: { nodes ≤ MOST_NODES },
     pub ghost zeros_fit: { AreMultipliers programme.now zeros.now },
     pub ghost sets_few: { length sets.now ≤ MOST_SETS },
     pub ghost sets_fit: { All (AreMultipliers programme.now) sets.now },
-    pub ghost users_are: { AreUsers programme.now users.now },
+    pub ghost users_are: { AreCheaperParts programme.now users.now },
 }

@@ -15,7 +15,7 @@ use crate::plan::{MOST_STEPS, Step};
 use adv_base::NoMemory;
 use adv_base::limits::{MOST_ENTRIES, MOST_SETS};
 use bip_model::{Multipliers, Node, Programme, grant_count};
-use lagrange_bound::{Ascent, Ledger, Users};
+use lagrange_bound::{Ascent, CheaperParts, Ledger};
 use std::alloc::Global;
 
 /// All the memory that a search takes, in bytes: 4 for each node of its budget; 8 for each grant of the programme in each set of
@@ -33,7 +33,7 @@ pub struct Room {
     pub(crate) sets: Vec<Multipliers>,
     pub(crate) hands: Hands,
     pub(crate) plan: Vec<Step>,
-    pub(crate) users: Users,
+    pub(crate) users: CheaperParts,
     pub(crate) ledgers: Vec<Ledger>,
 }
 
@@ -145,7 +145,7 @@ impl Room {
         let first = fresh(alloc, programme)?;
         let hands = fresh_hands(alloc, programme)?;
         let plan = Vec::with_capacity(alloc, MOST_STEPS)?;
-        let users = Users::new(alloc, programme)?;
+        let users = CheaperParts::new(alloc, programme)?;
         let ledgers = fresh_ledgers(alloc, programme, MOST_SETS + 1)?;
         Ok(Room {
             tree,
