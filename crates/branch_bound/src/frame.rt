@@ -4,17 +4,19 @@ ghost use Rattle.adv_base.specs.declared.limits.TheConstants.{MOST_NODES, MOST_R
 ghost use Rattle.bip_model.specs.Views.{AreMultipliers};
 ghost use Rattle.lagrange_bound.specs.Ledgers.{AreUsers};
 
+use crate::offers::Offers;
 use crate::plan::Step;
 use adv_base::limits::MOST_CANDIDATES;
 use bip_model::{Multipliers, Programme};
 use lagrange_bound::Users;
 
-/// The programme, a budget of pages and one of nodes, the set of zeros and the other sets of multipliers, which candidates
+/// The programme, what its candidates offer, a budget of pages and one of nodes, the set of zeros and the other sets of multipliers, which candidates
 /// are useful, the plan, and which parts each can make cheaper: a branch is on the candidate that the plan proposes, else on
 /// the one that a guide proposes, and where that isn't open and useful on the first one that is.
 #[derive(Drop)]
 pub(crate) struct Frame<'a> {
     pub programme: &'a Programme,
+    pub offers: &'a Offers,
     pub budget: u64,
     pub nodes: u32,
     pub zeros: &'a Multipliers,

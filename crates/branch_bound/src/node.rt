@@ -100,6 +100,7 @@ fn chosen(frame: &Frame<'_>, fix: &Fix, proposal: usize) -> Option<usize>
 fn scope_of<'a>(frame: &Frame<'a>) -> Scope<'a> {
     Scope {
         programme: frame.programme,
+        offers: frame.offers,
         budget: frame.budget,
         useful: frame.useful,
     }
