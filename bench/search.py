@@ -1,6 +1,7 @@
 #!/usr/bin/env python3
 """Searches on workloads of the generator, seven budgets each: whether it closed, or the gap; nodes, sets, time. Beside it, in
-the same run, the open solvers cbc and glpk on the same programme, where they are installed."""
+the same run, the open solvers cbc and glpk on the same programme, where they are installed. What takes less than 20
+milliseconds, a search or a solver, is run 15 times, each in a process of its own, and the least time counts."""
 import argparse
 import os
 from dataclasses import dataclass, field
@@ -10,7 +11,7 @@ from advice import Advice, add_options, made
 from measure import print_row
 from printed import Programme, cost, lp_text, programme_of, useful
 from searches import numbers
-from solvers import MOST_SECONDS, Solved, installed
+from solvers import MOST_SECONDS, REPEATS, SHORT_SECONDS, Solved, installed
 from workloads import Workload, workload_of
 
 # Hundredths of the pages of all useful candidates; 100 stands for 10^12 pages.
@@ -114,6 +115,17 @@ def print_sums(rows: list[Row]) -> None:
               f"{faster} of {len(beside)}; not solved in time {unsolved}")
 
 
+def lightest(advice: Advice, rows: list[Row], nodes: int) -> None:
+    """Repeats the short searches of a workload, where that is a program's run, and keeps the least time of each."""
+    short = {share: row for share, row in zip(SHARES, rows) if row.seconds < SHORT_SECONDS}
+    if not advice.program or not short:
+        return
+    call = ["search", *rows[0].workload.words, str(nodes), *(str(share) for share in short)]
+    for text in advice.printed([call] * (REPEATS - 1)):
+        for row, again in zip(short.values(), rows_of(rows[0].workload, text)):
+            row.told["microseconds"] = min(row.told["microseconds"], again.told["microseconds"])
+
+
 def measured(options: argparse.Namespace, advice: Advice, workloads: list[Workload], folder: str) -> list[Row]:
     shares = [str(share) for share in SHARES]
     searches = [["search", *workload.words, str(options.nodes), *shares] for workload in workloads]
@@ -123,7 +135,9 @@ def measured(options: argparse.Namespace, advice: Advice, workloads: list[Worklo
     rows = []
     for at, workload in enumerate(workloads):
         programme = programme_of(texts[at])
-        for row in rows_of(workload, texts[len(workloads) + at]):
+        found = rows_of(workload, texts[len(workloads) + at])
+        lightest(advice, found, options.nodes)
+        for row in found:
             if not options.no_solvers:
                 solve(row, programme, folder, options.most)
             print_search(row)

@@ -26,6 +26,6 @@ pub record IsRoomFor (programme : Programme) (nodes : ℕ) (room : Room) : Type 
   pub zeros_fit : AreMultipliers programme room.zeros
   pub first_fits : AreMultipliers programme room.first
   pub hands_fit : AreHands programme room.hands
-  pub users_are : AreCheaperParts programme room.users
+  pub cheaper_are : AreCheaperParts programme room.cheaper
   pub ledgers_room : All (HasRoom programme) room.ledgers.items
   pub ledgers_most : MOST_SETS < length room.ledgers.items

@@ -21,31 +21,43 @@ use crate::guide::Guide;
 use crate::hands::Hands;
 use crate::incumbent::{greedy, shares_of};
 use crate::opening::open_all;
-use crate::plan::{Step, better, keep, propose};
+use crate::plan::{Step, better, keep, open_guide, propose};
 use crate::room::{Room, set_limit};
 use crate::taken::cheaper;
 use crate::task::Task;
+use crate::trial::is_closed;
 use crate::useful::useful_of;
 use adv_base::List;
 use adv_base::limits::MOST_CANDIDATES;
 use bip_model::{Answer, Fix, Multipliers, Node, Programme, value};
 use lagrange_bound::{CheaperParts, Ledger, Pace, ascend, improve};
+use std::slice;
 
 /// The rounds in which the multipliers of the root are improved: each tries the rent multipliers of one price of a page.
 const ROUNDS: u32 = 41;
 
-/// How the multipliers of the root are made for a first configuration, and after it.
-const FIRST: Pace = Pace {
-    rounds: 400,
-    step: 512,
-    patience: 30,
-};
+/// How the multipliers of the root are raised, turn by turn.
+const TURNS: [Pace; 3] = [
+    Pace {
+        rounds: 100,
+        step: 512,
+        patience: 30,
+    },
+    Pace {
+        rounds: 400,
+        step: 512,
+        patience: 30,
+    },
+    Pace {
+        rounds: 1000,
+        step: 512,
+        patience: 30,
+    },
+];
 
-const SECOND: Pace = Pace {
-    rounds: 1000,
-    step: 512,
-    patience: 30,
-};
+/// So many useful candidates are few: a search of few nodes is then tried after each turn, and else the first turn is passed
+/// over.
+const MOST_OF_FEW: u32 = 64;
 
 /// What nothing that fits costs less than: the cost, or the least value of the leaves at which the search gave up.
 fn least_bound(cost: u128, low: i128) -> i128
@@ -103,25 +115,83 @@ fn raised(task: &Task<'_>, cost: u128, first: &mut Multipliers, hands: &mut Hand
     );
 }
 
-/// Raises the multipliers of the root towards a cost that falls on the way, and answers the cheapest configuration.
-fn ascended(task: &Task<'_>, first: &mut Multipliers, hands: &mut Hands) -> Costed
+/// What is known at the root before a plan is made: the cheapest configuration met, and whether few nodes close the search.
+#[derive(Clone, Copy)]
+struct Start {
+    known: Costed,
+    is_closed: bool,
+}
+
+/// Raises the multipliers of the root once, and tries what they make of it.
+fn turned(
+    task: &Task<'_>,
+    known: Costed,
+    first: &mut Multipliers,
+    hands: &mut Hands,
+    pace: Pace,
+) -> Start
+    requires known { climbs.IsSoundHere task.now.programme.now task.now.budget task.now.root.now known }
     requires first { AreMultipliers task.now.programme.now first.old }
     requires hands { proposals.AreHands task.now.programme.now hands.old }
-    ensures sound { climbs.IsSoundHere task.now.programme.now task.now.budget task.now.root.now result }
+    ensures sound { climbs.IsSoundHere task.now.programme.now task.now.budget task.now.root.now result.known }
     ensures first { AreMultipliers task.now.programme.now first.new }
     ensures hands { proposals.AreHands task.now.programme.now hands.new }
     ensures keeps { bounds.lagrangian task.now.programme.now task.now.budget task.now.root.now first.old ≤ℤ bounds.lagrangian task.now.programme.now task.now.budget task.now.root.now first.new }
 {
-    hands
-        .plain
-        .open(task.programme, task.zeros, &[0; MOST_CANDIDATES]);
-    let draft = greedy(task, &mut hands.plain);
-    let known = cheaper(task, task.bare, &draft);
-    raised(task, known.cost, first, hands, FIRST);
+    raised(task, known.cost, first, hands, pace);
     let shares = shares_of(&hands.ascent);
-    let known = better(task, known, &shares, hands);
-    raised(task, known.cost, first, hands, SECOND);
-    known
+    let mut known = better(task, known, &shares, hands);
+    if !task.are_few {
+        return Start {
+            known,
+            is_closed: false,
+        };
+    }
+    open_guide(task, hands.guides.as_mut_slice(), 0, first, &shares);
+    let is_closed = is_closed(
+        task,
+        slice::from_ref(first),
+        hands.guides.as_mut_slice(),
+        &mut hands.plain,
+        &mut known,
+        task.root,
+        &mut hands.stack,
+    );
+    Start { known, is_closed }
+}
+
+/// The first turn that isn't passed over.
+fn first_turn(task: &Task<'_>) -> usize {
+    if task.are_few { 0 } else { 1 }
+}
+
+/// Raises the multipliers of the root towards a cost that falls on the way.
+fn ascended(task: &Task<'_>, first: &mut Multipliers, hands: &mut Hands) -> Start
+    requires first { AreMultipliers task.now.programme.now first.old }
+    requires hands { proposals.AreHands task.now.programme.now hands.old }
+    ensures sound { climbs.IsSoundHere task.now.programme.now task.now.budget task.now.root.now result.known }
+    ensures first { AreMultipliers task.now.programme.now first.new }
+    ensures hands { proposals.AreHands task.now.programme.now hands.new }
+    ensures keeps { bounds.lagrangian task.now.programme.now task.now.budget task.now.root.now first.old ≤ℤ bounds.lagrangian task.now.programme.now task.now.budget task.now.root.now first.new }
+{
+    hands.plain.open(
+        task.programme,
+        task.offers,
+        task.zeros,
+        &[0; MOST_CANDIDATES],
+    );
+    let draft = greedy(task, &mut hands.plain);
+    let mut start = Start {
+        known: cheaper(task, task.bare, &draft),
+        is_closed: false,
+    };
+    for turn in first_turn(task)..TURNS.len() {
+        start = turned(task, start.known, first, hands, TURNS[turn]);
+        if start.is_closed {
+            return start;
+        }
+    }
+    start
 }
 
 /// Makes the sets of a search and the plan of its top, and answers the cheapest configuration met on the way.
@@ -149,9 +219,10 @@ fn proposed(
         &mut hands.spare,
         ROUNDS,
     );
-    let mut known = ascended(task, &mut first, hands);
+    let start = ascended(task, &mut first, hands);
+    let mut known = start.known;
     keep(sets, first);
-    propose(task, &mut known, hands, sets, plan);
+    propose(task, start.is_closed, &mut known, hands, sets, plan);
     known
 }
 
@@ -162,7 +233,7 @@ fn explored(
     zeros: &Multipliers,
     sets: &[Multipliers],
     plan: &[Step],
-    users: &CheaperParts,
+    cheaper: &CheaperParts,
     known: &Costed,
     tree: &mut Vec<Node>,
     ledgers: &mut [Ledger],
@@ -173,7 +244,7 @@ fn explored(
     requires zeros { AreMultipliers task.now.programme.now zeros.now }
     requires sets { All (AreMultipliers task.now.programme.now) sets.now }
     requires few { length sets.now ≤ MOST_SETS }
-    requires users { AreCheaperParts task.now.programme.now users.now }
+    requires cheaper { AreCheaperParts task.now.programme.now cheaper.now }
     requires empty { tree.old.items ≡ [] }
     requires room { nodes ≤ vec_capacity tree.old }
     requires ledgers { All (HasRoom task.now.programme.now) ledgers.old }
@@ -184,13 +255,14 @@ fn explored(
     open_all(task.programme, zeros, sets, ledgers);
     let frame = Frame {
         programme: task.programme,
+        offers: task.offers,
         budget: task.budget,
         nodes,
         zeros,
         sets,
         useful: task.useful,
         plan,
-        users,
+        cheaper,
     };
     let before = started(known);
     explore(
@@ -253,17 +325,20 @@ pub fn search(programme: &Programme, root: &Fix, budget: u64, nodes: u32, room: 
         mut sets,
         mut hands,
         mut plan,
-        users,
+        cheaper,
+        offers,
         mut ledgers,
     } = room;
     let useful = useful_of(programme, budget);
     let task = Task {
         programme,
+        offers: &offers,
         budget,
         useful: &useful.flags,
         root,
         zeros: &zeros,
         bare: bare(programme, budget, root),
+        are_few: useful.count <= MOST_OF_FEW,
         most: set_limit(programme),
     };
     let known = proposed(&task, first, &mut hands, &mut sets, &mut plan);
@@ -273,7 +348,7 @@ pub fn search(programme: &Programme, root: &Fix, budget: u64, nodes: u32, room: 
         &zeros,
         sets.as_slice(),
         plan.as_slice(),
-        &users,
+        &cheaper,
         &known,
         &mut tree,
         ledgers.as_mut_slice(),

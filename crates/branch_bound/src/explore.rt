@@ -128,23 +128,21 @@ pub(crate) fn explore(
         Fate::Branch(index) => {
             append(tree, Node::Branch(index as u16 + 1));
             let sides = sides_of(frame, place, index);
-            let below = branched(found, frame.nodes);
             let within = fixed(fix, index, State::In);
             let middle = explore(
                 frame,
                 &within,
                 total_at(frame, &within),
-                below,
+                branched(found, frame.nodes),
                 sides.inside,
                 tree,
                 hint,
                 ledgers,
                 guides,
             );
-            let out = outside(frame, fix, index, cost);
             explore(
                 frame,
-                &out,
+                &outside(frame, fix, index, cost),
                 cost,
                 middle,
                 sides.outside,

@@ -1,11 +1,12 @@
 //! First configurations of a search: greedy by saving for each page, rounded from the relaxation, and bettered by exchanges.
 //! Proposals alone: what is taken of them is tested and priced anew.
-ghost use Rattle.std.specs.Prelude.{◌≡◌, ◌<◌, true};
+ghost use Rattle.std.specs.Prelude.{◌≡◌, ◌<◌, ◌≤◌, true};
 ghost use Rattle.adv_base.specs.declared.limits.TheConstants.{MOST_CANDIDATES};
 
 use crate::climb::changed;
 use crate::fixing::is_free;
-use crate::guide::{Guide, usable_of};
+use crate::guide::{Guide, Usable};
+use crate::marks::{NO_MARKS, mark};
 use crate::task::Task;
 use adv_base::Config;
 use adv_base::limits::MOST_CANDIDATES;
@@ -36,15 +37,28 @@ fn pages_of(task: &Task<'_>, index: usize) -> u64 {
     }
 }
 
+/// How many candidates there are.
+fn count(task: &Task<'_>) -> usize
+    ensures { result ≤ MOST_CANDIDATES }
+{
+    task.programme.sizes.len().min(MOST_CANDIDATES)
+}
+
 /// A configuration as a draft.
 fn draft_of(task: &Task<'_>, config: &Config, guide: &mut Guide) -> Draft {
     let mut pages: u64 = 0;
-    for index in 0..MOST_CANDIDATES {
+    let mut marks = NO_MARKS;
+    for index in 0..count(task) {
         if config.on[index] {
             pages = pages.saturating_add(pages_of(task, index));
+            mark(&mut marks, index);
         }
     }
-    guide.carry(task.programme, task.zeros, &usable_of(*config));
+    let usable = Usable {
+        marks,
+        inside: marks,
+    };
+    guide.carry(task.offers, task.zeros, &usable);
     Draft {
         config: *config,
         pages,
@@ -88,7 +102,7 @@ fn largest(task: &Task<'_>, savings: &[u128; MOST_CANDIDATES]) -> usize {
     let mut best = MOST_CANDIDATES;
     let mut most = 0;
     let mut pages = 1;
-    for index in 0..MOST_CANDIDATES {
+    for index in 0..count(task) {
         let own = savings[index];
         if own > 0 && is_larger(own, pages_of(task, index), most, pages) {
             best = index;
@@ -115,16 +129,20 @@ fn unknown(useful: &[bool; MOST_CANDIDATES]) -> [u128; MOST_CANDIDATES] {
 fn extended(task: &Task<'_>, from: Draft, guide: &mut Guide) -> Draft {
     let mut savings = unknown(task.useful);
     let mut best = from;
+    let mut index = largest(task, &savings);
     for _ in 0..MOST_STEPS {
-        let index = largest(task, &savings);
         if index >= MOST_CANDIDATES {
             return best;
         }
         let to = joined(task, &best, index, guide);
         savings[index] = best.cost.saturating_sub(to.cost);
-        if savings[index] > 0 && largest(task, &savings) == index {
+        let next = largest(task, &savings);
+        if savings[index] > 0 && next == index {
             savings[index] = 0;
             best = to;
+            index = largest(task, &savings);
+        } else {
+            index = next;
         }
     }
     best
@@ -198,7 +216,7 @@ pub(crate) fn is_near(draft: &Draft, cost: u128) -> bool {
 /// What a draft costs with each useful candidate more, whether it fits or not.
 fn costs_beside(task: &Task<'_>, draft: &Draft, guide: &mut Guide) -> [u128; MOST_CANDIDATES] {
     let mut costs = [u128::MAX; MOST_CANDIDATES];
-    for index in 0..MOST_CANDIDATES {
+    for index in 0..count(task) {
         if task.useful[index] && !draft.config.on[index] && is_free(task.root.state[index]) {
             costs[index] = draft_of(task, &changed(&draft.config, index, true), guide).cost;
         }
@@ -245,7 +263,7 @@ fn exchanged_one(
     if without.cost <= best.cost {
         best = without;
     }
-    for other in 0..MOST_CANDIDATES {
+    for other in 0..count(task) {
         let cost = beside[other];
         if cost < u128::MAX && may_add(task, &without, other) {
             let least = least_with(task, &from, &without, index, other, cost, guide);
@@ -266,7 +284,7 @@ pub(crate) fn exchanged(task: &Task<'_>, from: Draft, guide: &mut Guide) -> Draf
     for _ in 0..MOST_ROUNDS {
         let before = best.cost;
         let beside = costs_beside(task, &best, guide);
-        for index in 0..MOST_CANDIDATES {
+        for index in 0..count(task) {
             if best.config.on[index] && is_free(task.root.state[index]) {
                 best = exchanged_one(task, best, index, &beside, guide);
             }

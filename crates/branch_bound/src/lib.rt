@@ -30,12 +30,15 @@ mod frame;
 mod guide;
 mod hands;
 mod incumbent;
+mod marks;
 mod node;
+mod offers;
 mod opening;
 mod plan;
 mod room;
 mod taken;
 mod task;
+mod trial;
 mod useful;
 
 pub use best::search;

@@ -100,6 +100,7 @@ fn chosen(frame: &Frame<'_>, fix: &Fix, proposal: usize) -> Option<usize>
 fn scope_of<'a>(frame: &Frame<'a>) -> Scope<'a> {
     Scope {
         programme: frame.programme,
+        offers: frame.offers,
         budget: frame.budget,
         useful: frame.useful,
     }
@@ -163,7 +164,7 @@ pub(crate) fn lag(frame: &Frame<'_>, fix: &Fix, set: u8, ledgers: &mut [Ledger])
     let own = own_set(frame, set);
     bound_by(
         frame.programme,
-        frame.users,
+        frame.cheaper,
         frame.budget,
         fix,
         own,

@@ -7,7 +7,7 @@ ghost use Rattle.bip_model.specs.Views.{AreMultipliers};
 ghost use Rattle.branch_bound.specs.inner.Climbs as climbs;
 ghost use Rattle.branch_bound.specs.inner.Proposals as proposals;
 
-use crate::choosing::{Best, Scope, best_set, choice_at, gap_to, is_closed, open_at, reaches};
+use crate::choosing::{Best, Scope, best_set, choice_at, gap_to, open_at, reaches, scope_of};
 use crate::climb::Costed;
 use crate::fixing::fixed;
 use crate::guide::{Guide, brokenness};
@@ -15,6 +15,7 @@ use crate::hands::Hands;
 use crate::incumbent::{exchanged, is_near, is_new, rounded, shares_of};
 use crate::taken::cheaper;
 use crate::task::Task;
+use crate::trial::is_closed;
 use adv_base::limits::MOST_CANDIDATES;
 use bip_model::{Fix, Multipliers, State};
 use lagrange_bound::{Pace, ascend};
@@ -53,15 +54,6 @@ pub(crate) struct Step {
     pub candidate: usize,
     pub inside: usize,
     pub outside: usize,
-}
-
-/// What guides are asked about in a task.
-fn scope_of<'a>(task: &Task<'a>) -> Scope<'a> {
-    Scope {
-        programme: task.programme,
-        budget: task.budget,
-        useful: task.useful,
-    }
 }
 
 /// The place of the open node of the least value; past the plan where none is open.
@@ -126,7 +118,7 @@ fn copied(task: &Task<'_>, sets: &[Multipliers], set: usize, own: &mut Multiplie
 }
 
 /// Opens the guide of the set of a place.
-fn open_guide(
+pub(crate) fn open_guide(
     task: &Task<'_>,
     guides: &mut [Guide],
     set: usize,
@@ -134,7 +126,7 @@ fn open_guide(
     shares: &[u64; MOST_CANDIDATES],
 ) {
     if set < guides.len() {
-        guides[set].open(task.programme, own, shares);
+        guides[set].open(task.programme, task.offers, own, shares);
     }
 }
 
@@ -243,10 +235,16 @@ fn grown(
     if is_lone || sets.len() >= task.most {
         return leaf(fix, best, true);
     }
-    let scope = scope_of(task);
-    let guides = hands.guides.as_mut_slice();
     let own = sets.as_slice();
-    if is_closed(&scope, own, guides, known.cost, fix, &mut hands.stack) {
+    if is_closed(
+        task,
+        own,
+        hands.guides.as_mut_slice(),
+        &mut hands.plain,
+        known,
+        fix,
+        &mut hands.stack,
+    ) {
         return leaf(fix, best, false);
     }
     match hands.others.pop() {
@@ -460,9 +458,10 @@ fn branch(
     append(plan, second);
 }
 
-/// Plans a search from a root, under its set: adds sets, and writes the plan.
+/// Plans a search from a root, under its set, unless that closes it: adds sets, and writes the plan.
 pub(crate) fn propose(
     task: &Task<'_>,
+    is_closed: bool,
     known: &mut Costed,
     hands: &mut Hands,
     sets: &mut Vec<Multipliers>,
@@ -475,6 +474,9 @@ pub(crate) fn propose(
     ensures known { climbs.IsSoundHere task.now.programme.now task.now.budget task.now.root.now known.new }
     ensures sets { proposals.AreMore task.now.programme.now task.now.most sets.old.items sets.new.items }
 {
+    if is_closed {
+        return;
+    }
     let shares = shares_of(&hands.ascent);
     let guides = hands.guides.as_mut_slice();
     open_guide(task, guides, 0, &sets[0], &shares);

@@ -8,10 +8,11 @@ ghost use Rattle.lagrange_bound.specs.Ledgers.{HasRoom};
 ghost use Rattle.branch_bound.specs.Rooms.{IsSetLimit};
 ghost use Rattle.branch_bound.specs.inner.Proposals as proposals;
 
-use crate::choosing::MOST_WAITING;
 use crate::guide::Guide;
 use crate::hands::Hands;
+use crate::offers::Offers;
 use crate::plan::{MOST_STEPS, Step};
+use crate::trial::MOST_WAITING;
 use adv_base::NoMemory;
 use adv_base::limits::{MOST_ENTRIES, MOST_SETS};
 use bip_model::{Multipliers, Node, Programme, grant_count};
@@ -20,11 +21,13 @@ use std::alloc::Global;
 
 /// All the memory that a search takes, in bytes: 4 for each node of its budget; 8 for each grant of the programme in each set of
 /// multipliers, of which there are zeros, one that is worked on and as many as `set_limit` says, so that these are at most
-/// 1500000 numbers or one set; 264 for each part and 113 thousand in each of as many guides and one more; 17 for each part
-/// and 21 thousand in each of 17 ledgers; 8 for each part and 256 thousand for the parts that each candidate can make cheaper;
-/// for an ascent 42 for each grant, 40 for each part, and 16 for each template, for each order of each slot and for each price
-/// of a grant below what exists; and half a million for the plan. With a million nodes, 1000 parts of 4096 templates, and
-/// 512000 grants of 9 prices each, that is 195 million.
+/// 1500000 numbers or one set; 144 for each part, 208 for each candidate and 3 thousand in each of as many guides and one more;
+/// 17 for each part and 21 thousand in each of 17 ledgers; 8 for each part and 256 thousand for the parts that each candidate can
+/// make cheaper; for an ascent 42 for each grant, 40 for each part, and 16 for each template, for each order of each slot and for
+/// each price of a grant below what exists; for what candidates offer 48 for each part, and 24 for each order of a slot and for
+/// each price of a grant below what exists and 16 for each template, of each of which at most 131072 are listed; and half a
+/// million for the plan. With a million nodes, 1000 parts of 4096 templates, and 512000 grants of 9 prices each, that is some
+/// 195 million.
 #[derive(Drop)]
 pub struct Room {
     pub(crate) tree: Vec<Node>,
@@ -33,7 +36,8 @@ pub struct Room {
     pub(crate) sets: Vec<Multipliers>,
     pub(crate) hands: Hands,
     pub(crate) plan: Vec<Step>,
-    pub(crate) users: CheaperParts,
+    pub(crate) cheaper: CheaperParts,
+    pub(crate) offers: Offers,
     pub(crate) ledgers: Vec<Ledger>,
 }
 
@@ -145,7 +149,8 @@ impl Room {
         let first = fresh(alloc, programme)?;
         let hands = fresh_hands(alloc, programme)?;
         let plan = Vec::with_capacity(alloc, MOST_STEPS)?;
-        let users = CheaperParts::new(alloc, programme)?;
+        let cheaper = CheaperParts::new(alloc, programme)?;
+        let offers = Offers::new(alloc, programme)?;
         let ledgers = fresh_ledgers(alloc, programme, MOST_SETS + 1)?;
         Ok(Room {
             tree,
@@ -154,7 +159,8 @@ impl Room {
             sets,
             hands,
             plan,
-            users,
+            cheaper,
+            offers,
             ledgers,
         })
     }

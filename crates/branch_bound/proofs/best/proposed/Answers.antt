@@ -11,7 +11,7 @@ at-most-both a b c one two = omega (arith, ints, one, two)
 
 pub returns-clause-sets : goal.returns-clause-sets
 returns-clause-sets c =
-    let first : Multipliers = c.ascended-known.new.first in
+    let first : Multipliers = c.ascended-start.new.first in
     let start : c.keep.new.sets.items ≡ first ∷ [] = c.keep.ensures.items ∙ ap (λ (front : List Multipliers). front ++ first ∷ []) c.requires.empty in
     record {
       first = first;
@@ -20,5 +20,5 @@ returns-clause-sets c =
       tried = λ i few.
           at-most-both (lagrangian c.args.task.now.programme.now c.args.task.now.budget c.args.task.now.root.now (rent_multipliers c.args.task.now.programme.now (tried_price i)))
           (lagrangian c.args.task.now.programme.now c.args.task.now.budget c.args.task.now.root.now c.improve.new.mult)
-          (lagrangian c.args.task.now.programme.now c.args.task.now.budget c.args.task.now.root.now first) (c.improve.ensures.tried i few) c.ascended-known.ensures.keeps;
+          (lagrangian c.args.task.now.programme.now c.args.task.now.budget c.args.task.now.root.now first) (c.improve.ensures.tried i few) c.ascended-start.ensures.keeps;
     }

@@ -1,0 +1,93 @@
+//! Whether few nodes close a subtree: a search that keeps no tree. A proposal alone: the tree that is explored after it is right
+//! whatever it says.
+ghost use Rattle.branch_bound.specs.inner.Climbs as climbs;
+
+use crate::choosing::{best_set, choice_at, inside_of, reaches, scope_of};
+use crate::climb::Costed;
+use crate::fixing::{fixed, inside};
+use crate::guide::Guide;
+use crate::incumbent::Draft;
+use crate::taken::cheaper;
+use crate::task::Task;
+use adv_base::limits::MOST_CANDIDATES;
+use bip_model::{Fix, Multipliers, State};
+
+/// The most nodes that a trial has before it.
+pub(crate) const MOST_WAITING: usize = 600;
+/// The most nodes of a trial.
+const MOST_NODES: u32 = 200;
+
+/// Puts a node before a trial; whether there was room.
+fn put(stack: &mut Vec<Fix>, fix: Fix) -> bool {
+    match stack.push(fix) {
+        Ok(()) => true,
+        Err(_) => false,
+    }
+}
+
+/// Puts both sides of a branch before a trial; whether there was room. Where nothing is left to branch on, there is nothing
+/// below the node.
+fn put_sides(stack: &mut Vec<Fix>, fix: &Fix, index: usize) -> bool {
+    if index >= MOST_CANDIDATES {
+        return true;
+    }
+    put(stack, fixed(fix, index, State::Out)) && put(stack, fixed(fix, index, State::In))
+}
+
+/// The cheaper of the configuration that is known and of what is in at a node.
+fn visited(task: &Task<'_>, fix: &Fix, known: Costed, plain: &mut Guide) -> Costed
+    requires known { climbs.IsSoundHere task.now.programme.now task.now.budget task.now.root.now known }
+    ensures known { climbs.IsSoundHere task.now.programme.now task.now.budget task.now.root.now result }
+{
+    plain.carry(task.offers, task.zeros, &inside_of(fix));
+    let cost = plain.total(task.programme);
+    if cost >= known.cost {
+        return known;
+    }
+    let draft = Draft {
+        config: inside(fix),
+        pages: 0,
+        cost,
+    };
+    cheaper(task, known, &draft)
+}
+
+/// Whether a search of few nodes closes a subtree, under some sets and their guides. Where there are few candidates, what is
+/// known becomes the cheapest configuration that it meets.
+pub(crate) fn is_closed(
+    task: &Task<'_>,
+    sets: &[Multipliers],
+    guides: &mut [Guide],
+    plain: &mut Guide,
+    known: &mut Costed,
+    fix: &Fix,
+    stack: &mut Vec<Fix>,
+) -> bool
+    requires known { climbs.IsSoundHere task.now.programme.now task.now.budget task.now.root.now known.old }
+    ensures known { climbs.IsSoundHere task.now.programme.now task.now.budget task.now.root.now known.new }
+{
+    let scope = scope_of(task);
+    let mut hint = 0;
+    stack.clear();
+    let mut is_room = put(stack, *fix);
+    for _ in 0..MOST_NODES {
+        if !is_room {
+            return false;
+        }
+        match stack.pop() {
+            None => return true,
+            Some(here) => {
+                if task.are_few {
+                    *known = visited(task, &here, *known, plain);
+                }
+                let best = best_set(&scope, sets, guides, known.cost, &here, hint);
+                hint = best.set;
+                if !reaches(best.value, known.cost) {
+                    let index = choice_at(&scope, sets, guides, known.cost, &here, best);
+                    is_room = put_sides(stack, &here, index);
+                }
+            }
+        }
+    }
+    stack.is_empty()
+}
