@@ -64,11 +64,15 @@ fn made(alloc: Global, task: &Task, count: usize) -> Result<Cache, NoMemory>
     let choices = choices_of(alloc, task)?;
     let templates = templates_of(alloc, task, &choices, count)?;
     let (starts, count) = choices.starts();
+    let columns = choices.columns(alloc, count)?;
+    let of_columns = choices.of_columns();
     Ok(Cache {
         choices,
         templates,
         starts,
         count,
+        columns,
+        of_columns,
     })
 }
 
