@@ -201,7 +201,7 @@ one-passed table slot order n none =
 pub unpriced : (orders : List (List Order)) (prices : List ℕ) (template : Template) (slot : ℕ) → slot < length orders → template_price orders prices template slot ≡ 18446744073709551615 → 1000000000000000000000000000000 ≡ template_sum orders prices template
 unpriced orders prices template slot below is =
     let any : any_below (is_unoffered orders prices template) (length orders) ≡ true =
-        any_below-at (is_unoffered orders prices template) (length orders) slot below (eq-eqb (template_price orders prices template slot) 18446744073709551615 is) in
+    any_below-at (is_unoffered orders prices template) (length orders) slot below (eq-eqb (template_price orders prices template slot) 18446744073709551615 is) in
     rw any refl
 
 -- the least cost over one template more

@@ -35,15 +35,15 @@ pub slot-begins : (table : OfferTable) (orders : List (List Order)) (prices : Li
 slot-begins table orders prices slot here none are =
     prices-as table orders prices (slots_below table slot) (slots_and table slot here)
     (λ s p _ _. ap (price_of_first table s (order_in orders s p))
-      (elim (cases_lt s slot) [
-        | inl before ↦ rw (lt-ltb s slot before) refl
-        | inr past ↦
-            rw (le-ltb s slot past)
-            (elim (cases_eq s slot) [
-              | inl e ↦ rw (eq-eqb s slot e) (sym (none p))
-              | inr other ↦ rw (ne_eqb s slot other) refl
-            ])
-      ]))
+    (elim (cases_lt s slot) [
+      | inl before ↦ rw (lt-ltb s slot before) refl
+      | inr past ↦
+          rw (le-ltb s slot past)
+          (elim (cases_eq s slot) [
+            | inl e ↦ rw (eq-eqb s slot e) (sym (none p))
+            | inr other ↦ rw (ne_eqb s slot other) refl
+          ])
+    ]))
     are
 
 -- all of them have been seen
@@ -67,7 +67,7 @@ pub slot-ends : (table : OfferTable) (orders : List (List Order)) (prices : List
 slot-ends table orders prices slot here all are =
     prices-as table orders prices (slots_and table slot here) (slots_below table (slot + 1))
     (λ s p _ inside. ap (price_of_first table s (order_in orders s p))
-      (ends-at table slot here s p (λ e. all p (subst (λ t. p < size_in orders t) e inside))))
+    (ends-at table slot here s p (λ e. all p (subst (λ t. p < size_in orders t) e inside))))
     are
 
 -- ## Of which orders of a slot
@@ -138,12 +138,12 @@ pub offer-served : (table : OfferTable) (orders : List (List Order)) (prices : L
 offer-served table orders prices slot place at' n price e below some within room yes' is are =
     let order = order_in orders slot place in
     let old : get_or prices at' 0 ≡ price_of_first table slot order n =
-        ap (λ (i : ℕ). get_or prices i 0) e ∙ are.each slot place below within
-        ∙ ap (price_of_first table slot order) (slots-here table slot (offers_below n place) place ∙ offers-before n place some) in
+    ap (λ (i : ℕ). get_or prices i 0) e ∙ are.each slot place below within
+    ∙ ap (price_of_first table slot order) (slots-here table slot (offers_below n place) place ∙ offers-before n place some) in
     let lowered : (if nat_lt price (get_or prices at' 0) then price else get_or prices at' 0) ≡ price_of_first table slot order (slots_and table slot (offers_below n (place + 1)) slot place) =
-        ap (λ (x : ℕ). if nat_lt price x then price else x) old
-        ∙ sym (one-served table slot order n price yes' is)
-        ∙ ap (price_of_first table slot order) (sym (slots-here table slot (offers_below n (place + 1)) place ∙ offers-after n place some)) in
+    ap (λ (x : ℕ). if nat_lt price x then price else x) old
+    ∙ sym (one-served table slot order n price yes' is)
+    ∙ ap (price_of_first table slot order) (sym (slots-here table slot (offers_below n (place + 1)) place ∙ offers-after n place some)) in
     price-set table orders prices slot place at' (if nat_lt price (get_or prices at' 0) then price else get_or prices at' 0) (slots_and table slot (offers_below n place)) (slots_and table slot (offers_below n (place + 1))) e within room lowered
     (λ s p apart _ _. slots-same table slot (offers_below n place) (offers_below n (place + 1)) s p (λ slots. offers-other n place p (apart slots)))
     are
@@ -153,21 +153,21 @@ pub offer-passed : (table : OfferTable) (orders : List (List Order)) (prices : L
 offer-passed table orders prices slot place n some none are =
     prices-as table orders prices (slots_and table slot (offers_below n place)) (slots_and table slot (offers_below n (place + 1)))
     (λ s p _ _.
-      elim (cases_eq p place) [
-        | inr other ↦
-            ap (price_of_first table s (order_in orders s p)) (slots-same table slot (offers_below n place) (offers_below n (place + 1)) s p (λ _. offers-other n place p other))
-        | inl places ↦
-            elim (cases_eq s slot) [
-              | inr other ↦
-                  ap (price_of_first table s (order_in orders s p)) (slots-same table slot (offers_below n place) (offers_below n (place + 1)) s p (λ slots. absurd (other slots)))
-              | inl slots ↦
-                  subst (λ t. price_of_first table t (order_in orders t p) (slots_and table slot (offers_below n place) t p) ≡ price_of_first table t (order_in orders t p) (slots_and table slot (offers_below n (place + 1)) t p)) (sym slots)
-                  (subst (λ q. price_of_first table slot (order_in orders slot q) (slots_and table slot (offers_below n place) slot q) ≡ price_of_first table slot (order_in orders slot q) (slots_and table slot (offers_below n (place + 1)) slot q)) (sym places)
-                  (ap (price_of_first table slot (order_in orders slot place)) (slots-here table slot (offers_below n place) place ∙ offers-before n place some)
-                  ∙ sym (one-passed table slot (order_in orders slot place) n none)
-                  ∙ ap (price_of_first table slot (order_in orders slot place)) (sym (slots-here table slot (offers_below n (place + 1)) place ∙ offers-after n place some))))
-            ]
-      ])
+    elim (cases_eq p place) [
+      | inr other ↦
+          ap (price_of_first table s (order_in orders s p)) (slots-same table slot (offers_below n place) (offers_below n (place + 1)) s p (λ _. offers-other n place p other))
+      | inl places ↦
+          elim (cases_eq s slot) [
+            | inr other ↦
+                ap (price_of_first table s (order_in orders s p)) (slots-same table slot (offers_below n place) (offers_below n (place + 1)) s p (λ slots. absurd (other slots)))
+            | inl slots ↦
+                subst (λ t. price_of_first table t (order_in orders t p) (slots_and table slot (offers_below n place) t p) ≡ price_of_first table t (order_in orders t p) (slots_and table slot (offers_below n (place + 1)) t p)) (sym slots)
+                (subst (λ q. price_of_first table slot (order_in orders slot q) (slots_and table slot (offers_below n place) slot q) ≡ price_of_first table slot (order_in orders slot q) (slots_and table slot (offers_below n (place + 1)) slot q)) (sym places)
+                (ap (price_of_first table slot (order_in orders slot place)) (slots-here table slot (offers_below n place) place ∙ offers-before n place some)
+                ∙ sym (one-passed table slot (order_in orders slot place) n none)
+                ∙ ap (price_of_first table slot (order_in orders slot place)) (sym (slots-here table slot (offers_below n (place + 1)) place ∙ offers-after n place some))))
+          ]
+    ])
     are
 
 -- it has been seen of all orders of the slot
@@ -175,8 +175,8 @@ pub offer-ends : (table : OfferTable) (orders : List (List Order)) (prices : Lis
 offer-ends table orders prices slot n size e are =
     prices-as table orders prices (slots_and table slot (offers_below n size)) (slots_and table slot (offers_below (n + 1) 1))
     (λ s p _ inside. ap (price_of_first table s (order_in orders s p))
-      (slots-same table slot (offers_below n size) (offers_below (n + 1) 1) s p
-        (λ slots. offers-all n size p (subst (λ k. p < k) (sym e) (subst (λ t. p < size_in orders t) slots inside)))))
+    (slots-same table slot (offers_below n size) (offers_below (n + 1) 1) s p
+    (λ slots. offers-all n size p (subst (λ k. p < k) (sym e) (subst (λ t. p < size_in orders t) slots inside)))))
     are
 
 -- no order but the first is one with which it begins
@@ -184,23 +184,23 @@ pub offer-unserved : (table : OfferTable) (orders : List (List Order)) (prices :
 offer-unserved table orders prices slot n none are =
     prices-as table orders prices (slots_and table slot (offers_below n 1)) (slots_and table slot (offers_below (n + 1) 1))
     (λ s p _ inside.
-      elim (cases_eq s slot) [
-        | inr other ↦
-            ap (price_of_first table s (order_in orders s p)) (slots-same table slot (offers_below n 1) (offers_below (n + 1) 1) s p (λ slots. absurd (other slots)))
-        | inl slots ↦
-            elim (cases_lt 0 p) [
-              | inr first ↦
-                  let zero' : p ≡ 0 = omega (arith, first) in
-                  ap (price_of_first table s (order_in orders s p)) (slots-same table slot (offers_below n 1) (offers_below (n + 1) 1) s p (λ _. subst (λ q. offers_below n 1 q ≡ offers_below (n + 1) 1 q) (sym zero') refl))
-              | inl some ↦
-                  subst (λ t. p < size_in orders t → price_of_first table t (order_in orders t p) (slots_and table slot (offers_below n 1) t p) ≡ price_of_first table t (order_in orders t p) (slots_and table slot (offers_below (n + 1) 1) t p)) (sym slots)
-                  (λ within.
-                    ap (price_of_first table slot (order_in orders slot p)) (slots-here table slot (offers_below n 1) p ∙ offers-past n p some)
-                    ∙ sym (one-passed table slot (order_in orders slot p) n (none p some within))
-                    ∙ ap (price_of_first table slot (order_in orders slot p)) (sym (slots-here table slot (offers_below (n + 1) 1) p ∙ offers-past (n + 1) p some ∙ add-one n)))
-                  inside
-            ]
-      ])
+    elim (cases_eq s slot) [
+      | inr other ↦
+          ap (price_of_first table s (order_in orders s p)) (slots-same table slot (offers_below n 1) (offers_below (n + 1) 1) s p (λ slots. absurd (other slots)))
+      | inl slots ↦
+          elim (cases_lt 0 p) [
+            | inr first ↦
+                let zero' : p ≡ 0 = omega (arith, first) in
+                ap (price_of_first table s (order_in orders s p)) (slots-same table slot (offers_below n 1) (offers_below (n + 1) 1) s p (λ _. subst (λ q. offers_below n 1 q ≡ offers_below (n + 1) 1 q) (sym zero') refl))
+            | inl some ↦
+                subst (λ t. p < size_in orders t → price_of_first table t (order_in orders t p) (slots_and table slot (offers_below n 1) t p) ≡ price_of_first table t (order_in orders t p) (slots_and table slot (offers_below (n + 1) 1) t p)) (sym slots)
+                (λ within.
+                ap (price_of_first table slot (order_in orders slot p)) (slots-here table slot (offers_below n 1) p ∙ offers-past n p some)
+                ∙ sym (one-passed table slot (order_in orders slot p) n (none p some within))
+                ∙ ap (price_of_first table slot (order_in orders slot p)) (sym (slots-here table slot (offers_below (n + 1) 1) p ∙ offers-past (n + 1) p some ∙ add-one n)))
+                inside
+          ]
+    ])
     are
 
 -- ## Whole slots
@@ -212,8 +212,8 @@ row-ends table orders prices slot at' n least e some room all is are =
     price-set table orders prices slot 0 at' least (slots_and table slot (offers_below n 1)) (slots_below table (slot + 1)) (omega (arith, e)) some room
     (is ∙ ap (price_of_first table slot (order_in orders slot 0)) (sym whole))
     (λ s p apart _ _. ends-at table slot (offers_below n 1) s p (λ slots.
-      let behind : 0 < p = elim (cases_lt 0 p) [ inl l ↦ l | inr m ↦ absurd (apart slots (omega (arith, m))) ] in
-      offers-past n p behind ∙ all))
+    let behind : 0 < p = elim (cases_lt 0 p) [ inl l ↦ l | inr m ↦ absurd (apart slots (omega (arith, m))) ] in
+    offers-past n p behind ∙ all))
     are
 
 -- the best price of one order more

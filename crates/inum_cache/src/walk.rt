@@ -14,7 +14,15 @@ impl Cache {
     /// Lowers the prices of the orders that an offer begins with, whose order begins with this column. Each order of the
     /// slot but the first is one column.
     #[inline]
-    fn lower_column<O: Offers>(&self, offers: &O, prices: &mut [u64], slot: u8, offer: u32, column: u16, price: u64)
+    fn lower_column<O: Offers>(
+        &self,
+        offers: &O,
+        prices: &mut [u64],
+        slot: u8,
+        offer: u32,
+        column: u16,
+        price: u64,
+    )
         requires slot { slot < length self.now.choices.orders }
         requires room { self.now.count ≤ length prices.old }
         requires of_columns { slice_index_or self.now.of_columns slot false ≡ true }

@@ -18,6 +18,6 @@ returns-in-None g c =
     let unled = ap leading_column (sym c.order.ensures) ∙ sym c.in-None.ensures in
     offer-unserved table orders c.args.prices.now slot c.args.offer
     (λ p some within.
-      subst (λ (o : Order). begins (order_at table slot c.args.offer) o ≡ false) (sym (c.args.self.now.single slot p c.requires.slot c.requires.of_columns some within))
-      (unled-apart slot (slice_index_or c.args.self.now.columns (start_in (size_in orders) slot + p) 0) (order_at table slot c.args.offer) unled limits))
+    subst (λ (o : Order). begins (order_at table slot c.args.offer) o ≡ false) (sym (c.args.self.now.single slot p c.requires.slot c.requires.of_columns some within))
+    (unled-apart slot (slice_index_or c.args.self.now.columns (start_in (size_in orders) slot + p) 0) (order_at table slot c.args.offer) unled limits))
     c.requires.before

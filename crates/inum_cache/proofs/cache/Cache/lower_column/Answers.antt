@@ -46,19 +46,19 @@ loop-place-preserved g c =
     let room : at' < length c.loop-place.prices = omega (arith, below, started, c.args.self.now.counted, c.requires.room, c.loop-place.auto.prices) in
     let own : ℕ = slice_index_or c.as_slice-columns.result.now at' 0 in
     let listed : own ≡ slice_index_or c.args.self.now.columns (start_in (size_in orders) slot + place) 0 =
-        ap (λ (cs : List ℕ). slice_index_or cs at' 0) c.as_slice-columns.ensures ∙ ap (λ i. slice_index_or c.args.self.now.columns i 0) e in
+    ap (λ (cs : List ℕ). slice_index_or cs at' 0) c.as_slice-columns.ensures ∙ ap (λ i. slice_index_or c.args.self.now.columns i 0) e in
     let order : order_in orders slot place ≡ Up slot own ∷ [] =
-        c.args.self.now.single slot place c.requires.slot c.requires.of_columns some within ∙ ap (λ (n : ℕ). Up slot n ∷ []) (sym listed) in
+    c.args.self.now.single slot place c.requires.slot c.requires.of_columns some within ∙ ap (λ (n : ℕ). Up slot n ∷ []) (sym listed) in
     let limits = order_at-own table slot c.args.offer c.requires.limits c.requires.offer in
     elim (cases_eq own c.args.column) [
       | inl same ↦
           let served : begins (order_at table slot c.args.offer) (order_in orders slot place) ≡ true =
-              subst (λ (o : Order). begins (order_at table slot c.args.offer) o ≡ true) (sym order) (column-begins slot c.args.column own (order_at table slot c.args.offer) c.requires.column limits same) in
+          subst (λ (o : Order). begins (order_at table slot c.args.offer) o ≡ true) (sym order) (column-begins slot c.args.column own (order_at table slot c.args.offer) c.requires.column limits same) in
           subst (λ (prices : List ℕ). ArePricesOf table orders prices (slots_and table slot (offers_below c.args.offer (place + 1)))) (sym (c.lower_at.ensures.same same))
           (offer-served table orders c.loop-place.prices slot place at' c.args.offer c.args.price e c.requires.slot some within room served c.requires.price c.loop-place.invariant)
       | inr other ↦
           let passed : begins (order_at table slot c.args.offer) (order_in orders slot place) ≡ false =
-              subst (λ (o : Order). begins (order_at table slot c.args.offer) o ≡ false) (sym order) (column-apart slot c.args.column own (order_at table slot c.args.offer) c.requires.column limits other) in
+          subst (λ (o : Order). begins (order_at table slot c.args.offer) o ≡ false) (sym order) (column-apart slot c.args.column own (order_at table slot c.args.offer) c.requires.column limits other) in
           subst (λ (prices : List ℕ). ArePricesOf table orders prices (slots_and table slot (offers_below c.args.offer (place + 1)))) (sym (c.lower_at.ensures.other other))
           (offer-passed table orders c.loop-place.prices slot place c.args.offer some passed c.loop-place.invariant)
     ]

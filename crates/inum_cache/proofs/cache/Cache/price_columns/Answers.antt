@@ -31,5 +31,5 @@ returns-clause-prices g c =
     let room : slice_index_or c.args.self.now.starts slot 0 < length c.loop-offer.prices = omega (arith, below, started, c.args.self.now.counted, c.requires.room, c.loop-offer.auto.prices) in
     let all : c.loop-offer.offer ≡ length (table slot) = omega (arith, c.count-offer-end.ensures, c.loop-offer-test.false, c.loop-offer.auto.offer-end) in
     let is : c.loop-offer.least ≡ price_of_first table slot (order_in orders slot 0) c.loop-offer.offer =
-        c.loop-offer.invariant.least ∙ ap (λ (o : Order). price_of_first table slot o c.loop-offer.offer) (sym (c.args.self.now.choices.first slot c.requires.slot)) in
+    c.loop-offer.invariant.least ∙ ap (λ (o : Order). price_of_first table slot o c.loop-offer.offer) (sym (c.args.self.now.choices.first slot c.requires.slot)) in
     row-ends table orders c.loop-offer.prices slot (slice_index_or c.args.self.now.starts slot 0) c.loop-offer.offer c.loop-offer.least started some room all is c.loop-offer.invariant.prices
