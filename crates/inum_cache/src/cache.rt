@@ -11,7 +11,7 @@ use plan_model::Template;
 
 /// The templates of a task, after INUM's cache of plans: for each combination of interesting orders, one for each slot,
 /// that no weaker one replaces at most at its cost, what a least plan costs above leaves that deliver these orders. It
-/// keeps no query and no rows.
+/// keeps no query and no rows; for look-ups it has two bytes for each order beside.
 #[derive(Drop)]
 pub struct Cache {
     pub(crate) choices: Choices,

@@ -1,8 +1,7 @@
 //! The prices of the orders of slots.
-ghost use Rattle.std.specs.Prelude.{◌≡◌, ℕ, ◌+◌, ◌<◌, ◌≤◌, true, false, [], Some, length, slice_index_or};
-ghost use Rattle.adv_base.specs.OfferTables.{OfferTableLimits, price_at, order_at};
+ghost use Rattle.std.specs.Prelude.{◌≡◌, ℕ, ◌+◌, ◌<◌, ◌≤◌, true, false, [], length, slice_index_or};
+ghost use Rattle.adv_base.specs.OfferTables.{OfferTableLimits, price_at};
 ghost use Rattle.plan_model.specs.Exchange.{sum_below};
-ghost use Rattle.inum_cache.specs.inner.Columns.{leading_column};
 ghost use Rattle.inum_cache.specs.inner.Pricing as pricing;
 
 use crate::cache::Cache;
@@ -11,38 +10,7 @@ use crate::prices::{UNOFFERED, best_price, lower, lower_at};
 use plan_model::Offers;
 
 impl Cache {
-    /// Lowers the prices of the orders that an offer begins with, whose order begins with this column. Each order of the
-    /// slot but the first is one column.
-    #[inline]
-    fn lower_column<O: Offers>(
-        &self,
-        offers: &O,
-        prices: &mut [u64],
-        slot: u8,
-        offer: u32,
-        column: u16,
-        price: u64,
-    )
-        requires slot { slot < length self.now.choices.orders }
-        requires room { self.now.count ≤ length prices.old }
-        requires of_columns { slice_index_or self.now.of_columns slot false ≡ true }
-        requires limits { OfferTableLimits (O.table offers.now) }
-        requires offer { offer < length (O.table offers.now slot) }
-        requires column { leading_column (order_at (O.table offers.now) slot offer) ≡ Some column }
-        requires price { price ≡ price_at (O.table offers.now) slot offer }
-        requires before { pricing.ArePricesOf (O.table offers.now) self.now.choices.orders prices.old (pricing.slots_and (O.table offers.now) slot (pricing.offers_below offer 1)) }
-        ensures { pricing.ArePricesOf (O.table offers.now) self.now.choices.orders prices.new (pricing.slots_and (O.table offers.now) slot (pricing.offers_below (offer + 1) 1)) }
-    {
-        let _ = offers;
-        let start = self.starts[slot as usize];
-        let columns = self.columns.as_slice();
-        for place in 1..self.choices.size(slot) {
-            let at = start + place;
-            lower_at(prices, at, columns[at], column, price);
-        }
-    }
-
-    /// Lowers the prices of the orders that an offer begins with, but for the first order, with which each begins.
+    /// Lowers the prices of the orders with which an offer of this price begins, but for the first, with which each does.
     #[inline]
     fn lower_by<O: Offers>(&self, offers: &O, prices: &mut [u64], slot: u8, offer: u32, price: u64)
         requires slot { slot < length self.now.choices.orders }
@@ -54,9 +22,14 @@ impl Cache {
         requires before { pricing.ArePricesOf (O.table offers.now) self.now.choices.orders prices.old (pricing.slots_and (O.table offers.now) slot (pricing.offers_below offer 1)) }
         ensures { pricing.ArePricesOf (O.table offers.now) self.now.choices.orders prices.new (pricing.slots_and (O.table offers.now) slot (pricing.offers_below (offer + 1) 1)) }
     {
-        match leading_column(offers.order(slot, offer)) {
-            Some(column) => self.lower_column(offers, prices, slot, offer, column, price),
-            None => {}
+        let Some(column) = leading_column(offers.order(slot, offer)) else {
+            return;
+        };
+        let start = self.starts[slot as usize];
+        let columns = self.columns.as_slice();
+        for place in 1..self.choices.size(slot) {
+            let at = start + place;
+            lower_at(prices, at, columns[at], column, price);
         }
     }
 

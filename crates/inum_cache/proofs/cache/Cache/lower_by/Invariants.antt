@@ -1,5 +1,5 @@
 use Rattle.inum_cache.specs.inner.Pricing.{ArePricesOf, slots_and, offers_below}
-use Rattle.inum_cache.proofs.cache.Cache.lower_column.Given as goal
+use Rattle.inum_cache.proofs.cache.Cache.lower_by.Given as goal
 
 abbrev pub invariant-loop-place : goal.invariant-loop-place
 invariant-loop-place g l =
