@@ -222,13 +222,3 @@ sum_below-most f (suc k) most h =
     let here : f k ≤ most = h k (omega arith) in
     let product : suc k * most ≡ k * most + most = suc-mul k most in
     omega (arith, before, here, product)
-
-pub sum_below-at : (f : ℕ → ℕ) (k s : ℕ) → s < k → f s ≤ sum_below f k
-sum_below-at f zero s below = absurd (omega (arith, below))
-sum_below-at f (suc k) s below =
-    elim (cases_eq s k) [
-      | inl e ↦ subst (λ t. f t ≤ sum_below f k + f k) (sym e) (omega arith)
-      | inr other ↦
-          let rest : f s ≤ sum_below f k = sum_below-at f k s (elim (cases_lt s k) [ inl l ↦ l | inr m ↦ absurd (other (omega (arith, m, below))) ]) in
-          omega (arith, rest)
-    ]

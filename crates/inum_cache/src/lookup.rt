@@ -1,5 +1,5 @@
 //! What a least plan costs, from the cache.
-ghost use Rattle.std.specs.Prelude.{◌≡◌, ℕ, ◌<◌, ◌≤◌, length};
+ghost use Rattle.std.specs.Prelude.{◌<◌, ◌≤◌, length};
 ghost use Rattle.plan_model.specs.declared.task.Task.{Task};
 ghost use Rattle.plan_model.specs.Combinations.{CachedBy, IsIn};
 ghost use Rattle.plan_model.specs.Least.{Least};

@@ -65,7 +65,8 @@ impl Cache {
         lower_cost(least, self.sum_of(prices, template))
     }
 
-    /// The least cost over the templates, of which the last need the most and cost the least above their leaves.
+    /// The least cost over the templates, the last first: those need the most orders and mostly cost the least above their
+    /// leaves, so that the others' prices need seldom be looked at.
     #[inline]
     pub(crate) fn least_sum(&self, prices: &[u64], base: u128) -> u128
         requires room { self.now.count ≤ length prices.now }

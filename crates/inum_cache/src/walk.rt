@@ -1,5 +1,5 @@
 //! The prices of the orders of slots.
-ghost use Rattle.std.specs.Prelude.{◌≡◌, ℕ, ◌+◌, ◌<◌, ◌≤◌, true, false, [], length, slice_index_or};
+ghost use Rattle.std.specs.Prelude.{◌≡◌, ◌+◌, ◌<◌, ◌≤◌, true, false, [], length, slice_index_or};
 ghost use Rattle.adv_base.specs.OfferTables.{OfferTableLimits, price_at};
 ghost use Rattle.plan_model.specs.Exchange.{sum_below};
 ghost use Rattle.inum_cache.specs.inner.Pricing as pricing;
