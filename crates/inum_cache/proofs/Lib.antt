@@ -4,5 +4,7 @@ pub mod Testing
 pub mod Costing
 pub mod Kept
 pub mod Pricing
+pub mod Leading
+pub mod Seeing
 pub mod Made
 pub mod Cached

@@ -48,6 +48,10 @@ unfolding combinations
 choices-count task orders are =
     ap (count_in (size_in orders)) are.count ∙ count-below task orders task.slots are (omega arith)
 
+pub choices-first : (task : Task) (orders : List (List Order)) → AreOrders task orders → (slot : ℕ) → slot < length orders → order_in orders slot 0 ≡ []
+choices-first task orders are slot below =
+    order-same task orders are slot 0 ∙ ap (λ (os : List Order). get_or os 0 []) (interesting_orders-first task slot).1
+
 none-of : (task : Task) (slot : ℕ) → IsOfSlot slot []
 none-of task slot =
     let first = interesting_orders-first task slot in

@@ -31,6 +31,9 @@ any_below-at passes (suc n) k below h =
           (any_below-at passes n k (elim (cases_lt k n) [ inl l ↦ l | inr m ↦ absurd (other (omega (arith, m, below))) ]) h)
     ]
 
+pub any_below-more : (passes : ℕ → Bool) (n : ℕ) → any_below passes n ≡ false → passes n ≡ false → any_below passes (n + 1) ≡ false
+any_below-more passes n before here = rw (add-one n, before, here) refl
+
 pub any_below-found : (passes : ℕ → Bool) (n : ℕ) → any_below passes n ≡ true → (k : ℕ) × (k < n) × (passes k ≡ true)
 any_below-found passes zero h = absurd (false≢true h)
 any_below-found passes (suc n) h =

@@ -1,4 +1,6 @@
 -- What retells the loops of the code; nothing above this crate cites it.
+pub mod Columns
 pub mod Costing
 pub mod Keeping
+pub mod Places
 pub mod Pricing

@@ -1,8 +1,9 @@
 //! The cache of a task.
-ghost use Rattle.std.specs.Prelude.{◌≡◌, ℕ, ◌<◌, All, length, slice_index_or};
-ghost use Rattle.inum_cache.specs.Numbering.{size_in};
+ghost use Rattle.std.specs.Prelude.{◌≡◌, ℕ, ◌+◌, ◌<◌, true, false, [], ◌∷◌, All, length, slice_index_or};
+ghost use Rattle.adv_base.specs.declared.workload.parts.Item.TheVariants.{Up};
+ghost use Rattle.inum_cache.specs.Numbering.{size_in, order_in};
 ghost use Rattle.inum_cache.specs.Templates.{FitsOrders};
-ghost use Rattle.inum_cache.specs.inner.Pricing.{start_in};
+ghost use Rattle.inum_cache.specs.inner.Places.{start_in};
 
 use crate::choices::Choices;
 use adv_base::{Item, List};
@@ -10,7 +11,7 @@ use plan_model::Template;
 
 /// The templates of a task, after INUM's cache of plans: for each combination of interesting orders, one for each slot,
 /// that no weaker one replaces at most at its cost, what a least plan costs above leaves that deliver these orders. It
-/// keeps no query and no rows.
+/// keeps no query and no rows; for look-ups it has two bytes for each order beside.
 #[derive(Drop)]
 pub struct Cache {
     pub(crate) choices: Choices,
@@ -19,9 +20,15 @@ pub struct Cache {
     pub(crate) starts: [usize; 8],
     /// How many orders the slots have.
     pub(crate) count: usize,
+    /// The column by which each order begins, slot by slot.
+    pub(crate) columns: List<u16>,
+    /// Whether each order of a slot but the first is one column.
+    pub(crate) of_columns: [bool; 8],
     pub ghost fit: { All (FitsOrders choices.orders) templates },
     ghost started: { (slot : ℕ) → slot < length choices.orders → slice_index_or starts slot 0 ≡ start_in (size_in choices.orders) slot },
     ghost counted: { count ≡ start_in (size_in choices.orders) (length choices.orders) },
+    ghost columned: { length columns ≡ count },
+    ghost single: { (slot place : ℕ) → slot < length choices.orders → slice_index_or of_columns slot false ≡ true → 0 < place → place < size_in choices.orders slot → order_in choices.orders slot place ≡ Up slot (slice_index_or columns (start_in (size_in choices.orders) slot + place) 0) ∷ [] },
 }
 
 impl Cache {

@@ -1,10 +1,10 @@
 //! The orders among which a combination chooses one for each slot.
-ghost use Rattle.std.specs.Prelude.{◌≡◌, ℕ, ◌<◌, ◌≤◌, length, slice_index_or};
+ghost use Rattle.std.specs.Prelude.{◌≡◌, ℕ, ◌<◌, ◌≤◌, [], length, slice_index_or};
 ghost use Rattle.adv_base.specs.declared.limits.TheConstants.{MOST_COMBINATIONS, MOST_SLOTS};
 ghost use Rattle.adv_base.specs.OfferTables.{OfferLimits};
 ghost use Rattle.inum_cache.specs.Numbering as numbering;
 ghost use Rattle.inum_cache.specs.inner.Keeping as keeping;
-ghost use Rattle.inum_cache.specs.inner.Pricing as pricing;
+ghost use Rattle.inum_cache.specs.inner.Places as placed;
 
 use adv_base::{Item, List};
 
@@ -16,6 +16,7 @@ pub(crate) struct Choices {
     pub ghost few: { length orders ≤ MOST_SLOTS },
     pub ghost sizes: { (slot : ℕ) → slot < length orders → numbering.SizeLimits (numbering.size_in orders slot) },
     pub ghost count: { numbering.count_of orders ≤ MOST_COMBINATIONS },
+    pub ghost first: { (slot : ℕ) → slot < length orders → numbering.order_in orders slot 0 ≡ [] },
     pub ghost own: { (slot place : ℕ) → OfferLimits slot (numbering.order_in orders slot place, 0) },
 }
 
@@ -72,8 +73,8 @@ impl Choices {
 
     /// How many orders stand before those of each slot, and how many there are.
     pub(crate) fn starts(&self) -> ([usize; 8], usize)
-        ensures started { (slot : ℕ) → slot < length self.now.orders → slice_index_or result.0 slot 0 ≡ pricing.start_in (numbering.size_in self.now.orders) slot }
-        ensures counted { result.1 ≡ pricing.start_in (numbering.size_in self.now.orders) (length self.now.orders) }
+        ensures started { (slot : ℕ) → slot < length self.now.orders → slice_index_or result.0 slot 0 ≡ placed.start_in (numbering.size_in self.now.orders) slot }
+        ensures counted { result.1 ≡ placed.start_in (numbering.size_in self.now.orders) (length self.now.orders) }
     {
         let mut starts = [0; 8];
         let mut count = 0;

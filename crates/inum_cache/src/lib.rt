@@ -19,6 +19,7 @@
 mod building;
 mod cache;
 mod choices;
+mod columns;
 mod fault;
 mod free;
 mod fronts;
@@ -26,6 +27,8 @@ mod internals;
 mod keep;
 mod lookup;
 mod prices;
+mod sums;
+mod walk;
 
 pub use building::build;
 pub use cache::Cache;

@@ -1,36 +1,36 @@
 //! The least prices at which slots give orders.
-ghost use Rattle.std.specs.Prelude.{◌≡◌, ◌<◌, ◌≤◌, nat_lt, if◌then◌else◌, length};
+ghost use Rattle.std.specs.Prelude.{◌≡◌, ◌≢◌, ◌<◌, nat_lt, if◌then◌else◌, length, set, slice_index_or};
 ghost use Rattle.inum_cache.specs.inner.Pricing as pricing;
 
 use crate::fronts::begins;
 use adv_base::Item;
 use plan_model::Offers;
 
-/// Stands for the price of an order that no offer begins with; it is above every cost.
-pub(crate) const UNOFFERED: u128 = 1_000_000_000_000_000_000_000_000_000_000;
+/// Stands for the price of an order that no offer begins with; it is above every price.
+pub(crate) const UNOFFERED: u64 = 18_446_744_073_709_551_615;
 
-/// The lower of two costs.
+/// The lower of two prices.
 #[inline]
-pub(crate) fn lower(least: u128, cost: u128) -> u128
-    ensures { result ≡ (if nat_lt cost least then cost else least) }
+pub(crate) fn lower(least: u64, price: u64) -> u64
+    ensures { result ≡ (if nat_lt price least then price else least) }
 {
-    if cost < least { cost } else { least }
+    if price < least { price } else { least }
 }
 
 /// The price of an offer where it begins with the order.
-fn offer_price<O: Offers>(offers: &O, slot: u8, order: &[Item], offer: u32) -> u128
+fn offer_price<O: Offers>(offers: &O, slot: u8, order: &[Item], offer: u32) -> u64
     requires { offer < length (O.table offers.now slot) }
     ensures { result ≡ pricing.offer_price (O.table offers.now) slot order.now offer }
 {
     if begins(offers.order(slot, offer), order) {
-        offers.price(slot, offer) as u128
+        offers.price(slot, offer)
     } else {
         UNOFFERED
     }
 }
 
 /// The least price at which a slot gives the order.
-pub(crate) fn best_price<O: Offers>(offers: &O, slot: u8, order: &[Item]) -> u128
+pub(crate) fn best_price<O: Offers>(offers: &O, slot: u8, order: &[Item]) -> u64
     ensures { result ≡ pricing.best_price (O.table offers.now) slot order.now }
 {
     let mut best = UNOFFERED;
@@ -38,4 +38,16 @@ pub(crate) fn best_price<O: Offers>(offers: &O, slot: u8, order: &[Item]) -> u12
         best = lower(best, offer_price(offers, slot, order, offer));
     }
     best
+}
+
+/// Lowers the price at a place to this one, where its order is of this column.
+#[inline]
+pub(crate) fn lower_at(prices: &mut [u64], at: usize, own: u16, column: u16, price: u64)
+    requires { at < length prices.old }
+    ensures same { own ≡ column → prices.new ≡ set prices.old at (if nat_lt price (slice_index_or prices.old at 0) then price else slice_index_or prices.old at 0) }
+    ensures other { own ≢ column → prices.new ≡ prices.old }
+{
+    if own == column {
+        prices[at] = lower(prices[at], price);
+    }
 }

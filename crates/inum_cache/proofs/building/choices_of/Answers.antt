@@ -1,5 +1,5 @@
 use Rattle.std.proofs.Common.{arith}
-use Rattle.inum_cache.proofs.Made.{choices-few, choices-sizes, choices-count, choices-own}
+use Rattle.inum_cache.proofs.Made.{choices-few, choices-sizes, choices-count, choices-first, choices-own}
 use Rattle.inum_cache.proofs.building.choices_of.Goals as goal
 
 pub invariant_of-result : goal.invariant_of-result
@@ -11,6 +11,7 @@ invariant_of-result c =
       few = choices-few task orders are;
       sizes = choices-sizes task orders are;
       count = let same = choices-count task orders are in omega (arith, same, c.requires);
+      first = choices-first task orders are;
       own = choices-own task orders are;
     }
 

@@ -1,6 +1,6 @@
 use Rattle.std.proofs.Common.{◌≡◌, ◌≤◌, ◌<◌, ◌*◌, ℕ, length, slice_index_or}
 use Rattle.inum_cache.specs.Numbering.{size_in}
-use Rattle.inum_cache.specs.inner.Pricing.{start_in}
+use Rattle.inum_cache.specs.inner.Places.{start_in}
 use Rattle.inum_cache.proofs.choices.Choices.starts.Given as goal
 
 abbrev pub invariant-loop-slot : goal.invariant-loop-slot
