@@ -4,11 +4,12 @@ use Rattle.std.specs.Prelude.{decimal, option_to_list, unwrap_or, is_some}
 use Rattle.std.specs.List.{starts_with}
 use Rattle.std.specs.Str.{bytes_eq}
 use Rattle.std.proofs.lemmas.Slice.Eq.{bytes_eq-Decides}
+use Rattle.adv_base.specs.Readings.{◌>>=◌, or_fault}
 use Rattle.report.specs.declared.done.WordFault.{WordFault}
 use Rattle.report.specs.declared.done.WordFault.TheVariants.{BadNumber, Extra, Missing, Twice, UnknownOption, UnknownCommand}
 use Rattle.std.proofs.lemmas.Bool.Decides.{nat_tests}
 use Rattle.cophy_core.specs.Numbers.{number_within}
-use Rattle.cophy_core.specs.CommandLine.{PlainCommand, Cost, WhatIf, Explain, Candidates, Advise, Check, Bench, PlainOptions, no_options, ◌>>=◌, word_or_missing, number_or_bad, word_at, number_at, end_at, nodes_option, cert_option, option_of, cost_row, what_if_row, explain_row, candidates_row, advise_row, check_row, bench_row, read_row, named_command, command_of, options_from, option_at}
+use Rattle.cophy_core.specs.CommandLine.{PlainCommand, Cost, WhatIf, Explain, Candidates, Advise, Check, Bench, PlainOptions, no_options, word_at, number_at, end_at, nodes_option, cert_option, option_of, cost_row, what_if_row, explain_row, candidates_row, advise_row, check_row, bench_row, read_row, named_command, command_of, options_from, option_at}
 use Rattle.cophy_core.specs.Spellings.{IsWithin, Choice, Nodes, Cert, words_of, Choose, IsCommandLine}
 use Rattle.cophy_core.proofs.NumberLaws.{number_is, number_found}
 use Rattle.cophy_core.proofs.Options.{options_from-end, options_from-next}
@@ -131,12 +132,12 @@ bind_ok (Err fault) f c e = absurd (not_ok fault c e)
 named : (word name : List ℕ) → bytes_eq word name ≡ true → word ≡ name
 named word name e = (bytes_eq-Decides word name).0 e
 
-number_ok : (k : ℕ) (o : Option ℕ) (n : ℕ) → number_or_bad k o ≡ Ok n → o ≡ Some n
+number_ok : (k : ℕ) (o : Option ℕ) (n : ℕ) → or_fault (BadNumber k) o ≡ Ok n → o ≡ Some n
 number_ok k None n e = absurd (not_ok (BadNumber k) n e)
 number_ok k (Some m) n e = let same : m ≡ n = cc in ap Some same
 
 -- a word that is read as a number
-within : (k least most : ℕ) (word : List ℕ) (n : ℕ) → number_or_bad k (number_within least most word) ≡ Ok n → (word ≡ decimal n) × IsWithin least most n
+within : (k least most : ℕ) (word : List ℕ) (n : ℕ) → or_fault (BadNumber k) (number_within least most word) ≡ Ok n → (word ≡ decimal n) × IsWithin least most n
 within k least most word n e =
     let is = number_is least most word n (number_ok k (number_within least most word) n e) in
     (is.digits, record { low = is.low; high = is.high })
@@ -182,13 +183,13 @@ explain_back w (a ∷ []) c n e = absurd (not_ok _ c e)
 explain_back w (a ∷ b ∷ []) c n e = absurd (not_ok _ c e)
 explain_back w (a ∷ b ∷ d ∷ []) c n e = absurd (not_ok _ c e)
 explain_back w (a ∷ b ∷ d ∷ m ∷ []) c n e =
-    let read = bind_ok (number_or_bad 5 (number_within 1 1000 m)) _ c e in
+    let read = bind_ok (or_fault (BadNumber 5) (number_within 1 1000 m)) _ c e in
     let is = within 5 1 1000 m read.0 read.1.0 in
     let same = ends (w ∷ a ∷ b ∷ d ∷ m ∷ []) 5 (Explain a b d read.0) c refl read.1.1 in
     let line : w ∷ a ∷ b ∷ d ∷ m ∷ [] ≡ codes "explain" ∷ a ∷ b ∷ d ∷ decimal read.0 ∷ [] = cc (n, is.0) in
     subst (IsCommandLine (w ∷ a ∷ b ∷ d ∷ m ∷ [])) same (line, is.1)
 explain_back w (a ∷ b ∷ d ∷ m ∷ x ∷ more) c n e =
-    let read = bind_ok (number_or_bad 5 (number_within 1 1000 m)) _ c e in
+    let read = bind_ok (or_fault (BadNumber 5) (number_within 1 1000 m)) _ c e in
     absurd (ends_not (w ∷ a ∷ b ∷ d ∷ m ∷ x ∷ more) 5 (Explain a b d read.0) c (omega arith) read.1.1)
 
 -- numbers behind a name
@@ -196,7 +197,7 @@ pub bench_back : (w : List ℕ) (ws : List (List ℕ)) (c : PlainCommand) → w 
 unfolding word_at number_at
 bench_back w [] c n e = absurd (not_ok _ c e)
 bench_back w (s ∷ ws) c n e =
-    let seed = bind_ok (number_or_bad 2 (number_within 0 18446744073709551615 s)) _ c e in
+    let seed = bind_ok (or_fault (BadNumber 2) (number_within 0 18446744073709551615 s)) _ c e in
     bench_tables w s ws c n seed.0 (within 2 0 18446744073709551615 s seed.0 seed.1.0) seed.1.1
   where
     bench_tables : (w s : List ℕ) (ws : List (List ℕ)) (c : PlainCommand) → w ≡ codes "bench" → (seed : ℕ) → (s ≡ decimal seed) × IsWithin 0 18446744073709551615 seed →
@@ -204,14 +205,14 @@ bench_back w (s ∷ ws) c n e =
         IsCommandLine (w ∷ s ∷ ws) c
     bench_tables w s [] c n seed is e = absurd (not_ok _ c e)
     bench_tables w s (t ∷ []) c n seed is e =
-        let tables = bind_ok (number_or_bad 3 (number_within 2 20 t)) _ c e in absurd (not_ok _ c tables.1.1)
+        let tables = bind_ok (or_fault (BadNumber 3) (number_within 2 20 t)) _ c e in absurd (not_ok _ c tables.1.1)
     bench_tables w s (t ∷ q ∷ []) c n seed is e =
-        let tables = bind_ok (number_or_bad 3 (number_within 2 20 t)) _ c e in
-        let statements = bind_ok (number_or_bad 4 (number_within 1 500 q)) _ c tables.1.1 in absurd (not_ok _ c statements.1.1)
+        let tables = bind_ok (or_fault (BadNumber 3) (number_within 2 20 t)) _ c e in
+        let statements = bind_ok (or_fault (BadNumber 4) (number_within 1 500 q)) _ c tables.1.1 in absurd (not_ok _ c statements.1.1)
     bench_tables w s (t ∷ q ∷ b ∷ []) c n seed is e =
-        let tables = bind_ok (number_or_bad 3 (number_within 2 20 t)) _ c e in
-        let statements = bind_ok (number_or_bad 4 (number_within 1 500 q)) _ c tables.1.1 in
-        let budget = bind_ok (number_or_bad 5 (number_within 0 1000000000000 b)) _ c statements.1.1 in
+        let tables = bind_ok (or_fault (BadNumber 3) (number_within 2 20 t)) _ c e in
+        let statements = bind_ok (or_fault (BadNumber 4) (number_within 1 500 q)) _ c tables.1.1 in
+        let budget = bind_ok (or_fault (BadNumber 5) (number_within 0 1000000000000 b)) _ c statements.1.1 in
         let t_is = within 3 2 20 t tables.0 tables.1.0 in
         let q_is = within 4 1 500 q statements.0 statements.1.0 in
         let b_is = within 5 0 1000000000000 b budget.0 budget.1.0 in
@@ -219,9 +220,9 @@ bench_back w (s ∷ ws) c n e =
         let line : w ∷ s ∷ t ∷ q ∷ b ∷ [] ≡ codes "bench" ∷ decimal seed ∷ decimal tables.0 ∷ decimal statements.0 ∷ decimal budget.0 ∷ [] = cc (n, is.0, t_is.0, q_is.0, b_is.0) in
         subst (IsCommandLine (w ∷ s ∷ t ∷ q ∷ b ∷ [])) same (line, (is.1, (t_is.1, (q_is.1, b_is.1))))
     bench_tables w s (t ∷ q ∷ b ∷ x ∷ more) c n seed is e =
-        let tables = bind_ok (number_or_bad 3 (number_within 2 20 t)) _ c e in
-        let statements = bind_ok (number_or_bad 4 (number_within 1 500 q)) _ c tables.1.1 in
-        let budget = bind_ok (number_or_bad 5 (number_within 0 1000000000000 b)) _ c statements.1.1 in
+        let tables = bind_ok (or_fault (BadNumber 3) (number_within 2 20 t)) _ c e in
+        let statements = bind_ok (or_fault (BadNumber 4) (number_within 1 500 q)) _ c tables.1.1 in
+        let budget = bind_ok (or_fault (BadNumber 5) (number_within 0 1000000000000 b)) _ c statements.1.1 in
         absurd (ends_not (w ∷ s ∷ t ∷ q ∷ b ∷ x ∷ more) 5 (Bench seed tables.0 statements.0 budget.0) c (omega arith) budget.1.1)
 
 -- ## The options that are read
@@ -274,28 +275,28 @@ one_more words turns k given last long e =
 step : (words : List (List ℕ)) (k : ℕ) (given next : PlainOptions) (p : List ℕ) → slice_get words (k - 1) ≡ Some p → option_at words k given ≡ Ok next → IsNext words k p given next
 unfolding option_at word_at
 step words k given next p there e =
-    let at : (word_or_missing k (Some p) >>= option_of words k given) ≡ Ok next = rw there at e in
+    let at : (or_fault (Missing k) (Some p) >>= option_of words k given) ≡ Ok next = rw there at e in
     option_read words k given next p at
 
 number_back : (words : List (List ℕ)) (k least most n : ℕ) (v : List ℕ) → slice_get words (k - 1) ≡ Some v → number_at words k least most ≡ Ok n → (v ≡ decimal n) × IsWithin least most n
 unfolding number_at word_at
 number_back words k least most n v there e =
-    let at : (word_or_missing k (Some v) >>= λ word. number_or_bad k (number_within least most word)) ≡ Ok n = rw there at e in
+    let at : (or_fault (Missing k) (Some v) >>= λ word. or_fault (BadNumber k) (number_within least most word)) ≡ Ok n = rw there at e in
     within k least most v n at
 
 no_number : (words : List (List ℕ)) (k least most n : ℕ) → slice_get words (k - 1) ≡ None → number_at words k least most ≡ Ok n → ⊥
 unfolding number_at word_at
 no_number words k least most n none e =
-    let at : (word_or_missing k None >>= λ word. number_or_bad k (number_within least most word)) ≡ Ok n = rw none at e in
+    let at : (or_fault (Missing k) None >>= λ word. or_fault (BadNumber k) (number_within least most word)) ≡ Ok n = rw none at e in
     not_ok (Missing k) n at
 
 word_back : (words : List (List ℕ)) (k : ℕ) (name v : List ℕ) → slice_get words (k - 1) ≡ Some v → word_at words k ≡ Ok name → v ≡ name
 unfolding word_at
-word_back words k name v there e = let at : word_or_missing k (Some v) ≡ Ok name = rw there at e in cc
+word_back words k name v there e = let at : or_fault (Missing k) (Some v) ≡ Ok name = rw there at e in cc
 
 no_word : (words : List (List ℕ)) (k : ℕ) (name : List ℕ) → slice_get words (k - 1) ≡ None → word_at words k ≡ Ok name → ⊥
 unfolding word_at
-no_word words k name none e = let at : word_or_missing k None ≡ Ok name = rw none at e in not_ok (Missing k) name at
+no_word words k name none e = let at : or_fault (Missing k) None ≡ Ok name = rw none at e in not_ok (Missing k) name at
 
 -- a choice that wasn't given yet
 abbrev Adds : Choice → PlainOptions → PlainOptions → Type 0
@@ -397,7 +398,7 @@ search_back w [] c n e = absurd (not_ok _ c e)
 search_back w (a ∷ []) c n e = absurd (not_ok _ c e)
 search_back w (a ∷ b ∷ []) c n e = absurd (not_ok _ c e)
 search_back w (a ∷ b ∷ d ∷ opts) c n e =
-    let budget = bind_ok (number_or_bad 4 (number_within 0 1000000000000 d)) _ c e in
+    let budget = bind_ok (or_fault (BadNumber 4) (number_within 0 1000000000000 d)) _ c e in
     let is = within 4 0 1000000000000 d budget.0 budget.1.0 in
     let read = bind_ok (options_from (w ∷ a ∷ b ∷ d ∷ opts) 3 5 no_options) _ c budget.1.1 in
     let chosen = options_back w a b d opts read.0 read.1.0 in

@@ -1,5 +1,6 @@
 pub mod NumberLaws
 pub mod Options
+pub mod Rows
 pub mod Lines
 pub mod Blocks
 pub mod Offered

@@ -1,7 +1,8 @@
 -- Options, read one at a time.
 use Rattle.std.proofs.Common.{◌≡◌, ℕ, suc, ◌+◌, ◌<◌, ◌≤◌, List, length, Ok, arith}
 use Rattle.std.proofs.lemmas.Bool.Decides.{nat_tests}
-use Rattle.cophy_core.specs.CommandLine.{PlainOptions, options_from, option_at, ◌>>=◌}
+use Rattle.adv_base.specs.Readings.{◌>>=◌}
+use Rattle.cophy_core.specs.CommandLine.{PlainOptions, options_from, option_at}
 
 -- no word is left
 pub options_from-end : (words : List (List ℕ)) (turns number : ℕ) (given : PlainOptions) → length words < number → options_from words (suc turns) number given ≡ Ok given

@@ -7,8 +7,7 @@ use Rattle.tuning.specs.declared.fault.TuneFault.TheVariants as tune
 use Rattle.tuning.specs.Refusals.{IsCause}
 use Rattle.cophy_core.specs.declared.stop.Stop.{Stop}
 use Rattle.cophy_core.specs.declared.stop.Stop.TheVariants.{Memory, Failed, Refused}
-use Rattle.cophy_core.specs.Stops.{IsStopOf, StopsAt}
-use Rattle.cophy_core.specs.commands.Advise.{Refuses, IsTuneStop}
+use Rattle.cophy_core.specs.Stops.{IsStopOf, StopsAt, LacksProgramme, IsTuneStop}
 
 -- the stop at a fault stops at a refusal with P, where the fault has it
 pub stops_at : {F : Type 0} (P : Refusal → Type 0) (memory : F) (refusal : F → Refusal) (fault : F) (stop : Stop) → IsStopOf memory refusal fault stop → (fault ≢ memory → P (refusal fault)) → StopsAt P stop
@@ -23,6 +22,6 @@ stops_at P memory refusal fault (Refused r) of why =
     subst P same (why apart)
 
 -- the stop where a setting has no programme
-pub tune_stops : (setting : TheSetting) (fault : TuneFault) (stop : Stop) → IsCause setting fault → IsTuneStop fault stop → StopsAt (Refuses setting) stop
-tune_stops setting tune.Memory stop cause is = subst (StopsAt (Refuses setting)) (sym is) tt
-tune_stops setting (tune.TooManyCombinations number count) stop cause is = subst (StopsAt (Refuses setting)) (sym is) cause
+pub tune_stops : (setting : TheSetting) (fault : TuneFault) (stop : Stop) → IsCause setting fault → IsTuneStop fault stop → StopsAt (LacksProgramme setting) stop
+tune_stops setting tune.Memory stop cause is = subst (StopsAt (LacksProgramme setting)) (sym is) tt
+tune_stops setting (tune.TooManyCombinations number count) stop cause is = subst (StopsAt (LacksProgramme setting)) (sym is) cause

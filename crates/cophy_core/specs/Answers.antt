@@ -15,6 +15,7 @@ use Rattle.cophy_core.specs.commands.Explain as explain
 use Rattle.cophy_core.specs.commands.WhatIf as what_if
 use Rattle.cophy_core.specs.Endings.{Put}
 use Rattle.cophy_core.specs.CommandLine.{PlainCommand, Candidates, Cost, WhatIf, Explain, Advise, Check, Bench}
+use Rattle.cophy_core.specs.Stops.{LacksProgramme}
 use Rattle.cophy_core.specs.Files.{files_of, input, IsTooLong}
 use Rattle.cophy_core.specs.Inputs.{HasInputs}
 use Rattle.cophy_core.specs.Settings.{IsSetting, HasCatFault, IsSqlRefusal, IsBindRefusal}
@@ -23,8 +24,8 @@ use Rattle.cophy_core.specs.Settings.{IsSetting, HasCatFault, IsSqlRefusal, IsBi
 abbrev pub RefusesOver : PlainCommand → List (List ℕ) → TheSetting → Refusal → Type 0
 RefusesOver (WhatIf cat load conf) inputs setting why = what_if.Refuses (input inputs 2) setting why
 RefusesOver (Explain cat load conf number) inputs setting why = explain.Refuses number (input inputs 2) setting why
-RefusesOver (Advise cat load budget nodes cert) inputs setting why = advise.Refuses setting why
-RefusesOver (Bench seed tables statements budget) inputs setting why = advise.Refuses setting why
+RefusesOver (Advise cat load budget nodes cert) inputs setting why = LacksProgramme setting why
+RefusesOver (Bench seed tables statements budget) inputs setting why = LacksProgramme setting why
 RefusesOver command inputs setting why = ⊥
 
 -- what a command gives over the bytes that it answers from and their setting

@@ -2,6 +2,7 @@
 use Rattle.std.specs.Prelude.{◌≡◌, ℕ, zero, suc, ◌+◌, ◌-◌, nat_eq, nat_lt, if◌then◌else◌, List, [], ◌∷◌, length, map, codes, bytes_eq, is_some, slice_get, unwrap_or, Option, Some, None, option_map, Result, Ok, Err, String, string_bytes}
 use Rattle.std.specs.List.{starts_with}
 use Rattle.std.specs.declared.alloc.Global.{Global}
+use Rattle.adv_base.specs.Readings.{◌>>=◌, or_fault}
 use Rattle.report.specs.declared.done.WordFault.{WordFault}
 use Rattle.report.specs.declared.done.WordFault.TheVariants.{NoCommand, UnknownCommand, Missing, Extra, UnknownOption, Twice, BadNumber}
 use Rattle.cophy_core.specs.declared.command_line.Command.{Command}
@@ -32,31 +33,18 @@ plain_command (code.Bench seed tables statements budget) = Bench seed tables sta
 abbrev pub texts : List (String Global) → List (List ℕ)
 texts words = map string_bytes words
 
-infixl 10 ◌>>=◌
-abbrev pub ◌>>=◌ : {A B : Type 0} → Result A WordFault → (A → Result B WordFault) → Result B WordFault
-(Ok x) >>= f = f x
-(Err e) >>= f = Err e
-
 -- what a function returned, seen by view, is what reading gives
 abbrev pub GivesBy : {X Y : Type 0} → (X → Y) → Result X WordFault → Result Y WordFault → Type 0
 GivesBy view (Ok x) read = read ≡ Ok (view x)
 GivesBy view (Err e) read = read ≡ Err e
 
-abbrev pub word_or_missing : ℕ → Option (List ℕ) → Result (List ℕ) WordFault
-word_or_missing number None = Err (Missing number)
-word_or_missing number (Some word) = Ok word
-
 -- the word of a number, from 1
 unfoldable pub word_at : List (List ℕ) → ℕ → Result (List ℕ) WordFault
-word_at words number = word_or_missing number (slice_get words (number - 1))
-
-abbrev pub number_or_bad : ℕ → Option ℕ → Result ℕ WordFault
-number_or_bad number None = Err (BadNumber number)
-number_or_bad number (Some n) = Ok n
+word_at words number = or_fault (Missing number) (slice_get words (number - 1))
 
 -- the number that a word is, in a range
 unfoldable pub number_at : List (List ℕ) → ℕ → ℕ → ℕ → Result ℕ WordFault
-number_at words number least most = word_at words number >>= λ word. number_or_bad number (number_within least most word)
+number_at words number least most = word_at words number >>= λ word. or_fault (BadNumber number) (number_within least most word)
 
 -- no word stands behind the one of a number
 unfoldable pub end_at : List (List ℕ) → ℕ → Result (Unit {0}) WordFault

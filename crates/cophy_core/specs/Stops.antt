@@ -1,8 +1,13 @@
 -- Why the work for an answer stops, and what is answered then.
 use Rattle.std.specs.Prelude.{◌≡◌, ◌≢◌}
+use Rattle.adv_base.specs.Settings.{TheSetting}
+use Rattle.tuning.specs.declared.fault.TuneFault.{TuneFault}
+use Rattle.tuning.specs.declared.fault.TuneFault.TheVariants as tune
+use Rattle.tuning.specs.Refusals.{IsFirstBeyond}
 use Rattle.report.specs.declared.done.Done.{Done}
 use Rattle.report.specs.declared.done.Done.TheVariants as answers
 use Rattle.report.specs.declared.done.Refusal.{Refusal}
+use Rattle.report.specs.declared.done.Refusal.TheVariants.{TooManyCombinations}
 use Rattle.cophy_core.specs.declared.stop.Stop.{Stop}
 use Rattle.cophy_core.specs.declared.stop.Stop.TheVariants.{Memory, Failed, Refused}
 
@@ -22,3 +27,13 @@ abbrev pub StopsAt : (Refusal → Type 0) → Stop → Type 0
 StopsAt P Memory = Unit {0}
 StopsAt P (Failed role) = ⊥
 StopsAt P (Refused why) = P why
+
+-- why a setting has no programme: the first statement with more combinations of interesting orders than a cache of plans takes
+abbrev pub LacksProgramme : TheSetting → Refusal → Type 0
+LacksProgramme setting (TooManyCombinations number count) = IsFirstBeyond setting number count
+LacksProgramme setting why = ⊥
+
+-- the stop where a setting has no programme
+abbrev pub IsTuneStop : TuneFault → Stop → Type 0
+IsTuneStop tune.Memory stop = stop ≡ Memory
+IsTuneStop (tune.TooManyCombinations number count) stop = stop ≡ Refused (TooManyCombinations number count)

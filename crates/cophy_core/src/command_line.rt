@@ -1,7 +1,8 @@
 //! The command line.
-ghost use Rattle.std.specs.Prelude.{◌≡◌, ◌≤◌, ◌<◌, ◌↔◌, IfOk};
+ghost use Rattle.std.specs.Prelude.{◌≡◌, ◌+◌, ◌≤◌, ◌<◌, ◌↔◌, IfOk};
 ghost use Rattle.cophy_core.specs.Spellings.{IsCommandLine};
 ghost use Rattle.cophy_core.specs.CommandLine as spec;
+ghost use Rattle.cophy_core.specs.inner.Arguments.{next_word, next_number, next_options, at_end, ReadsFile, ReadsNumber};
 
 use crate::number::number_of;
 use report::WordFault;
@@ -13,7 +14,7 @@ pub const DEFAULT_NODES: u32 = 20000;
 const MOST_BUDGET: u64 = 1000000000000;
 
 /// The most nodes of a search.
-const MOST_NODES: u32 = 1000000;
+const MOST_NODES: u64 = 1000000;
 
 /// What the words of a command line ask for. Files go by their names.
 #[derive(Clone, Copy, Debug)]
@@ -97,15 +98,6 @@ fn number_at(words: &[String], number: u32, least: u64, most: u64) -> Result<u64
     }
 }
 
-/// The same of a number that fits 32 bits.
-fn small_at(words: &[String], number: u32, least: u32, most: u32) -> Result<u32, WordFault>
-    requires { 1 ≤ number }
-    ensures { result ≡ spec.number_at (spec.texts words.now) number least most }
-{
-    let n = number_at(words, number, least as u64, most as u64)?;
-    Ok(n as u32)
-}
-
 /// Says that no word stands behind the one of a number.
 #[tactic(auto, unfolding(crate::specs::CommandLine::end_at))]
 fn end_at(words: &[String], number: u32) -> Result<(), WordFault>
@@ -131,9 +123,9 @@ fn nodes_option<'a>(
     if given.nodes.is_some() {
         return Err(WordFault::Twice(number));
     }
-    let nodes = small_at(words, number + 1, 1, MOST_NODES)?;
+    let nodes = number_at(words, number + 1, 1, MOST_NODES)?;
     Ok(Options {
-        nodes: Some(nodes),
+        nodes: Some(nodes as u32),
         cert: given.cert,
     })
 }
@@ -204,58 +196,161 @@ fn read_options<'a>(words: &'a [String], first: u32) -> Result<Options<'a>, Word
     Err(WordFault::Extra(first + 6))
 }
 
-/// A command of these fields, which were read up to the word of a number: with `options` those of a search follow, else no
-/// word does.
-macro_rules! asked {
-    ($words:ident, $at:ident, $command:ident { $($field:ident),+ }) => {{
-        end_at($words, $at)?;
-        Command::$command { $($field),+ }
-    }};
-    ($words:ident, $at:ident, $command:ident { $($field:ident),+ } options) => {{
-        let given = read_options($words, $at + 1)?;
-        Command::$command {
-            $($field,)+
-            nodes: given.nodes.unwrap_or(DEFAULT_NODES),
-            cert: given.cert,
+/// The words of a command line, read one after another from the one behind its name. Behind the first fault nothing is read,
+/// and values that mean nothing stand in place of the words, so that a row of the table is read straight through.
+#[derive(Drop)]
+struct Arguments<'a> {
+    words: &'a [String],
+    /// The number of the last word that was read, from 1.
+    at: u32,
+    /// The first fault so far, if there is one.
+    read: Result<(), WordFault>,
+}
+
+impl<'a> Arguments<'a> {
+    /// The next word, or the first fault.
+    fn word(&self) -> Result<&'a str, WordFault>
+        requires { self.now.at < 100 }
+        ensures { spec.GivesBy (λ word. word.now) result (next_word self.now) }
+    {
+        self.read?;
+        word_at(self.words, self.at + 1)
+    }
+
+    /// The number that the next word is, or the first fault.
+    fn count(&self, least: u64, most: u64) -> Result<u64, WordFault>
+        requires { self.now.at < 100 }
+        ensures exact { result ≡ next_number least most self.now }
+        ensures range { IfOk result (λ n. n ≤ most) }
+    {
+        self.read?;
+        number_at(self.words, self.at + 1, least, most)
+    }
+
+    /// Reads the next word, the name of a file.
+    fn file(&mut self) -> &'a str
+        requires { self.old.at < 100 }
+        ensures next { self.new.at ≡ self.old.at + 1 }
+        ensures reads { ReadsFile self.old self.new result.now }
+    {
+        let word = self.word();
+        self.at += 1;
+        match word {
+            Ok(word) => word,
+            Err(fault) => {
+                self.read = Err(fault);
+                ""
+            }
         }
-    }};
+    }
+
+    /// Reads the next word, a number in a range.
+    fn number(&mut self, least: u64, most: u64) -> u64
+        requires { self.old.at < 100 }
+        ensures next { self.new.at ≡ self.old.at + 1 }
+        ensures range { result ≤ most }
+        ensures reads { ReadsNumber least most self.old self.new result }
+    {
+        let number = self.count(least, most);
+        self.at += 1;
+        match number {
+            Ok(number) => number,
+            Err(fault) => {
+                self.read = Err(fault);
+                0
+            }
+        }
+    }
+
+    /// The options of a search, which are the rest of the words, or the first fault.
+    fn options(&self) -> Result<Options<'a>, WordFault>
+        requires { self.now.at < 80 }
+        ensures { spec.GivesBy spec.plain_options result (next_options self.now) }
+    {
+        self.read?;
+        read_options(self.words, self.at + 1)
+    }
+
+    /// The command, if nothing stands behind its words, or the first fault.
+    fn end(&self, command: Command<'a>) -> Result<Command<'a>, WordFault>
+        requires { self.now.at < 100 }
+        ensures { spec.GivesBy spec.plain_command result (at_end self.now (spec.plain_command command.entry)) }
+    {
+        self.read?;
+        end_at(self.words, self.at)?;
+        Ok(command)
+    }
 }
 
-/// Returns the command of a name by a table with a row for each: its name, and its fields in the order of the words. Each is
-/// read by a function of the words, the number of its word and the range of a number.
-macro_rules! commands {
-    ($name:ident, $words:ident; $(
-        $spelled:literal => $command:ident { $($field:ident: $kind:ident($($range:expr),*)),+ } $(+ $options:ident)?;
-    )+) => {
-        $(if $name == $spelled {
-            let mut at = 1u32;
-            $(
-                at += 1;
-                let $field = $kind($words, at $(, $range)*)?;
-            )+
-            return Ok(asked!($words, at, $command { $($field),+ } $($options)?));
-        })+
-    };
-}
-
-/// The command of a name, with the rest of the words.
-#[tactic(auto, unfolding(crate::specs::CommandLine::named_command))]
+/// The command of a name, with the rest of the words: a row for each.
 fn named<'a>(name: &str, words: &'a [String]) -> Result<Command<'a>, WordFault>
     ensures { spec.GivesBy spec.plain_command result (spec.named_command name.now (spec.texts words.now)) }
 {
-    commands! { name, words;
-        "cost" => Cost { cat: word_at(), load: word_at() };
-        "whatif" => WhatIf { cat: word_at(), load: word_at(), conf: word_at() };
-        "explain" => Explain { cat: word_at(), load: word_at(), conf: word_at(), number: small_at(1, 1000) };
-        "candidates" => Candidates { cat: word_at(), load: word_at() };
-        "advise" => Advise { cat: word_at(), load: word_at(), budget: number_at(0, MOST_BUDGET) } + options;
-        "check" => Check { cat: word_at(), load: word_at(), cert: word_at() };
-        "bench" => Bench {
-            seed: number_at(0, u64::MAX),
-            tables: small_at(2, 20),
-            statements: small_at(1, 500),
-            budget: number_at(0, MOST_BUDGET)
+    let mut line = Arguments {
+        words,
+        at: 1,
+        read: Ok(()),
+    };
+    if name == "cost" {
+        let command = Command::Cost {
+            cat: line.file(),
+            load: line.file(),
         };
+        return line.end(command);
+    }
+    if name == "whatif" {
+        let command = Command::WhatIf {
+            cat: line.file(),
+            load: line.file(),
+            conf: line.file(),
+        };
+        return line.end(command);
+    }
+    if name == "explain" {
+        let command = Command::Explain {
+            cat: line.file(),
+            load: line.file(),
+            conf: line.file(),
+            number: line.number(1, 1000) as u32,
+        };
+        return line.end(command);
+    }
+    if name == "candidates" {
+        let command = Command::Candidates {
+            cat: line.file(),
+            load: line.file(),
+        };
+        return line.end(command);
+    }
+    if name == "advise" {
+        let cat = line.file();
+        let load = line.file();
+        let budget = line.number(0, MOST_BUDGET);
+        let given = line.options()?;
+        return Ok(Command::Advise {
+            cat,
+            load,
+            budget,
+            nodes: given.nodes.unwrap_or(DEFAULT_NODES),
+            cert: given.cert,
+        });
+    }
+    if name == "check" {
+        let command = Command::Check {
+            cat: line.file(),
+            load: line.file(),
+            cert: line.file(),
+        };
+        return line.end(command);
+    }
+    if name == "bench" {
+        let command = Command::Bench {
+            seed: line.number(0, u64::MAX),
+            tables: line.number(2, 20) as u32,
+            statements: line.number(1, 500) as u32,
+            budget: line.number(0, MOST_BUDGET),
+        };
+        return line.end(command);
     }
     Err(WordFault::UnknownCommand(1))
 }

@@ -3,8 +3,7 @@ ghost use Rattle.std.specs.Prelude.{IfErr, IfOk};
 ghost use Rattle.adv_base.specs.Settings.{the_setting};
 ghost use Rattle.bip_model.specs.StandsFor.{StandsFor};
 ghost use Rattle.tuning.specs.Refusals.{AreFew};
-ghost use Rattle.cophy_core.specs.Stops.{StopsAt};
-ghost use Rattle.cophy_core.specs.commands.Advise as advise;
+ghost use Rattle.cophy_core.specs.Stops.{StopsAt, LacksProgramme, IsTuneStop};
 
 use crate::stop::Stop;
 use adv_base::Setting;
@@ -15,7 +14,7 @@ use tuning::{TuneFault, programme};
 
 /// The stop where a setting has no programme.
 fn tune_stop(fault: TuneFault) -> Stop
-    ensures { advise.IsTuneStop fault result }
+    ensures { IsTuneStop fault result }
 {
     match fault {
         TuneFault::Memory => Stop::Memory,
@@ -29,7 +28,7 @@ fn tune_stop(fault: TuneFault) -> Stop
 pub(crate) fn programme_of(alloc: Global, setting: &Setting<'_>) -> Result<Programme, Stop>
     ensures stands { IfOk result (StandsFor (the_setting setting.now)) }
     ensures few { IfOk result (λ _. AreFew setting.now.cat.now setting.now.statements.now) }
-    ensures stop { IfErr result (StopsAt (advise.Refuses (the_setting setting.now))) }
+    ensures stop { IfErr result (StopsAt (LacksProgramme (the_setting setting.now))) }
 {
     match programme(alloc, setting) {
         Ok(programme) => Ok(programme),

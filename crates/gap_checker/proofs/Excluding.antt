@@ -6,7 +6,7 @@ use Rattle.std.proofs.lemmas.Option.{slice_get-map, slice_get-get_or, get_or_fro
 use Rattle.std.proofs.lemmas.Int.{ints}
 use Rattle.std.proofs.lemmas.List.Elements.{All-head}
 use Rattle.adv_base.specs.declared.setting.Config.{Config}
-use Rattle.adv_base.specs.Configs.{has_candidate}
+use Rattle.adv_base.specs.Configs.{IsConfigOf, has_candidate}
 use Rattle.adv_base.specs.Nodes as nodes
 use Rattle.adv_base.specs.Settings.{TheSetting, KeepsLimits}
 use Rattle.plan_model.proofs.Unique.{one-total, one-lagrangian}
@@ -47,28 +47,28 @@ right-there setting cert number at node proof is =
     let moved : All P (visits (free_node ∷ []) cert.tree) = subst (λ (list : List Node). All P (visits (free_node ∷ []) list)) (sym (behind-nothing (preorder proof.shown.tree)) ∙ sym proof.shown.list_is) all in
     some-there P is.before (record { at = at; node = node }) is.rest (subst (All P) is.parts moved)
 
-some-set : (x y : TheMultipliers) → Some x ≡ Some y → x ≡ y
+pub some-set : (x y : TheMultipliers) → Some x ≡ Some y → x ≡ y
 some-set x y e = cc
 
-not-below : (bound value : ℤ) → bound ≤ℤ value → value <ℤ bound → ⊥
+pub not-below : (bound value : ℤ) → bound ≤ℤ value → value <ℤ bound → ⊥
 not-below bound value least below = omega (arith, ints, least, below)
 
 -- ## Configurations and pairs
 
-bad-number : (setting : TheSetting) (cert : Cert) (number : ℕ) → CertLimits cert → IsProof setting cert → IsBadConfig setting cert number → ⊥
-bad-number setting cert number limits proof bad =
+pub bad-number : (setting : TheSetting) (cert : Cert) (number : ℕ) → CertLimits cert → IsConfigOf setting.shapes (config_of cert) → IsBadConfig setting cert number → ⊥
+bad-number setting cert number limits members bad =
     let has = number-has 1 cert.config bad.place number (omega arith) limits.config bad.found in
     let place : suc (number - 1) ≡ number = omega (arith, bad.past) in
     let on : has_candidate (config_of cert) (suc (number - 1)) ≡ true = ap (has_candidate (config_of cert)) place ∙ has.0 in
     let flag = has-flag (config_of cert) (number - 1) on (omega (arith, config-count cert.config, has.1, bad.past)) in
-    omega (arith, proof.members (number - 1) flag, bad.past)
+    omega (arith, members (number - 1) flag, bad.past)
 
-bad-pair : (setting : TheSetting) (cert : Cert) (number place : ℕ) → ((j : ℕ) (set : SparseSet) → slice_get cert.sets j ≡ Some set → EntriesFrom 0 set.entries) → IsProof setting cert → IsBadPair setting cert number place → ⊥
-bad-pair setting cert number place rise proof bad =
+pub bad-pair : (setting : TheSetting) (cert : Cert) (number place : ℕ) → ((j : ℕ) (set : SparseSet) → slice_get cert.sets j ≡ Some set → EntriesFrom 0 set.entries) → All (RentsUses setting) (sets_of cert) → IsBadPair setting cert number place → ⊥
+bad-pair setting cert number place rise rents bad =
     let within = slice_get_within cert.sets (number - 1) bad.set bad.set_found in
     let set : slice_get (sets_of cert) (number - 1) ≡ Some (multipliers_of bad.set) = slice_get-map multipliers_of cert.sets (number - 1) ∙ ap (option_map multipliers_of) bad.set_found in
     let inside = slice_get_within (sets_of cert) (number - 1) (multipliers_of bad.set) set in
-    let uses = proof.rents (number - 1) (multipliers_of bad.set) inside in
+    let uses = rents (number - 1) (multipliers_of bad.set) inside in
     let same : get_or (sets_of cert) (number - 1) (multipliers_of bad.set) ≡ multipliers_of bad.set = get_or_from_slice_get (sets_of cert) (number - 1) (multipliers_of bad.set) (multipliers_of bad.set) set in
     let named : RentsUses setting (multipliers_of bad.set) = subst (RentsUses setting) same uses in
     bad.none (named bad.entry.statement (bad.entry.slot - 1) bad.entry.candidate (entry-rent bad.set.entries 0 (place - 1) bad.entry (rise (number - 1) bad.set bad.set_found) bad.entry_found))
@@ -77,11 +77,11 @@ bad-pair setting cert number place rise proof bad =
 pub excluded : (setting : TheSetting) (cert : Cert) (fault : CheckFault) → CertLimits cert → ((j : ℕ) (set : SparseSet) → slice_get cert.sets j ≡ Some set → EntriesFrom 0 set.entries) →
     IsProof setting cert → IsFault setting cert fault → fault ≡ faults.Memory
 excluded setting cert faults.Memory limits rise proof is = refl
-excluded setting cert (faults.BadConfig n) limits rise proof is = absurd (bad-number setting cert n limits proof is)
+excluded setting cert (faults.BadConfig n) limits rise proof is = absurd (bad-number setting cert n limits proof.members is)
 excluded setting cert (faults.OverBudget size budget) limits rise proof is = absurd (omega (arith, is.over, is.size_is, proof.fits))
 excluded setting cert (faults.CostDiffers claimed computed) limits rise proof is =
     absurd (is.differ (is.claimed_is ∙ one-total setting.cat setting.shapes (config_of cert) setting.statements cert.cost computed proof.cost_is is.computed_is))
-excluded setting cert (faults.BadPair set entry) limits rise proof is = absurd (bad-pair setting cert set entry rise proof is)
+excluded setting cert (faults.BadPair set entry) limits rise proof is = absurd (bad-pair setting cert set entry rise proof.rents is)
 excluded setting cert (faults.BadBranch n) limits rise proof is = absurd (is.wrong (right-there setting cert n is.at (Branch is.candidate) proof is.node_is))
 excluded setting cert (faults.LeafBelow n computed claimed) limits rise proof is =
     let right = right-there setting cert n is.at (Bounded is.set) proof is.node_is in

@@ -14,3 +14,4 @@ pub mod Desks
 pub mod Changing
 pub mod Keeping
 pub mod Remembering
+pub mod OneFault

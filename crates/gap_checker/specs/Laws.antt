@@ -1,5 +1,5 @@
 -- Laws of what a checker answers.
-use Rattle.std.specs.Prelude.{◌≡◌, ℕ, length}
+use Rattle.std.specs.Prelude.{◌≡◌, ◌≢◌, ℕ, length}
 use Rattle.adv_base.specs.declared.limits.TheConstants.{MOST_CANDIDATES}
 use Rattle.adv_base.specs.Settings.{TheSetting}
 use Rattle.bip_model.specs.declared.answer.Answer.{Answer}
@@ -19,6 +19,12 @@ use Rattle.gap_checker.specs.Views.{IsProof}
 abbrev pub FaultsExcludeProofs : Type 0
 FaultsExcludeProofs =
     (setting : TheSetting) (cert : Cert) (fault : CheckFault) → CertLimits cert → IsProof setting cert → IsFault setting cert fault → fault ≡ Memory
+
+-- a certificate has one fault, the first; want of memory alone says nothing of it
+abbrev pub FaultsAreOne : Type 0
+FaultsAreOne =
+    (setting : TheSetting) (cert : Cert) (fault other : CheckFault) → CertLimits cert → fault ≢ Memory → other ≢ Memory →
+    IsFault setting cert fault → IsFault setting cert other → fault ≡ other
 
 -- The certificate of the best answer of a search, over a programme that stands for the setting and from a root that leaves
 -- every candidate free, proves its bound. A configuration has a flag for each candidate that there may be.

@@ -1,4 +1,4 @@
 pub mod CostLines
 pub mod CandidateLines
 pub mod PickLines
-pub mod Pieces
+pub mod TwoParts

@@ -11,17 +11,11 @@ use Rattle.bip_model.specs.StandsFor.{StandsFor}
 use Rattle.candidates.specs.Candidates as candidates
 use Rattle.certificate.specs.Answers.{answer_cert}
 use Rattle.certificate.specs.Certificates.{IsCertificate}
-use Rattle.tuning.specs.declared.fault.TuneFault.{TuneFault}
-use Rattle.tuning.specs.declared.fault.TuneFault.TheVariants as tune
-use Rattle.tuning.specs.Refusals.{AreFew, IsFirstBeyond}
+use Rattle.tuning.specs.Refusals.{AreFew}
 use Rattle.report.specs.declared.done.Advice.{Advice}
 use Rattle.report.specs.declared.done.Done.{Done}
 use Rattle.report.specs.declared.done.Done.TheVariants.{Advised}
-use Rattle.report.specs.declared.done.Refusal.{Refusal}
-use Rattle.report.specs.declared.done.Refusal.TheVariants.{TooManyCombinations}
 use Rattle.cophy_core.specs.Endings.{Put}
-use Rattle.cophy_core.specs.declared.stop.Stop.{Stop}
-use Rattle.cophy_core.specs.declared.stop.Stop.TheVariants.{Memory, Refused}
 
 -- Each statement has few enough combinations. The answer is best under both budgets, from a root that leaves each candidate
 -- free: its configuration fits and costs what is told, and no configuration that fits costs less than the bound. The
@@ -62,13 +56,3 @@ PutsFor None setting budget answer puts = puts ≡ []
 abbrev pub Puts : Option (List ℕ) → TheSetting → Done → List Put → Type 0
 Puts cert setting (Advised advice) puts = PutsFor cert setting advice.budget advice.answer puts
 Puts cert setting done puts = puts ≡ []
-
--- the first statement with more combinations of interesting orders than a cache of plans takes
-abbrev pub Refuses : TheSetting → Refusal → Type 0
-Refuses setting (TooManyCombinations number count) = IsFirstBeyond setting number count
-Refuses setting why = ⊥
-
--- the stop where a setting has no programme
-abbrev pub IsTuneStop : TuneFault → Stop → Type 0
-IsTuneStop tune.Memory stop = stop ≡ Memory
-IsTuneStop (tune.TooManyCombinations number count) stop = stop ≡ Refused (TooManyCombinations number count)

@@ -8,7 +8,7 @@ ghost use Rattle.certificate.specs.Answers as answers;
 ghost use Rattle.tuning.specs.Refusals.{AreFew};
 ghost use Rattle.cophy_core.specs.Causes.{IsBounded};
 ghost use Rattle.cophy_core.specs.Endings.{plain_puts};
-ghost use Rattle.cophy_core.specs.Stops.{StopsAt};
+ghost use Rattle.cophy_core.specs.Stops.{StopsAt, LacksProgramme};
 ghost use Rattle.cophy_core.specs.commands.Advise as spec;
 
 use crate::stop::Stop;
@@ -131,7 +131,7 @@ pub(crate) fn advice_on(
     requires nodes { nodes ≤ MOST_NODES }
     ensures advice { IfOk result (spec.IsAdvice budget nodes (the_setting setting.now)) }
     ensures bounded { IfOk result (λ advice. IsBoundedBy advice.answer.cost advice.answer.bound) }
-    ensures stop { IfErr result (StopsAt (spec.Refuses (the_setting setting.now))) }
+    ensures stop { IfErr result (StopsAt (LacksProgramme (the_setting setting.now))) }
 {
     let programme = programme_of(alloc, setting)?;
     let advice = best_advice(alloc, setting, &programme, budget, nodes)?;
@@ -153,7 +153,7 @@ pub(crate) fn advise<'a>(
     ensures puts { IfOk result (λ worked. spec.Puts (option_map (λ name. name.now) cert.entry) (the_setting setting.now) worked.done (plain_puts worked.puts)) }
     ensures fits { IfOk result (λ worked. FitsSetting (Some (the_setting setting.now)) worked.done) }
     ensures bound { IfOk result (λ worked. IsBounded worked.done) }
-    ensures stop { IfErr result (StopsAt (spec.Refuses (the_setting setting.now))) }
+    ensures stop { IfErr result (StopsAt (LacksProgramme (the_setting setting.now))) }
 {
     let programme = programme_of(alloc, setting)?;
     let advice = best_advice(alloc, setting, &programme, budget, nodes)?;

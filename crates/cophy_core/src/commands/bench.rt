@@ -5,8 +5,7 @@ ghost use Rattle.adv_base.specs.declared.limits.TheConstants.{MOST_ROWS, MOST_SL
 ghost use Rattle.adv_base.specs.Settings.{the_setting};
 ghost use Rattle.report.specs.Texts.{FitsSetting};
 ghost use Rattle.cophy_core.specs.Causes.{IsBounded};
-ghost use Rattle.cophy_core.specs.Stops.{StopsAt};
-ghost use Rattle.cophy_core.specs.commands.Advise as advice;
+ghost use Rattle.cophy_core.specs.Stops.{StopsAt, LacksProgramme};
 ghost use Rattle.cophy_core.specs.commands.Bench as spec;
 
 use crate::command_line::DEFAULT_NODES;
@@ -54,7 +53,7 @@ pub(crate) fn bench(alloc: Global, setting: &Setting<'_>, budget: u64) -> Result
     ensures gives { IfOk result (spec.Gives budget (the_setting setting.now)) }
     ensures fits { IfOk result (FitsSetting (Some (the_setting setting.now))) }
     ensures bound { IfOk result IsBounded }
-    ensures stop { IfErr result (StopsAt (advice.Refuses (the_setting setting.now))) }
+    ensures stop { IfErr result (StopsAt (LacksProgramme (the_setting setting.now))) }
 {
     let advice = advice_on(alloc, setting, budget, DEFAULT_NODES)?;
     Ok(Done::Benched(Bench {

@@ -47,24 +47,6 @@ fn plan_cost<'a>(
     }
 }
 
-/// What that statement costs, without its weight, with the same parts: a least plan and the upkeep of all indexes.
-fn statement_cost<'a>(
-    setting: &Setting<'_>,
-    config: &Config,
-    at: usize,
-    statement: &Statement,
-    parts: &'a [Part],
-) -> (u128, &'a [Part])
-    requires found { slice_get setting.now.statements.now at ≡ Some statement.now }
-    requires parts { ArePartsFrom (the_setting setting.now) at parts.now }
-    ensures cost { totals.IsCost setting.now.cat.now setting.now.shapes.now config.now statement.now.work result.0 }
-    ensures bound { result.0 < most_statement_cost }
-    ensures rest { ArePartsFrom (the_setting setting.now) (at + 1) result.1.now }
-{
-    let (plan, rest) = plan_cost(setting, config, at, statement, parts);
-    (plan + upkeep_of(setting, config, statement), rest)
-}
-
 /// The cost of each statement under a configuration, in thousandths of a sequential page read, and the sum of weight times
 /// cost, with the pages of the configuration.
 fn prices_of(
@@ -85,7 +67,8 @@ fn prices_of(
     let mut parts = programme.parts.as_slice();
     'statements: for at in 0..setting.statements.len() {
         let statement = &setting.statements[at];
-        let (cost, rest) = statement_cost(setting, config, at, statement, parts);
+        let (plan, rest) = plan_cost(setting, config, at, statement, parts);
+        let cost = plan + upkeep_of(setting, config, statement);
         tally.add(statement, cost)?;
         parts = rest;
     }

@@ -1,6 +1,7 @@
 use Rattle.std.proofs.Common.{◌≡◌, suc, ◌+◌, ◌-◌, ◌*◌, ◌<◌, ◌≤◌, length, sym, ap, ◌∙◌, arith}
 use Rattle.std.proofs.lemmas.List.{length-map}
-use Rattle.cophy_core.specs.CommandLine.{◌>>=◌, texts, plain_options, options_from}
+use Rattle.adv_base.specs.Readings.{◌>>=◌}
+use Rattle.cophy_core.specs.CommandLine.{texts, plain_options, options_from}
 use Rattle.cophy_core.proofs.Options.{options_from-end, options_from-next}
 use Rattle.cophy_core.proofs.command_line.read_options.Goals as goal
 

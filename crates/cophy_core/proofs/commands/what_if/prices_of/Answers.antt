@@ -11,12 +11,12 @@ statements-preserved c =
     let i = c.statements.at in
     let ss = c.args.setting.now.statements.now in
     let statement = get_or ss i c.index-setting-at.result in
-    let cost = c.statement_cost-cost.result.0 in
+    let cost = c.plan_cost-plan.result.0 + c.upkeep_of.result in
     let more = next_statement ss i statement c.statements-test.true (ap (λ (s : Statement). get_or ss i s) c.index-setting-at.is) in
     record {
-      costs_are = rw (more, c.in_ok-add.ensures.costs) (AreCosts-more _ _ _ _ _ statement cost c.statements.invariant.costs_are c.statement_cost-cost.ensures.cost);
+      costs_are = rw (more, c.in_ok-add.ensures.costs) (AreCosts-more _ _ _ _ _ statement cost c.statements.invariant.costs_are (record { plan = c.plan_cost-plan.result.0; plan_is = c.plan_cost-plan.ensures.cost; sum = ap (λ (n : ℕ). c.plan_cost-plan.result.0 + n) c.upkeep_of.ensures.exact }));
       total_is = rw (more, c.in_ok-add.ensures.costs, c.in_ok-add.ensures.total) (ap (λ (n : ℕ). n + statement.weight * cost) c.statements.invariant.total_is ∙ sym (weighted_sum-more _ _ _ _ _ statement cost c.statements.invariant.costs_are));
-      parts_are = c.statement_cost-cost.ensures.rest;
+      parts_are = c.plan_cost-plan.ensures.rest;
     }
 
 pub returns-clause-each : goal.returns-clause-each
