@@ -1,6 +1,6 @@
 //! Tables of texts with their tokens or their fault.
 use crate::written::repeat;
-use sql_tokens::{TokenKind, tokens};
+use sql_tokens::{Token, TokenFault, TokenKind, TokenReader, tokens};
 use std::alloc::Global;
 use std::process::Abort;
 
@@ -17,23 +17,48 @@ fn letter(kind: TokenKind) -> u8 {
     }
 }
 
-/// Each token as its letter and its bytes in `[` and `]`, or the fault as it prints.
+/// Puts a token behind the others, as its letter and its bytes in `[` and `]`.
+fn add_token(rt: &impl Abort, out: &mut Vec<u8>, text: &[u8], token: Token) {
+    out.push(letter(token.kind)).expect(rt, "memory");
+    out.push(b'[').expect(rt, "memory");
+    let span = token.span.from as usize..token.span.to as usize;
+    out.extend_from_slice(text.get(span).unwrap_or(b"outside"))
+        .expect(rt, "memory");
+    out.push(b']').expect(rt, "memory");
+}
+
+/// Puts a fault behind the tokens, as it prints.
+fn add_fault(rt: &impl Abort, alloc: Global, out: &mut Vec<u8>, fault: TokenFault) {
+    let told = format!(in alloc; "{fault}").expect(rt, "memory");
+    out.extend_from_slice(told.as_bytes()).expect(rt, "memory");
+}
+
+/// The tokens, or the fault.
 fn shown(rt: &impl Abort, alloc: Global, text: &[u8]) -> Vec<u8> {
     let mut out = Vec::new(alloc);
     match tokens(alloc, text) {
         Ok(found) => {
             for token in found.list.as_slice() {
-                out.push(letter(token.kind)).expect(rt, "memory");
-                out.push(b'[').expect(rt, "memory");
-                let span = token.span.from as usize..token.span.to as usize;
-                out.extend_from_slice(found.text.get(span).unwrap_or(b"outside"))
-                    .expect(rt, "memory");
-                out.push(b']').expect(rt, "memory");
+                add_token(rt, &mut out, found.text, *token);
             }
         }
-        Err(fault) => {
-            let told = format!(in alloc; "{fault}").expect(rt, "memory");
-            out.extend_from_slice(told.as_bytes()).expect(rt, "memory");
+        Err(fault) => add_fault(rt, alloc, &mut out, fault),
+    }
+    out
+}
+
+/// The tokens one by one, and behind them the fault. A text has no more of them than bytes.
+fn shown_one_by_one(rt: &impl Abort, alloc: Global, text: &[u8]) -> Vec<u8> {
+    let mut out = Vec::new(alloc);
+    let mut reader = TokenReader::new(text);
+    for _ in 0..text.len() {
+        match reader.next_token() {
+            Ok(Some(token)) => add_token(rt, &mut out, text, token),
+            Ok(None) => break,
+            Err(fault) => {
+                add_fault(rt, alloc, &mut out, fault);
+                break;
+            }
         }
     }
     out
@@ -145,6 +170,18 @@ fn each_text_has_its_tokens_or_its_fault(rt: HostRuntime) {
             shown(&rt, rt.alloc(), text).as_slice() == *want,
             "{text:?}"
         );
+    }
+}
+
+#[test]
+fn a_reader_gives_the_same_one_by_one(rt: HostRuntime) {
+    for (text, want) in TABLE {
+        let read = shown_one_by_one(&rt, rt.alloc(), text);
+        let is_right = match tokens(rt.alloc(), text) {
+            Ok(_) => read.as_slice() == *want,
+            Err(_) => read.as_slice().ends_with(want),
+        };
+        assert!(rt; is_right, "{text:?}");
     }
 }
 

@@ -1,3 +1,4 @@
+pub mod Ahead
 pub mod Alike
 pub mod AsPrinted
 pub mod Begun
@@ -18,6 +19,6 @@ pub mod PrintedConditions
 pub mod PrintedItems
 pub mod PrintedOperands
 pub mod Same
-pub mod Steps
+pub mod Surveys
 pub mod Theory
 pub mod Unique

@@ -29,7 +29,7 @@ same_terminal p q kind span number mark =
     let placed = is_prop→PathP (λ i. (span i).from < 2 ^ 32) (λ i. placed_prop (span i)) p.placed q.placed in
     λ i. record { kind = kind i; span = span i; number = number i; mark = mark i; least = least i; most = most i; placed = placed i }
 
-one_terminal : (text : List ℕ) (mark : Mark) (t : Token) (p q : Terminal) → IsTerminal text mark t p → IsTerminal text mark t q → p ≡ q
+pub one_terminal : (text : List ℕ) (mark : Mark) (t : Token) (p q : Terminal) → IsTerminal text mark t p → IsTerminal text mark t q → p ≡ q
 one_terminal text mark t p q a b =
     same_terminal p q (a.kind ∙ sym b.kind) (a.span ∙ sym b.span) (a.number ∙ sym b.number) (a.mark_is ∙ sym b.mark_is)
 

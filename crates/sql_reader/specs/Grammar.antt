@@ -1,4 +1,4 @@
--- The grammar of workloads as rules: one for each production of the reference, factored so that one look ahead
+-- The grammar of workloads as rules: one for each production of docs/FORMATS.md, factored so that one look ahead
 -- tells its alternatives apart. The comment of a rule is the production, or the part of one, that it stands for.
 use Rattle.std.specs.Prelude.{ℕ, ◌+◌, true, false, List, [], ◌∷◌, ◌++◌, Option, Some, None}
 use Rattle.sql_tokens.specs.declared.token.Span.{Span}

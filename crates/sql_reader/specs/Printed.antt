@@ -1,4 +1,4 @@
--- The grammar of workloads as the reference prints it: a rule for each production, alternative by alternative. One
+-- The grammar of workloads as docs/FORMATS.md prints it: a rule for each production, alternative by alternative. One
 -- look ahead doesn't tell the alternatives apart, so nothing is read by these rules; they mean what the rules of
 -- Grammar mean, by which workloads are read. Rules that are printed as they are read are those of Grammar.
 use Rattle.std.specs.Prelude.{ℕ, ◌+◌, ◌↔◌, List, [], ◌∷◌, ◌++◌, Option, Some, None}

@@ -1,5 +1,5 @@
 -- The terminals of a text, and its faults beside those of the grammar.
-use Rattle.std.specs.Prelude.{◌≡◌, ℕ, ℤ, zero, suc, ◌+◌, Bool, true, false, List, [], ◌∷◌, ◌++◌, slice_index, slice_range, Option, Some, None, if◌then◌else◌}
+use Rattle.std.specs.Prelude.{◌≡◌, ℕ, ℤ, zero, suc, ◌+◌, Bool, true, false, List, [], ◌∷◌, slice_index, slice_range, Option, Some, None, if◌then◌else◌}
 use Rattle.sql_tokens.specs.declared.token.Token.{Token}
 use Rattle.sql_tokens.specs.declared.token.TokenKind.{TokenKind}
 use Rattle.sql_tokens.specs.declared.token.TokenKind.TheVariants as token
@@ -67,11 +67,6 @@ WithToken text mark t behind false terminals = (p : Terminal) × (rest : List Te
 abbrev pub AreTerminals : List ℕ → List Token → Mark → List Terminal → Type 0
 AreTerminals text [] mark terminals = terminals ≡ []
 AreTerminals text (t ∷ ts) mark terminals = WithToken text mark t (AreTerminals text ts) (is_weight t.kind) terminals
-
--- a token was added to the mark and the terminals before it
-abbrev pub AddsToken : List ℕ → Token → Mark → List Terminal → Bool → Mark → List Terminal → Type 0
-AddsToken text t mark terminals true new_mark new = (new_mark ≡ mark_behind text t mark) × (new ≡ terminals)
-AddsToken text t mark terminals false new_mark new = (new_mark ≡ mark) × (p : Terminal) × IsTerminal text mark t p × (new ≡ terminals ++ p ∷ [])
 
 -- a weight comment without a weight
 abbrev pub lacks_weight : TokenKind → Option ℕ → Bool

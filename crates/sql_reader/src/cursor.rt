@@ -1,8 +1,11 @@
 //! A place in the terminals of a text.
 ghost use Rattle.sql_reader.specs.Kinds.{has};
+ghost use Rattle.sql_reader.specs.inner.Ahead.{from_next, terminals_behind};
 ghost use Rattle.std.specs.Prelude.{◌≡◌, ◌<◌, ◌^◌, length};
 
-use crate::{Terminal, TerminalKind};
+use crate::scan::next_terminal;
+use crate::{Mark, Terminal, TerminalKind};
+use sql_tokens::TokenReader;
 
 /// Why reading stops: there is no memory, or nothing goes on with the next terminal.
 #[derive(Clone, Copy)]
@@ -11,12 +14,20 @@ pub enum Unread {
     Here,
 }
 
-/// The terminals that are left.
-#[derive(Drop)]
+/// A place in a text before a terminal of it. The terminals behind that one are made when they are come to, so no list
+/// of them takes memory.
+#[derive(Clone, Copy)]
 pub struct Cursor<'a> {
-    pub rest: &'a [Terminal],
+    /// The tokens behind the next terminal.
+    pub tokens: TokenReader<'a>,
+    /// The last weight comment before these.
+    pub mark: Mark,
+    /// The next terminal, None where no token is left before the text's end or its first fault.
+    pub next: Option<Terminal>,
+    /// Places fit 32 bits.
+    pub ghost short: { length tokens.text.now < 2 ^ 32 },
     /// There are fewer terminals than bytes.
-    pub ghost short: { length rest.now < 2 ^ 32 },
+    pub ghost few: { length (from_next next (terminals_behind tokens.text.now tokens.at mark)) < 2 ^ 32 },
 }
 
 /// Reads by the grammar, where so many more levels may nest.
@@ -33,16 +44,48 @@ pub fn has(kinds: &[TerminalKind], kind: TerminalKind) -> bool
     kinds.iter().any(|one| one.code() == code)
 }
 
-impl Cursor<'_> {
+impl<'a> Cursor<'a> {
+    ghost use Rattle.sql_reader.specs.inner.Ahead.{terminals_behind, terminals_in};
     ghost use Rattle.sql_reader.specs.inner.Reads.{Gives, same};
+    ghost use Rattle.sql_reader.specs.inner.Remaining.{remaining};
     ghost use Rattle.sql_reader.specs.inner.Room as room;
     ghost use Rattle.sql_reader.specs.Rule.{begins, terminal_of};
+    ghost use Rattle.std.specs.Prelude.{◌≡◌, ◌<◌, ◌^◌, length};
+
+    /// The place before the next terminal of these tokens, which stand behind the weight comment that the mark names.
+    pub fn new(tokens: TokenReader<'a>, mark: Mark) -> Cursor<'a>
+        requires short { length tokens.text.now < 2 ^ 32 }
+        requires few { length (terminals_behind tokens.text.now tokens.at mark) < 2 ^ 32 }
+        ensures { remaining result ≡ terminals_behind tokens.entry.text.now tokens.entry.at mark }
+    {
+        let mut behind = tokens;
+        let mut last = mark;
+        let next = next_terminal(&mut behind, &mut last);
+        Cursor {
+            tokens: behind,
+            mark: last,
+            next,
+        }
+    }
+
+    /// The place before the first terminal of a text.
+    pub fn at_front(text: &'a [u8]) -> Cursor<'a>
+        requires short { length text.now < 2 ^ 32 }
+        requires few { length (terminals_in text.now) < 2 ^ 32 }
+        ensures { remaining result ≡ terminals_in text.now }
+    {
+        let no_mark = Mark {
+            place: 0,
+            weight: 1,
+        };
+        Cursor::new(TokenReader::new(text), no_mark)
+    }
 
     /// Whether the next terminal is of one of these kinds.
     pub fn begins(&self, kinds: &[TerminalKind]) -> bool
-        ensures { result ≡ begins kinds.now self.now.rest.now }
+        ensures { result ≡ begins kinds.now (remaining self.now) }
     {
-        match self.rest.first() {
+        match self.next {
             Some(terminal) => has(kinds, terminal.kind),
             None => false,
         }
@@ -50,16 +93,16 @@ impl Cursor<'_> {
 
     /// Takes one terminal of these kinds.
     pub fn take(&mut self, kinds: &[TerminalKind]) -> Result<Terminal, Unread>
-        ensures reads { Gives same result (terminal_of kinds.now self.old.rest.now) self.new }
+        ensures reads { Gives same result (terminal_of kinds.now (remaining self.old)) self.new }
         ensures left { room.TakesSome result self.old self.new }
     {
-        let Some((terminal, rest)) = self.rest.split_first() else {
+        let Some(terminal) = self.next else {
             return Err(Unread::Here);
         };
         if !has(kinds, terminal.kind) {
             return Err(Unread::Here);
         }
-        self.rest = rest;
-        Ok(*terminal)
+        *self = Cursor::new(self.tokens, self.mark);
+        Ok(terminal)
     }
 }

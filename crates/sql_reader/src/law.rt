@@ -35,8 +35,8 @@ pub fn one_too_many()
     ensures { (text : List ℕ) (place : ℕ) → HasSqlFault text (TooManyStatements place) → BeginsOneTooMany text place }
 {}
 
-/// The grammar as it is printed in the reference, alternative by alternative, means what the rules mean by which
-/// workloads are read.
+/// The grammar as docs/FORMATS.md prints it, alternative by alternative, means what the rules mean by which workloads
+/// are read.
 pub fn as_printed()
     ensures { IsAsPrinted }
 {}

@@ -1,8 +1,9 @@
 //! The statements of a workload, read by the grammar: a text below 2^32 bytes goes in, and out come its statements or
 //! its first fault.
 //!
-//! `read_workload` makes a text's tokens into terminals, which is what the grammar looks at, and reads these by rules
-//! that `specs/Grammar` lists, with one terminal of look ahead. Names stay spans of the text: whether a table or a
+//! `read_workload` walks twice over a text, and makes no list of its tokens. The first walk finds the faults that need no
+//! grammar. The second makes each token into a terminal, which is what the grammar looks at, when it comes to it, and
+//! reads by rules that `specs/Grammar` lists, with one terminal of look ahead. Names stay spans of the text: whether a table or a
 //! column is there is left to the crate above.
 //!
 //! `Parsed` is a text with its statements. A `ParsedStatement` has a `Body`, which for a SELECT is a `ParsedSelect` of
@@ -36,6 +37,7 @@ mod scan;
 mod seen;
 mod select;
 mod statement;
+mod survey;
 mod terminal;
 mod words;
 mod workload;

@@ -1,21 +1,17 @@
-//! Makes the terminals of a text from its tokens.
+//! Makes terminals of the tokens of a text.
 ghost use Rattle.sql_reader.specs.Terminals as terminals;
-ghost use Rattle.sql_reader.specs.declared.cursor.Unread.TheVariants.{Memory};
+ghost use Rattle.sql_reader.specs.inner.Ahead as ahead;
+ghost use Rattle.sql_tokens.specs.Ahead.{ahead as tokens_ahead};
 ghost use Rattle.sql_tokens.specs.Span.{LiesIn};
 ghost use Rattle.std.specs.Option.{ForSome};
-ghost use Rattle.std.specs.Prelude.{◌≡◌, ◌≤◌, ◌<◌, ◌^◌, ◌<ℤ◌, All, IfErr, IfOk, OnOk, length, neg_ℤ, pos, slice_index};
+ghost use Rattle.std.specs.Prelude.{◌≡◌, ◌≤◌, ◌<◌, ◌^◌, ◌<ℤ◌, length, neg_ℤ, pos, slice_index};
 
-use crate::cursor::{Unread, has};
-use crate::list::{push, with_room};
-use crate::statement::STARTS;
 use crate::words::{comment_weight, quoted_kind, symbol_kind, text_day, whole_number, word_kind};
 use crate::{Mark, Terminal, TerminalKind};
-use adv_base::List;
-use sql_tokens::{Token, TokenKind};
-use std::alloc::Global;
+use sql_tokens::{Token, TokenKind, TokenReader};
 
 /// The bytes of a token.
-fn bytes_of(text: &[u8], token: Token) -> &[u8]
+pub fn bytes_of(text: &[u8], token: Token) -> &[u8]
     requires { LiesIn text.now token }
     ensures { result.now ≡ terminals.bytes_of text.now token }
 {
@@ -88,21 +84,6 @@ fn mark_behind(text: &[u8], token: Token, mark: Mark) -> Mark
     }
 }
 
-/// Adds a token: a weight comment as the mark, every other as a terminal.
-fn add(text: &[u8], token: Token, mark: &mut Mark, list: &mut List<Terminal>) -> Result<(), Unread>
-    requires lies { LiesIn text.now token }
-    requires short { length text.now < 2 ^ 32 }
-    ensures ok { OnOk result (terminals.AddsToken text.now token mark.old list.old (terminals.is_weight token.kind) mark.new list.new) }
-    ensures err { IfErr result (λ stop. stop ≡ Memory) }
-{
-    if is_weight(token.kind) {
-        *mark = mark_behind(text, token, *mark);
-        return Ok(());
-    }
-    let made = terminal(text, token, *mark);
-    push(list, made)
-}
-
 /// Whether the kind is that of weight comments.
 fn is_weight(kind: TokenKind) -> bool
     ensures { result ≡ terminals.is_weight kind }
@@ -113,63 +94,32 @@ fn is_weight(kind: TokenKind) -> bool
     }
 }
 
-/// The terminals of a text with these tokens.
-pub fn scan(alloc: Global, text: &[u8], tokens: &[Token]) -> Result<List<Terminal>, Unread>
-    requires lies { All (LiesIn text.now) tokens.now }
-    requires short { length text.now < 2 ^ 32 }
-    ensures ok { IfOk result (λ list. terminals.AreTerminals text.now tokens.now terminals.no_mark list) }
-    ensures err { IfErr result (λ stop. stop ≡ Memory) }
+/// The next token, if one comes before the end of the text or its first fault.
+fn next_token(tokens: &mut TokenReader<'_>) -> Option<Token>
+    ensures text { tokens.new.text.now ≡ tokens.old.text.now }
+    ensures next { ahead.IsNext (tokens_ahead tokens.old.text.now tokens.old.at).tokens result (tokens_ahead tokens.old.text.now tokens.new.at).tokens }
+    ensures lies { ForSome result (LiesIn tokens.new.text.now) }
+    ensures forward { ForSome result (λ _. tokens.old.at < tokens.new.at) }
 {
-    let mut list = with_room(alloc, tokens.len())?;
-    let mut mark = Mark {
-        place: 0,
-        weight: 1,
-    };
-    'turns: for token in tokens {
-        add(text, *token, &mut mark, &mut list)?;
-    }
-    Ok(list)
-}
-
-/// Whether a token is a weight comment without a weight.
-fn is_bad_weight(text: &[u8], token: Token) -> bool
-    requires { LiesIn text.now token }
-    ensures { result ≡ terminals.is_bad_weight text.now token }
-{
-    match token.kind {
-        TokenKind::Weight => match comment_weight(bytes_of(text, token)) {
-            Some(_) => false,
-            None => true,
-        },
-        _ => false,
+    match tokens.next_token() {
+        Ok(token) => token,
+        Err(_) => None,
     }
 }
 
-/// The place of the first weight comment whose number isn't 1 to 10^6.
-pub fn bad_weight(text: &[u8], tokens: &[Token]) -> Option<u64>
-    requires { All (LiesIn text.now) tokens.now }
-    ensures { result ≡ terminals.bad_weight text.now tokens.now }
+/// The next terminal, if one comes before the end of the text or its first fault. The mark becomes that of the weight
+/// comments before it.
+pub fn next_terminal(tokens: &mut TokenReader<'_>, mark: &mut Mark) -> Option<Terminal>
+    requires { length tokens.old.text.now < 2 ^ 32 }
+    ensures text { tokens.new.text.now ≡ tokens.old.text.now }
+    ensures next { ahead.from_next result (ahead.terminals_behind tokens.old.text.now tokens.new.at mark.new) ≡
+        ahead.terminals_behind tokens.old.text.now tokens.old.at mark.old }
 {
-    'turns: for token in tokens {
-        if is_bad_weight(text, *token) {
-            return Some(token.span.place());
+    'turns: while let Some(token) = next_token(tokens) {
+        if !is_weight(token.kind) {
+            return Some(terminal(tokens.text, token, *mark));
         }
-    }
-    None
-}
-
-/// The place of the first word of the 1001st statement.
-pub fn start_behind_1000(list: &[Terminal]) -> Option<u64>
-    ensures { result ≡ terminals.start_behind 1000 list.now }
-{
-    let mut left: u32 = 1000;
-    'turns: for terminal in list {
-        if has(&STARTS, terminal.kind) {
-            if left == 0 {
-                return Some(terminal.span.place());
-            }
-            left -= 1;
-        }
+        *mark = mark_behind(tokens.text, token, *mark);
     }
     None
 }

@@ -1,19 +1,20 @@
 //! Reads a workload.
-ghost use Rattle.sql_reader.specs.Terminals.{AreTerminals, bad_weight, no_mark, start_behind};
+ghost use Rattle.sql_reader.specs.inner.Ahead.{terminals_in};
+ghost use Rattle.sql_reader.specs.inner.Remaining.{remaining};
+ghost use Rattle.sql_reader.specs.inner.Surveyed.{IsSurvey, surveyed_fault};
 ghost use Rattle.sql_reader.specs.Values.{no_statements};
 ghost use Rattle.sql_reader.specs.Valid.{statements_in};
 ghost use Rattle.sql_reader.specs.Workload as workload;
 ghost use Rattle.sql_reader.specs.declared.cursor.Unread.TheVariants.{Here, Memory};
 ghost use Rattle.sql_reader.specs.declared.parsed.ParsedStatement.{ParsedStatement};
 ghost use Rattle.sql_reader.specs.declared.parsed.SqlFault.{SqlFault};
-ghost use Rattle.sql_tokens.specs.Cut.{AreTokens};
 ghost use Rattle.std.specs.Prelude.{◌≡◌, ◌+◌, ◌<◌, ◌^◌, ◌⊎◌, ℕ, IfErr, IsErrOf, IfOk, List, IsTrue, MatchResult, length, option_map};
 
 use crate::cursor::{Cursor, GrammarReader, Unread, has};
-use crate::scan::{bad_weight, scan, start_behind_1000};
-use crate::{Parsed, ParsedStatement, Progress, SqlFault, Terminal, TerminalKind};
+use crate::survey::Survey;
+use crate::{Parsed, ParsedStatement, Progress, SqlFault, TerminalKind};
 use adv_base::List;
-use sql_tokens::{TokenFault, Tokens, tokens};
+use sql_tokens::{TokenFault, TokenReader};
 use std::alloc::Global;
 
 /// The kinds of words that begin a form that is left out.
@@ -55,11 +56,11 @@ impl SqlFault {
     }
 }
 
-/// The fault where the grammar fails before these terminals, with the place of the end of the text.
-fn grammar_fault(end: u64, rest: &[Terminal]) -> SqlFault
-    ensures { result ≡ workload.grammar_fault end rest.now }
+/// The fault where the grammar fails before the terminals that are left, with the place of the end of the text.
+fn grammar_fault(end: u64, cursor: &Cursor<'_>) -> SqlFault
+    ensures { result ≡ workload.grammar_fault end (remaining cursor.now) }
 {
-    match rest.first() {
+    match cursor.next {
         None => SqlFault::Syntax(end),
         Some(terminal) => {
             let place = terminal.span.place();
@@ -91,62 +92,63 @@ fn earlier(first: Option<SqlFault>, second: Option<SqlFault>) -> Option<SqlFault
     }
 }
 
-/// What the grammar says of terminals: their statements, or its fault.
+/// What the grammar says of a text: its statements, or its fault.
 fn read_terminals(
     alloc: Global,
     end: u64,
-    list: &[Terminal],
+    text: &[u8],
 ) -> Result<(Progress, Option<SqlFault>), Unread>
-    requires { length list.now < 2 ^ 32 }
-    ensures ok { IfOk result (λ r. workload.GrammarSays end list.now r.0 r.1) }
+    requires short { length text.now < 2 ^ 32 }
+    requires few { length (terminals_in text.now) < 2 ^ 32 }
+    ensures ok { IfOk result (λ r. workload.GrammarSays end (terminals_in text.now) r.0 r.1) }
     ensures err { IfErr result (λ stop. stop ≡ Memory) }
 {
-    let mut cursor = Cursor { rest: list };
+    let mut cursor = Cursor::at_front(text);
     let mut progress = Progress::new(alloc);
     let reader = GrammarReader { levels: LEVELS };
     let outcome = reader.workload(alloc, &mut cursor, &mut progress);
     match outcome {
         Ok(()) => {
-            let fault = fault_behind(end, cursor.rest);
+            let fault = fault_behind(end, &cursor);
             Ok((progress, fault))
         }
         Err(stop) => {
-            let fault = stop_fault(end, cursor.rest, stop)?;
+            let fault = stop_fault(end, &cursor, stop)?;
             Ok((progress, Some(fault)))
         }
     }
 }
 
-/// The fault where reading stops before these terminals, unless it was for want of memory.
-fn stop_fault(end: u64, rest: &[Terminal], stop: Unread) -> Result<SqlFault, Unread>
-    ensures ok { IfOk result (λ fault. (stop ≡ Here) × (fault ≡ workload.grammar_fault end rest.now)) }
+/// The fault where reading stops before the terminals that are left, unless it was for want of memory.
+fn stop_fault(end: u64, cursor: &Cursor<'_>, stop: Unread) -> Result<SqlFault, Unread>
+    ensures ok { IfOk result (λ fault. (stop ≡ Here) × (fault ≡ workload.grammar_fault end (remaining cursor.now))) }
     ensures err { IfErr result (λ stop. stop ≡ Memory) }
 {
     match stop {
-        Unread::Here => Ok(grammar_fault(end, rest)),
+        Unread::Here => Ok(grammar_fault(end, cursor)),
         Unread::Memory => Err(Unread::Memory),
     }
 }
 
 /// The fault of terminals that are left behind a workload.
-fn fault_behind(end: u64, rest: &[Terminal]) -> Option<SqlFault>
-    ensures { result ≡ workload.fault_behind end rest.now }
+fn fault_behind(end: u64, cursor: &Cursor<'_>) -> Option<SqlFault>
+    ensures { result ≡ workload.fault_behind end (remaining cursor.now) }
 {
-    if rest.is_empty() {
+    if cursor.next.is_none() {
         return None;
     }
-    Some(grammar_fault(end, rest))
+    Some(grammar_fault(end, cursor))
 }
 
-/// The first fault of a text with these tokens and terminals, where the grammar has this one.
-fn first_fault(tokens: &Tokens<'_>, list: &[Terminal], fault: Option<SqlFault>) -> Option<SqlFault>
-    ensures { result ≡ workload.first_fault tokens.now.text.now tokens.now.list list.now fault }
+/// The first fault of a text with this survey, where the grammar has this one.
+fn first_fault(survey: Survey, fault: Option<SqlFault>) -> Option<SqlFault>
+    ensures { result ≡ surveyed_fault survey fault }
 {
-    let weight = match bad_weight(tokens.text, tokens.list.as_slice()) {
+    let weight = match survey.bad_weight {
         Some(place) => Some(SqlFault::BadWeight(place)),
         None => None,
     };
-    let start = match start_behind_1000(list) {
+    let start = match survey.start {
         Some(place) => Some(SqlFault::TooManyStatements(place)),
         None => None,
     };
@@ -163,56 +165,48 @@ fn parsed<'a>(text: &'a [u8], statements: List<ParsedStatement>) -> Parsed<'a>
     Parsed { text, statements }
 }
 
-/// What a text says with these tokens and terminals, of which the grammar says this.
+/// What a text says with this survey, of which the grammar says this.
 fn conclude<'a>(
-    tokens: Tokens<'a>,
-    list: &[Terminal],
+    text: &'a [u8],
+    survey: Survey,
     progress: Progress,
     fault: Option<SqlFault>,
 ) -> Result<Parsed<'a>, SqlFault>
-    requires tokens { AreTokens tokens.text.now tokens.list }
-    requires short { length tokens.text.now < 2 ^ 32 }
-    requires terminals { AreTerminals tokens.text.now tokens.list no_mark list.now }
-    requires says { workload.GrammarSays (length tokens.text.now + 1) list.now progress fault }
-    ensures same_text { IfOk result (λ parsed. parsed.text.now ≡ tokens.entry.text.now) }
-    ensures found { IfOk result (λ parsed. workload.Says tokens.entry.text.now parsed.statements None) }
-    ensures fault { IfErr result (λ e. (e ≡ SqlFault.Memory) ⊎ workload.IsFirstFault tokens.entry.text.now e) }
+    requires short { length text.now < 2 ^ 32 }
+    requires survey { IsSurvey text.now survey }
+    requires says { workload.GrammarSays (length text.now + 1) (terminals_in text.now) progress fault }
+    ensures same_text { IfOk result (λ parsed. parsed.text.now ≡ text.now) }
+    ensures found { IfOk result (λ parsed. workload.Says text.now parsed.statements None) }
+    ensures fault { IfErr result (λ e. (e ≡ SqlFault.Memory) ⊎ workload.IsFirstFault text.now e) }
 {
-    let first = first_fault(&tokens, list, fault);
-    match first {
+    match first_fault(survey, fault) {
         Some(fault) => Err(fault),
         None => {
             let Progress {
                 statements,
                 before: _,
             } = progress;
-            Ok(parsed(tokens.text, statements))
+            Ok(parsed(text, statements))
         }
     }
 }
 
 /// What a text with tokens says.
-fn read_tokens<'a>(alloc: Global, tokens: Tokens<'a>) -> Result<Parsed<'a>, SqlFault>
-    requires tokens { AreTokens tokens.text.now tokens.list }
-    requires short { length tokens.text.now < 2 ^ 32 }
-    ensures same_text { IfOk result (λ parsed. parsed.text.now ≡ tokens.entry.text.now) }
-    ensures found { IfOk result (λ parsed. workload.Says tokens.entry.text.now parsed.statements None) }
-    ensures fault { IfErr result (λ e. (e ≡ SqlFault.Memory) ⊎ workload.IsFirstFault tokens.entry.text.now e) }
+fn read_surveyed<'a>(alloc: Global, text: &'a [u8], survey: Survey) -> Result<Parsed<'a>, SqlFault>
+    requires short { length text.now < 2 ^ 32 }
+    requires survey { IsSurvey text.now survey }
+    ensures same_text { IfOk result (λ parsed. parsed.text.now ≡ text.now) }
+    ensures found { IfOk result (λ parsed. workload.Says text.now parsed.statements None) }
+    ensures fault { IfErr result (λ e. (e ≡ SqlFault.Memory) ⊎ workload.IsFirstFault text.now e) }
 {
-    match scan(alloc, tokens.text, tokens.list.as_slice()) {
-        Ok(list) => {
-            let terminals = list.as_slice();
-            let end = tokens.text.len() as u64 + 1;
-            match read_terminals(alloc, end, terminals) {
-                Ok((progress, fault)) => conclude(tokens, terminals, progress, fault),
-                Err(_) => Err(SqlFault::Memory),
-            }
-        }
+    let end = text.len() as u64 + 1;
+    match read_terminals(alloc, end, text) {
+        Ok((progress, fault)) => conclude(text, survey, progress, fault),
         Err(_) => Err(SqlFault::Memory),
     }
 }
 
-/// The statements of a workload, by the grammar of the reference (a subset of SQL). A place is the 1-based
+/// The statements of a workload, by the grammar of docs/FORMATS.md (a subset of SQL). A place is the 1-based
 /// offset of a token's first byte; the end of a text of n bytes has place n + 1. The faults of tokens,
 /// BadByte and OpenText, come before all others. Of the others the first in the text comes: Syntax or
 /// Unsupported at the first token at which no workload goes on, and Unsupported exactly where that is a word
@@ -231,8 +225,8 @@ pub fn read_workload<'a>(alloc: Global, text: &'a [u8]) -> Result<Parsed<'a>, Sq
     // Where there are too many statements, a workload goes on through the first token of its 1001st.
     ensures too_many { (place : ℕ) → IsErrOf result (SqlFault.TooManyStatements place) → workload.BeginsOneTooMany text.now place }
 {
-    match tokens(alloc, text) {
-        Ok(list) => read_tokens(alloc, list),
+    match Survey::of(text) {
+        Ok(survey) => read_surveyed(alloc, text, survey),
         Err(TokenFault::Memory) => Err(SqlFault::Memory),
         Err(TokenFault::BadByte(place)) => Err(SqlFault::BadByte(place)),
         Err(TokenFault::OpenText(place)) => Err(SqlFault::OpenText(place)),

@@ -96,7 +96,7 @@ in_order-weight : (at n : ℕ) (o : Option ℕ) → Within o n → InOrder at (a
 in_order-weight at n None h = omega arith
 in_order-weight at n (Some m) h = (omega arith, omega (arith, h.0), omega (arith, h.1))
 
-in_order-lexeme : (at : ℕ) (f : Form) (bytes : List ℕ) → 0 < length bytes → InOrder at (at + length bytes) (tokens_of_lexeme at f bytes)
+pub in_order-lexeme : (at : ℕ) (f : Form) (bytes : List ℕ) → 0 < length bytes → InOrder at (at + length bytes) (tokens_of_lexeme at f bytes)
 in_order-lexeme at form.Blank bytes l = omega arith
 in_order-lexeme at form.LineComment bytes l = in_order-weight at (length bytes) (weight_length bytes) (weight_length-within bytes)
 in_order-lexeme at form.BlockComment bytes l = omega arith

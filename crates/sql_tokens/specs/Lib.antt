@@ -1,3 +1,4 @@
+pub mod Ahead
 pub mod Byte
 pub mod Cut
 pub mod Form

@@ -13,7 +13,7 @@ use crate::{Span, Token, TokenFault, TokenKind, Tokens};
 use std::alloc::Global;
 
 /// The fault behind so many bytes.
-fn fault_at(at: u64, stop: NoLexeme) -> TokenFault
+pub fn fault_at(at: u64, stop: NoLexeme) -> TokenFault
     requires { at + stop_length stop + 1 < 2 ^ 64 }
     ensures { result ≡ fault_at at stop }
 {
@@ -38,7 +38,7 @@ fn token_at(kind: TokenKind, at: u64, length: usize) -> Token
 }
 
 /// The token that a lexeme gives, if it gives one.
-fn token_of(at: u64, form: Form, bytes: &[u8]) -> Option<Token>
+pub fn token_of(at: u64, form: Form, bytes: &[u8]) -> Option<Token>
     requires fits { at + length bytes.now < 2 ^ 64 }
     requires comment { form ≡ Form.LineComment → 2 ≤ length bytes.now }
     ensures { option_to_list result ≡ tokens_of_lexeme at form bytes.now }

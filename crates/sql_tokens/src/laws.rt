@@ -4,6 +4,7 @@ ghost use Rattle.sql_tokens.specs.Form.{IsLineComment};
 ghost use Rattle.sql_tokens.specs.Weight.{HoldsWeight, weight_length};
 ghost use Rattle.sql_tokens.specs.declared.token.Token.{Token};
 ghost use Rattle.sql_tokens.specs.declared.token_list.TokenFault.{TokenFault};
+ghost use Rattle.sql_tokens.specs.Ahead.{ahead, Tells};
 ghost use Rattle.sql_tokens.specs.Cut.{AreTokens, HasFault};
 
 /// A text has one list of tokens.
@@ -29,4 +30,10 @@ pub fn tokens_or_fault()
 /// A line comment gives the weight that its bytes spell, and no other.
 pub fn one_weight()
     ensures { (comment : List ℕ) (n : ℕ) → IsLineComment comment → (weight_length comment ≡ Some n) ↔ HoldsWeight comment n }
+{}
+
+/// What a reader has before it at the front of a text are the text's tokens, or a fault behind the first of them is the
+/// text's first fault.
+pub fn tokens_ahead()
+    ensures { (text : List ℕ) → Tells text (ahead text 0).tokens (ahead text 0).fault }
 {}

@@ -26,9 +26,11 @@ mod laws;
 mod lexeme;
 mod token;
 mod token_list;
+mod token_reader;
 mod weight;
 
 pub use cut::tokens;
-pub use laws::{one_fault, one_list, one_weight, some_answer, tokens_or_fault};
+pub use laws::{one_fault, one_list, one_weight, some_answer, tokens_ahead, tokens_or_fault};
 pub use token::{Span, Token, TokenKind};
 pub use token_list::{TokenFault, Tokens};
+pub use token_reader::TokenReader;

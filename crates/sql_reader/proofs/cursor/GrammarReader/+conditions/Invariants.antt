@@ -2,6 +2,7 @@
 use Rattle.std.proofs.Common.{◌≡◌, ◌+◌, ◌*◌, length}
 use Rattle.sql_reader.specs.Exact.{reads}
 use Rattle.sql_reader.specs.Grammar as rule
+use Rattle.sql_reader.specs.inner.Remaining.{remaining}
 use Rattle.sql_reader.proofs.cursor.GrammarReader.+conditions.Given as goal
 
 abbrev pub decreases-deeper_conditions : goal.decreases-deeper_conditions
@@ -25,7 +26,7 @@ decreases-nested_conditions l = 10 * l.self.levels + 6
 -- what is left to read is what was to be read
 abbrev pub invariant-more_conditions-turns : goal.invariant-more_conditions-turns
 invariant-more_conditions-turns l =
-    reads rule.grammar l.self.levels rule.more_conditions l.all l.cursor.rest.now ≡ reads rule.grammar l.self.levels rule.more_conditions l.fn.all l.fn.cursor.rest.now
+    reads rule.grammar l.self.levels rule.more_conditions l.all (remaining l.cursor) ≡ reads rule.grammar l.self.levels rule.more_conditions l.fn.all (remaining l.fn.cursor)
 
 abbrev pub decreases-more_conditions-turns : goal.decreases-more_conditions-turns
-decreases-more_conditions-turns l = length l.cursor.rest.now
+decreases-more_conditions-turns l = length (remaining l.cursor)

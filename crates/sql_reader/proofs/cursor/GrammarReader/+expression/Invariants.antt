@@ -3,6 +3,7 @@ use Rattle.std.proofs.Common.{◌≡◌, ◌+◌, ◌*◌, length}
 use Rattle.sql_reader.specs.Exact.{reads}
 use Rattle.sql_reader.specs.inner.Room.{Spends}
 use Rattle.sql_reader.specs.Grammar as rule
+use Rattle.sql_reader.specs.inner.Remaining.{remaining}
 use Rattle.sql_reader.proofs.cursor.GrammarReader.+expression.Given as goal
 
 abbrev pub decreases-after_operand_date : goal.decreases-after_operand_date
@@ -66,20 +67,20 @@ decreases-signed_operand l = 20 * l.self.levels + 7
 abbrev pub invariant-operations-turns : goal.invariant-operations-turns
 invariant-operations-turns l =
     record {
-      read : reads rule.grammar l.self.levels rule.operations l.found l.cursor.rest.now ≡ reads rule.grammar l.self.levels rule.operations l.fn.found l.fn.cursor.rest.now;
+      read : reads rule.grammar l.self.levels rule.operations l.found (remaining l.cursor) ≡ reads rule.grammar l.self.levels rule.operations l.fn.found (remaining l.fn.cursor);
       room : Spends l.fn.found.stars l.fn.cursor l.found.stars l.cursor;
     }
 
 abbrev pub decreases-operations-turns : goal.decreases-operations-turns
-decreases-operations-turns l = length l.cursor.rest.now
+decreases-operations-turns l = length (remaining l.cursor)
 
 -- what is left to read is what was to be read, and at most as many were counted as terminals were taken
 abbrev pub invariant-more_expressions-turns : goal.invariant-more_expressions-turns
 invariant-more_expressions-turns l =
     record {
-      read : reads rule.grammar l.self.levels rule.more_expressions l.found l.cursor.rest.now ≡ reads rule.grammar l.self.levels rule.more_expressions l.fn.found l.fn.cursor.rest.now;
+      read : reads rule.grammar l.self.levels rule.more_expressions l.found (remaining l.cursor) ≡ reads rule.grammar l.self.levels rule.more_expressions l.fn.found (remaining l.fn.cursor);
       room : Spends l.fn.found.stars l.fn.cursor l.found.stars l.cursor;
     }
 
 abbrev pub decreases-more_expressions-turns : goal.decreases-more_expressions-turns
-decreases-more_expressions-turns l = length l.cursor.rest.now
+decreases-more_expressions-turns l = length (remaining l.cursor)

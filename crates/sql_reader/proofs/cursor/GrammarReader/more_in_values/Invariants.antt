@@ -2,15 +2,16 @@ use Rattle.std.proofs.Common.{◌≡◌, length}
 use Rattle.sql_reader.specs.Exact.{reads}
 use Rattle.sql_reader.specs.inner.Room.{Spends}
 use Rattle.sql_reader.specs.Grammar as rule
+use Rattle.sql_reader.specs.inner.Remaining.{remaining}
 use Rattle.sql_reader.proofs.cursor.GrammarReader.more_in_values.Given as goal
 
 -- what is left to read is what was to be read, and at most as many were counted as terminals were taken
 abbrev pub invariant-turns : goal.invariant-turns
 invariant-turns l =
     record {
-      read : reads rule.grammar l.self.levels rule.more_in_values l.count l.cursor.rest.now ≡ reads rule.grammar l.self.levels rule.more_in_values l.fn.count l.fn.cursor.rest.now;
+      read : reads rule.grammar l.self.levels rule.more_in_values l.count (remaining l.cursor) ≡ reads rule.grammar l.self.levels rule.more_in_values l.fn.count (remaining l.fn.cursor);
       room : Spends l.fn.count l.fn.cursor l.count l.cursor;
     }
 
 abbrev pub decreases-turns : goal.decreases-turns
-decreases-turns l = length l.cursor.rest.now
+decreases-turns l = length (remaining l.cursor)

@@ -1,24 +1,25 @@
 use Rattle.std.proofs.Common.{sym, ◌∙◌}
 use Rattle.std.proofs.lemmas.Result.{err_from_is_err_and}
 use Rattle.sql_reader.specs.Grammar.{more_names}
+use Rattle.sql_reader.specs.inner.Remaining.{remaining}
 use Rattle.sql_reader.proofs.Loops.{takes, keep, exit, end, turn-another_name}
 use Rattle.sql_reader.proofs.cursor.GrammarReader.more_names.Goals as goal
 
 pub turns-preserved : goal.turns-preserved
 unfolding more_names
 turns-preserved c =
-    keep turn-another_name c.args.self.levels _ c.turns.all c.turns.cursor.rest.now c.another_name.new.all c.another_name.new.cursor.rest.now c.turns.invariant (sym c.begins.ensures ∙ c.turns-test.true) c.in_ok-another_name.ensures
+    keep turn-another_name c.args.self.levels _ c.turns.all (remaining c.turns.cursor) c.another_name.new.all (remaining c.another_name.new.cursor) c.turns.invariant (sym c.begins.ensures ∙ c.turns-test.true) c.in_ok-another_name.ensures
 
 pub turns-smaller : goal.turns-smaller
 turns-smaller c =
-    takes turn-another_name c.args.self.levels c.turns.all c.turns.cursor.rest.now c.another_name.new.all c.another_name.new.cursor.rest.now c.in_ok-another_name.ensures
+    takes turn-another_name c.args.self.levels c.turns.all (remaining c.turns.cursor) c.another_name.new.all (remaining c.another_name.new.cursor) c.in_ok-another_name.ensures
 
 pub returns-in_err-another_name : goal.returns-in_err-another_name
 unfolding more_names
 returns-in_err-another_name c =
     let p = err_from_is_err_and c.from_residual.result c.from_residual.ensures.1 in
-    rw (p.1, p.2) (exit turn-another_name c.args.self.levels _ c.turns.all c.turns.cursor.rest.now c.in_err-another_name.field-0.0 c.another_name.new.cursor.rest.now c.turns.invariant (sym c.begins.ensures ∙ c.turns-test.true) c.in_err-another_name.ensures)
+    rw (p.1, p.2) (exit turn-another_name c.args.self.levels _ c.turns.all (remaining c.turns.cursor) c.in_err-another_name.field-0.0 (remaining c.another_name.new.cursor) c.turns.invariant (sym c.begins.ensures ∙ c.turns-test.true) c.in_err-another_name.ensures)
 
 pub returns : goal.returns
 unfolding more_names
-returns c = end turn-another_name c.args.self.levels _ c.turns.all c.turns.cursor.rest.now c.turns.invariant (sym c.begins.ensures ∙ c.turns-test.false)
+returns c = end turn-another_name c.args.self.levels _ c.turns.all (remaining c.turns.cursor) c.turns.invariant (sym c.begins.ensures ∙ c.turns-test.false)

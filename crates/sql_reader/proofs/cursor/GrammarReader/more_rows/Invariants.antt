@@ -2,16 +2,17 @@ use Rattle.std.proofs.Common.{◌≡◌, length}
 use Rattle.sql_reader.specs.Exact.{reads}
 use Rattle.sql_reader.specs.inner.Room.{Spends}
 use Rattle.sql_reader.specs.Grammar as rule
+use Rattle.sql_reader.specs.inner.Remaining.{remaining}
 use Rattle.sql_reader.proofs.cursor.GrammarReader.more_rows.Given as goal
 
 -- what is left to read is what was to be read, and at most as many were counted as terminals were taken
 abbrev pub invariant-turns : goal.invariant-turns
 invariant-turns l =
     record {
-      read : reads rule.grammar l.self.levels rule.more_rows l.parts l.cursor.rest.now ≡ reads rule.grammar l.self.levels rule.more_rows l.fn.parts l.fn.cursor.rest.now;
+      read : reads rule.grammar l.self.levels rule.more_rows l.parts (remaining l.cursor) ≡ reads rule.grammar l.self.levels rule.more_rows l.fn.parts (remaining l.fn.cursor);
       rows : Spends l.fn.parts.rows l.fn.cursor l.parts.rows l.cursor;
       stars : Spends l.fn.parts.found.stars l.fn.cursor l.parts.found.stars l.cursor;
     }
 
 abbrev pub decreases-turns : goal.decreases-turns
-decreases-turns l = length l.cursor.rest.now
+decreases-turns l = length (remaining l.cursor)
