@@ -1,7 +1,7 @@
 #!/usr/bin/env python3
 """Searches on workloads of the generator, seven budgets each: whether it closed, or the gap; nodes, sets, time. Beside it, in
 the same run, the open solvers cbc and glpk on the same programme, where they are installed. What takes less than 20
-milliseconds, a search or a solver, is run 15 times, each in a process of its own, and the least time counts."""
+milliseconds, a search or a solver, is run 14 times more, each in a process of its own, and the least time counts."""
 import argparse
 import os
 from dataclasses import dataclass, field
@@ -118,11 +118,12 @@ def print_sums(rows: list[Row]) -> None:
 def lightest(advice: Advice, rows: list[Row], nodes: int) -> None:
     """Repeats the short searches of a workload, where that is a program's run, and keeps the least time of each."""
     short = {share: row for share, row in zip(SHARES, rows) if row.seconds < SHORT_SECONDS}
-    if not advice.program or not short:
+    if not advice.program:
         return
-    call = ["search", *rows[0].workload.words, str(nodes), *(str(share) for share in short)]
-    for text in advice.printed([call] * (REPEATS - 1)):
-        for row, again in zip(short.values(), rows_of(rows[0].workload, text)):
+    for share, row in short.items():
+        call = ["search", *row.workload.words, str(nodes), str(share)]
+        for text in advice.printed([call] * (REPEATS - 1)):
+            again = rows_of(row.workload, text)[0]
             row.told["microseconds"] = min(row.told["microseconds"], again.told["microseconds"])
 
 

@@ -88,6 +88,11 @@ class Copy:
             timeout=60,
         )
 
+    def forget(self) -> None:
+        """Makes nothing built, and no call made."""
+        (self.root / "out" / "built").unlink(missing_ok=True)
+        self.calls.unlink(missing_ok=True)
+
     def called(self) -> list[str]:
         return self.calls.read_text().splitlines() if self.calls.exists() else []
 
@@ -139,7 +144,7 @@ class Wrapper(unittest.TestCase):
         ran = self.copy.call("cost", "a", "b", FAKE_TEXT="done\\n", FAKE_STATUS="3")
         self.assertEqual((ran.returncode, ran.stdout), (3, b"done\n"))
         self.assertIn(b"proving adv_base (1 of 2), 0 min 0", ran.stderr)
-        self.assertIn(b"proving cophy_cli (2 of 2), 0 min 0", ran.stderr)
+        self.assertIn(b"building cophy_cli (2 of 2), 0 min 0", ran.stderr)
         self.assertIn(b"built, in 0 min 0", ran.stderr)
         called = self.copy.called()
         self.assertEqual(called[0], "rt lib in adv_base")
@@ -159,19 +164,32 @@ class Wrapper(unittest.TestCase):
         ran = self.copy.call("cost", "a", "b", COPHY_JOBS="4", FAKE_TEXT="done\\n")
         self.assertEqual((ran.returncode, ran.stdout), (0, b"done\n"))
         self.assertIn(b"proving 2 crates, at most 4 at once, 0 min 0", ran.stderr)
-        self.assertIn(b"proving cophy_cli (2 of 2), 0 min 0", ran.stderr)
+        self.assertIn(b"building cophy_cli (2 of 2), 0 min 0", ran.stderr)
         called = self.copy.called()
         self.assertEqual(called[0], "rt all check --jobs 4 in cophy_cli")
         self.assertTrue(called[1].startswith("rt run -- cost "))
         self.assertEqual(called[2], "program cost a b")
 
-    def test_a_word_that_is_no_number_of_jobs_is_passed_over(self) -> None:
-        for jobs in ("0", "four", "-1", "100", ""):
+    def test_a_word_that_is_no_number_of_jobs_is_passed_over_and_told(self) -> None:
+        for jobs in ("0", "four", "-1", "100"):
             with self.subTest(jobs=jobs):
-                (self.copy.root / "out" / "built").unlink(missing_ok=True)
-                self.copy.call("cost", "a", "b", COPHY_JOBS=jobs)
-                self.assertIn(self.copy.called()[0].split()[1], ("lib", "all"))
+                self.copy.forget()
+                ran = self.copy.call("cost", "a", "b", COPHY_JOBS=jobs)
+                self.assertIn(b"COPHY_JOBS is no number from 1 to 99", ran.stderr)
                 self.assertNotIn(f"--jobs {jobs} ", self.copy.called()[0])
+
+    def test_the_longest_chain_is_proved_in_a_copy_that_goes(self) -> None:
+        lines = ["binder:", "report: binder", "cophy_core: report", "cophy_cli: cophy_core"]
+        (self.copy.root / "crates.txt").write_text("\n".join(lines) + "\n")
+        for crate in ("binder", "report", "cophy_core"):
+            (self.copy.root / "crates" / crate).mkdir()
+        room = self.copy.folder / "room"
+        room.mkdir()
+        self.copy.call("cost", "a", "b", COPHY_JOBS="4", FAKE_SECONDS="1", TMPDIR=str(room))
+        called = self.copy.called()
+        self.assertIn("rt lib in binder", called)
+        self.assertIn("rt all check --jobs 4 in cophy_cli", called)
+        self.assertEqual(list(room.iterdir()), [])
 
     def test_a_second_call_builds_nothing(self) -> None:
         self.copy.call("cost", "a", "b")
@@ -206,7 +224,7 @@ class Wrapper(unittest.TestCase):
 
     def test_on_a_terminal_progress_is_one_line_that_is_written_over(self) -> None:
         shown = self._on_terminal("cost", "a", "b", FAKE_SECONDS="1.2")
-        self.assertRegex(shown, rb"\rcophy: proving adv_base \(1 of 2\), 0 min 01 s so far")
+        self.assertRegex(shown, rb"\rcophy: proving adv_base \(1 of 2\), 0 min 0[1-9] s so far")
 
     def test_on_a_terminal_there_are_hints_unless_they_are_off(self) -> None:
         self.copy.build()
