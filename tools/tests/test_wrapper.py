@@ -163,10 +163,10 @@ class Wrapper(unittest.TestCase):
     def test_several_crates_are_proved_at_once_where_that_is_asked_or_the_machine_allows(self) -> None:
         ran = self.copy.call("cost", "a", "b", COPHY_JOBS="4", FAKE_TEXT="done\\n")
         self.assertEqual((ran.returncode, ran.stdout), (0, b"done\n"))
-        self.assertIn(b"proving 2 crates, at most 4 at once, 0 min 0", ran.stderr)
+        self.assertIn(b"proving 2 crates, with at most 4 processes, 0 min 0", ran.stderr)
         self.assertIn(b"building cophy_cli (2 of 2), 0 min 0", ran.stderr)
         called = self.copy.called()
-        self.assertEqual(called[0], "rt all check --jobs 4 in cophy_cli")
+        self.assertEqual(called[0], "rt lib --jobs 3 in adv_base")
         self.assertTrue(called[1].startswith("rt run -- cost "))
         self.assertEqual(called[2], "program cost a b")
 
@@ -178,17 +178,35 @@ class Wrapper(unittest.TestCase):
                 self.assertIn(b"COPHY_JOBS is no number from 1 to 99", ran.stderr)
                 self.assertNotIn(f"--jobs {jobs} ", self.copy.called()[0])
 
-    def test_the_longest_chain_is_proved_in_a_copy_that_goes(self) -> None:
-        lines = ["binder:", "report: binder", "cophy_core: report", "cophy_cli: cophy_core"]
+    def lay_crates(self, lines: list[str], sizes: dict[str, int]) -> None:
+        """Lists these crates, and makes them of so many lines."""
         (self.copy.root / "crates.txt").write_text("\n".join(lines) + "\n")
-        for crate in ("binder", "report", "cophy_core"):
-            (self.copy.root / "crates" / crate).mkdir()
+        for crate, size in sizes.items():
+            source = self.copy.root / "crates" / crate / "src"
+            source.mkdir(parents=True, exist_ok=True)
+            (source / "lib.rt").write_text("//\n" * size)
+
+    def test_the_crate_for_which_the_most_waits_is_begun_first_and_with_several_processes(self) -> None:
+        lines = ["base:", "small: base", "large: base", "top: large", "other: base", "cophy_cli: top small other"]
+        self.lay_crates(lines, {"base": 1, "small": 2, "large": 5, "top": 1, "other": 1})
         room = self.copy.folder / "room"
         room.mkdir()
-        self.copy.call("cost", "a", "b", COPHY_JOBS="4", FAKE_SECONDS="1", TMPDIR=str(room))
-        called = self.copy.called()
-        self.assertIn("rt lib in binder", called)
-        self.assertIn("rt all check --jobs 4 in cophy_cli", called)
+        ran = self.copy.call("cost", "a", "b", COPHY_JOBS="4", FAKE_SECONDS="1", TMPDIR=str(room))
+        self.assertEqual(ran.returncode, 0)
+        called = [it for it in self.copy.called() if it.startswith("rt lib")]
+        self.assertEqual(called[0], "rt lib --jobs 3 in base")
+        self.assertEqual(set(called[1:3]), {"rt lib --jobs 3 in large", "rt lib --jobs 1 in small"})
+        self.assertEqual({it.split()[-1] for it in called[3:]}, {"top", "other"})
+        self.assertEqual(list(room.iterdir()), [])
+
+    def test_a_crate_that_is_not_proved_ends_the_build(self) -> None:
+        self.lay_crates(["base:", "top: base", "cophy_cli: top"], {"base": 1, "top": 1})
+        room = self.copy.folder / "room"
+        room.mkdir()
+        ran = self.copy.call("cost", "a", "b", COPHY_JOBS="4", FAKE_RT="1", TMPDIR=str(room))
+        self.assertEqual((ran.returncode, ran.stdout), (70, b""))
+        self.assertIn(b"the build failed", ran.stderr)
+        self.assertEqual(self.copy.called(), ["rt lib --jobs 3 in base"])
         self.assertEqual(list(room.iterdir()), [])
 
     def test_a_second_call_builds_nothing(self) -> None:
