@@ -199,6 +199,12 @@ class Wrapper(unittest.TestCase):
         self.assertEqual({it.split()[-1] for it in called[3:]}, {"top", "other"})
         self.assertEqual(list(room.iterdir()), [])
 
+    def test_where_a_program_stands_crates_are_proved_in_turn_in_the_checkout(self) -> None:
+        self.copy.build()
+        (self.copy.root / "out" / "built").unlink()
+        self.copy.call("cost", "a", "b", COPHY_JOBS="4")
+        self.assertEqual(self.copy.called()[0], "rt lib in adv_base")
+
     def test_a_crate_that_is_not_proved_ends_the_build(self) -> None:
         self.lay_crates(["base:", "top: base", "cophy_cli: top"], {"base": 1, "top": 1})
         room = self.copy.folder / "room"
