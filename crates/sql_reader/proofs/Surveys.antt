@@ -266,5 +266,5 @@ first_of_survey text survey fault is =
 
 -- where no token comes nothing is ahead
 pub none_next : (old new : Ahead) (token : Option Token) → ((t : Token) → token ≡ Some t → ⊥) → IsNext old (Ok token) new → old ≡ nothing
-none_next old new None none e = e
+none_next old new None none e = e.0
 none_next old new (Some t) none e = absurd (none t refl)

@@ -37,16 +37,16 @@ ahead_in (suc n) at (b ∷ bs) = with_lexeme at (b ∷ bs) (ahead_in n) (front (
 unfoldable pub ahead : List ℕ → ℕ → Ahead
 ahead text at = ahead_in (length text) at (drop at text)
 
--- one lexeme was read
+-- one lexeme was read, or what is ahead stays, where there is none
 abbrev pub IsLexeme : Ahead → Result (Option Token) TokenFault → Ahead → Type 0
 IsLexeme old (Ok token) new = old ≡ behind_tokens (option_to_list token) new
-IsLexeme old (Err fault) new = old ≡ only_fault fault
+IsLexeme old (Err fault) new = (old ≡ only_fault fault) × (new ≡ old)
 
--- the next token was read, or there is none
+-- the next token was read, or what is ahead stays, where there is none
 abbrev pub IsNext : Ahead → Result (Option Token) TokenFault → Ahead → Type 0
 IsNext old (Ok (Some token)) new = old ≡ behind_tokens (token ∷ []) new
-IsNext old (Ok None) new = old ≡ nothing
-IsNext old (Err fault) new = old ≡ only_fault fault
+IsNext old (Ok None) new = (old ≡ nothing) × (new ≡ old)
+IsNext old (Err fault) new = (old ≡ only_fault fault) × (new ≡ old)
 
 -- the tokens are those of a text without a fault, or else the text has the fault
 abbrev pub Tells : List ℕ → List Token → Option TokenFault → Type 0

@@ -53,8 +53,10 @@ impl<'a> TokenReader<'a> {
     ///
     /// # Errors
     ///
-    /// `BadByte` and `OpenText`, as `tokens` gives them, where no token is left before the text's fault. A later call
-    /// gives the same. `Memory` never comes.
+    /// `BadByte` and `OpenText`, as `tokens` gives them, where no token is left before the text's fault. `Memory` never
+    /// comes.
+    ///
+    /// Where no token comes, what is ahead stays, so that a later call gives the same.
     pub fn next_token(&mut self) -> Result<Option<Token>, TokenFault>
         ensures text { self.new.text.now ≡ self.old.text.now }
         ensures reads { IsNext (ahead self.old.text.now self.old.at) result (ahead self.old.text.now self.new.at) }

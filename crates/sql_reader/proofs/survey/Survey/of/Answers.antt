@@ -12,7 +12,7 @@ returns-in_err-token-clause-err c =
     let text = c.args.text.now in
     let at = c.turns.tokens.at in
     let p = err_from_is_err_and c.from_residual.result c.from_residual.ensures.1 in
-    let reads = subst (λ (bytes : List ℕ). ahead bytes at ≡ only_fault c.in_err-token.field-0.0) c.turns.invariant.text c.in_err-token.ensures.reads in
+    let reads = subst (λ (bytes : List ℕ). ahead bytes at ≡ only_fault c.in_err-token.field-0.0) c.turns.invariant.text c.in_err-token.ensures.reads.0 in
     rw (p.1, p.2) (so_far_fault text c.turns.survey (ahead text at) c.in_err-token.field-0.0 c.turns.invariant.seen reads)
 
 pub returns-clause-ok : goal.returns-clause-ok

@@ -1,4 +1,4 @@
-use Rattle.std.proofs.Common.{◌≡◌, ◌+◌, length, take, drop, Ok, Err, ap, sym, ◌∙◌, arith}
+use Rattle.std.proofs.Common.{◌≡◌, ◌+◌, length, take, drop, Ok, Err, refl, ap, sym, ◌∙◌, arith}
 use Rattle.std.proofs.lemmas.List.{length-drop}
 use Rattle.sql_tokens.specs.Ahead.{ahead, behind_tokens, only_fault}
 use Rattle.sql_tokens.specs.Cut.{tokens_of_lexeme}
@@ -42,4 +42,4 @@ returns-in-Err-clause-reads c =
     let text = c.args.self.now.text.now in
     let at = c.args.self.now.at in
     let found : front (drop at text) ≡ Err c.in-Err.stop = ap front (sym c.after-rest.ensures) ∙ sym c.in-Err.ensures.value in
-    ahead_fault text at c.in-Err.stop c.requires found ∙ ap only_fault (sym c.fault_at.ensures)
+    (ahead_fault text at c.in-Err.stop c.requires found ∙ ap only_fault (sym c.fault_at.ensures), refl)
