@@ -256,7 +256,7 @@ so_far_all text survey rest short h end =
 
 -- the text has a fault
 pub so_far_fault : (text : List ℕ) (survey : Survey) (rest : Ahead) (e : TokenFault) → IsSoFar text survey rest → rest ≡ only_fault e → HasFault text e
-so_far_fault text survey rest e h is = told text (Some e) (ap (λ (a : Ahead). a.fault) (sym is) ∙ h.fault)
+so_far_fault text survey rest e h is = (told text (Some e) (ap (λ (a : Ahead). a.fault) (sym is) ∙ h.fault)).0
 
 -- the first fault with a survey is that with the tokens and terminals
 pub first_of_survey : (text : List ℕ) (survey : Survey) (fault : Option SqlFault) → IsSurvey text survey → surveyed_fault survey fault ≡ first_fault text (tokens_in text) (terminals_in text) fault

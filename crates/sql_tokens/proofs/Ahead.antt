@@ -1,12 +1,13 @@
 -- What a reader has before it, lexeme by lexeme.
-use Rattle.std.proofs.Common.{◌≡◌, ℕ, zero, suc, ◌+◌, ◌<◌, ◌≤◌, List, [], ◌∷◌, ◌++◌, length, take, drop, Option, Some, None, Result, Ok, Err, refl, ap, sym, ◌∙◌, subst, arith}
+use Rattle.std.proofs.Common.{◌≡◌, ◌⊎◌, ℕ, zero, suc, ◌+◌, ◌<◌, ◌≤◌, List, [], ◌∷◌, ◌++◌, length, take, drop, Option, Some, None, Result, Ok, Err, refl, ap, sym, ◌∙◌, subst, inl, inr, arith}
 use Rattle.std.specs.Option.{option_to_list, ForSome}
 use Rattle.std.proofs.lemmas.List.{length-drop, drop-drop, append-nil, append_assoc, nil_from_length}
 use Rattle.sql_tokens.specs.Front.{front}
 use Rattle.sql_tokens.specs.Span.{LiesIn}
-use Rattle.sql_tokens.specs.Cut.{AreTokens, fault_at, tokens_of_lexeme}
+use Rattle.sql_tokens.specs.Cut.{AreTokens, HasFault, fault_at, tokens_of_lexeme}
 use Rattle.sql_tokens.specs.Ahead.{nothing, only_fault, behind_tokens, with_lexeme, ahead_in, ahead, Tells}
 use Rattle.sql_tokens.specs.declared.token.Token.{Token}
+use Rattle.sql_tokens.specs.declared.token_list.TokenFault.{TokenFault}
 use Rattle.sql_tokens.specs.declared.lexeme.Form.{Form}
 use Rattle.sql_tokens.specs.declared.lexeme.Lexeme.{Lexeme}
 use Rattle.sql_tokens.specs.declared.lexeme.NoLexeme.{NoLexeme}
@@ -98,9 +99,18 @@ from_place (suc n) text (b ∷ bs) at list h reached = by_front (λ rest to more
         let more = ahead_in n (at + p.length) rest in
         subst (λ (ts : List Token). Tells text ts more.fault) (append_assoc list own more.tokens)
         (behind rest (at + p.length) (list ++ own) (shorter n b bs p h e) (reached_more text (b ∷ bs) at list p reached e))
-    by_front behind (Err s) e = reached_fault text (b ∷ bs) at list s reached (omega arith) e
+    by_front behind (Err s) e =
+        subst (λ (ts : List Token). Tells text ts (Some (fault_at at s))) (sym (append-nil list)) (reached_fault text (b ∷ bs) at list s reached (omega arith) e)
 
 -- at the front of a text its tokens or its fault are ahead
 pub tells_ahead : (text : List ℕ) → Tells text (ahead text 0).tokens (ahead text 0).fault
 unfolding ahead
 tells_ahead text = from_place (length text) text text 0 [] (omega arith) (reached_none text)
+
+-- a text has tokens or a fault
+pub answered : (text : List ℕ) → ((list : List Token) × AreTokens text list) ⊎ ((e : TokenFault) × HasFault text e)
+answered text = by_fault (ahead text 0).tokens (ahead text 0).fault (tells_ahead text)
+  where
+    by_fault : (tokens : List Token) (fault : Option TokenFault) → Tells text tokens fault → ((list : List Token) × AreTokens text list) ⊎ ((e : TokenFault) × HasFault text e)
+    by_fault tokens None are = inl (tokens, are)
+    by_fault tokens (Some fault) (has, before) = inr (fault, has)

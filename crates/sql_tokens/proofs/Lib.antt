@@ -1,5 +1,4 @@
 pub mod Ahead
-pub mod Answered
 pub mod AtLeast
 pub mod Exact
 pub mod OneCut

@@ -5,7 +5,7 @@ use Rattle.std.specs.List.{All, AllPairs}
 use Rattle.sql_tokens.specs.Span.{LiesIn, StandsBefore}
 use Rattle.sql_tokens.specs.Front.{front}
 use Rattle.sql_tokens.specs.Form.{IsForm, IsLineComment}
-use Rattle.sql_tokens.specs.Cut.{IsOpen, IsBad, Stands, Part, IsCut, tokens_of, tokens_of_lexeme, AreTokens, HasBadByte, HasOpenText, HasFault, fault_at}
+use Rattle.sql_tokens.specs.Cut.{IsOpen, IsBad, Stands, Part, IsCut, tokens_of, tokens_of_lexeme, AreTokens, HasBadByte, HasOpenText, HasFault, tokens_before, fault_at}
 use Rattle.sql_tokens.specs.declared.token.Token.{Token}
 use Rattle.sql_tokens.specs.declared.token_list.TokenFault.{TokenFault}
 use Rattle.sql_tokens.specs.declared.token_list.TokenFault.TheVariants as fault
@@ -84,23 +84,19 @@ pub reached_all : (text rest : List ℕ) (at : ℕ) (list : List Token) → Reac
 reached_all text rest at list r l =
     record { parts = r.parts; cut = subst (IsCut r.parts text) (nil_from_length rest l) r.cut; tokens = r.tokens }
 
--- no lexeme is there
-pub reached_fault : (text rest : List ℕ) (at : ℕ) (list : List Token) (s : NoLexeme) → Reached text rest at list → 0 < length rest → front rest ≡ Err s → HasFault text (fault_at at s)
-reached_fault text rest at list (stop.BadByte n) r l e = record {
-  parts = r.parts;
-  rest = rest;
-  behind = n;
-  cut = r.cut;
-  bad = subst (Tells rest) e (tells_some rest l);
-  counted = omega (arith, r.counted);
-}
-reached_fault text rest at list stop.OpenText r l e = record {
-  parts = r.parts;
-  rest = rest;
-  cut = r.cut;
-  open_text = subst (Tells rest) e (tells_some rest l);
-  counted = omega (arith, r.counted);
-}
+stops_bad : (text rest : List ℕ) (at n : ℕ) (list : List Token) → Reached text rest at list → IsBad rest n → (has : HasBadByte text (at + n + 1)) × (list ≡ tokens_of 0 has.parts)
+stops_bad text rest at n list r bad =
+    (record { parts = r.parts; rest = rest; behind = n; cut = r.cut; bad = bad; counted = omega (arith, r.counted) }, r.tokens)
+
+stops_open : (text rest : List ℕ) (at : ℕ) (list : List Token) → Reached text rest at list → IsOpen rest → (has : HasOpenText text (at + 1)) × (list ≡ tokens_of 0 has.parts)
+stops_open text rest at list r opens =
+    (record { parts = r.parts; rest = rest; cut = r.cut; open_text = opens; counted = omega (arith, r.counted) }, r.tokens)
+
+-- no lexeme is there: the text has a fault, and the tokens so far are those before it
+pub reached_fault : (text rest : List ℕ) (at : ℕ) (list : List Token) (s : NoLexeme) → Reached text rest at list → 0 < length rest → front rest ≡ Err s →
+    (has : HasFault text (fault_at at s)) × (list ≡ tokens_before text (fault_at at s) has)
+reached_fault text rest at list (stop.BadByte n) r l e = stops_bad text rest at n list r (subst (Tells rest) e (tells_some rest l))
+reached_fault text rest at list stop.OpenText r l e = stops_open text rest at list r (subst (Tells rest) e (tells_some rest l))
 
 -- a lexeme has a byte
 pub lexeme_some : (rest : List ℕ) (p : Lexeme) → front rest ≡ Ok p → 0 < p.length

@@ -2,7 +2,7 @@
 use Rattle.std.specs.Prelude.{◌≡◌, ℕ, zero, suc, ◌+◌, List, [], ◌∷◌, ◌++◌, length, take, drop, Option, Some, None, Result, Ok, Err}
 use Rattle.std.specs.Option.{option_to_list}
 use Rattle.sql_tokens.specs.Front.{front}
-use Rattle.sql_tokens.specs.Cut.{AreTokens, HasFault, tokens_of_lexeme, fault_at}
+use Rattle.sql_tokens.specs.Cut.{AreTokens, HasFault, tokens_before, tokens_of_lexeme, fault_at}
 use Rattle.sql_tokens.specs.declared.token.Token.{Token}
 use Rattle.sql_tokens.specs.declared.token_list.TokenFault.{TokenFault}
 use Rattle.sql_tokens.specs.declared.lexeme.Lexeme.{Lexeme}
@@ -48,7 +48,7 @@ IsNext old (Ok (Some token)) new = old ≡ behind_tokens (token ∷ []) new
 IsNext old (Ok None) new = (old ≡ nothing) × (new ≡ old)
 IsNext old (Err fault) new = (old ≡ only_fault fault) × (new ≡ old)
 
--- the tokens are those of a text without a fault, or else the text has the fault
+-- the tokens are those of a text without a fault, or else the text has the fault, and they are those before it
 abbrev pub Tells : List ℕ → List Token → Option TokenFault → Type 0
 Tells text tokens None = AreTokens text tokens
-Tells text tokens (Some fault) = HasFault text fault
+Tells text tokens (Some fault) = (has : HasFault text fault) × (tokens ≡ tokens_before text fault has)

@@ -132,6 +132,12 @@ HasFault text fault.Memory = ⊥
 HasFault text (fault.BadByte place) = HasBadByte text place
 HasFault text (fault.OpenText place) = HasOpenText text place
 
+-- the tokens of the lexemes before the fault
+abbrev pub tokens_before : (text : List ℕ) (e : TokenFault) → HasFault text e → List Token
+tokens_before text fault.Memory has = absurd has
+tokens_before text (fault.BadByte place) has = tokens_of 0 has.parts
+tokens_before text (fault.OpenText place) has = tokens_of 0 has.parts
+
 -- how many bytes stand between a rest and the byte that is no good
 abbrev pub stop_length : NoLexeme → ℕ
 stop_length (stop.BadByte behind) = behind

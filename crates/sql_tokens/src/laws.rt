@@ -32,8 +32,8 @@ pub fn one_weight()
     ensures { (comment : List ℕ) (n : ℕ) → IsLineComment comment → (weight_length comment ≡ Some n) ↔ HoldsWeight comment n }
 {}
 
-/// What a reader has before it at the front of a text are the text's tokens, or a fault behind the first of them is the
-/// text's first fault.
+/// What a reader has before it at the front of a text are the text's tokens, or those before its first fault, and that
+/// fault.
 pub fn tokens_ahead()
     ensures { (text : List ℕ) → Tells text (ahead text 0).tokens (ahead text 0).fault }
 {}

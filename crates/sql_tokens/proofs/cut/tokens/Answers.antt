@@ -10,7 +10,7 @@ returns-in-Err-clause-only c =
     let rest = c.loop-rest.rest.now in
     let l : 0 < length rest = search rules in
     let f : HasFault text (fault_at c.loop-rest.at c.in-Err.stop) =
-    reached_fault text rest c.loop-rest.at c.loop-rest.list.items c.in-Err.stop c.loop-rest.invariant l (sym c.in-Err.ensures.value) in
+    (reached_fault text rest c.loop-rest.at c.loop-rest.list.items c.in-Err.stop c.loop-rest.invariant l (sym c.in-Err.ensures.value)).0 in
     λ list a. absurd (no_fault text list (fault_at c.loop-rest.at c.in-Err.stop) a f)
 
 pub returns-in-Err-clause-fault : goal.returns-in-Err-clause-fault
@@ -19,7 +19,7 @@ returns-in-Err-clause-fault c =
     let rest = c.loop-rest.rest.now in
     let l : 0 < length rest = search rules in
     let f : HasFault text (fault_at c.loop-rest.at c.in-Err.stop) =
-    reached_fault text rest c.loop-rest.at c.loop-rest.list.items c.in-Err.stop c.loop-rest.invariant l (sym c.in-Err.ensures.value) in
+    (reached_fault text rest c.loop-rest.at c.loop-rest.list.items c.in-Err.stop c.loop-rest.invariant l (sym c.in-Err.ensures.value)).0 in
     inr (subst (HasFault text) (sym c.fault_at.ensures) f)
 
 pub returns-in-Err-clause-fault_only : goal.returns-in-Err-clause-fault_only
@@ -28,7 +28,7 @@ returns-in-Err-clause-fault_only c =
     let rest = c.loop-rest.rest.now in
     let l : 0 < length rest = search rules in
     let f : HasFault text (fault_at c.loop-rest.at c.in-Err.stop) =
-    reached_fault text rest c.loop-rest.at c.loop-rest.list.items c.in-Err.stop c.loop-rest.invariant l (sym c.in-Err.ensures.value) in
+    (reached_fault text rest c.loop-rest.at c.loop-rest.list.items c.in-Err.stop c.loop-rest.invariant l (sym c.in-Err.ensures.value)).0 in
     λ e h. inl (c.fault_at.ensures ∙ one_fault text (fault_at c.loop-rest.at c.in-Err.stop) e f h)
 
 pub token_of-requires-clause-comment : goal.token_of-requires-clause-comment

@@ -1,4 +1,4 @@
-use Rattle.sql_tokens.proofs.Answered.{answered}
+use Rattle.sql_tokens.proofs.Ahead.{answered}
 use Rattle.sql_tokens.proofs.laws.some_answer.Goals as goal
 
 pub returns : goal.returns
