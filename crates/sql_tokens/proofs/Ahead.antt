@@ -5,7 +5,7 @@ use Rattle.std.proofs.lemmas.List.{length-drop, drop-drop, append-nil, append_as
 use Rattle.sql_tokens.specs.Front.{front}
 use Rattle.sql_tokens.specs.Span.{LiesIn}
 use Rattle.sql_tokens.specs.Cut.{AreTokens, HasFault, fault_at, tokens_of_lexeme}
-use Rattle.sql_tokens.specs.Ahead.{nothing, only_fault, behind_tokens, with_lexeme, ahead_in, ahead, Tells}
+use Rattle.sql_tokens.specs.Ahead.{Ahead, nothing, only_fault, behind_tokens, with_lexeme, ahead_in, ahead, IsNext, Tells}
 use Rattle.sql_tokens.specs.declared.token.Token.{Token}
 use Rattle.sql_tokens.specs.declared.token_list.TokenFault.{TokenFault}
 use Rattle.sql_tokens.specs.declared.lexeme.Form.{Form}
@@ -106,6 +106,45 @@ from_place (suc n) text (b ∷ bs) at list h reached = by_front (λ rest to more
 pub tells_ahead : (text : List ℕ) → Tells text (ahead text 0).tokens (ahead text 0).fault
 unfolding ahead
 tells_ahead text = from_place (length text) text text 0 [] (omega arith) (reached_none text)
+
+-- where no token comes nothing is ahead
+pub none_next : (old new : Ahead) (token : Option Token) → ((t : Token) → token ≡ Some t → ⊥) → IsNext old (Ok token) new → old ≡ nothing
+none_next old new None none h = h.0
+none_next old new (Some t) none h = absurd (none t refl)
+
+-- What is read of a text and what is ahead are its tokens, or those before its first fault, and that fault.
+
+pub record IsReadTo (text : List ℕ) (list : List Token) (rest : Ahead) : Type 0 where
+  pub all : ahead text 0 ≡ behind_tokens list rest
+
+pub read_none : (text : List ℕ) → IsReadTo text [] (ahead text 0)
+read_none text = record { all = refl }
+
+with_fault : List Token → Option TokenFault → Ahead
+with_fault tokens fault = record { tokens = tokens; fault = fault }
+
+behind_more : (list : List Token) (t : Token) (rest : Ahead) → behind_tokens list (behind_tokens (t ∷ []) rest) ≡ behind_tokens (list ++ t ∷ []) rest
+unfolding with_fault
+behind_more list t rest = ap (λ (ts : List Token). with_fault ts rest.fault) (sym (append_assoc list (t ∷ []) rest.tokens))
+
+-- one token more
+pub read_more : (text : List ℕ) (list : List Token) (t : Token) (old new : Ahead) → IsReadTo text list old → old ≡ behind_tokens (t ∷ []) new → IsReadTo text (list ++ t ∷ []) new
+read_more text list t old new h next = record { all = h.all ∙ ap (behind_tokens list) next ∙ behind_more list t new }
+
+-- no token comes, and so nothing is left
+pub read_all : (text bytes : List ℕ) (list : List Token) (at new : ℕ) (token : Option Token) → bytes ≡ text → IsReadTo text list (ahead text at) → ((t : Token) → token ≡ Some t → ⊥) →
+    IsNext (ahead bytes at) (Ok token) (ahead bytes new) → AreTokens text list
+read_all text bytes list at new token same h none next =
+    let end = subst (λ (b : List ℕ). ahead b at ≡ nothing) same (none_next (ahead bytes at) (ahead bytes new) token none next) in
+    subst (AreTokens text) (append-nil list)
+    (subst (λ (a : Ahead). Tells text a.tokens a.fault) (h.all ∙ ap (behind_tokens list) end) (tells_ahead text))
+
+-- a fault comes, and so it is the text's
+pub read_fault : (text bytes : List ℕ) (list : List Token) (at new : ℕ) (e : TokenFault) → bytes ≡ text → IsReadTo text list (ahead text at) →
+    IsNext (ahead bytes at) (Err e) (ahead bytes new) → HasFault text e
+read_fault text bytes list at new e same h next =
+    let is = subst (λ (b : List ℕ). ahead b at ≡ only_fault e) same next.0 in
+    (subst (λ (a : Ahead). Tells text a.tokens a.fault) (h.all ∙ ap (behind_tokens list) is) (tells_ahead text)).0
 
 -- a text has tokens or a fault
 pub answered : (text : List ℕ) → ((list : List Token) × AreTokens text list) ⊎ ((e : TokenFault) × HasFault text e)

@@ -1,5 +1,5 @@
 -- Where the tokens of a cut stand.
-use Rattle.std.proofs.Common.{◌≡◌, ℕ, ◌+◌, ◌<◌, ◌≤◌, Bool, true, false, ◌&&◌, cond, ltb, List, [], ◌∷◌, ◌++◌, length, take, drop, Option, Some, None, refl, ap, ◌∙◌, subst, arith}
+use Rattle.std.proofs.Common.{◌≡◌, ℕ, ◌+◌, ◌<◌, ◌≤◌, Bool, true, false, ◌&&◌, cond, ltb, List, [], ◌∷◌, ◌++◌, length, take, drop, Option, Some, None, refl, ap, sym, ◌∙◌, subst, arith}
 use Rattle.std.specs.List.{prefix_len, All, AllPairs}
 use Rattle.std.specs.Str.{str_eq_ignore_ascii_case}
 use Rattle.std.proofs.lemmas.Bool.Decides.{nat_tests}
@@ -11,7 +11,7 @@ use Rattle.sql_tokens.specs.Byte.{is_digit, is_space, is_margin}
 use Rattle.sql_tokens.specs.Front.{further}
 use Rattle.sql_tokens.specs.Span.{LiesIn, StandsBefore}
 use Rattle.sql_tokens.specs.Weight.{weight_word, is_margins, number_end, weight_end, weight_length}
-use Rattle.sql_tokens.specs.Cut.{Part, IsCut, weight_token, tokens_of, tokens_of_lexeme}
+use Rattle.sql_tokens.specs.Cut.{Part, IsCut, AreTokens, weight_token, tokens_of, tokens_of_lexeme}
 use Rattle.sql_tokens.specs.declared.token.Token.{Token}
 use Rattle.sql_tokens.specs.declared.lexeme.Form.{Form}
 use Rattle.sql_tokens.specs.declared.lexeme.Form.TheVariants as form
@@ -141,3 +141,10 @@ lies-cut ps text rest h =
 -- the tokens of a cut are in order
 pub pairs-cut : (ps : List Part) (text rest : List ℕ) → IsCut ps text rest → AllPairs StandsBefore (tokens_of 0 ps)
 pairs-cut ps text rest h = pairs-in_order 0 (0 + length text) (tokens_of 0 ps) (in_order-cut ps 0 text rest h)
+
+-- the tokens of a text lie in it, in order
+pub tokens-lie : (text : List ℕ) (list : List Token) → AreTokens text list → All (LiesIn text) list
+tokens-lie text list are = subst (All (LiesIn text)) (sym are.tokens) (lies-cut are.parts text [] are.cut)
+
+pub tokens-pairs : (text : List ℕ) (list : List Token) → AreTokens text list → AllPairs StandsBefore list
+tokens-pairs text list are = subst (AllPairs StandsBefore) (sym are.tokens) (pairs-cut are.parts text [] are.cut)

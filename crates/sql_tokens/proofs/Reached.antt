@@ -1,8 +1,6 @@
 -- How far a text is cut, and how the cut goes on and ends.
 use Rattle.std.proofs.Common.{◌≡◌, ℕ, ◌+◌, ◌<◌, ◌≤◌, List, [], ◌∷◌, ◌++◌, length, take, drop, Ok, Err, refl, ap, sym, ◌∙◌, subst, inl, inr, arith}
 use Rattle.std.proofs.lemmas.List.{take_at, drop_at, append-nil, append_assoc, length-append, nil_from_length}
-use Rattle.std.specs.List.{All, AllPairs}
-use Rattle.sql_tokens.specs.Span.{LiesIn, StandsBefore}
 use Rattle.sql_tokens.specs.Front.{front}
 use Rattle.sql_tokens.specs.Form.{IsForm, IsLineComment}
 use Rattle.sql_tokens.specs.Cut.{IsOpen, IsBad, Stands, Part, IsCut, tokens_of, tokens_of_lexeme, AreTokens, HasBadByte, HasOpenText, HasFault, tokens_before, fault_at}
@@ -15,7 +13,6 @@ use Rattle.sql_tokens.specs.declared.lexeme.NoLexeme.{NoLexeme}
 use Rattle.sql_tokens.specs.declared.lexeme.NoLexeme.TheVariants as stop
 use Rattle.sql_tokens.proofs.Sound.{Tells, HasFront}
 use Rattle.sql_tokens.proofs.Exact.{front_stands, tells_some, open_front, bad_front, form_some}
-use Rattle.sql_tokens.proofs.Places.{lies-cut, pairs-cut}
 use Rattle.sql_tokens.proofs.OneCut.{one_cut, stopped_end, stopped_open, stopped_bad}
 
 -- how many bytes the lexemes have
@@ -103,13 +100,6 @@ pub lexeme_some : (rest : List ℕ) (p : Lexeme) → front rest ≡ Ok p → 0 <
 lexeme_some rest p e =
     let h = has_front rest p e in
     omega (arith, h.long, form_some p.form h.bytes h.is_form)
-
--- the tokens lie in the text, in order
-pub reached_lies : (text rest : List ℕ) (at : ℕ) (list : List Token) → Reached text rest at list → All (LiesIn text) list
-reached_lies text rest at list r = subst (All (LiesIn text)) (sym r.tokens) (lies-cut r.parts text rest r.cut)
-
-pub reached_pairs : (text rest : List ℕ) (at : ℕ) (list : List Token) → Reached text rest at list → AllPairs StandsBefore list
-reached_pairs text rest at list r = subst (AllPairs StandsBefore) (sym r.tokens) (pairs-cut r.parts text rest r.cut)
 
 -- a comment has its two dashes
 line_two : (bytes : List ℕ) → IsLineComment bytes → 2 ≤ length bytes

@@ -1,15 +1,13 @@
 //! A text cut into its tokens.
-ghost use Rattle.std.specs.Prelude.{◌≡◌, ◌+◌, ◌<◌, ◌≤◌, ◌^◌, ◌++◌, ℕ, List, length, take, IfOk, IfErr, MatchResult, ◌⊎◌};
+ghost use Rattle.std.specs.Prelude.{◌≡◌, ◌+◌, ◌<◌, ◌≤◌, ◌^◌, ◌++◌, ℕ, List, [], ◌∷◌, length, take, IfOk, IfErr, MatchResult, ◌⊎◌};
 ghost use Rattle.std.specs.Option.{option_to_list};
 ghost use Rattle.sql_tokens.specs.declared.token.Token.{Token};
 ghost use Rattle.sql_tokens.specs.declared.token_list.TokenFault.{TokenFault};
 ghost use Rattle.sql_tokens.specs.Cut.{AreTokens, HasFault, tokens_of_lexeme, fault_at, token_at, stop_length};
 
-use crate::byte::after;
-use crate::front::front;
 use crate::lexeme::{Form, NoLexeme};
 use crate::weight::weight_length;
-use crate::{Span, Token, TokenFault, TokenKind, Tokens};
+use crate::{Span, Token, TokenFault, TokenKind, TokenReader, Tokens};
 use std::alloc::Global;
 
 /// The fault behind so many bytes.
@@ -54,13 +52,10 @@ pub fn token_of(at: u64, form: Form, bytes: &[u8]) -> Option<Token>
     }
 }
 
-/// Puts the token, if there is one, at the end of the list.
-fn add(list: &mut Vec<Token>, token: Option<Token>) -> Result<(), TokenFault>
-    ensures { MatchResult result (λ _. list.new.items ≡ list.old.items ++ option_to_list token) (λ e. e ≡ TokenFault.Memory) }
+/// Puts a token at the end of the list.
+fn add(list: &mut Vec<Token>, token: Token) -> Result<(), TokenFault>
+    ensures { MatchResult result (λ _. list.new.items ≡ list.old.items ++ token ∷ []) (λ e. e ≡ TokenFault.Memory) }
 {
-    let Some(token) = token else {
-        return Ok(());
-    };
     match list.push(token) {
         Ok(()) => Ok(()),
         Err(_) => Err(TokenFault::Memory),
@@ -91,17 +86,9 @@ pub fn tokens<'a>(alloc: Global, text: &'a [u8]) -> Result<Tokens<'a>, TokenFaul
     ensures fault_only { (e : TokenFault) → HasFault text.now e → MatchResult result (λ _. ⊥) (λ f. (f ≡ e) ⊎ (f ≡ TokenFault.Memory)) }
 {
     let mut list = Vec::new(alloc);
-    let mut rest = text;
-    let mut at: u64 = 0;
-    while !rest.is_empty() {
-        let lexeme = match front(rest) {
-            Ok(lexeme) => lexeme,
-            Err(stop) => return Err(fault_at(at, stop)),
-        };
-        let (bytes, behind) = rest.split_at(lexeme.length);
-        add(&mut list, token_of(at, lexeme.form, bytes))?;
-        at += lexeme.length as u64;
-        rest = behind;
+    let mut reader = TokenReader::new(text);
+    'turns: while let Some(token) = reader.next_token()? {
+        add(&mut list, token)?;
     }
     Ok(Tokens {
         text,

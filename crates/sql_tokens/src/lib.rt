@@ -5,9 +5,10 @@
 //! and symbols. Blanks and comments give no token, except that a line comment may give the weight of a statement. What
 //! a word means is left to the crate above.
 //!
-//! `Tokens` is a text with its tokens. A `Token` has a `TokenKind` and the `Span` of its bytes, and a `TokenFault` says
-//! why a text has none. The other functions are laws: a text has one list of tokens or one first fault, and a comment
-//! one weight.
+//! `Tokens` is a text with its tokens. A `TokenReader` gives the same tokens one by one, for callers that need no list.
+//! A `Token` has a `TokenKind` and the `Span` of its bytes, and a `TokenFault` says why a text has none. The other
+//! functions are laws: a text has one list of tokens or one first fault, a reader comes to these, and a comment has one
+//! weight.
 //!
 //! ```rust
 //! let found = tokens(alloc, b"SELECT a1 FROM t -- ten rows")?;

@@ -6,7 +6,8 @@ use crate::cut::{fault_at, token_of};
 use crate::front::front;
 use crate::{Token, TokenFault};
 
-/// A text that is read token by token, for callers that need no list of its tokens.
+/// A text that is read token by token, for callers that need no list of its tokens. A copy reads on from the same
+/// place.
 #[derive(Clone, Copy, Debug)]
 pub struct TokenReader<'a> {
     pub text: &'a [u8],

@@ -1,76 +1,62 @@
-use Rattle.std.proofs.Common.{◌≡◌, ◌++◌, ◌<◌, length, take, sym, ap, ◌∙◌, subst, inl, inr, arith, rules}
-use Rattle.sql_tokens.specs.Cut.{HasFault, fault_at, tokens_of_lexeme}
+use Rattle.std.proofs.Common.{◌≡◌, ℕ, List, [], ◌∷◌, Option, Ok, sym, ◌∙◌, subst, inl, inr}
+use Rattle.std.proofs.lemmas.Result.{err_from_is_err_and}
+use Rattle.sql_tokens.specs.Ahead.{ahead, behind_tokens, IsNext}
+use Rattle.sql_tokens.specs.declared.token.Token.{Token}
+use Rattle.sql_tokens.proofs.Ahead.{IsReadTo, read_more, read_all, read_fault}
 use Rattle.sql_tokens.proofs.OneCut.{one_list}
-use Rattle.sql_tokens.proofs.Reached.{reached_more, reached_all, reached_fault, reached_lies, reached_pairs, comment_long, lexeme_some, no_fault, one_fault}
+use Rattle.sql_tokens.proofs.Places.{tokens-lie, tokens-pairs}
+use Rattle.sql_tokens.proofs.Reached.{no_fault, one_fault}
 use Rattle.sql_tokens.proofs.cut.tokens.Goals as goal
 
-pub returns-in-Err-clause-only : goal.returns-in-Err-clause-only
-returns-in-Err-clause-only c =
+pub turns-preserved : goal.turns-preserved
+turns-preserved c =
     let text = c.args.text.now in
-    let rest = c.loop-rest.rest.now in
-    let l : 0 < length rest = search rules in
-    let f : HasFault text (fault_at c.loop-rest.at c.in-Err.stop) =
-    (reached_fault text rest c.loop-rest.at c.loop-rest.list.items c.in-Err.stop c.loop-rest.invariant l (sym c.in-Err.ensures.value)).0 in
-    λ list a. absurd (no_fault text list (fault_at c.loop-rest.at c.in-Err.stop) a f)
+    let at = c.turns.reader.at in
+    let new = c.next_token.new.self.at in
+    let list = c.turns.list.items in
+    let token = c.in-Some.token in
+    let same = c.turns.invariant.text in
+    let reads =
+    subst (λ (token : Option Token). IsNext (ahead c.turns.reader.text.now at) (Ok token) (ahead c.turns.reader.text.now new)) c.in-Some.is c.in_ok-token.ensures.reads in
+    let next = subst (λ (bytes : List ℕ). ahead bytes at ≡ behind_tokens (token ∷ []) (ahead bytes new)) same reads in
+    let read = read_more text list token (ahead text at) (ahead text new) c.turns.invariant.read next in
+    record {
+      text = c.next_token.ensures.text ∙ same;
+      read = subst (λ (ts : List Token). IsReadTo text ts (ahead text new)) (sym c.in_ok-add.ensures) read;
+    }
 
-pub returns-in-Err-clause-fault : goal.returns-in-Err-clause-fault
-returns-in-Err-clause-fault c =
-    let text = c.args.text.now in
-    let rest = c.loop-rest.rest.now in
-    let l : 0 < length rest = search rules in
-    let f : HasFault text (fault_at c.loop-rest.at c.in-Err.stop) =
-    (reached_fault text rest c.loop-rest.at c.loop-rest.list.items c.in-Err.stop c.loop-rest.invariant l (sym c.in-Err.ensures.value)).0 in
-    inr (subst (HasFault text) (sym c.fault_at.ensures) f)
+pub returns-in_err-token-clause-only : goal.returns-in_err-token-clause-only
+returns-in_err-token-clause-only c =
+    let has = read_fault c.args.text.now c.turns.reader.text.now c.turns.list.items c.turns.reader.at c.next_token.new.self.at c.in_err-token.field-0.0 c.turns.invariant.text c.turns.invariant.read c.in_err-token.ensures.reads in
+    λ other are. absurd (no_fault c.args.text.now other c.in_err-token.field-0.0 are has)
 
-pub returns-in-Err-clause-fault_only : goal.returns-in-Err-clause-fault_only
-returns-in-Err-clause-fault_only c =
-    let text = c.args.text.now in
-    let rest = c.loop-rest.rest.now in
-    let l : 0 < length rest = search rules in
-    let f : HasFault text (fault_at c.loop-rest.at c.in-Err.stop) =
-    (reached_fault text rest c.loop-rest.at c.loop-rest.list.items c.in-Err.stop c.loop-rest.invariant l (sym c.in-Err.ensures.value)).0 in
-    λ e h. inl (c.fault_at.ensures ∙ one_fault text (fault_at c.loop-rest.at c.in-Err.stop) e f h)
+pub returns-in_err-token-clause-fault : goal.returns-in_err-token-clause-fault
+returns-in_err-token-clause-fault c =
+    let has = read_fault c.args.text.now c.turns.reader.text.now c.turns.list.items c.turns.reader.at c.next_token.new.self.at c.in_err-token.field-0.0 c.turns.invariant.text c.turns.invariant.read c.in_err-token.ensures.reads in
+    let p = err_from_is_err_and c.from_residual.result c.from_residual.ensures.1 in
+    rw (p.1, p.2) (inr has)
 
-pub token_of-requires-clause-comment : goal.token_of-requires-clause-comment
-token_of-requires-clause-comment c =
-    λ f. omega (arith, comment_long c.loop-rest.rest.now c.in-Ok.lexeme (sym c.in-Ok.ensures.value) f, c.split_at.ensures.front_len)
-
-pub loop-rest-smaller : goal.loop-rest-smaller
-loop-rest-smaller c =
-    omega (arith, lexeme_some c.loop-rest.rest.now c.in-Ok.lexeme (sym c.in-Ok.ensures.value), c.split_at.ensures.back_len)
-
-pub loop-rest-preserved : goal.loop-rest-preserved
-loop-rest-preserved c =
-    let text = c.args.text.now in
-    let rest = c.loop-rest.rest.now in
-    let at = c.loop-rest.at in
-    let lexeme = c.in-Ok.lexeme in
-    let list = c.loop-rest.list.items in
-    let e : c.add.new.list.items ≡ c.loop-rest.list.items ++ tokens_of_lexeme at lexeme.form (take lexeme.length rest) =
-    c.in_ok-add.ensures ∙ ap (λ ts. c.loop-rest.list.items ++ ts) (c.token_of.ensures ∙ ap (tokens_of_lexeme at lexeme.form) c.split_at.ensures.front) in
-    rw (c.split_at.ensures.back, e) (reached_more text rest at list lexeme c.loop-rest.invariant (sym c.in-Ok.ensures.value))
+pub returns-in_err-token-clause-fault_only : goal.returns-in_err-token-clause-fault_only
+returns-in_err-token-clause-fault_only c =
+    let has = read_fault c.args.text.now c.turns.reader.text.now c.turns.list.items c.turns.reader.at c.next_token.new.self.at c.in_err-token.field-0.0 c.turns.invariant.text c.turns.invariant.read c.in_err-token.ensures.reads in
+    let p = err_from_is_err_and c.from_residual.result c.from_residual.ensures.1 in
+    λ e h. rw (p.1, p.2) (inl (one_fault c.args.text.now c.in_err-token.field-0.0 e has h))
 
 pub invariant_of-result : goal.invariant_of-result
 invariant_of-result c =
-    let text = c.args.text.now in
-    let rest = c.loop-rest.rest.now in
-    record {
-      within = reached_lies text rest c.loop-rest.at c.loop-rest.list.items c.loop-rest.invariant;
-      in_order = reached_pairs text rest c.loop-rest.at c.loop-rest.list.items c.loop-rest.invariant;
-    }
+    let are = read_all c.args.text.now c.turns.reader.text.now c.turns.list.items c.turns.reader.at c.next_token.new.self.at c.in_ok-token.field-0 c.turns.invariant.text c.turns.invariant.read c.in_default.not-Some c.in_ok-token.ensures.reads in
+    record { within = tokens-lie c.args.text.now c.turns.list.items are; in_order = tokens-pairs c.args.text.now c.turns.list.items are }
+
+pub returns-clause-found : goal.returns-clause-found
+returns-clause-found c =
+    read_all c.args.text.now c.turns.reader.text.now c.turns.list.items c.turns.reader.at c.next_token.new.self.at c.in_ok-token.field-0 c.turns.invariant.text c.turns.invariant.read c.in_default.not-Some c.in_ok-token.ensures.reads
 
 pub returns-clause-only : goal.returns-clause-only
 returns-clause-only c =
-    let text = c.args.text.now in
-    let rest = c.loop-rest.rest.now in
-    let list = c.loop-rest.list.items in
-    let l : length rest ≡ 0 = search rules in
-    λ other a. one_list text list other (reached_all text rest c.loop-rest.at list c.loop-rest.invariant l) a
+    let are = read_all c.args.text.now c.turns.reader.text.now c.turns.list.items c.turns.reader.at c.next_token.new.self.at c.in_ok-token.field-0 c.turns.invariant.text c.turns.invariant.read c.in_default.not-Some c.in_ok-token.ensures.reads in
+    λ other is. one_list c.args.text.now c.turns.list.items other are is
 
 pub returns-clause-fault_only : goal.returns-clause-fault_only
 returns-clause-fault_only c =
-    let text = c.args.text.now in
-    let rest = c.loop-rest.rest.now in
-    let list = c.loop-rest.list.items in
-    let l : length rest ≡ 0 = search rules in
-    λ e h. no_fault text list e (reached_all text rest c.loop-rest.at list c.loop-rest.invariant l) h
+    let are = read_all c.args.text.now c.turns.reader.text.now c.turns.list.items c.turns.reader.at c.next_token.new.self.at c.in_ok-token.field-0 c.turns.invariant.text c.turns.invariant.read c.in_default.not-Some c.in_ok-token.ensures.reads in
+    λ e h. no_fault c.args.text.now c.turns.list.items e are h

@@ -1,10 +1,15 @@
-use Rattle.std.proofs.Common.{length}
-use Rattle.sql_tokens.proofs.Reached.{Reached}
+use Rattle.std.proofs.Common.{◌≡◌, ◌-◌, length}
+use Rattle.sql_tokens.specs.Ahead.{ahead}
+use Rattle.sql_tokens.proofs.Ahead.{IsReadTo}
 use Rattle.sql_tokens.proofs.cut.tokens.Given as goal
 
--- the text is cut up to the rest
-abbrev pub invariant-loop-rest : goal.invariant-loop-rest
-invariant-loop-rest l = Reached l.text l.rest l.at l.list.items
+-- the list and what is ahead of the reader are those of the text
+abbrev pub invariant-turns : goal.invariant-turns
+invariant-turns l =
+    record {
+      text : l.reader.text.now ≡ l.text;
+      read : IsReadTo l.text l.list.items (ahead l.text l.reader.at);
+    }
 
-abbrev pub decreases-loop-rest : goal.decreases-loop-rest
-decreases-loop-rest l = length l.rest
+abbrev pub decreases-turns : goal.decreases-turns
+decreases-turns l = length l.text - l.reader.at
