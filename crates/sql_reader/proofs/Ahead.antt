@@ -1,5 +1,5 @@
 -- The terminals that tokens are, as a function: they are what the tokens mean, and they come one by one.
-use Rattle.std.proofs.Common.{◌≡◌, ℕ, ℤ, pos, neg_ℤ, ◌^◌, ◌<◌, ◌≤◌, ◌<ℤ◌, ◌≤ℤ◌, Bool, true, false, ◌&&◌, nat_le, int_lt, List, [], ◌∷◌, ◌++◌, length, Option, Some, None, option_and_then, All, sym, refl, ap, ◌∙◌, subst, ◌⊎◌, inl, inr, arith, if◌then◌else◌}
+use Rattle.std.proofs.Common.{◌≡◌, ℕ, ℤ, pos, neg_ℤ, ◌^◌, ◌<◌, ◌≤◌, ◌<ℤ◌, ◌≤ℤ◌, Bool, true, false, ◌&&◌, nat_le, int_lt, List, [], ◌∷◌, ◌++◌, length, Option, Some, None, option_and_then, All, refl, ap, ◌∙◌, subst, ◌⊎◌, inl, inr, arith, if◌then◌else◌}
 use Rattle.std.specs.Option.{ForSome}
 use Rattle.std.specs.List.{list_all}
 use Rattle.std.specs.Char.{is_ascii_digit}
@@ -16,13 +16,14 @@ use Rattle.sql_tokens.specs.declared.token.TokenKind.TheVariants as token
 use Rattle.sql_tokens.specs.Ahead.{ahead}
 use Rattle.sql_tokens.specs.Cut.{AreTokens}
 use Rattle.sql_tokens.specs.Span.{LiesIn}
-use Rattle.sql_tokens.proofs.Places.{lies-cut}
+use Rattle.sql_tokens.proofs.Places.{tokens-lie}
 use Rattle.sql_reader.specs.declared.kind.TerminalKind.{TerminalKind}
 use Rattle.sql_reader.specs.declared.terminal.Terminal.{Terminal}
 use Rattle.sql_reader.specs.declared.terminal.Mark.{Mark}
 use Rattle.sql_reader.specs.Words.{whole_number, text_day, inside, if_18_digits, has_18_digits}
 use Rattle.sql_reader.specs.Terminals.{bytes_of, kind_of, number_of, mark_behind, no_mark, is_weight, IsTerminal, WithToken, AreTerminals}
-use Rattle.sql_reader.specs.inner.Ahead.{cases_lt_ℤ, no_least, no_most, some_least, some_most, with_number, with_option, with_place, terminal_of_token, with_token, terminals_of, tokens_in, terminals_in, terminals_behind, IsNext}
+use Rattle.sql_reader.specs.inner.Ahead.{with_number, with_option, with_place, terminal_of_token, with_token, terminals_of, tokens_in, terminals_in, terminals_behind, from_next}
+use Rattle.sql_reader.specs.inner.Kept.{cases_lt_ℤ, no_least, no_most, some_least, some_most}
 use Rattle.sql_reader.proofs.Digits.{each_digit}
 use Rattle.sql_reader.proofs.Limits.{few}
 use Rattle.sql_reader.proofs.Same.{one_terminal}
@@ -168,13 +169,10 @@ are_terminals_of text (t ∷ ts) mark short lies = by_kind (λ m. are_terminals_
         let one = one_of_token text mark t placed in
         (one.terminal, terminals_of text ts mark, ap (λ (l : List Terminal). l ++ terminals_of text ts mark) one.alone, one.is, behind mark)
 
-pub lies_in : (text : List ℕ) (list : List Token) → AreTokens text list → All (LiesIn text) list
-lies_in text list are = subst (All (LiesIn text)) (sym are.tokens) (lies-cut are.parts text [] are.cut)
-
 -- a text that has tokens has these terminals
 pub are_terminals : (text : List ℕ) → length text < 2 ^ 32 → AreTokens text (tokens_in text) → AreTerminals text (tokens_in text) no_mark (terminals_in text)
 unfolding terminals_in
-are_terminals text short are = are_terminals_of text (tokens_in text) no_mark short (lies_in text (tokens_in text) are)
+are_terminals text short are = are_terminals_of text (tokens_in text) no_mark short (tokens-lie text (tokens_in text) are)
 
 -- they are fewer than its bytes
 pub few_terminals : (text : List ℕ) → length text < 2 ^ 32 → AreTokens text (tokens_in text) → length (terminals_in text) < 2 ^ 32
@@ -206,6 +204,6 @@ pub none_behind : (text : List ℕ) (at : ℕ) (mark : Mark) → (ahead text at)
 unfolding terminals_behind
 none_behind text at mark e = ap (λ (ts : List Token). terminals_of text ts mark) e
 
-pub no_next : (old new : List Token) (token : Option Token) → ((t : Token) → token ≡ Some t → ⊥) → IsNext old token new → old ≡ []
-no_next old new None none e = e
-no_next old new (Some t) none e = absurd (none t refl)
+pub no_next : (token : Option Token) (new : List Token) → ((t : Token) → token ≡ Some t → ⊥) → from_next token new ≡ []
+no_next None new none = refl
+no_next (Some t) new none = absurd (none t refl)

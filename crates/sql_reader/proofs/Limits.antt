@@ -11,7 +11,7 @@ use Rattle.sql_tokens.specs.Cut.{AreTokens, IsCut, Part, tokens_of, tokens_of_le
 use Rattle.sql_tokens.specs.Weight.{weight_length}
 use Rattle.sql_tokens.specs.Span.{LiesIn}
 use Rattle.sql_tokens.proofs.Exact.{form_some}
-use Rattle.sql_tokens.proofs.Places.{lies-cut}
+use Rattle.sql_tokens.proofs.Places.{tokens-lie}
 use Rattle.sql_reader.specs.declared.kind.TerminalKind.TheVariants as kinds
 use Rattle.sql_reader.specs.declared.terminal.Terminal.{Terminal}
 use Rattle.sql_reader.specs.declared.terminal.Mark.{Mark}
@@ -185,7 +185,7 @@ pub limits : (text : List ℕ) (list : List Token) (terminals : List Terminal) (
 limits text list terminals progress short tokens are no_start is =
     let n = length text in
     let d = IsNested printed.grammar levels in
-    let lies = subst (All (LiesIn text)) (sym tokens.tokens) (lies-cut tokens.parts text [] tokens.cut) in
+    let lies = tokens-lie text list tokens in
     let weight = keeps.weight_of (text_scale n d) terminals in
     let kept = (workload_keeps n d (all_nested n levels)).keeps 0 weight no_statements terminals progress (omega arith)
     (omega (arith, weight_is_length n d terminals, few text list terminals tokens are, short)) (good_terminals text d list lies no_mark terminals refl are) refl is in

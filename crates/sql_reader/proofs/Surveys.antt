@@ -1,5 +1,5 @@
 -- What is seen of a text before the grammar reads it.
-use Rattle.std.proofs.Common.{◌≡◌, ℕ, zero, suc, ◌+◌, ◌-◌, ◌^◌, ◌<◌, ℤ, Bool, true, false, not, ◌||◌, ◌==◌, List, [], ◌∷◌, ◌++◌, length, map, Option, Some, None, option_map, Ok, All, sym, refl, ap, ◌∙◌, subst, ◌⊎◌, inl, inr, arith, sub-one, if◌then◌else◌}
+use Rattle.std.proofs.Common.{◌≡◌, ℕ, zero, suc, ◌+◌, ◌-◌, ◌^◌, ◌<◌, ℤ, Bool, true, false, not, ◌||◌, ◌==◌, List, [], ◌∷◌, ◌++◌, length, map, Option, Some, None, option_map, All, sym, refl, ap, ◌∙◌, subst, ◌⊎◌, inl, inr, arith, sub-one, if◌then◌else◌}
 use Rattle.std.specs.Char.{to_ascii_lowercase}
 use Rattle.std.specs.List.{list_all}
 use Rattle.std.specs.Str.{str_eq_ignore_ascii_case}
@@ -13,10 +13,11 @@ use Rattle.sql_tokens.specs.declared.token.Token.{Token}
 use Rattle.sql_tokens.specs.declared.token.TokenKind.{TokenKind}
 use Rattle.sql_tokens.specs.declared.token.TokenKind.TheVariants as token
 use Rattle.sql_tokens.specs.declared.token_list.TokenFault.{TokenFault}
-use Rattle.sql_tokens.specs.Ahead.{Ahead, ahead, nothing, only_fault, behind_tokens, IsNext, Tells}
+use Rattle.sql_tokens.specs.Ahead.{Ahead, ahead, nothing, only_fault, behind_tokens, Tells}
 use Rattle.sql_tokens.specs.Cut.{AreTokens, HasFault}
 use Rattle.sql_tokens.specs.Span.{LiesIn}
 use Rattle.sql_tokens.proofs.Ahead.{tells_ahead}
+use Rattle.sql_tokens.proofs.Places.{tokens-lie}
 use Rattle.sql_reader.specs.declared.kind.TerminalKind.{TerminalKind}
 use Rattle.sql_reader.specs.declared.kind.TerminalKind.TheVariants as kinds
 use Rattle.sql_reader.specs.declared.terminal.Terminal.{Terminal}
@@ -29,11 +30,13 @@ use Rattle.sql_reader.specs.Words.{Entry, known, kind_in, kind_or, word_kind, qu
 use Rattle.sql_reader.specs.Terminals.{bytes_of, kind_of, kind_of_text, mark_behind, no_mark, is_weight, is_bad_weight, bad_weight, start_behind}
 use Rattle.sql_reader.specs.inner.Ahead.{with_token, terminals_of, tokens_in, terminals_in}
 use Rattle.sql_reader.specs.inner.Surveyed as surveyed
+use Rattle.sql_reader.specs.declared.parsed.ParsedStatement.{ParsedStatement}
 use Rattle.sql_reader.specs.declared.parsed.SqlFault.{SqlFault}
 use Rattle.sql_reader.specs.declared.parsed.SqlFault.TheVariants as faults
-use Rattle.sql_reader.specs.Workload.{earlier, first_fault}
+use Rattle.sql_reader.specs.declared.parts.Progress.{Progress}
+use Rattle.sql_reader.specs.Workload.{GrammarSays, earlier, first_fault, Says}
 use Rattle.sql_reader.specs.inner.Surveyed.{or_first, bad_weight_of, start_at, IsSurvey, surveyed_fault}
-use Rattle.sql_reader.proofs.Ahead.{one_of_token, lies_in}
+use Rattle.sql_reader.proofs.Ahead.{one_of_token, are_terminals}
 use Rattle.sql_reader.proofs.KindSets.{not_true}
 
 -- The words with which statements begin have six letters.
@@ -214,7 +217,7 @@ start_more zero (Some x) place behind = refl
 start_more (suc n) start place behind = rw sub-one refl
 
 -- one token more
-pub so_far_more : (text : List ℕ) (survey : Survey) (rest : Ahead) (t : Token) → IsSoFar text survey (behind_tokens (t ∷ []) rest) → IsSoFar text (surveyed.with_token text t survey) rest
+pub so_far_more : (text : List ℕ) (survey : Survey) (rest : Ahead) (t : Token) → IsSoFar text survey (behind_tokens (t ∷ []) rest) → IsSoFar text (surveyed.after_token text t survey) rest
 so_far_more text survey rest t h = by_start (has starts (kind_of t.kind (bytes_of text t))) refl
   where
     by_start : (b : Bool) → has starts (kind_of t.kind (bytes_of text t)) ≡ b →
@@ -251,7 +254,7 @@ so_far_all text survey rest short h end =
       weight = sym (or_none survey.bad_weight) ∙ (ap (λ (a : Ahead). or_first survey.bad_weight (bad_weight text a.tokens)) (sym end) ∙ h.weight);
       start =
           sym (or_none survey.start) ∙ (ap (λ (a : Ahead). or_first survey.start (token_start text a.tokens survey.left)) (sym end)
-          ∙ (h.start ∙ sym (same_starts text (ahead text 0).tokens no_mark 1000 short (lies_in text (ahead text 0).tokens are))));
+          ∙ (h.start ∙ sym (same_starts text (ahead text 0).tokens no_mark 1000 short (tokens-lie text (ahead text 0).tokens are))));
     }
 
 -- the text has a fault
@@ -264,7 +267,19 @@ first_of_survey text survey fault is =
     ap (λ (weight : Option ℕ). earlier fault (earlier (option_map faults.BadWeight weight) (option_map faults.TooManyStatements survey.start))) is.weight
     ∙ ap (λ (start : Option ℕ). earlier fault (earlier (option_map faults.BadWeight (bad_weight text (tokens_in text))) (option_map faults.TooManyStatements start))) is.start
 
--- where no token comes nothing is ahead
-pub none_next : (old new : Ahead) (token : Option Token) → ((t : Token) → token ≡ Some t → ⊥) → IsNext old (Ok token) new → old ≡ nothing
-none_next old new None none e = e.0
-none_next old new (Some t) none e = absurd (none t refl)
+-- what a text with a survey says, where the grammar says this of it
+pub surveyed_says : (text : List ℕ) (survey : Survey) (progress : Progress) (of_grammar fault : Option SqlFault) (statements : List ParsedStatement) → length text < 2 ^ 32 →
+    IsSurvey text survey → GrammarSays (length text + 1) (terminals_in text) progress of_grammar → fault ≡ surveyed_fault survey of_grammar → statements ≡ progress.statements →
+    Says text statements fault
+surveyed_says text survey progress of_grammar fault statements short is says first same =
+    record {
+      list = tokens_in text;
+      terminals = terminals_in text;
+      progress = progress;
+      of_grammar = of_grammar;
+      are_tokens = is.are_tokens;
+      are_terminals = are_terminals text short is.are_tokens;
+      says = says;
+      first = first ∙ first_of_survey text survey of_grammar is;
+      same = same;
+    }

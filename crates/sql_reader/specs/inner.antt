@@ -1,5 +1,6 @@
 -- How the code reads, apart from what it reads.
 pub mod Ahead
+pub mod Kept
 pub mod Reads
 pub mod Remaining
 pub mod Room

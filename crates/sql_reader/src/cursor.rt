@@ -26,7 +26,7 @@ pub struct Cursor<'a> {
     pub next: Option<Terminal>,
     /// Places fit 32 bits.
     pub ghost short: { length tokens.text.now < 2 ^ 32 },
-    /// There are fewer terminals than bytes.
+    /// A count of the terminals that are left fits 32 bits.
     pub ghost few: { length (from_next next (terminals_behind tokens.text.now tokens.at mark)) < 2 ^ 32 },
 }
 

@@ -1,10 +1,10 @@
 //! The statements of a workload, read by the grammar: a text below 2^32 bytes goes in, and out come its statements or
 //! its first fault.
 //!
-//! `read_workload` walks twice over a text, and makes no list of its tokens. The first walk finds the faults that need no
-//! grammar. The second makes each token into a terminal, which is what the grammar looks at, when it comes to it, and
-//! reads by rules that `specs/Grammar` lists, with one terminal of look ahead. Names stay spans of the text: whether a table or a
-//! column is there is left to the crate above.
+//! `read_workload` walks twice over a text, and makes no list of its tokens. The first walk finds the faults that need
+//! no grammar. The second makes each token into a terminal, which is what the grammar looks at, when it comes to it,
+//! and reads by rules that `specs/Grammar` lists, with one terminal of look ahead. Names stay spans of the text:
+//! whether a table or a column is there is left to the crate above.
 //!
 //! `Parsed` is a text with its statements. A `ParsedStatement` has a `Body`, which for a SELECT is a `ParsedSelect` of
 //! `ParsedItem`s, `Source`s, `Condition`s and `ParsedOrder`s; an `Expr` and a `NameUse` say what columns are used, a

@@ -97,7 +97,7 @@ fn is_weight(kind: TokenKind) -> bool
 /// The next token, if one comes before the end of the text or its first fault.
 fn next_token(tokens: &mut TokenReader<'_>) -> Option<Token>
     ensures text { tokens.new.text.now ≡ tokens.old.text.now }
-    ensures next { ahead.IsNext (tokens_ahead tokens.old.text.now tokens.old.at).tokens result (tokens_ahead tokens.old.text.now tokens.new.at).tokens }
+    ensures next { (tokens_ahead tokens.old.text.now tokens.old.at).tokens ≡ ahead.from_next result (tokens_ahead tokens.old.text.now tokens.new.at).tokens }
     ensures lies { ForSome result (LiesIn tokens.new.text.now) }
     ensures forward { ForSome result (λ _. tokens.old.at < tokens.new.at) }
 {

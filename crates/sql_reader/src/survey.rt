@@ -19,9 +19,9 @@ use sql_tokens::{Token, TokenFault, TokenKind, TokenReader};
 pub struct Survey {
     /// The place of the first weight comment whose number isn't 1 to 10^6.
     pub bad_weight: Option<u64>,
-    /// The place of the first word of the 1001st statement.
+    /// The place of the 1001st word with which a statement begins.
     pub start: Option<u64>,
-    /// How many more statements may begin.
+    /// How many more such words may come before it.
     pub left: u32,
 }
 
@@ -39,7 +39,7 @@ fn bad_weight(text: &[u8], token: Token) -> Option<u64>
     }
 }
 
-/// Whether a statement begins at a token.
+/// Whether a token is a word with which a statement begins.
 fn is_start(text: &[u8], token: Token) -> bool
     requires { LiesIn text.now token }
     ensures { result ≡ has starts (terminals.kind_of token.kind (terminals.bytes_of text.now token)) }
@@ -50,7 +50,7 @@ fn is_start(text: &[u8], token: Token) -> bool
     }
 }
 
-/// Whether a word begins a statement. The words that do have six letters, so no other is looked up.
+/// Whether a statement begins with this word. The words with which one does have six letters, so no other is looked up.
 fn begins_statement(word: &[u8]) -> bool
     ensures { result ≡ has starts (words.word_kind word.now) }
 {
@@ -69,7 +69,7 @@ impl Survey {
         }
     }
 
-    /// A statement begins at this place.
+    /// A word with which a statement begins stands at this place.
     fn count(&mut self, place: u64)
         ensures { self.new ≡ surveyed.with_start self.old place }
     {
@@ -83,7 +83,7 @@ impl Survey {
     /// Looks at one token more.
     fn add(&mut self, text: &[u8], token: Token)
         requires { LiesIn text.now token }
-        ensures { self.new ≡ surveyed.with_token text.now token self.old }
+        ensures { self.new ≡ surveyed.after_token text.now token self.old }
     {
         if self.bad_weight.is_none() {
             self.bad_weight = bad_weight(text, token);

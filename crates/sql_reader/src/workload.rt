@@ -165,7 +165,7 @@ fn parsed<'a>(text: &'a [u8], statements: List<ParsedStatement>) -> Parsed<'a>
     Parsed { text, statements }
 }
 
-/// What a text says with this survey, of which the grammar says this.
+/// What a text with this survey says, where the grammar says this of it.
 fn conclude<'a>(
     text: &'a [u8],
     survey: Survey,

@@ -1,10 +1,7 @@
 -- The terminals that a cursor has before it, as a function of the text and its place in it.
-use Rattle.std.specs.Prelude.{◌≡◌, ℕ, ℤ, pos, neg_ℤ, ◌^◌, ◌<◌, ◌≤◌, ◌<ℤ◌, ◌≤ℤ◌, Bool, true, false, List, [], ◌∷◌, ◌++◌, Option, Some, None, ◌⊎◌}
-use Rattle.std.specs.Option.{ForSome}
-use Rattle.std.proofs.Common.{subst, inl, inr}
+use Rattle.std.specs.Prelude.{ℕ, ℤ, pos, neg_ℤ, ◌^◌, ◌<◌, ◌≤◌, ◌<ℤ◌, ◌≤ℤ◌, Bool, true, false, List, [], ◌∷◌, ◌++◌, Option, Some, None, ◌⊎◌}
+use Rattle.std.proofs.Common.{inl, inr}
 use Rattle.std.proofs.lemmas.Bool.{cases_lt}
-use Rattle.std.proofs.lemmas.Option.{none-some, same_Some}
-use Rattle.std.proofs.lemmas.Int.{by_lt_z}
 use Rattle.sql_tokens.specs.Ahead.{ahead}
 use Rattle.sql_tokens.specs.declared.token.Span.{Span}
 use Rattle.sql_tokens.specs.declared.token.Token.{Token}
@@ -12,23 +9,7 @@ use Rattle.sql_reader.specs.declared.kind.TerminalKind.{TerminalKind}
 use Rattle.sql_reader.specs.declared.terminal.Terminal.{Terminal}
 use Rattle.sql_reader.specs.declared.terminal.Mark.{Mark}
 use Rattle.sql_reader.specs.Terminals.{bytes_of, kind_of, number_of, mark_behind, is_weight, no_mark}
-
-pub cases_lt_ℤ : (a b : ℤ) → (a <ℤ b) ⊎ (b ≤ℤ a)
-cases_lt_ℤ a b = by_lt_z a b inl inr
-
--- what a terminal keeps of its number
-
-pub no_least : ForSome None (λ n. neg_ℤ (pos (10 ^ 18)) <ℤ n)
-no_least n e = absurd (none-some n e)
-
-pub no_most : ForSome None (λ n. n <ℤ pos (10 ^ 18))
-no_most n e = absurd (none-some n e)
-
-pub some_least : {n : ℤ} → neg_ℤ (pos (10 ^ 18)) <ℤ n → ForSome (Some n) (λ n. neg_ℤ (pos (10 ^ 18)) <ℤ n)
-some_least least m e = subst (λ n. neg_ℤ (pos (10 ^ 18)) <ℤ n) (same_Some _ m e) least
-
-pub some_most : {n : ℤ} → n <ℤ pos (10 ^ 18) → ForSome (Some n) (λ n. n <ℤ pos (10 ^ 18))
-some_most most m e = subst (λ n. n <ℤ pos (10 ^ 18)) (same_Some _ m e) most
+use Rattle.sql_reader.specs.inner.Kept.{cases_lt_ℤ, no_least, no_most, some_least, some_most}
 
 -- A terminal keeps limits, so there is one where they are kept: at each token of a text below 2^32 bytes.
 
@@ -64,11 +45,6 @@ abbrev pub terminals_of : List ℕ → List Token → Mark → List Terminal
 terminals_of text [] mark = []
 terminals_of text (t ∷ ts) mark = with_token text mark t (terminals_of text ts) (is_weight t.kind)
 
--- the next of these tokens was read, or there is none
-abbrev pub IsNext : List Token → Option Token → List Token → Type 0
-IsNext old None new = old ≡ []
-IsNext old (Some token) new = old ≡ token ∷ new
-
 -- the tokens of a text, up to its first fault
 unfoldable pub tokens_in : List ℕ → List Token
 tokens_in text = (ahead text 0).tokens
@@ -81,7 +57,7 @@ terminals_in text = terminals_of text (tokens_in text) no_mark
 unfoldable pub terminals_behind : List ℕ → ℕ → Mark → List Terminal
 terminals_behind text at mark = terminals_of text (ahead text at).tokens mark
 
--- the next terminal, with those behind it; there are none behind the last
-abbrev pub from_next : Option Terminal → List Terminal → List Terminal
+-- the next token or terminal, with those behind it; there are none behind the last
+abbrev pub from_next : {A : Type 0} → Option A → List A → List A
 from_next None behind = []
-from_next (Some p) behind = p ∷ behind
+from_next (Some next) behind = next ∷ behind

@@ -23,7 +23,7 @@ or_first (Some place) later = Some place
 abbrev pub bad_weight_of : List ℕ → Token → Option ℕ
 bad_weight_of text t = if is_bad_weight text t then Some (t.span.from + 1) else None
 
--- the start behind so many others, where a statement begins at a place
+-- the start behind so many others, where a word with which a statement begins stands at a place
 abbrev pub start_at : ℕ → Option ℕ → ℕ → Option ℕ
 start_at zero start place = or_first start (Some place)
 start_at (suc n) start place = start
@@ -36,8 +36,8 @@ with_start_if true s place = with_start s place
 with_start_if false s place = s
 
 -- one token more
-abbrev pub with_token : List ℕ → Token → Survey → Survey
-with_token text t s =
+abbrev pub after_token : List ℕ → Token → Survey → Survey
+after_token text t s =
     with_start_if (has starts (kind_of t.kind (bytes_of text t)))
     (record { bad_weight = or_first s.bad_weight (bad_weight_of text t); start = s.start; left = s.left }) (t.span.from + 1)
 

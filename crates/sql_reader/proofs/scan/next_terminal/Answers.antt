@@ -32,6 +32,6 @@ turns-preserved c =
 pub returns-clause-next : goal.returns-clause-next
 returns-clause-next c =
     let text = c.args.tokens.now.text.now in
-    let none = no_next (ahead c.turns.tokens.text.now c.turns.tokens.at).tokens (ahead c.turns.tokens.text.now c.next_token.new.tokens.at).tokens c.next_token.result c.in_default.not-Some c.next_token.ensures.next in
+    let none = c.next_token.ensures.next ∙ no_next c.next_token.result (ahead c.turns.tokens.text.now c.next_token.new.tokens.at).tokens c.in_default.not-Some in
     let here = subst (λ (bytes : List ℕ). (ahead bytes c.turns.tokens.at).tokens ≡ []) c.turns.invariant.text none in
     sym (none_behind text c.turns.tokens.at c.turns.mark here) ∙ c.turns.invariant.same

@@ -1,10 +1,10 @@
-use Rattle.std.proofs.Common.{◌+◌, ◌∙◌, length, Option, refl, inr, subst}
+use Rattle.std.proofs.Common.{◌+◌, ◌∙◌, length, Option, None, refl, inr, subst}
 use Rattle.sql_reader.specs.declared.parsed.SqlFault.{SqlFault}
 use Rattle.sql_reader.specs.Workload.{GrammarSays}
 use Rattle.sql_reader.specs.inner.Ahead.{tokens_in, terminals_in}
 use Rattle.sql_reader.proofs.Ahead.{are_terminals}
 use Rattle.sql_reader.proofs.Limits.{limits}
-use Rattle.sql_reader.proofs.Surveys.{first_of_survey}
+use Rattle.sql_reader.proofs.Surveys.{first_of_survey, surveyed_says}
 use Rattle.sql_reader.proofs.Unique.{no_grammar_fault, no_start}
 use Rattle.sql_reader.proofs.workload.conclude.Goals as goal
 
@@ -20,33 +20,12 @@ parsed-requires-clause-within c =
 
 pub returns-in-None-clause-found : goal.returns-in-None-clause-found
 returns-in-None-clause-found c =
-    let text = c.args.text.now in
-    record {
-      list = tokens_in text;
-      terminals = terminals_in text;
-      progress = c.args.progress;
-      of_grammar = c.args.fault;
-      are_tokens = c.requires.survey.are_tokens;
-      are_terminals = are_terminals text c.requires.short c.requires.survey.are_tokens;
-      says = c.requires.says;
-      first = c.in-None.ensures ∙ first_of_survey text c.args.survey c.args.fault c.requires.survey;
-      same = c.parsed.ensures.statements;
-    }
+    surveyed_says c.args.text.now c.args.survey c.args.progress c.args.fault None c.parsed.result.statements c.requires.short c.requires.survey c.requires.says c.in-None.ensures c.parsed.ensures.statements
 
 pub returns-in-Some-clause-fault : goal.returns-in-Some-clause-fault
 returns-in-Some-clause-fault c =
-    let text = c.args.text.now in
+    let statements = c.args.progress.statements in
     inr (
-      c.args.progress.statements,
-      record {
-        list = tokens_in text;
-        terminals = terminals_in text;
-        progress = c.args.progress;
-        of_grammar = c.args.fault;
-        are_tokens = c.requires.survey.are_tokens;
-        are_terminals = are_terminals text c.requires.short c.requires.survey.are_tokens;
-        says = c.requires.says;
-        first = c.in-Some.ensures ∙ first_of_survey text c.args.survey c.args.fault c.requires.survey;
-        same = refl;
-      },
+      statements,
+      surveyed_says c.args.text.now c.args.survey c.args.progress c.args.fault _ statements c.requires.short c.requires.survey c.requires.says c.in-Some.ensures refl,
     )

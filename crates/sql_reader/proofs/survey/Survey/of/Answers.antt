@@ -2,9 +2,10 @@ use Rattle.std.proofs.Common.{◌≡◌, ℕ, List, [], ◌∷◌, Option, Ok, s
 use Rattle.std.proofs.lemmas.Result.{err_from_is_err_and}
 use Rattle.sql_tokens.specs.Ahead.{ahead, nothing, only_fault, behind_tokens, IsNext}
 use Rattle.sql_tokens.specs.declared.token.Token.{Token}
+use Rattle.sql_tokens.proofs.Ahead.{none_next}
 use Rattle.sql_reader.specs.declared.survey.Survey.{Survey}
-use Rattle.sql_reader.specs.inner.Surveyed.{with_token}
-use Rattle.sql_reader.proofs.Surveys.{IsSoFar, so_far_more, so_far_all, so_far_fault, none_next}
+use Rattle.sql_reader.specs.inner.Surveyed.{after_token}
+use Rattle.sql_reader.proofs.Surveys.{IsSoFar, so_far_more, so_far_all, so_far_fault}
 use Rattle.sql_reader.proofs.survey.Survey.of.Goals as goal
 
 pub returns-in_err-token-clause-err : goal.returns-in_err-token-clause-err
@@ -35,5 +36,5 @@ turns-preserved c =
     let next = subst (λ (bytes : List ℕ). ahead bytes at ≡ behind_tokens (c.in-Some.token ∷ []) (ahead bytes new)) same reads in
     let seen = so_far_more text c.turns.survey (ahead text new) c.in-Some.token (subst (IsSoFar text c.turns.survey) next c.turns.invariant.seen) in
     let texts = c.next_token.ensures.text ∙ same in
-    let with = c.add.ensures ∙ ap (λ (bytes : List ℕ). with_token bytes c.in-Some.token c.turns.survey) texts in
+    let with = c.add.ensures ∙ ap (λ (bytes : List ℕ). after_token bytes c.in-Some.token c.turns.survey) texts in
     record { text = texts; seen = subst (λ (s : Survey). IsSoFar text s (ahead text new)) (sym with) seen }
