@@ -446,6 +446,11 @@ open 8|SELECT \"ab\n\
 open 8|SELECT /* ab\n\
 open 12|SELECT 'ab''\n\
 open 11|SELECT 'a''b\n\
+byte 10|SELECT , !\n\
+open 10|SELECT , 'ab\n\
+byte 29|SELECT c FROM t LEFT JOIN u !\n\
+byte 13|-- weight 0~!\n\
+open 29|-- weight 0~SELECT * FROM t 'ab\n\
 ok 1|-- weight 5~SELECT * FROM t\n\
 ok 1|SELECT * -- weight 7~FROM t\n\
 ok 1|-- weight 5~-- weight 1000000~SELECT * FROM t\n\
@@ -558,6 +563,11 @@ fn long_texts_end(rt: HostRuntime) {
     assert_eq!(rt;
         answer(&rt, rt.alloc(), more.as_slice()).as_str(),
         "many 14001"
+    );
+    repeat(&rt, &mut more, b" '", 1);
+    assert_eq!(rt;
+        answer(&rt, rt.alloc(), more.as_slice()).as_str(),
+        "open 14010"
     );
 }
 
