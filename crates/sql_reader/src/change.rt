@@ -156,7 +156,7 @@ impl GrammarReader {
     }
 
     /// An INSERT behind its first word.
-    #[tactic(auto, unfolding(crate::specs::Grammar::insert_rest))]
+    #[tactic(auto, unfolding(crate::specs::Grammar::insert_rest, crate::specs::inner::Remaining::remaining))]
     fn insert_rest(self, alloc: Global, cursor: &mut Cursor<'_>) -> Result<InsertParts, Unread>
         ensures { ReadsBy rule.insert_rest tt self cursor.old result cursor.new }
     {
@@ -248,7 +248,7 @@ impl GrammarReader {
     }
 
     /// An UPDATE behind its first word.
-    #[tactic(auto, unfolding(crate::specs::Grammar::update_rest))]
+    #[tactic(auto, unfolding(crate::specs::Grammar::update_rest, crate::specs::inner::Remaining::remaining))]
     fn update_rest(self, alloc: Global, cursor: &mut Cursor<'_>) -> Result<UpdateParts, Unread>
         ensures { ReadsBy rule.update_rest tt self cursor.old result cursor.new }
     {

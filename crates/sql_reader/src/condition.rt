@@ -124,7 +124,7 @@ impl GrammarReader {
     }
 
     /// Values with commas between them, and how many.
-    #[tactic(auto, unfolding(crate::specs::Grammar::in_values))]
+    #[tactic(auto, unfolding(crate::specs::Grammar::in_values, crate::specs::inner::Remaining::remaining))]
     pub fn in_values(self, cursor: &mut Cursor<'_>) -> Result<u32, Unread>
         ensures { ReadsBy rule.in_values tt self cursor.old result cursor.new }
     {

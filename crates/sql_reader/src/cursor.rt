@@ -53,6 +53,7 @@ impl<'a> Cursor<'a> {
     ghost use Rattle.std.specs.Prelude.{◌≡◌, ◌<◌, ◌^◌, length};
 
     /// The place before the next terminal of these tokens, which stand behind the weight comment that the mark names.
+    #[tactic(auto, unfolding(crate::specs::inner::Remaining::remaining))]
     pub fn new(tokens: TokenReader<'a>, mark: Mark) -> Cursor<'a>
         requires short { length tokens.text.now < 2 ^ 32 }
         requires few { length (terminals_behind tokens.text.now tokens.at mark) < 2 ^ 32 }
@@ -82,6 +83,7 @@ impl<'a> Cursor<'a> {
     }
 
     /// Whether the next terminal is of one of these kinds.
+    #[tactic(auto, unfolding(crate::specs::inner::Remaining::remaining))]
     pub fn begins(&self, kinds: &[TerminalKind]) -> bool
         ensures { result ≡ begins kinds.now (remaining self.now) }
     {
@@ -92,6 +94,7 @@ impl<'a> Cursor<'a> {
     }
 
     /// Takes one terminal of these kinds.
+    #[tactic(auto, unfolding(crate::specs::inner::Remaining::remaining))]
     pub fn take(&mut self, kinds: &[TerminalKind]) -> Result<Terminal, Unread>
         ensures reads { Gives same result (terminal_of kinds.now (remaining self.old)) self.new }
         ensures left { room.TakesSome result self.old self.new }

@@ -27,7 +27,7 @@ impl GrammarReader {
     }
 
     /// An item behind a name and a point.
-    #[tactic(auto, unfolding(crate::specs::Grammar::after_item_point))]
+    #[tactic(auto, unfolding(crate::specs::Grammar::after_item_point, crate::specs::inner::Remaining::remaining))]
     fn after_item_point(
         self,
         alloc: Global,
@@ -50,7 +50,7 @@ impl GrammarReader {
     }
 
     /// An item behind its first name.
-    #[tactic(auto, unfolding(crate::specs::Grammar::after_item_name))]
+    #[tactic(auto, unfolding(crate::specs::Grammar::after_item_name, crate::specs::inner::Remaining::remaining))]
     fn after_item_name(
         self,
         alloc: Global,
@@ -69,7 +69,7 @@ impl GrammarReader {
     }
 
     /// An item behind DATE.
-    #[tactic(auto, unfolding(crate::specs::Grammar::after_item_date))]
+    #[tactic(auto, unfolding(crate::specs::Grammar::after_item_date, crate::specs::inner::Remaining::remaining))]
     fn after_item_date(
         self,
         alloc: Global,
@@ -86,7 +86,7 @@ impl GrammarReader {
     }
 
     /// An item that begins with no name.
-    #[tactic(auto, unfolding(crate::specs::Grammar::literal_item))]
+    #[tactic(auto, unfolding(crate::specs::Grammar::literal_item, crate::specs::inner::Remaining::remaining))]
     fn literal_item(self, alloc: Global, cursor: &mut Cursor<'_>) -> Result<ParsedItem, Unread>
         ensures { ReadsBy rule.literal_item tt self cursor.old result cursor.new }
     {

@@ -232,7 +232,7 @@ impl GrammarReader {
     }
 
     /// HAVING and its comparisons, perhaps.
-    #[tactic(auto, unfolding(crate::specs::Grammar::having_part))]
+    #[tactic(auto, unfolding(crate::specs::Grammar::having_part, crate::specs::inner::Remaining::remaining))]
     fn having_part(
         self,
         alloc: Global,
@@ -269,7 +269,7 @@ impl GrammarReader {
     }
 
     /// An item of ORDER BY.
-    #[tactic(auto, unfolding(crate::specs::Grammar::order_value))]
+    #[tactic(auto, unfolding(crate::specs::Grammar::order_value, crate::specs::inner::Remaining::remaining))]
     fn order_value(self, alloc: Global, cursor: &mut Cursor<'_>) -> Result<ParsedOrder, Unread>
         ensures { ReadsBy rule.order_value tt self cursor.old result cursor.new }
     {

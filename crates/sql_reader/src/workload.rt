@@ -57,6 +57,7 @@ impl SqlFault {
 }
 
 /// The fault where the grammar fails before the terminals that are left, with the place of the end of the text.
+#[tactic(auto, unfolding(crate::specs::inner::Remaining::remaining))]
 fn grammar_fault(end: u64, cursor: &Cursor<'_>) -> SqlFault
     ensures { result ≡ workload.grammar_fault end (remaining cursor.now) }
 {
@@ -131,6 +132,7 @@ fn stop_fault(end: u64, cursor: &Cursor<'_>, stop: Unread) -> Result<SqlFault, U
 }
 
 /// The fault of terminals that are left behind a workload.
+#[tactic(auto, unfolding(crate::specs::inner::Remaining::remaining))]
 fn fault_behind(end: u64, cursor: &Cursor<'_>) -> Option<SqlFault>
     ensures { result ≡ workload.fault_behind end (remaining cursor.now) }
 {
