@@ -1,6 +1,7 @@
 pub mod SumLemmas
 pub mod DayLemmas
 pub mod Digits
+pub mod Firsts
 pub mod LineLaws
 pub mod RowBounds
 pub mod ItemLaws

@@ -4,6 +4,7 @@ pub mod Items
 pub mod Predicates
 pub mod Limits
 pub mod Lookups
+pub mod Works
 pub mod Named
 pub mod Readings
 pub mod Parts

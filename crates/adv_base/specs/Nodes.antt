@@ -13,10 +13,6 @@ pub record Node : Type 0 where
   pub inside : Config
   pub outside : Config
 
--- no candidate is both
-abbrev pub IsNode : Node → Type 0
-IsNode node = (a : ℕ) → has_candidate node.inside a ≡ true → has_candidate node.outside a ≡ false
-
 abbrev pub is_free : Node → ℕ → Bool
 is_free node a = not (has_candidate node.inside a) && not (has_candidate node.outside a)
 

@@ -1,4 +1,5 @@
--- Readings of a text, which give a value or the first fault. The type of the faults is the reader's own.
+-- Readings of a text, or of the words of a command line: each gives a value or the first fault. The type of the faults
+-- is the reader's own.
 use Rattle.std.specs.Prelude.{◌≡◌, ◌≢◌, Bool, if◌then◌else◌, List, [], ◌∷◌, ◌++◌, Option, Some, None, Result, Ok, Err}
 
 infixl 10 ◌>>=◌

@@ -21,6 +21,23 @@ pub enum Work {
     Insert { table: u16, rows: u64 },
 }
 
+impl Work {
+    ghost use Rattle.std.specs.Prelude.{◌≡◌, option_map};
+    ghost use Rattle.adv_base.specs.Works as works;
+
+    /// The block of a SELECT, an UPDATE or a DELETE; an INSERT has none.
+    pub fn block(&self) -> Option<&Block>
+        ensures { option_map (λ block. block.now) result ≡ works.block_of self.now }
+    {
+        match self {
+            Work::Select(block) => Some(block),
+            Work::Update(block, _) => Some(block),
+            Work::Delete(block) => Some(block),
+            Work::Insert { .. } => None,
+        }
+    }
+}
+
 /// A statement and how often it counts, from 1 to 10^6.
 #[derive(Debug, Drop)]
 pub struct Statement {

@@ -1,5 +1,5 @@
 -- What statements and a workload cost under a configuration.
-use Rattle.std.specs.Prelude.{◌≡◌, ℕ, ◌+◌, ◌*◌, ◌<◌, ◌≤◌, false, List, [], ◌∷◌, length, replicate, All, Option, Some, None}
+use Rattle.std.specs.Prelude.{◌≡◌, ℕ, ◌+◌, ◌*◌, ◌<◌, ◌≤◌, false, List, [], ◌∷◌, length, replicate, All, Some}
 use Rattle.adv_base.specs.declared.catalogue.Catalogue.{Catalogue}
 use Rattle.adv_base.specs.declared.catalogue.index.IndexShape.{IndexShape}
 use Rattle.adv_base.specs.declared.limits.TheConstants.{MOST_CANDIDATES, MOST_STATEMENTS}
@@ -11,6 +11,7 @@ use Rattle.adv_base.specs.declared.workload.block.Block.{Block}
 use Rattle.adv_base.specs.Offers.{offers}
 use Rattle.adv_base.specs.OfferTables.{OfferTableLimits}
 use Rattle.adv_base.specs.Upkeep.{kept_upkeep, config_upkeep}
+pub use Rattle.adv_base.specs.Works.{block_of}
 use Rattle.plan_model.specs.declared.plan.TheConstants.{MOST_TOTAL}
 use Rattle.plan_model.specs.declared.task.Task.{Task}
 use Rattle.plan_model.specs.BlockTask.{IsTaskOf}
@@ -25,13 +26,6 @@ pub record IsBlockCost (cat : Catalogue) (shapes : List IndexShape) (config : Co
   pub task : Task
   pub task_is : IsTaskOf cat block task
   pub least : Least task (offers cat block shapes config) cost
-
--- the block of a statement; an INSERT has none
-abbrev pub block_of : Work → Option Block
-block_of (Select block) = Some block
-block_of (Update block columns) = Some block
-block_of (Delete block) = Some block
-block_of (Insert table rows) = None
 
 -- a statement's part that its plan costs; an INSERT has no plan
 abbrev pub IsPlanCost : Catalogue → List IndexShape → Config → Work → ℕ → Type 0
