@@ -20,12 +20,7 @@ use std::alloc::Global;
 pub fn block_of(work: &Work) -> Option<&Block>
     ensures { option_map (λ b. b.now) result ≡ totals.block_of work.now }
 {
-    match work {
-        Work::Select(block) => Some(block),
-        Work::Update(block, _) => Some(block),
-        Work::Delete(block) => Some(block),
-        Work::Insert { .. } => None,
-    }
+    work.block()
 }
 
 /// Puts a part at the end.
@@ -50,7 +45,7 @@ fn push_part(
     ensures after { OnOk result (inner.ArePartsBelow (the_setting setting.now) (at + 1) parts.new.items) }
     ensures fault { IfErr result (refusals.IsCause (the_setting setting.now)) }
 {
-    match block_of(&statement.work) {
+    match statement.work.block() {
         None => Ok(()),
         Some(block) => {
             let own = part(alloc, setting, at as u16 + 1, statement.weight, block)?;

@@ -3,6 +3,7 @@ ghost use Rattle.std.specs.Prelude.{◌≡◌, ◌++◌, ◌∷◌, [], OnOk};
 ghost use Rattle.bip_model.specs.Values as values;
 
 use access_paths::ConfigOffers;
+use adv_base::limits::MOST_CANDIDATES;
 use adv_base::{Item, List, NoMemory};
 use bip_model::{Grant, SlotPart};
 use plan_model::{Offers, begins_with};
@@ -149,7 +150,7 @@ impl SlotReader<'_> {
         ensures { IfOk result (reads.AreGrants self.now orders.now) }
     {
         let count = self.offers.count(self.slot);
-        let mut grants = Vec::with_capacity(alloc, count as usize)?;
+        let mut grants = Vec::with_capacity(alloc, (count as usize).min(MOST_CANDIDATES))?;
         for offer in 0..count {
             self.push_grant(alloc, offer, orders, &mut grants)?;
         }
