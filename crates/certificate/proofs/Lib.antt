@@ -14,6 +14,7 @@ pub mod Splits
 pub mod Breaks
 pub mod TreeLaws
 pub mod OneText
+pub mod OneLine
 pub mod WriteLaws
 pub mod Places
 pub mod InOrder

@@ -50,6 +50,10 @@ OneCertificate = (bytes : List ℕ) (cert other : Cert) → IsCertificate bytes 
 abbrev pub OneText : Type 0
 OneText = (cert : Cert) (bytes other : List ℕ) → IsCertificate bytes cert → IsCertificate other cert → bytes ≡ other
 
+-- bytes break at one line
+abbrev pub OneBreak : Type 0
+OneBreak = (bytes : List ℕ) (number other : ℕ) → BreaksAt bytes number → BreaksAt bytes other → number ≡ other
+
 -- no text of a certificate is longer than its file may be
 abbrev pub TextsFit : Type 0
 TextsFit = (bytes : List ℕ) (cert : Cert) → IsCertificate bytes cert → length bytes ≤ MOST_CERTIFICATE_BYTES

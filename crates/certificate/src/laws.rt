@@ -26,6 +26,11 @@ pub fn texts_are_one()
     ensures text { certificates.OneText }
 {}
 
+/// Bytes that are no certificate's text break at one line: the first at which no certificate's text goes on.
+pub fn breaks_are_one()
+    ensures { certificates.OneBreak }
+{}
+
 /// The parts and grants of a programme that stands for a setting are in order.
 pub fn standing_programmes_are_in_order()
     ensures { answers.StandingInOrder }

@@ -33,8 +33,8 @@ mod write;
 
 pub use cert::{Cert, CertFault, Entry, SparseSet};
 pub use laws::{
-    best_answers_keep_limits, places_in_order, standing_programmes_are_in_order, texts_are_one,
-    whole_trees_are_preorders, written_certificates_fit,
+    best_answers_keep_limits, breaks_are_one, places_in_order, standing_programmes_are_in_order,
+    texts_are_one, whole_trees_are_preorders, written_certificates_fit,
 };
 pub use read::read_cert;
 pub use write::write_cert;
