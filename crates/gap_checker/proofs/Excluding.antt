@@ -6,7 +6,7 @@ use Rattle.std.proofs.lemmas.Option.{slice_get-map, slice_get-get_or, get_or_fro
 use Rattle.std.proofs.lemmas.Int.{ints}
 use Rattle.std.proofs.lemmas.List.Elements.{All-head}
 use Rattle.adv_base.specs.declared.setting.Config.{Config}
-use Rattle.adv_base.specs.Configs.{IsConfigOf, has_candidate}
+use Rattle.adv_base.specs.Configs.{IsConfigOf, Fits, has_candidate}
 use Rattle.adv_base.specs.Nodes as nodes
 use Rattle.adv_base.specs.Settings.{TheSetting, KeepsLimits}
 use Rattle.plan_model.proofs.Unique.{one-total, one-lagrangian}
@@ -20,9 +20,10 @@ use Rattle.certificate.specs.declared.cert.Cert.{Cert}
 use Rattle.certificate.specs.declared.cert.SparseSet.{SparseSet}
 use Rattle.certificate.specs.Limits.{CertLimits, SetLimits, EntriesFrom}
 use Rattle.plan_model.specs.Lagrangian.{TheMultipliers, IsLagrangian}
+use Rattle.plan_model.specs.Totals.{IsTotal}
 use Rattle.gap_checker.specs.declared.fault.CheckFault.{CheckFault}
 use Rattle.gap_checker.specs.declared.fault.CheckFault.TheVariants as faults
-use Rattle.gap_checker.specs.Faults.{IsFault, IsNodeAt, IsBadConfig, IsBadPair}
+use Rattle.gap_checker.specs.Faults.{IsFault, IsNodeAt, IsBadConfig, IsOverBudget, IsOtherCost, IsBadPair, IsLeafBelow, IsNotOverfull}
 use Rattle.gap_checker.specs.Views.{config_with, config_of, sets_of, multipliers_of, rent_in, IsProof}
 use Rattle.gap_checker.specs.Visits.{Visit, visits, IsRight, IsRightAt}
 use Rattle.gap_checker.proofs.Naming.{entry-rent}
@@ -47,13 +48,31 @@ right-there setting cert number at node proof is =
     let moved : All P (visits (free_node ∷ []) cert.tree) = subst (λ (list : List Node). All P (visits (free_node ∷ []) list)) (sym (behind-nothing (preorder proof.shown.tree)) ∙ sym proof.shown.list_is) all in
     some-there P is.before (record { at = at; node = node }) is.rest (subst (All P) is.parts moved)
 
-pub some-set : (x y : TheMultipliers) → Some x ≡ Some y → x ≡ y
-some-set x y e = cc
+pub same-some : {X : Type 0} (x y : X) → Some x ≡ Some y → x ≡ y
+same-some x y e = cc
 
-pub not-below : (bound value : ℤ) → bound ≤ℤ value → value <ℤ bound → ⊥
+not-below : (bound value : ℤ) → bound ≤ℤ value → value <ℤ bound → ⊥
 not-below bound value least below = omega (arith, ints, least, below)
 
+-- a leaf below the bound isn't right
+pub leaf-wrong : (setting : TheSetting) (cert : Cert) (n : ℕ) (computed claimed : ℤ) (is : IsLeafBelow setting cert n computed claimed) → IsRightAt setting cert.budget cert.bound (sets_of cert) is.at (Bounded is.set) → ⊥
+leaf-wrong setting cert n computed claimed is right =
+    let same : right.multipliers ≡ is.multipliers = same-some right.multipliers is.multipliers (sym right.found ∙ is.found) in
+    let value : right.value ≡ computed = one-lagrangian setting cert.budget is.at is.multipliers right.value computed (subst (λ (m : TheMultipliers). IsLagrangian setting cert.budget is.at m right.value) same right.value_is) is.value_is in
+    not-below claimed computed (subst (λ (v : ℤ). claimed ≤ℤ v) value (subst (λ (b : ℤ). b ≤ℤ right.value) (sym is.claimed_is) right.at_least)) is.below
+
+-- nor is one that is called overfull where what is in fits
+pub full-wrong : (setting : TheSetting) (cert : Cert) (n size : ℕ) (is : IsNotOverfull setting cert n size) → IsRightAt setting cert.budget cert.bound (sets_of cert) is.at Overfull → ⊥
+full-wrong setting cert n size is right = omega (arith, right, is.size_is, is.fits)
+
 -- ## Configurations and pairs
+
+pub not-over : (setting : TheSetting) (cert : Cert) (size budget : ℕ) → Fits setting.cat setting.shapes (config_of cert) cert.budget → IsOverBudget setting cert size budget → ⊥
+not-over setting cert size budget fits is = omega (arith, is.over, is.size_is, fits)
+
+pub not-other : (setting : TheSetting) (cert : Cert) (claimed computed : ℕ) → IsTotal setting.cat setting.shapes (config_of cert) setting.statements cert.cost → IsOtherCost setting cert claimed computed → ⊥
+not-other setting cert claimed computed total is =
+    is.differ (is.claimed_is ∙ one-total setting.cat setting.shapes (config_of cert) setting.statements cert.cost computed total is.computed_is)
 
 pub bad-number : (setting : TheSetting) (cert : Cert) (number : ℕ) → CertLimits cert → IsConfigOf setting.shapes (config_of cert) → IsBadConfig setting cert number → ⊥
 bad-number setting cert number limits members bad =
@@ -78,19 +97,14 @@ pub excluded : (setting : TheSetting) (cert : Cert) (fault : CheckFault) → Cer
     IsProof setting cert → IsFault setting cert fault → fault ≡ faults.Memory
 excluded setting cert faults.Memory limits rise proof is = refl
 excluded setting cert (faults.BadConfig n) limits rise proof is = absurd (bad-number setting cert n limits proof.members is)
-excluded setting cert (faults.OverBudget size budget) limits rise proof is = absurd (omega (arith, is.over, is.size_is, proof.fits))
-excluded setting cert (faults.CostDiffers claimed computed) limits rise proof is =
-    absurd (is.differ (is.claimed_is ∙ one-total setting.cat setting.shapes (config_of cert) setting.statements cert.cost computed proof.cost_is is.computed_is))
+excluded setting cert (faults.OverBudget size budget) limits rise proof is = absurd (not-over setting cert size budget proof.fits is)
+excluded setting cert (faults.CostDiffers claimed computed) limits rise proof is = absurd (not-other setting cert claimed computed proof.cost_is is)
 excluded setting cert (faults.BadPair set entry) limits rise proof is = absurd (bad-pair setting cert set entry rise proof.rents is)
 excluded setting cert (faults.BadBranch n) limits rise proof is = absurd (is.wrong (right-there setting cert n is.at (Branch is.candidate) proof is.node_is))
 excluded setting cert (faults.LeafBelow n computed claimed) limits rise proof is =
-    let right = right-there setting cert n is.at (Bounded is.set) proof is.node_is in
-    let same : right.multipliers ≡ is.multipliers = some-set right.multipliers is.multipliers (sym right.found ∙ is.found) in
-    let value : right.value ≡ computed = one-lagrangian setting cert.budget is.at is.multipliers right.value computed (subst (λ (m : TheMultipliers). IsLagrangian setting cert.budget is.at m right.value) same right.value_is) is.value_is in
-    absurd (not-below claimed computed (subst (λ (v : ℤ). claimed ≤ℤ v) value (subst (λ (b : ℤ). b ≤ℤ right.value) (sym is.claimed_is) right.at_least)) is.below)
+    absurd (leaf-wrong setting cert n computed claimed is (right-there setting cert n is.at (Bounded is.set) proof is.node_is))
 excluded setting cert (faults.NotInfeasible n size) limits rise proof is =
-    let right = right-there setting cert n is.at Overfull proof is.node_is in
-    absurd (omega (arith, right, is.size_is, is.fits))
+    absurd (full-wrong setting cert n size is (right-there setting cert n is.at Overfull proof is.node_is))
 
 -- the entries of a certificate's sets are in order
 pub sets-rise : (sets : List SparseSet) → AllByRecursion SetLimits sets → (j : ℕ) (set : SparseSet) → slice_get sets j ≡ Some set → EntriesFrom 0 set.entries
@@ -98,10 +112,7 @@ sets-rise [] limits j set there = absurd (none j there)
   where
     none : (j : ℕ) → None ≡ Some set → ⊥
     none j e = cc
-sets-rise (first ∷ sets) limits zero set there = subst (λ (s : SparseSet). EntriesFrom 0 s.entries) (is first set there) limits.0.entries
-  where
-    is : (x y : SparseSet) → Some x ≡ Some y → x ≡ y
-    is x y e = cc
+sets-rise (first ∷ sets) limits zero set there = subst (λ (s : SparseSet). EntriesFrom 0 s.entries) (same-some first set there) limits.0.entries
 sets-rise (first ∷ sets) limits (suc j) set there = sets-rise sets limits.1 j set there
 
 -- a proof bounds every fitting configuration

@@ -1,41 +1,32 @@
--- A certificate has one fault.
+-- For a setting a certificate has one fault, and one answer.
 use Rattle.std.proofs.Common.{◌≡◌, ◌≢◌, ◌∙◌, inl, inr, ℕ, suc, ◌+◌, ◌-◌, ◌<◌, ◌≤◌, ℤ, List, [], ◌∷◌, ◌++◌, length, refl, sym, ap, subst, arith}
-use Rattle.std.specs.Prelude.{All, Some, slice_get, ◌≤ℤ◌}
+use Rattle.std.specs.Prelude.{All, Some, Result, Ok, Err, slice_get}
 use Rattle.std.proofs.lemmas.Bool.{cases_order}
 use Rattle.std.proofs.lemmas.Option.{get_or_from_slice_get, slice_get_within}
 use Rattle.std.proofs.lemmas.List.Elements.{All-head}
-use Rattle.adv_base.specs.Configs.{Fits, config_pages}
+use Rattle.adv_base.specs.Configs.{config_pages}
 use Rattle.adv_base.specs.Nodes as nodes
 use Rattle.adv_base.specs.Settings.{TheSetting}
+use Rattle.adv_base.proofs.Firsts.{one-first}
 use Rattle.plan_model.proofs.Unique.{one-total, one-lagrangian}
 use Rattle.plan_model.specs.Lagrangian.{TheMultipliers, IsLagrangian}
-use Rattle.plan_model.specs.Totals.{IsTotal}
 use Rattle.bip_model.specs.declared.answer.Node.{Node}
 use Rattle.bip_model.specs.declared.answer.Node.TheVariants.{Branch, Bounded, Overfull}
-use Rattle.bip_model.specs.Proves.{RentsUses}
 use Rattle.bip_model.specs.Trees.{set_at}
 use Rattle.certificate.specs.declared.cert.Cert.{Cert}
 use Rattle.certificate.specs.declared.cert.Entry.{Entry}
 use Rattle.certificate.specs.declared.cert.SparseSet.{SparseSet}
 use Rattle.certificate.specs.Limits.{CertLimits, EntriesFrom}
+use Rattle.gap_checker.specs.declared.fault.Checked.{Checked}
 use Rattle.gap_checker.specs.declared.fault.CheckFault.{CheckFault}
 use Rattle.gap_checker.specs.declared.fault.CheckFault.TheVariants as faults
-use Rattle.gap_checker.specs.Faults.{IsFault, NamesPair, IsNodeAt, IsBadConfig, IsOverBudget, IsOtherCost, IsBadPair, IsBadBranch, IsLeafBelow, IsNotOverfull}
+use Rattle.gap_checker.specs.Faults.{IsChecked, IsFault, NamesPair, IsNodeAt, IsBadConfig, IsOverBudget, IsOtherCost, IsBadPair, IsBadBranch, IsLeafBelow, IsNotOverfull}
+use Rattle.gap_checker.specs.Laws.{IsAnswer}
 use Rattle.gap_checker.specs.Views.{config_of, sets_of}
 use Rattle.gap_checker.specs.Visits.{Visit, IsRight, IsRightAt}
-use Rattle.gap_checker.proofs.Excluding.{bad-number, bad-pair, not-below, some-set}
+use Rattle.gap_checker.proofs.Excluding.{excluded, sets-rise, bad-number, bad-pair, not-over, not-other, leaf-wrong, full-wrong, same-some}
 
 -- ## Parts before the tree
-
-same-some : {X : Type 0} (x y : X) → Some x ≡ Some y → x ≡ y
-same-some x y e = cc
-
-not-over : (setting : TheSetting) (cert : Cert) (size budget : ℕ) → Fits setting.cat setting.shapes (config_of cert) cert.budget → IsOverBudget setting cert size budget → ⊥
-not-over setting cert size budget fits is = omega (arith, is.over, is.size_is, fits)
-
-not-other : (setting : TheSetting) (cert : Cert) (claimed computed : ℕ) → IsTotal setting.cat setting.shapes (config_of cert) setting.statements cert.cost → IsOtherCost setting cert claimed computed → ⊥
-not-other setting cert claimed computed total is =
-    is.differ (is.claimed_is ∙ one-total setting.cat setting.shapes (config_of cert) setting.statements cert.cost computed total is.computed_is)
 
 over-same : (setting : TheSetting) (cert : Cert) (size budget other more : ℕ) → IsOverBudget setting cert size budget → IsOverBudget setting cert other more → faults.OverBudget size budget ≡ faults.OverBudget other more
 over-same setting cert size budget other more p q =
@@ -51,14 +42,11 @@ other-same setting cert claimed computed other more p q =
 
 same-number : (setting : TheSetting) (cert : Cert) (m n : ℕ) → IsBadConfig setting cert m → IsBadConfig setting cert n → m ≡ n
 same-number setting cert m n p q =
-    elim (cases_order p.place q.place) [
-      | inl same ↦ same-some m n (sym p.found ∙ ap (slice_get cert.config) same ∙ q.found)
-      | inr apart ↦
-          elim apart [
-            | inl less ↦ absurd (omega (arith, q.before p.place m less p.found, p.past))
-            | inr more ↦ absurd (omega (arith, p.before q.place n more q.found, q.past))
-          ]
-    ]
+    let Past : ℕ → Type 0 = λ k. (number : ℕ) × (slice_get cert.config k ≡ Some number) × (length setting.shapes < number) in
+    let place : p.place ≡ q.place =
+    one-first Past p.place q.place (m, p.found, p.past) (n, q.found, q.past)
+    (λ k less past. omega (arith, p.before k past.0 less past.1, past.2)) (λ k less past. omega (arith, q.before k past.0 less past.1, past.2)) in
+    same-some m n (sym p.found ∙ ap (slice_get cert.config) place ∙ q.found)
 
 entry-named : (setting : TheSetting) (set : SparseSet) (k : ℕ) (entry : Entry) → slice_get set.entries k ≡ Some entry → All (NamesPair setting) set.entries → NamesPair setting entry
 entry-named setting set k entry found all =
@@ -67,31 +55,24 @@ entry-named setting set k entry found all =
 -- two first entries of one set that are wrong have one place
 same-place : (setting : TheSetting) (cert : Cert) (m a n b : ℕ) (p : IsBadPair setting cert m a) (q : IsBadPair setting cert n b) → p.set ≡ q.set → a ≡ b
 same-place setting cert m a n b p q set =
-    let here : slice_get q.set.entries (a - 1) ≡ Some p.entry = subst (λ (s : SparseSet). slice_get s.entries (a - 1) ≡ Some p.entry) set p.entry_found in
-    let there : slice_get p.set.entries (b - 1) ≡ Some q.entry = subst (λ (s : SparseSet). slice_get s.entries (b - 1) ≡ Some q.entry) (sym set) q.entry_found in
-    elim (cases_order (a - 1) (b - 1)) [
-      | inl same ↦ omega (arith, same, p.some_entry, q.some_entry)
-      | inr apart ↦
-          elim apart [
-            | inl less ↦ absurd (p.none (q.entries_before (a - 1) p.entry less here))
-            | inr more ↦ absurd (q.none (p.entries_before (b - 1) q.entry more there))
-          ]
-    ]
+    let Bad : SparseSet → ℕ → Type 0 = λ set k. (entry : Entry) × (slice_get set.entries k ≡ Some entry) × (NamesPair setting entry → ⊥) in
+    let there : Bad p.set (b - 1) = subst (λ (s : SparseSet). Bad s (b - 1)) (sym set) (q.entry, q.entry_found, q.none) in
+    let before : (k : ℕ) → k < b - 1 → Bad p.set k → ⊥ =
+    subst (λ (s : SparseSet). (k : ℕ) → k < b - 1 → Bad s k → ⊥) (sym set) (λ k less bad. bad.2 (q.entries_before k bad.0 less bad.1)) in
+    let same : a - 1 ≡ b - 1 = one-first (Bad p.set) (a - 1) (b - 1) (p.entry, p.entry_found, p.none) there (λ k less bad. bad.2 (p.entries_before k bad.0 less bad.1)) before in
+    omega (arith, same, p.some_entry, q.some_entry)
 
 same-pair : (setting : TheSetting) (cert : Cert) (m a n b : ℕ) → IsBadPair setting cert m a → IsBadPair setting cert n b → faults.BadPair m a ≡ faults.BadPair n b
 same-pair setting cert m a n b p q =
-    elim (cases_order (m - 1) (n - 1)) [
-      | inl same ↦
-          let number : m ≡ n = omega (arith, same, p.some_set, q.some_set) in
-          let set : p.set ≡ q.set = same-some p.set q.set (sym p.set_found ∙ ap (slice_get cert.sets) same ∙ q.set_found) in
-          let place : a ≡ b = same-place setting cert m a n b p q set in
-          cc
-      | inr apart ↦
-          elim apart [
-            | inl less ↦ absurd (p.none (entry-named setting p.set (a - 1) p.entry p.entry_found (q.sets_before (m - 1) p.set less p.set_found)))
-            | inr more ↦ absurd (q.none (entry-named setting q.set (b - 1) q.entry q.entry_found (p.sets_before (n - 1) q.set more q.set_found)))
-          ]
-    ]
+    let Bad : ℕ → Type 0 = λ j. (set : SparseSet) × (slice_get cert.sets j ≡ Some set) × (All (NamesPair setting) set.entries → ⊥) in
+    let same : m - 1 ≡ n - 1 =
+    one-first Bad (m - 1) (n - 1)
+    (p.set, p.set_found, λ all. p.none (entry-named setting p.set (a - 1) p.entry p.entry_found all)) (q.set, q.set_found, λ all. q.none (entry-named setting q.set (b - 1) q.entry q.entry_found all))
+    (λ j less bad. bad.2 (p.sets_before j bad.0 less bad.1)) (λ j less bad. bad.2 (q.sets_before j bad.0 less bad.1)) in
+    let number : m ≡ n = omega (arith, same, p.some_set, q.some_set) in
+    let set : p.set ≡ q.set = same-some p.set q.set (sym p.set_found ∙ ap (slice_get cert.sets) same ∙ q.set_found) in
+    let place : a ≡ b = same-place setting cert m a n b p q set in
+    cc
 
 -- ## Nodes
 
@@ -133,15 +114,6 @@ one-node setting cert m n at other node another p q wrong bad =
       same = ap (λ (v : Visit). v.node) one.1;
     }
 
-leaf-wrong : (setting : TheSetting) (cert : Cert) (n : ℕ) (computed claimed : ℤ) (is : IsLeafBelow setting cert n computed claimed) → IsRightAt setting cert.budget cert.bound (sets_of cert) is.at (Bounded is.set) → ⊥
-leaf-wrong setting cert n computed claimed is right =
-    let same : right.multipliers ≡ is.multipliers = some-set right.multipliers is.multipliers (sym right.found ∙ is.found) in
-    let value : right.value ≡ computed = one-lagrangian setting cert.budget is.at is.multipliers right.value computed (subst (λ (m : TheMultipliers). IsLagrangian setting cert.budget is.at m right.value) same right.value_is) is.value_is in
-    not-below claimed computed (subst (λ (v : ℤ). claimed ≤ℤ v) value (subst (λ (b : ℤ). b ≤ℤ right.value) (sym is.claimed_is) right.at_least)) is.below
-
-full-wrong : (setting : TheSetting) (cert : Cert) (n size : ℕ) (is : IsNotOverfull setting cert n size) → IsRightAt setting cert.budget cert.bound (sets_of cert) is.at Overfull → ⊥
-full-wrong setting cert n size is right = omega (arith, right, is.size_is, is.fits)
-
 same-branch : (setting : TheSetting) (cert : Cert) (m n : ℕ) → IsBadBranch setting cert m → IsBadBranch setting cert n → faults.BadBranch m ≡ faults.BadBranch n
 same-branch setting cert m n p q =
     ap faults.BadBranch (one-node setting cert m n p.at q.at (Branch p.candidate) (Branch q.candidate) p.node_is q.node_is p.wrong q.wrong).number
@@ -151,7 +123,7 @@ same-leaf setting cert m n v w c d p q =
     let one = one-node setting cert m n p.at q.at (Bounded p.set) (Bounded q.set) p.node_is q.node_is (leaf-wrong setting cert m v c p) (leaf-wrong setting cert n w d q) in
     let number : m ≡ n = one.number in
     let set : p.set ≡ q.set = let same = one.same in cc in
-    let multipliers : p.multipliers ≡ q.multipliers = some-set p.multipliers q.multipliers (sym p.found ∙ ap (set_at (sets_of cert)) set ∙ q.found) in
+    let multipliers : p.multipliers ≡ q.multipliers = same-some p.multipliers q.multipliers (sym p.found ∙ ap (set_at (sets_of cert)) set ∙ q.found) in
     let moved : IsLagrangian setting cert.budget p.at p.multipliers w = subst (λ (m : TheMultipliers). IsLagrangian setting cert.budget p.at m w) (sym multipliers) (subst (λ (at : nodes.Node). IsLagrangian setting cert.budget at q.multipliers w) (sym one.place) q.value_is) in
     let value : v ≡ w = one-lagrangian setting cert.budget p.at p.multipliers v w p.value_is moved in
     let claim : c ≡ d = p.claimed_is ∙ sym q.claimed_is in
@@ -182,62 +154,92 @@ no-leaf-full setting cert m n s v c p q =
 abbrev pub Rising : Cert → Type 0
 Rising cert = (j : ℕ) (set : SparseSet) → slice_get cert.sets j ≡ Some set → EntriesFrom 0 set.entries
 
+-- the order of faults
+abbrev rank : CheckFault → ℕ
+rank faults.Memory = 0
+rank (faults.BadConfig k) = 1
+rank (faults.OverBudget k l) = 2
+rank (faults.CostDiffers k l) = 3
+rank (faults.BadPair k l) = 4
+rank (faults.BadBranch k) = 5
+rank (faults.LeafBelow k l m) = 6
+rank (faults.NotInfeasible k l) = 7
+
+-- no two faults of different ranks stand together
+apart : (setting : TheSetting) (cert : Cert) (one two : CheckFault) → CertLimits cert → Rising cert → one ≢ faults.Memory → rank one < rank two → IsFault setting cert one → IsFault setting cert two → ⊥
+apart setting cert faults.Memory two limits rise some less p q = some refl
+apart setting cert (faults.BadConfig k) (faults.OverBudget n o) limits rise some less p q = bad-number setting cert k limits q.members p
+apart setting cert (faults.BadConfig k) (faults.CostDiffers n o) limits rise some less p q = bad-number setting cert k limits q.members p
+apart setting cert (faults.BadConfig k) (faults.BadPair n o) limits rise some less p q = bad-number setting cert k limits q.members p
+apart setting cert (faults.BadConfig k) (faults.BadBranch n) limits rise some less p q = bad-number setting cert k limits q.sound.members p
+apart setting cert (faults.BadConfig k) (faults.LeafBelow n o r) limits rise some less p q = bad-number setting cert k limits q.sound.members p
+apart setting cert (faults.BadConfig k) (faults.NotInfeasible n o) limits rise some less p q = bad-number setting cert k limits q.sound.members p
+apart setting cert (faults.BadConfig k) two limits rise some less p q = omega (arith, less)
+apart setting cert (faults.OverBudget k l) (faults.CostDiffers n o) limits rise some less p q = not-over setting cert k l q.fits p
+apart setting cert (faults.OverBudget k l) (faults.BadPair n o) limits rise some less p q = not-over setting cert k l q.fits p
+apart setting cert (faults.OverBudget k l) (faults.BadBranch n) limits rise some less p q = not-over setting cert k l q.sound.fits p
+apart setting cert (faults.OverBudget k l) (faults.LeafBelow n o r) limits rise some less p q = not-over setting cert k l q.sound.fits p
+apart setting cert (faults.OverBudget k l) (faults.NotInfeasible n o) limits rise some less p q = not-over setting cert k l q.sound.fits p
+apart setting cert (faults.OverBudget k l) two limits rise some less p q = omega (arith, less)
+apart setting cert (faults.CostDiffers k l) (faults.BadPair n o) limits rise some less p q = not-other setting cert k l q.cost_is p
+apart setting cert (faults.CostDiffers k l) (faults.BadBranch n) limits rise some less p q = not-other setting cert k l q.sound.cost_is p
+apart setting cert (faults.CostDiffers k l) (faults.LeafBelow n o r) limits rise some less p q = not-other setting cert k l q.sound.cost_is p
+apart setting cert (faults.CostDiffers k l) (faults.NotInfeasible n o) limits rise some less p q = not-other setting cert k l q.sound.cost_is p
+apart setting cert (faults.CostDiffers k l) two limits rise some less p q = omega (arith, less)
+apart setting cert (faults.BadPair k l) (faults.BadBranch n) limits rise some less p q = bad-pair setting cert k l rise q.sound.rents p
+apart setting cert (faults.BadPair k l) (faults.LeafBelow n o r) limits rise some less p q = bad-pair setting cert k l rise q.sound.rents p
+apart setting cert (faults.BadPair k l) (faults.NotInfeasible n o) limits rise some less p q = bad-pair setting cert k l rise q.sound.rents p
+apart setting cert (faults.BadPair k l) two limits rise some less p q = omega (arith, less)
+apart setting cert (faults.BadBranch k) (faults.LeafBelow n o r) limits rise some less p q = no-branch-leaf setting cert k n o r p q
+apart setting cert (faults.BadBranch k) (faults.NotInfeasible n o) limits rise some less p q = no-branch-full setting cert k n o p q
+apart setting cert (faults.BadBranch k) two limits rise some less p q = omega (arith, less)
+apart setting cert (faults.LeafBelow k l m) (faults.NotInfeasible n o) limits rise some less p q = no-leaf-full setting cert k n o l m p q
+apart setting cert (faults.LeafBelow k l m) two limits rise some less p q = omega (arith, less)
+apart setting cert (faults.NotInfeasible k l) faults.Memory limits rise some less p q = omega (arith, less)
+apart setting cert (faults.NotInfeasible k l) two limits rise some less p q = omega (arith, less)
+
+-- two of one rank are the same
+alike : (setting : TheSetting) (cert : Cert) (one two : CheckFault) → one ≢ faults.Memory → rank one ≡ rank two → IsFault setting cert one → IsFault setting cert two → one ≡ two
+alike setting cert faults.Memory two some same p q = absurd (some refl)
+alike setting cert (faults.BadConfig k) (faults.BadConfig n) some same p q = ap faults.BadConfig (same-number setting cert k n p q)
+alike setting cert (faults.BadConfig k) two some same p q = absurd (omega (arith, same))
+alike setting cert (faults.OverBudget k l) (faults.OverBudget n o) some same p q = over-same setting cert k l n o p q
+alike setting cert (faults.OverBudget k l) two some same p q = absurd (omega (arith, same))
+alike setting cert (faults.CostDiffers k l) (faults.CostDiffers n o) some same p q = other-same setting cert k l n o p q
+alike setting cert (faults.CostDiffers k l) two some same p q = absurd (omega (arith, same))
+alike setting cert (faults.BadPair k l) (faults.BadPair n o) some same p q = same-pair setting cert k l n o p q
+alike setting cert (faults.BadPair k l) two some same p q = absurd (omega (arith, same))
+alike setting cert (faults.BadBranch k) (faults.BadBranch n) some same p q = same-branch setting cert k n p q
+alike setting cert (faults.BadBranch k) two some same p q = absurd (omega (arith, same))
+alike setting cert (faults.LeafBelow k l m) (faults.LeafBelow n o r) some same p q = same-leaf setting cert k n l o m r p q
+alike setting cert (faults.LeafBelow k l m) two some same p q = absurd (omega (arith, same))
+alike setting cert (faults.NotInfeasible k l) (faults.NotInfeasible n o) some same p q = same-full setting cert k n l o p q
+alike setting cert (faults.NotInfeasible k l) two some same p q = absurd (omega (arith, same))
+
 -- two faults of a certificate are the same
 pub one-fault : (setting : TheSetting) (cert : Cert) (one two : CheckFault) → CertLimits cert → Rising cert → one ≢ faults.Memory → two ≢ faults.Memory → IsFault setting cert one → IsFault setting cert two → one ≡ two
-one-fault setting cert faults.Memory two limits rise some other p q = absurd (some refl)
-one-fault setting cert (faults.BadConfig k) faults.Memory limits rise some other p q = absurd (other refl)
-one-fault setting cert (faults.BadConfig k) (faults.BadConfig n) limits rise some other p q = ap faults.BadConfig (same-number setting cert k n p q)
-one-fault setting cert (faults.BadConfig k) (faults.OverBudget n o) limits rise some other p q = absurd (bad-number setting cert k limits q.members p)
-one-fault setting cert (faults.BadConfig k) (faults.CostDiffers n o) limits rise some other p q = absurd (bad-number setting cert k limits q.members p)
-one-fault setting cert (faults.BadConfig k) (faults.BadPair n o) limits rise some other p q = absurd (bad-number setting cert k limits q.members p)
-one-fault setting cert (faults.BadConfig k) (faults.BadBranch n) limits rise some other p q = absurd (bad-number setting cert k limits q.sound.members p)
-one-fault setting cert (faults.BadConfig k) (faults.LeafBelow n o r) limits rise some other p q = absurd (bad-number setting cert k limits q.sound.members p)
-one-fault setting cert (faults.BadConfig k) (faults.NotInfeasible n o) limits rise some other p q = absurd (bad-number setting cert k limits q.sound.members p)
-one-fault setting cert (faults.OverBudget k l) faults.Memory limits rise some other p q = absurd (other refl)
-one-fault setting cert (faults.OverBudget k l) (faults.BadConfig n) limits rise some other p q = absurd (bad-number setting cert n limits p.members q)
-one-fault setting cert (faults.OverBudget k l) (faults.OverBudget n o) limits rise some other p q = over-same setting cert k l n o p q
-one-fault setting cert (faults.OverBudget k l) (faults.CostDiffers n o) limits rise some other p q = absurd (not-over setting cert k l q.fits p)
-one-fault setting cert (faults.OverBudget k l) (faults.BadPair n o) limits rise some other p q = absurd (not-over setting cert k l q.fits p)
-one-fault setting cert (faults.OverBudget k l) (faults.BadBranch n) limits rise some other p q = absurd (not-over setting cert k l q.sound.fits p)
-one-fault setting cert (faults.OverBudget k l) (faults.LeafBelow n o r) limits rise some other p q = absurd (not-over setting cert k l q.sound.fits p)
-one-fault setting cert (faults.OverBudget k l) (faults.NotInfeasible n o) limits rise some other p q = absurd (not-over setting cert k l q.sound.fits p)
-one-fault setting cert (faults.CostDiffers k l) faults.Memory limits rise some other p q = absurd (other refl)
-one-fault setting cert (faults.CostDiffers k l) (faults.BadConfig n) limits rise some other p q = absurd (bad-number setting cert n limits p.members q)
-one-fault setting cert (faults.CostDiffers k l) (faults.OverBudget n o) limits rise some other p q = absurd (not-over setting cert n o p.fits q)
-one-fault setting cert (faults.CostDiffers k l) (faults.CostDiffers n o) limits rise some other p q = other-same setting cert k l n o p q
-one-fault setting cert (faults.CostDiffers k l) (faults.BadPair n o) limits rise some other p q = absurd (not-other setting cert k l q.cost_is p)
-one-fault setting cert (faults.CostDiffers k l) (faults.BadBranch n) limits rise some other p q = absurd (not-other setting cert k l q.sound.cost_is p)
-one-fault setting cert (faults.CostDiffers k l) (faults.LeafBelow n o r) limits rise some other p q = absurd (not-other setting cert k l q.sound.cost_is p)
-one-fault setting cert (faults.CostDiffers k l) (faults.NotInfeasible n o) limits rise some other p q = absurd (not-other setting cert k l q.sound.cost_is p)
-one-fault setting cert (faults.BadPair k l) faults.Memory limits rise some other p q = absurd (other refl)
-one-fault setting cert (faults.BadPair k l) (faults.BadConfig n) limits rise some other p q = absurd (bad-number setting cert n limits p.members q)
-one-fault setting cert (faults.BadPair k l) (faults.OverBudget n o) limits rise some other p q = absurd (not-over setting cert n o p.fits q)
-one-fault setting cert (faults.BadPair k l) (faults.CostDiffers n o) limits rise some other p q = absurd (not-other setting cert n o p.cost_is q)
-one-fault setting cert (faults.BadPair k l) (faults.BadPair n o) limits rise some other p q = same-pair setting cert k l n o p q
-one-fault setting cert (faults.BadPair k l) (faults.BadBranch n) limits rise some other p q = absurd (bad-pair setting cert k l rise q.sound.rents p)
-one-fault setting cert (faults.BadPair k l) (faults.LeafBelow n o r) limits rise some other p q = absurd (bad-pair setting cert k l rise q.sound.rents p)
-one-fault setting cert (faults.BadPair k l) (faults.NotInfeasible n o) limits rise some other p q = absurd (bad-pair setting cert k l rise q.sound.rents p)
-one-fault setting cert (faults.BadBranch k) faults.Memory limits rise some other p q = absurd (other refl)
-one-fault setting cert (faults.BadBranch k) (faults.BadConfig n) limits rise some other p q = absurd (bad-number setting cert n limits p.sound.members q)
-one-fault setting cert (faults.BadBranch k) (faults.OverBudget n o) limits rise some other p q = absurd (not-over setting cert n o p.sound.fits q)
-one-fault setting cert (faults.BadBranch k) (faults.CostDiffers n o) limits rise some other p q = absurd (not-other setting cert n o p.sound.cost_is q)
-one-fault setting cert (faults.BadBranch k) (faults.BadPair n o) limits rise some other p q = absurd (bad-pair setting cert n o rise p.sound.rents q)
-one-fault setting cert (faults.BadBranch k) (faults.BadBranch n) limits rise some other p q = same-branch setting cert k n p q
-one-fault setting cert (faults.BadBranch k) (faults.LeafBelow n o r) limits rise some other p q = absurd (no-branch-leaf setting cert k n o r p q)
-one-fault setting cert (faults.BadBranch k) (faults.NotInfeasible n o) limits rise some other p q = absurd (no-branch-full setting cert k n o p q)
-one-fault setting cert (faults.LeafBelow k l m) faults.Memory limits rise some other p q = absurd (other refl)
-one-fault setting cert (faults.LeafBelow k l m) (faults.BadConfig n) limits rise some other p q = absurd (bad-number setting cert n limits p.sound.members q)
-one-fault setting cert (faults.LeafBelow k l m) (faults.OverBudget n o) limits rise some other p q = absurd (not-over setting cert n o p.sound.fits q)
-one-fault setting cert (faults.LeafBelow k l m) (faults.CostDiffers n o) limits rise some other p q = absurd (not-other setting cert n o p.sound.cost_is q)
-one-fault setting cert (faults.LeafBelow k l m) (faults.BadPair n o) limits rise some other p q = absurd (bad-pair setting cert n o rise p.sound.rents q)
-one-fault setting cert (faults.LeafBelow k l m) (faults.BadBranch n) limits rise some other p q = absurd (no-branch-leaf setting cert n k l m q p)
-one-fault setting cert (faults.LeafBelow k l m) (faults.LeafBelow n o r) limits rise some other p q = same-leaf setting cert k n l o m r p q
-one-fault setting cert (faults.LeafBelow k l m) (faults.NotInfeasible n o) limits rise some other p q = absurd (no-leaf-full setting cert k n o l m p q)
-one-fault setting cert (faults.NotInfeasible k l) faults.Memory limits rise some other p q = absurd (other refl)
-one-fault setting cert (faults.NotInfeasible k l) (faults.BadConfig n) limits rise some other p q = absurd (bad-number setting cert n limits p.sound.members q)
-one-fault setting cert (faults.NotInfeasible k l) (faults.OverBudget n o) limits rise some other p q = absurd (not-over setting cert n o p.sound.fits q)
-one-fault setting cert (faults.NotInfeasible k l) (faults.CostDiffers n o) limits rise some other p q = absurd (not-other setting cert n o p.sound.cost_is q)
-one-fault setting cert (faults.NotInfeasible k l) (faults.BadPair n o) limits rise some other p q = absurd (bad-pair setting cert n o rise p.sound.rents q)
-one-fault setting cert (faults.NotInfeasible k l) (faults.BadBranch n) limits rise some other p q = absurd (no-branch-full setting cert n k l q p)
-one-fault setting cert (faults.NotInfeasible k l) (faults.LeafBelow n o r) limits rise some other p q = absurd (no-leaf-full setting cert n k l o r q p)
-one-fault setting cert (faults.NotInfeasible k l) (faults.NotInfeasible n o) limits rise some other p q = same-full setting cert k n l o p q
+one-fault setting cert one two limits rise some other p q =
+    elim (cases_order (rank one) (rank two)) [
+      | inl same ↦ alike setting cert one two some same p q
+      | inr differ ↦
+          elim differ [
+            | inl less ↦ absurd (apart setting cert one two limits rise some less p q)
+            | inr more ↦ absurd (apart setting cert two one limits rise other more q p)
+          ]
+    ]
+
+-- ## Two answers
+
+same-checked : (setting : TheSetting) (cert : Cert) (checked other : Checked) → IsChecked setting cert checked → IsChecked setting cert other → checked ≡ other
+same-checked setting cert checked other p q =
+    let budget = p.budget_is ∙ sym q.budget_is in
+    let cost = p.cost_is ∙ sym q.cost_is in
+    let bound = p.bound_is ∙ sym q.bound_is in
+    λ i. record { budget = budget i; cost = cost i; bound = bound i }
+
+-- two answers to a certificate are the same
+pub one-answer : (setting : TheSetting) (cert : Cert) (answer other : Result Checked CheckFault) → CertLimits cert → IsAnswer setting cert answer → IsAnswer setting cert other → answer ≡ other
+one-answer setting cert (Ok checked) (Ok other) limits p q = ap Ok (same-checked setting cert checked other p q)
+one-answer setting cert (Ok checked) (Err fault) limits p q = absurd (q.0 (excluded setting cert fault limits (sets-rise cert.sets limits.sets) p.proof q.1))
+one-answer setting cert (Err fault) (Ok checked) limits p q = absurd (p.0 (excluded setting cert fault limits (sets-rise cert.sets limits.sets) q.proof p.1))
+one-answer setting cert (Err fault) (Err other) limits p q = ap Err (one-fault setting cert fault other limits (sets-rise cert.sets limits.sets) p.0 q.0 p.1 q.1)

@@ -1,5 +1,5 @@
 -- Laws of what a checker answers.
-use Rattle.std.specs.Prelude.{◌≡◌, ◌≢◌, ℕ, length}
+use Rattle.std.specs.Prelude.{◌≡◌, ◌≢◌, ℕ, length, Result, Ok, Err}
 use Rattle.adv_base.specs.declared.limits.TheConstants.{MOST_CANDIDATES}
 use Rattle.adv_base.specs.Settings.{TheSetting}
 use Rattle.bip_model.specs.declared.answer.Answer.{Answer}
@@ -10,21 +10,33 @@ use Rattle.bip_model.specs.StandsFor.{StandsFor}
 use Rattle.certificate.specs.Answers.{answer_cert}
 use Rattle.certificate.specs.declared.cert.Cert.{Cert}
 use Rattle.certificate.specs.Limits.{CertLimits}
+use Rattle.gap_checker.specs.declared.fault.Checked.{Checked}
 use Rattle.gap_checker.specs.declared.fault.CheckFault.{CheckFault}
 use Rattle.gap_checker.specs.declared.fault.CheckFault.TheVariants.{Memory}
-use Rattle.gap_checker.specs.Faults.{IsFault}
+use Rattle.gap_checker.specs.Faults.{IsChecked, IsFault}
 use Rattle.gap_checker.specs.Views.{IsProof}
 
--- what proves its bound has no fault but want of memory
+-- what proves its bound for a setting has no fault there but want of memory
 abbrev pub FaultsExcludeProofs : Type 0
 FaultsExcludeProofs =
     (setting : TheSetting) (cert : Cert) (fault : CheckFault) → CertLimits cert → IsProof setting cert → IsFault setting cert fault → fault ≡ Memory
 
--- a certificate has one fault, the first; want of memory alone says nothing of it
+-- for a setting a certificate has one fault, the first; want of memory alone says nothing of it
 abbrev pub FaultsAreOne : Type 0
 FaultsAreOne =
     (setting : TheSetting) (cert : Cert) (fault other : CheckFault) → CertLimits cert → fault ≢ Memory → other ≢ Memory →
     IsFault setting cert fault → IsFault setting cert other → fault ≡ other
+
+-- what may be answered to a certificate, but for want of memory
+abbrev pub IsAnswer : TheSetting → Cert → Result Checked CheckFault → Type 0
+IsAnswer setting cert (Ok checked) = IsChecked setting cert checked
+IsAnswer setting cert (Err fault) = (fault ≢ Memory) × IsFault setting cert fault
+
+-- for a setting a certificate has one such answer
+abbrev pub AnswersAreOne : Type 0
+AnswersAreOne =
+    (setting : TheSetting) (cert : Cert) (answer other : Result Checked CheckFault) → CertLimits cert →
+    IsAnswer setting cert answer → IsAnswer setting cert other → answer ≡ other
 
 -- The certificate of the best answer of a search, over a programme that stands for the setting and from a root that leaves
 -- every candidate free, proves its bound. A configuration has a flag for each candidate that there may be.

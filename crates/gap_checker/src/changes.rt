@@ -5,7 +5,6 @@ ghost use Rattle.adv_base.specs.Configs.{has_candidate};
 ghost use Rattle.adv_base.specs.declared.limits.TheConstants.{MOST_CANDIDATES};
 ghost use Rattle.gap_checker.specs.inner.Changes as changing;
 
-use crate::part::block_of;
 use adv_base::limits::MOST_TABLES;
 use adv_base::{Config, IndexShape, Slot, Work};
 
@@ -110,7 +109,7 @@ pub(crate) fn touches(changes: &Changes, work: &Work) -> bool
     if changes.all {
         return true;
     }
-    match block_of(work) {
+    match work.block() {
         Some(block) => any_marked(&changes.tables, block.slots.as_slice()),
         None => false,
     }

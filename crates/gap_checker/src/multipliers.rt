@@ -9,7 +9,6 @@ ghost use Rattle.adv_base.specs.Settings.{the_setting};
 ghost use Rattle.gap_checker.specs.Views as views;
 ghost use Rattle.gap_checker.specs.inner.Earnings as earning;
 
-use crate::part::block_of;
 use crate::rents::Rents;
 use adv_base::{NoMemory, Setting, Slot, Statement};
 use std::alloc::Global;
@@ -68,7 +67,7 @@ fn statement_rents(
     ensures exact { result ≡ option_map_or (λ block. lagrangian.slot_rents (λ s. views.rent_in rents.now.entries.now number s candidate) table 0 block.slots) (totals.block_of statement.now.work) 0 }
     ensures most { result ≤ MOST_SLOTS * MOST_RENT }
 {
-    match block_of(&statement.work) {
+    match statement.work.block() {
         Some(block) => slot_rents(rents, number, block.slots.as_slice(), table, candidate),
         None => 0,
     }

@@ -1,14 +1,13 @@
 //! What the searches of a statement start from.
-ghost use Rattle.std.specs.Prelude.{◌≡◌, option_map, IfOk, replicate, true};
+ghost use Rattle.std.specs.Prelude.{◌≡◌, IfOk};
 ghost use Rattle.adv_base.specs.Named.{NamesBlock, NamesWork};
 ghost use Rattle.bip_model.specs.StandsFor.{AreEach};
-ghost use Rattle.plan_model.specs.Totals as totals;
 ghost use Rattle.adv_base.specs.Settings.{the_setting};
 ghost use Rattle.gap_checker.specs.inner.Parts as kept;
 
 use access_paths::{ConfigOffers, task};
 use adv_base::limits::MOST_CANDIDATES;
-use adv_base::{Block, Config, NoMemory, Setting, Statement, Work};
+use adv_base::{Block, Config, NoMemory, Setting, Statement};
 use plan_model::Task;
 use std::alloc::Global;
 
@@ -17,18 +16,6 @@ use std::alloc::Global;
 pub(crate) struct Part {
     pub task: Task,
     pub offers: ConfigOffers,
-}
-
-/// The block of a statement; an INSERT has none.
-pub(crate) fn block_of(work: &Work) -> Option<&Block>
-    ensures { option_map (λ b. b.now) result ≡ totals.block_of work.now }
-{
-    match work {
-        Work::Select(block) => Some(block),
-        Work::Update(block, _) => Some(block),
-        Work::Delete(block) => Some(block),
-        Work::Insert { .. } => None,
-    }
 }
 
 /// The configuration of all candidates.
@@ -60,7 +47,7 @@ fn part_of(
     requires { NamesWork setting.now.cat.now statement.now.work }
     ensures { IfOk result (kept.HasPart (the_setting setting.now) statement.now) }
 {
-    match block_of(&statement.work) {
+    match statement.work.block() {
         Some(block) => {
             let part = block_part(alloc, setting, block)?;
             Ok(Some(part))

@@ -15,7 +15,7 @@ ghost use Rattle.gap_checker.specs.inner.Rows as rows;
 
 use crate::board::Board;
 use crate::desk::Desk;
-use crate::part::{Part, block_of};
+use crate::part::Part;
 use crate::row::Row;
 use crate::shown::Shown;
 use crate::terms::Terms;
@@ -149,7 +149,7 @@ fn desk_cost(
     ensures most { IfOk result (λ cost. cost < MOST_COST) }
     ensures same { OnOk result (desk.new.part.now ≡ desk.old.part.now) }
 {
-    match block_of(&statement.work) {
+    match statement.work.block() {
         Some(block) => block_cost(alloc, setting, block, desk, terms, number),
         None => unreachable!(),
     }

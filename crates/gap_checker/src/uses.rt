@@ -9,7 +9,6 @@ ghost use Rattle.adv_base.specs.Settings.{the_setting};
 ghost use Rattle.gap_checker.specs.inner.Uses as uses;
 
 use crate::fault::CheckFault;
-use crate::part::block_of;
 use adv_base::{Setting, Slot};
 use certificate::{Cert, Entry, SparseSet};
 
@@ -20,7 +19,7 @@ fn slot_at<'a>(setting: &Setting<'a>, statement: u16, slot: u8) -> Option<&'a Sl
     let statement = setting
         .statements
         .get((statement as usize).saturating_sub(1))?;
-    let block = block_of(&statement.work)?;
+    let block = statement.work.block()?;
     block
         .slots
         .as_slice()
