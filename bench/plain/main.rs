@@ -4,7 +4,7 @@
 use adv_base::*;
 use bip_model::*;
 use branch_bound::{Room, search};
-use lagrange_bound::{Ascent, CheaperParts, Ledger, Pace, Terms, ascend, bound, bound_by, carry, improve, open_ledger, rent, terms, total};
+use lagrange_bound::{Ascent, CheaperParts, Ledger, Pace, PriceRows, Terms, ascend, bound, bound_by, carry, improve, open_ledger, rent, terms, total};
 use std::hint::black_box;
 use shim::{Global, Vec as V};
 use shim::Instant;
@@ -99,10 +99,11 @@ fn programme(setting: &Setting, rounds: u64) {
     let s = fastest(rounds, || { for _ in 0..n { black_box(total(p, budget, &free(), &mult, &old)); } n as u32 });
     let cheaper = CheaperParts::new(Global, p).ok().unwrap();
     let mut ledger = Ledger::new(Global, p).ok().unwrap();
+    let mut rows = PriceRows::new();
     open_ledger(p, &mult, &mut ledger);
-    bound_by(p, &cheaper, budget, &free(), &mult, &mut ledger);
+    bound_by(p, &cheaper, budget, &free(), &mult, &mut ledger, &mut rows);
     let k = fastest(rounds, || {
-        for i in 0..n { for fix in [without(i), free()] { black_box(bound_by(p, &cheaper, budget, &fix, &mult, &mut ledger)); } }
+        for i in 0..n { for fix in [without(i), free()] { black_box(bound_by(p, &cheaper, budget, &fix, &mult, &mut ledger, &mut rows)); } }
         2 * n as u32
     });
     let i = fastest(rounds, || { let mut from = zeros(p); improve(p, budget, &free(), &mut from, &mut spare, 41); 41 });

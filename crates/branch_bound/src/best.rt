@@ -1,36 +1,35 @@
 //! Branch and bound.
-ghost use Rattle.std.specs.Prelude.{◌≡◌, ◌<◌, ◌≤◌, ◌≤ℤ◌, [], All, length};
+ghost use Rattle.std.specs.Prelude.{◌≡◌, ◌<◌, ◌≤◌, [], All, length};
 ghost use Rattle.std.specs.Vec.{vec_capacity};
 ghost use Rattle.adv_base.specs.declared.limits.TheConstants.{MOST_CANDIDATES, MOST_NODES, MOST_ROWS, MOST_SETS};
 ghost use Rattle.branch_bound.specs.Answers.{IsBestForEach};
 ghost use Rattle.branch_bound.specs.Rooms.{IsRoomFor};
 ghost use Rattle.branch_bound.specs.Sides as sides;
 ghost use Rattle.bip_model.specs.Views.{AreMultipliers};
-ghost use Rattle.lagrange_bound.specs.Bounds as bounds;
 ghost use Rattle.lagrange_bound.specs.Ledgers.{AreCheaperParts, HasRoom};
 ghost use Rattle.branch_bound.specs.inner.Climbs as climbs;
 ghost use Rattle.branch_bound.specs.inner.Proposals as proposals;
 ghost use Rattle.branch_bound.specs.inner.Runs as runs;
 
+use crate::choosing::scope_of;
 use crate::climb::{Costed, climb};
-use crate::explore::explore;
+use crate::explore::{Walk, explore};
 use crate::fixing::inside;
 use crate::found::Found;
 use crate::frame::Frame;
-use crate::guide::Guide;
 use crate::hands::Hands;
 use crate::incumbent::{greedy, shares_of};
-use crate::opening::open_all;
+use crate::opening::{Books, open_all};
 use crate::plan::{Step, better, keep, open_guide, propose};
 use crate::room::{Room, set_limit};
-use crate::taken::cheaper;
+use crate::taken::taken;
 use crate::task::Task;
-use crate::trial::is_closed;
+use crate::trial::closes;
 use crate::useful::useful_of;
 use adv_base::List;
 use adv_base::limits::MOST_CANDIDATES;
 use bip_model::{Answer, Fix, Multipliers, Node, Programme, value};
-use lagrange_bound::{CheaperParts, Ledger, Pace, ascend, improve};
+use lagrange_bound::{CheaperParts, Pace, PriceRows, ascend, improve};
 use std::slice;
 
 /// The rounds in which the multipliers of the root are improved: each tries the rent multipliers of one price of a page.
@@ -99,9 +98,8 @@ fn started(known: &Costed) -> Found
 fn raised(task: &Task<'_>, cost: u128, first: &mut Multipliers, hands: &mut Hands, pace: Pace)
     requires first { AreMultipliers task.now.programme.now first.old }
     requires hands { proposals.AreHands task.now.programme.now hands.old }
-    ensures first { AreMultipliers task.now.programme.now first.new }
+    ensures first { proposals.AreNotLower task.now.programme.now task.now.budget task.now.root.now first.old first.new }
     ensures hands { proposals.AreHands task.now.programme.now hands.new }
-    ensures keeps { bounds.lagrangian task.now.programme.now task.now.budget task.now.root.now first.old ≤ℤ bounds.lagrangian task.now.programme.now task.now.budget task.now.root.now first.new }
 {
     ascend(
         task.programme,
@@ -134,9 +132,8 @@ fn turned(
     requires first { AreMultipliers task.now.programme.now first.old }
     requires hands { proposals.AreHands task.now.programme.now hands.old }
     ensures sound { climbs.IsSoundHere task.now.programme.now task.now.budget task.now.root.now result.known }
-    ensures first { AreMultipliers task.now.programme.now first.new }
+    ensures first { proposals.AreNotLower task.now.programme.now task.now.budget task.now.root.now first.old first.new }
     ensures hands { proposals.AreHands task.now.programme.now hands.new }
-    ensures keeps { bounds.lagrangian task.now.programme.now task.now.budget task.now.root.now first.old ≤ℤ bounds.lagrangian task.now.programme.now task.now.budget task.now.root.now first.new }
 {
     raised(task, known.cost, first, hands, pace);
     let shares = shares_of(&hands.ascent);
@@ -148,7 +145,7 @@ fn turned(
         };
     }
     open_guide(task, hands.guides.as_mut_slice(), 0, first, &shares);
-    let is_closed = is_closed(
+    let is_closed = closes(
         task,
         slice::from_ref(first),
         hands.guides.as_mut_slice(),
@@ -160,19 +157,13 @@ fn turned(
     Start { known, is_closed }
 }
 
-/// The first turn that isn't passed over.
-fn first_turn(task: &Task<'_>) -> usize {
-    if task.are_few { 0 } else { 1 }
-}
-
 /// Raises the multipliers of the root towards a cost that falls on the way.
 fn ascended(task: &Task<'_>, first: &mut Multipliers, hands: &mut Hands) -> Start
     requires first { AreMultipliers task.now.programme.now first.old }
     requires hands { proposals.AreHands task.now.programme.now hands.old }
     ensures sound { climbs.IsSoundHere task.now.programme.now task.now.budget task.now.root.now result.known }
-    ensures first { AreMultipliers task.now.programme.now first.new }
+    ensures first { proposals.AreNotLower task.now.programme.now task.now.budget task.now.root.now first.old first.new }
     ensures hands { proposals.AreHands task.now.programme.now hands.new }
-    ensures keeps { bounds.lagrangian task.now.programme.now task.now.budget task.now.root.now first.old ≤ℤ bounds.lagrangian task.now.programme.now task.now.budget task.now.root.now first.new }
 {
     hands.plain.open(
         task.programme,
@@ -182,10 +173,11 @@ fn ascended(task: &Task<'_>, first: &mut Multipliers, hands: &mut Hands) -> Star
     );
     let draft = greedy(task, &mut hands.plain);
     let mut start = Start {
-        known: cheaper(task, task.bare, &draft),
+        known: taken(task, task.bare, &draft),
         is_closed: false,
     };
-    for turn in first_turn(task)..TURNS.len() {
+    let first_turn = if task.are_few { 0 } else { 1 };
+    for turn in first_turn..TURNS.len() {
         start = turned(task, start.known, first, hands, TURNS[turn]);
         if start.is_closed {
             return start;
@@ -235,9 +227,7 @@ fn explored(
     plan: &[Step],
     cheaper: &CheaperParts,
     known: &Costed,
-    tree: &mut Vec<Node>,
-    ledgers: &mut [Ledger],
-    guides: &mut [Guide],
+    walk: &mut Walk,
 ) -> Found
     requires some_node { 1 ≤ nodes }
     requires nodes { nodes ≤ MOST_NODES }
@@ -245,17 +235,21 @@ fn explored(
     requires sets { All (AreMultipliers task.now.programme.now) sets.now }
     requires few { length sets.now ≤ MOST_SETS }
     requires cheaper { AreCheaperParts task.now.programme.now cheaper.now }
-    requires empty { tree.old.items ≡ [] }
-    requires room { nodes ≤ vec_capacity tree.old }
-    requires ledgers { All (HasRoom task.now.programme.now) ledgers.old }
-    requires enough { MOST_SETS < length ledgers.old }
-    ensures explored { runs.IsExplored (runs.rules_for task.now nodes zeros.now sets.now) task.now.root.now (runs.started known.now) tree.old.items result tree.new.items }
+    requires empty { walk.old.tree.items ≡ [] }
+    requires room { nodes ≤ vec_capacity walk.old.tree }
+    requires ledgers { All (HasRoom task.now.programme.now) walk.old.books.ledgers.items }
+    requires enough { MOST_SETS < length walk.old.books.ledgers.items }
+    ensures explored { runs.IsExplored (runs.rules_for task.now nodes zeros.now sets.now) task.now.root.now (runs.started known.now) walk.old.tree.items result walk.new.tree.items }
     ensures most { result.made ≤ nodes }
 {
-    open_all(task.programme, zeros, sets, ledgers);
+    open_all(
+        task.programme,
+        zeros,
+        sets,
+        walk.books.ledgers.as_mut_slice(),
+    );
     let frame = Frame {
         programme: task.programme,
-        offers: task.offers,
         budget: task.budget,
         nodes,
         zeros,
@@ -263,19 +257,10 @@ fn explored(
         useful: task.useful,
         plan,
         cheaper,
+        scope: scope_of(task),
     };
     let before = started(known);
-    explore(
-        &frame,
-        task.root,
-        task.bare.cost,
-        before,
-        0,
-        tree,
-        &mut 0,
-        ledgers,
-        guides,
-    )
+    explore(&frame, task.root, task.bare.cost, before, 0, walk)
 }
 
 /// Climbs from the cheapest configuration in the tree.
@@ -319,7 +304,7 @@ pub fn search(programme: &Programme, root: &Fix, budget: u64, nodes: u32, room: 
     ensures { IsBestForEach programme.now budget nodes root.now result }
 {
     let Room {
-        mut tree,
+        tree,
         zeros,
         first,
         mut sets,
@@ -327,7 +312,7 @@ pub fn search(programme: &Programme, root: &Fix, budget: u64, nodes: u32, room: 
         mut plan,
         cheaper,
         offers,
-        mut ledgers,
+        ledgers,
     } = room;
     let useful = useful_of(programme, budget);
     let task = Task {
@@ -342,6 +327,16 @@ pub fn search(programme: &Programme, root: &Fix, budget: u64, nodes: u32, room: 
         most: set_limit(programme),
     };
     let known = proposed(&task, first, &mut hands, &mut sets, &mut plan);
+    let Hands { guides, .. } = hands;
+    let mut walk = Walk {
+        tree,
+        hint: 0,
+        books: Books {
+            ledgers,
+            rows: PriceRows::new(),
+        },
+        guides,
+    };
     let found = explored(
         &task,
         nodes,
@@ -350,10 +345,8 @@ pub fn search(programme: &Programme, root: &Fix, budget: u64, nodes: u32, room: 
         plan.as_slice(),
         &cheaper,
         &known,
-        &mut tree,
-        ledgers.as_mut_slice(),
-        hands.guides.as_mut_slice(),
+        &mut walk,
     );
     let best = climbed(programme, budget, root, &found);
-    answer(best, found.low, sets, tree, useful.count)
+    answer(best, found.low, sets, walk.tree, useful.count)
 }

@@ -12,8 +12,8 @@ use crate::found::Found;
 use crate::frame::Frame;
 use crate::guide::Guide;
 use crate::node::{Fate, fate_of, lag, total_at, visited};
+use crate::opening::Books;
 use bip_model::{Fix, Node, State};
-use lagrange_bound::Ledger;
 
 /// Appends a node, for which there is room.
 fn append(tree: &mut Vec<Node>, node: Node)
@@ -29,16 +29,16 @@ fn append(tree: &mut Vec<Node>, node: Node)
 }
 
 /// What was found, with a leaf at which the search gives up, under the set of this number.
-fn given_up(frame: &Frame<'_>, fix: &Fix, found: Found, set: u8, ledgers: &mut [Ledger]) -> Found
+fn given_up(frame: &Frame<'_>, fix: &Fix, found: Found, set: u8, books: &mut Books) -> Found
     requires set { set ≤ length frame.now.sets.now }
-    requires ledgers { runs.AreLedgers (runs.rules_of frame.now) ledgers.old }
-    ensures ledgers { runs.AreLedgers (runs.rules_of frame.now) ledgers.new }
+    requires ledgers { runs.AreLedgers (runs.rules_of frame.now) books.old.ledgers.items }
+    ensures ledgers { runs.AreLedgers (runs.rules_of frame.now) books.new.ledgers.items }
     ensures exact { result ≡ runs.lowered found (runs.lag (runs.rules_of frame.now) fix.now set) }
 {
     Found {
         config: found.config,
         cost: found.cost,
-        low: found.low.min(lag(frame, fix, set, ledgers)),
+        low: found.low.min(lag(frame, fix, set, books)),
         made: found.made,
     }
 }
@@ -89,68 +89,66 @@ fn outside(frame: &Frame<'_>, fix: &Fix, index: usize, cost: u128) -> Fix
     fixed(fix, index, State::Out)
 }
 
+/// What a search writes on its way: the tree, the set that closed the last leaf, ledgers, and a guide for each set.
+#[derive(Drop)]
+pub(crate) struct Walk {
+    pub tree: Vec<Node>,
+    pub hint: u8,
+    pub books: Books,
+    pub guides: Vec<Guide>,
+}
+
 /// Explores what is below a node that was made, and appends its tree in preorder. What is in there costs so much, and it has
-/// this place in the plan; `hint` is the set that closed the last leaf.
+/// this place in the plan.
 pub(crate) fn explore(
     frame: &Frame<'_>,
     fix: &Fix,
     cost: u128,
     before: Found,
     place: usize,
-    tree: &mut Vec<Node>,
-    hint: &mut u8,
-    ledgers: &mut [Ledger],
-    guides: &mut [Guide],
+    walk: &mut Walk,
 ) -> Found
     requires cost { cost ≡ sides.total frame.now.programme.now fix.now }
-    requires pending { vec_len tree.old < before.made }
+    requires pending { vec_len walk.old.tree < before.made }
     requires made { before.made ≤ frame.now.nodes }
-    requires room { frame.now.nodes ≤ vec_capacity tree.old }
-    requires ledgers { runs.AreLedgers (runs.rules_of frame.now) ledgers.old }
-    ensures explored { runs.IsExplored (runs.rules_of frame.now) fix.now before tree.old.items result tree.new.items }
-    ensures count { vec_len tree.new + before.made ≡ vec_len tree.old + 1 + result.made }
+    requires room { frame.now.nodes ≤ vec_capacity walk.old.tree }
+    requires ledgers { runs.AreLedgers (runs.rules_of frame.now) walk.old.books.ledgers.items }
+    ensures explored { runs.IsExplored (runs.rules_of frame.now) fix.now before walk.old.tree.items result walk.new.tree.items }
+    ensures count { vec_len walk.new.tree + before.made ≡ vec_len walk.old.tree + 1 + result.made }
     ensures more { before.made ≤ result.made }
     ensures most { result.made ≤ frame.now.nodes }
-    ensures room { vec_capacity tree.old ≤ vec_capacity tree.new }
-    ensures ledgers { runs.AreLedgers (runs.rules_of frame.now) ledgers.new }
+    ensures room { vec_capacity walk.old.tree ≤ vec_capacity walk.new.tree }
+    ensures ledgers { runs.AreLedgers (runs.rules_of frame.now) walk.new.books.ledgers.items }
 {
     let found = visited(fix, cost, before);
-    match fate_of(frame, fix, &found, *hint, place, ledgers, guides) {
+    let guides = walk.guides.as_mut_slice();
+    match fate_of(
+        frame,
+        fix,
+        &found,
+        walk.hint,
+        place,
+        &mut walk.books,
+        guides,
+    ) {
         Fate::Closed(set) => {
-            *hint = set;
-            append(tree, Node::Bounded(set));
+            walk.hint = set;
+            append(&mut walk.tree, Node::Bounded(set));
             found
         }
         Fate::Forced(set) => {
-            append(tree, Node::Bounded(set));
-            given_up(frame, fix, found, set, ledgers)
+            append(&mut walk.tree, Node::Bounded(set));
+            given_up(frame, fix, found, set, &mut walk.books)
         }
         Fate::Branch(index) => {
-            append(tree, Node::Branch(index as u16 + 1));
+            append(&mut walk.tree, Node::Branch(index as u16 + 1));
             let sides = sides_of(frame, place, index);
             let within = fixed(fix, index, State::In);
-            let middle = explore(
-                frame,
-                &within,
-                total_at(frame, &within),
-                branched(found, frame.nodes),
-                sides.inside,
-                tree,
-                hint,
-                ledgers,
-                guides,
-            );
-            explore(
-                frame,
-                &outside(frame, fix, index, cost),
-                cost,
-                middle,
-                sides.outside,
-                tree,
-                hint,
-                ledgers,
-                guides,
-            )
+            let before = branched(found, frame.nodes);
+            let total = total_at(frame, &within);
+            let middle = explore(frame, &within, total, before, sides.inside, walk);
+            let without = outside(frame, fix, index, cost);
+            explore(frame, &without, cost, middle, sides.outside, walk)
         }
     }
 }

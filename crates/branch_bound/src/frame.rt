@@ -4,19 +4,18 @@ ghost use Rattle.adv_base.specs.declared.limits.TheConstants.{MOST_NODES, MOST_R
 ghost use Rattle.bip_model.specs.Views.{AreMultipliers};
 ghost use Rattle.lagrange_bound.specs.Ledgers.{AreCheaperParts};
 
-use crate::offers::Offers;
+use crate::choosing::Scope;
 use crate::plan::Step;
 use adv_base::limits::MOST_CANDIDATES;
 use bip_model::{Multipliers, Programme};
 use lagrange_bound::CheaperParts;
 
-/// The programme, what its candidates offer, a budget of pages and one of nodes, the set of zeros and the other sets of multipliers, which candidates
-/// are useful, the plan, and which parts each can make cheaper: a branch is on the candidate that the plan proposes, else on
-/// the one that a guide proposes, and where that isn't open and useful on the first one that is.
+/// The programme, a budget of pages and one of nodes, the set of zeros and the other sets of multipliers, which candidates are
+/// useful, the plan, which parts each candidate can make cheaper, and what guides are asked about: a branch is on the candidate
+/// that the plan proposes, else on the one that a guide proposes, and where that isn't open and useful on the first one that is.
 #[derive(Drop)]
 pub(crate) struct Frame<'a> {
     pub programme: &'a Programme,
-    pub offers: &'a Offers,
     pub budget: u64,
     pub nodes: u32,
     pub zeros: &'a Multipliers,
@@ -24,6 +23,7 @@ pub(crate) struct Frame<'a> {
     pub useful: &'a [bool; MOST_CANDIDATES],
     pub plan: &'a [Step],
     pub cheaper: &'a CheaperParts,
+    pub scope: Scope<'a>,
     pub ghost budget_most: { budget ≤ MOST_ROWS },
     pub ghost nodes_most: { nodes ≤ MOST_NODES },
     pub ghost zeros_fit: { AreMultipliers programme.now zeros.now },

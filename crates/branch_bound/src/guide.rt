@@ -1,11 +1,12 @@
 //! What a set of multipliers says of nodes: their Lagrangian values, and what a branch on a candidate would gain on each side.
-//! A proposal alone: any candidate that is open and useful may be taken, and a value that closes a node is found anew.
+//! A proposal alone: any candidate that is open and useful may be taken, and a value that closes a node is found anew. Costs of
+//! plans are cut to 64 bits, which makes a value too low, never too high.
 
 use crate::marks::{
     Marks, NO_MARKS, NO_PLACES, Places, beyond, is_any, is_marked, join, mark_place, meet,
     take_lowest,
 };
-use crate::offers::{Cell, Frame, Head, MOST_CELLS, Offers};
+use crate::offers::{Cell, Head, ListedTemplate, MOST_CELLS, Offers};
 use adv_base::NoMemory;
 use adv_base::limits::{MOST_CANDIDATES, MOST_SLOTS};
 use bip_model::{Multipliers, Part, Programme};
@@ -28,7 +29,7 @@ struct Price {
 }
 
 /// What costs nothing, and by no candidate.
-const NO_PRICE: Price = Price {
+const NOTHING: Price = Price {
     least: 0,
     by: NO_CANDIDATE,
     next: 0,
@@ -39,7 +40,7 @@ fn price_at(prices: &[Price], cell: u8) -> Price {
     if (cell as usize) < prices.len() {
         prices[cell as usize]
     } else {
-        NO_PRICE
+        NOTHING
     }
 }
 
@@ -75,9 +76,9 @@ fn price_without(price: Price, index: usize) -> u64 {
 }
 
 /// What a template costs without a candidate.
-fn cost_without(frame: &Frame, prices: &[Price], index: usize) -> u64 {
-    let mut cost = frame.internal;
-    for cell in frame.cells {
+fn cost_without(template: &ListedTemplate, prices: &[Price], index: usize) -> u64 {
+    let mut cost = template.internal;
+    for cell in template.cells {
         if cell == 0 {
             return cost;
         }
@@ -89,16 +90,16 @@ fn cost_without(frame: &Frame, prices: &[Price], index: usize) -> u64 {
 /// What a part costs without a candidate.
 fn part_without(offers: &Offers, head: &Head, prices: &[Price], index: usize) -> u64 {
     let mut best = head.plain;
-    for frame in offers.frames(head) {
-        best = best.min(cost_without(frame, prices, index));
+    for template in offers.templates(head) {
+        best = best.min(cost_without(template, prices, index));
     }
     best
 }
 
 /// What a template costs.
-fn frame_cost(frame: &Frame, prices: &[Price]) -> u64 {
-    let mut cost = frame.internal;
-    for cell in frame.cells {
+fn template_cost(template: &ListedTemplate, prices: &[Price]) -> u64 {
+    let mut cost = template.internal;
+    for cell in template.cells {
         if cell == 0 {
             return cost;
         }
@@ -247,12 +248,12 @@ fn is_repeated(by: &[usize; MOST_SLOTS], s: usize) -> bool {
 /// A part by its least template.
 fn least_part(offers: &Offers, head: &Head, prices: &[Price]) -> PartGuide {
     let mut part = plain_part(head);
-    for frame in offers.frames(head) {
-        let cost = frame_cost(frame, prices);
+    for template in offers.templates(head) {
+        let cost = template_cost(template, prices);
         if cost < part.least {
             part.least = cost;
             for s in 0..MOST_SLOTS {
-                part.by[s] = price_at(prices, frame.cells[s]).by;
+                part.by[s] = price_at(prices, template.cells[s]).by;
             }
         }
     }
@@ -299,7 +300,7 @@ impl Guide {
     /// Prices the cells of a part where the guide stands.
     fn price_cells(&mut self, offers: &Offers, head: &Head, rents: &[u64]) {
         self.prices.clear();
-        put(&mut self.prices, NO_PRICE);
+        put(&mut self.prices, NOTHING);
         for cell in offers.cells(head) {
             let price = price_of(offers, cell, &self.here.marks, rents);
             put(&mut self.prices, price);
@@ -552,11 +553,12 @@ impl Guide {
             .saturating_add(self.upkeep)
     }
 
-    /// The Lagrangian value of the node at which the guide stands, in whole numbers, rounded up; none that is below 0.
+    /// The Lagrangian value of the node at which the guide stands, in whole numbers, rounded up; none that is below 0. The sum
+    /// of plans can't wrap: it has at most 1000 parts, each of less than 2^64 with a weight of less than 2^32.
     pub(crate) fn value(&self, programme: &Programme, budget: u64, own: &Multipliers) -> i128 {
         let more = self
             .plans
-            .wrapping_add(programme.kept)
+            .saturating_add(programme.kept)
             .saturating_mul(65536)
             .saturating_add(self.sums.inside);
         let less = own

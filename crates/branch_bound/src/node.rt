@@ -6,14 +6,15 @@ ghost use Rattle.lagrange_bound.specs.Bounds as bounds;
 ghost use Rattle.branch_bound.specs.Sides as sides;
 ghost use Rattle.branch_bound.specs.inner.Runs as runs;
 
-use crate::choosing::{Best, Scope, best_set, choice_at, reaches};
+use crate::choosing::{Best, best_set, choice_at, reaches};
 use crate::fixing::{config_pages, inside, is_free};
 use crate::found::Found;
 use crate::frame::Frame;
 use crate::guide::Guide;
+use crate::opening::Books;
 use adv_base::limits::MOST_CANDIDATES;
 use bip_model::{Fix, Multipliers, Programme, value};
-use lagrange_bound::{Ledger, bound_by};
+use lagrange_bound::bound_by;
 
 /// What becomes of a node.
 #[derive(Clone, Copy)]
@@ -96,16 +97,6 @@ fn chosen(frame: &Frame<'_>, fix: &Fix, proposal: usize) -> Option<usize>
     choice(frame, fix, used)
 }
 
-/// What guides are asked about in a search.
-fn scope_of<'a>(frame: &Frame<'a>) -> Scope<'a> {
-    Scope {
-        programme: frame.programme,
-        offers: frame.offers,
-        budget: frame.budget,
-        useful: frame.useful,
-    }
-}
-
 /// The candidate that the plan proposes at one of its nodes, or that a guide proposes; by its index, 256 for none.
 fn proposed(
     frame: &Frame<'_>,
@@ -118,7 +109,7 @@ fn proposed(
     if place < frame.plan.len() && frame.plan[place].candidate < MOST_CANDIDATES {
         return frame.plan[place].candidate;
     }
-    choice_at(&scope_of(frame), frame.sets, guides, cost, fix, best)
+    choice_at(&frame.scope, frame.sets, guides, cost, fix, best)
 }
 
 /// A candidate to branch on, where two more nodes are left.
@@ -155,11 +146,11 @@ fn own_set<'a>(frame: &Frame<'a>, set: u8) -> &'a Multipliers
 }
 
 /// The Lagrangian value of a node under the set of a number, to which its ledger is carried.
-pub(crate) fn lag(frame: &Frame<'_>, fix: &Fix, set: u8, ledgers: &mut [Ledger]) -> i128
+pub(crate) fn lag(frame: &Frame<'_>, fix: &Fix, set: u8, books: &mut Books) -> i128
     requires set { set ≤ length frame.now.sets.now }
-    requires ledgers { runs.AreLedgers (runs.rules_of frame.now) ledgers.old }
+    requires ledgers { runs.AreLedgers (runs.rules_of frame.now) books.old.ledgers.items }
     ensures value { result ≡ runs.lag (runs.rules_of frame.now) fix.now set }
-    ensures ledgers { runs.AreLedgers (runs.rules_of frame.now) ledgers.new }
+    ensures ledgers { runs.AreLedgers (runs.rules_of frame.now) books.new.ledgers.items }
 {
     let own = own_set(frame, set);
     bound_by(
@@ -168,7 +159,8 @@ pub(crate) fn lag(frame: &Frame<'_>, fix: &Fix, set: u8, ledgers: &mut [Ledger])
         frame.budget,
         fix,
         own,
-        &mut ledgers[set as usize],
+        &mut books.ledgers[set as usize],
+        &mut books.rows,
     )
 }
 
@@ -180,14 +172,14 @@ struct Valued {
 }
 
 /// The set of the higher value: that which was the highest, or the one of the next number.
-fn higher(frame: &Frame<'_>, fix: &Fix, best: Valued, set: u8, ledgers: &mut [Ledger]) -> Valued
+fn higher(frame: &Frame<'_>, fix: &Fix, best: Valued, set: u8, books: &mut Books) -> Valued
     requires within { set < length frame.now.sets.now }
     requires best { runs.IsHighest (runs.rules_of frame.now) fix.now set best.set best.value }
-    requires ledgers { runs.AreLedgers (runs.rules_of frame.now) ledgers.old }
+    requires ledgers { runs.AreLedgers (runs.rules_of frame.now) books.old.ledgers.items }
     ensures best { runs.IsHighest (runs.rules_of frame.now) fix.now (set + 1) result.set result.value }
-    ensures ledgers { runs.AreLedgers (runs.rules_of frame.now) ledgers.new }
+    ensures ledgers { runs.AreLedgers (runs.rules_of frame.now) books.new.ledgers.items }
 {
-    let value = lag(frame, fix, set + 1, ledgers);
+    let value = lag(frame, fix, set + 1, books);
     if value > best.value {
         Valued {
             set: set + 1,
@@ -199,10 +191,10 @@ fn higher(frame: &Frame<'_>, fix: &Fix, best: Valued, set: u8, ledgers: &mut [Le
 }
 
 /// The set of the highest value at a node, or one whose value is at least a cost, where that of zeros isn't.
-fn highest(frame: &Frame<'_>, fix: &Fix, cost: u128, zero: i128, ledgers: &mut [Ledger]) -> Valued
+fn highest(frame: &Frame<'_>, fix: &Fix, cost: u128, zero: i128, books: &mut Books) -> Valued
     requires zero { zero ≡ runs.lag (runs.rules_of frame.now) fix.now 0 }
-    requires ledgers { runs.AreLedgers (runs.rules_of frame.now) ledgers.old }
-    ensures ledgers { runs.AreLedgers (runs.rules_of frame.now) ledgers.new }
+    requires ledgers { runs.AreLedgers (runs.rules_of frame.now) books.old.ledgers.items }
+    ensures ledgers { runs.AreLedgers (runs.rules_of frame.now) books.new.ledgers.items }
     ensures set { result.set ≤ length frame.now.sets.now }
     ensures value { result.value ≡ runs.lag (runs.rules_of frame.now) fix.now result.set }
     ensures over { runs.reaches result.value cost ≡ false → runs.IsHighest (runs.rules_of frame.now) fix.now (length frame.now.sets.now) result.set result.value }
@@ -212,7 +204,7 @@ fn highest(frame: &Frame<'_>, fix: &Fix, cost: u128, zero: i128, ledgers: &mut [
         value: zero,
     };
     for set in 0..frame.sets.len() {
-        best = higher(frame, fix, best, set as u8, ledgers);
+        best = higher(frame, fix, best, set as u8, books);
         if reaches(best.value, cost) {
             return best;
         }
@@ -232,21 +224,15 @@ fn number_of(frame: &Frame<'_>, set: usize) -> u8
 }
 
 /// What becomes of a node at which nothing branches: a leaf of the set of the highest value.
-fn leaf_fate(
-    frame: &Frame<'_>,
-    fix: &Fix,
-    found: &Found,
-    zero: i128,
-    ledgers: &mut [Ledger],
-) -> Fate
+fn leaf_fate(frame: &Frame<'_>, fix: &Fix, found: &Found, zero: i128, books: &mut Books) -> Fate
     requires zero { zero ≡ runs.lag (runs.rules_of frame.now) fix.now 0 }
     requires promising { runs.reaches (runs.lag (runs.rules_of frame.now) fix.now 0) found.now.cost ≡ false }
     requires why { (frame.now.nodes < found.now.made + 2) ⊎ runs.NoChoice (runs.rules_of frame.now) fix.now }
-    requires ledgers { runs.AreLedgers (runs.rules_of frame.now) ledgers.old }
+    requires ledgers { runs.AreLedgers (runs.rules_of frame.now) books.old.ledgers.items }
     ensures fate { runs.IsFate (runs.rules_of frame.now) fix.now found.now result }
-    ensures ledgers { runs.AreLedgers (runs.rules_of frame.now) ledgers.new }
+    ensures ledgers { runs.AreLedgers (runs.rules_of frame.now) books.new.ledgers.items }
 {
-    let best = highest(frame, fix, found.cost, zero, ledgers);
+    let best = highest(frame, fix, found.cost, zero, books);
     if reaches(best.value, found.cost) {
         Fate::Closed(best.set)
     } else {
@@ -254,34 +240,35 @@ fn leaf_fate(
     }
 }
 
-/// What becomes of a node, after it is visited. Guides tell which set may close it; the set that closed the last leaf is tried
-/// first.
+/// What becomes of a node, after it is visited. Guides tell which set may close it, where the lists that they go by are whole;
+/// the set that closed the last leaf is tried first.
 pub(crate) fn fate_of(
     frame: &Frame<'_>,
     fix: &Fix,
     found: &Found,
     hint: u8,
     place: usize,
-    ledgers: &mut [Ledger],
+    books: &mut Books,
     guides: &mut [Guide],
 ) -> Fate
     requires made { found.now.made ≤ frame.now.nodes }
-    requires ledgers { runs.AreLedgers (runs.rules_of frame.now) ledgers.old }
+    requires ledgers { runs.AreLedgers (runs.rules_of frame.now) books.old.ledgers.items }
     ensures fate { runs.IsFate (runs.rules_of frame.now) fix.now found.now result }
-    ensures ledgers { runs.AreLedgers (runs.rules_of frame.now) ledgers.new }
+    ensures ledgers { runs.AreLedgers (runs.rules_of frame.now) books.new.ledgers.items }
 {
     let first = (hint as usize).saturating_sub(1);
-    let guess = best_set(&scope_of(frame), frame.sets, guides, found.cost, fix, first);
+    let guess = best_set(&frame.scope, frame.sets, guides, found.cost, fix, first);
     let set = number_of(frame, guess.set);
-    if reaches(guess.value, found.cost) && reaches(lag(frame, fix, set, ledgers), found.cost) {
+    let is_hopeful = reaches(guess.value, found.cost) || !frame.scope.offers.is_whole();
+    if is_hopeful && reaches(lag(frame, fix, set, books), found.cost) {
         return Fate::Closed(set);
     }
-    let zero = lag(frame, fix, 0, ledgers);
+    let zero = lag(frame, fix, 0, books);
     if reaches(zero, found.cost) {
         return Fate::Closed(0);
     }
     match branch(frame, fix, found, place, guess, guides) {
         Some(index) => Fate::Branch(index),
-        None => leaf_fate(frame, fix, found, zero, ledgers),
+        None => leaf_fate(frame, fix, found, zero, books),
     }
 }

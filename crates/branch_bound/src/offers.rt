@@ -14,8 +14,7 @@ const MOST_ORDERS: usize = 256;
 const NO_PRICE: u64 = u64::MAX;
 /// The cells of a part that are looked at, with the one that costs nothing.
 pub(crate) const MOST_CELLS: usize = 128;
-/// The cells, the offers and the templates that the lists hold at most, each. What comes behind them is left out, so that the
-/// parts there look as if no candidate served them.
+/// The cells, the offers and the templates that the lists hold at most, each.
 const MOST_LISTED: usize = 131072;
 
 /// What a candidate, by its index, asks for an order beside its rent, by that's place among the rents.
@@ -36,7 +35,7 @@ pub(crate) struct Cell {
 
 /// A template: what it costs beside its cells, and the numbers of these in the part, filled up with 0, which costs nothing.
 #[derive(Clone, Copy)]
-pub(crate) struct Frame {
+pub(crate) struct ListedTemplate {
     pub internal: u64,
     pub cells: [u8; MOST_SLOTS],
 }
@@ -48,8 +47,8 @@ pub(crate) struct Head {
     pub plain: u64,
     pub first_cell: usize,
     pub end_cell: usize,
-    pub first_frame: usize,
-    pub end_frame: usize,
+    pub first_template: usize,
+    pub end_template: usize,
 }
 
 /// In place of a part that isn't there.
@@ -58,17 +57,19 @@ const NO_HEAD: Head = Head {
     plain: 0,
     first_cell: 0,
     end_cell: 0,
-    first_frame: 0,
-    end_frame: 0,
+    first_template: 0,
+    end_template: 0,
 };
 
-/// The lists, part by part.
+/// The lists, part by part, and whether all parts are in them whole. One that isn't counts as its cheapest template with every
+/// candidate and without rents: guides then tell too little of nodes, so that none is taken as closed that isn't.
 #[derive(Drop)]
 pub(crate) struct Offers {
+    is_whole: bool,
     heads: Vec<Head>,
     cells: Vec<Cell>,
     offers: Vec<Offer>,
-    frames: Vec<Frame>,
+    templates: Vec<ListedTemplate>,
 }
 
 /// The items from a place to another, as far as there are any.
@@ -97,7 +98,7 @@ struct Sheet {
     rents: [usize; MOST_SLOTS],
 }
 
-/// What a template costs at least, where no candidate asks a rent, and at most, where none is used.
+/// What a template, or a part, costs at least, where no candidate asks a rent, and at most, where none is used.
 #[derive(Clone, Copy)]
 struct Span {
     low: u64,
@@ -162,6 +163,20 @@ impl Sheet {
         }
         span
     }
+
+    /// Between what a part costs.
+    fn part_span(&self, part: &Part) -> Span {
+        let mut least = Span {
+            low: NO_PRICE,
+            high: NO_PRICE,
+        };
+        for template in part.templates.as_slice() {
+            let span = self.span(template, part.slots.len());
+            least.low = least.low.min(span.low);
+            least.high = least.high.min(span.high);
+        }
+        least
+    }
 }
 
 impl Offers {
@@ -169,10 +184,11 @@ impl Offers {
     /// Want of memory is the one error.
     pub(crate) fn new(alloc: Global, programme: &Programme) -> Result<Offers, NoMemory> {
         let mut offers = Offers {
+            is_whole: true,
             heads: Vec::with_capacity(alloc, programme.parts.len())?,
             cells: Vec::new(alloc),
             offers: Vec::new(alloc),
-            frames: Vec::new(alloc),
+            templates: Vec::new(alloc),
         };
         let mut sheet = Sheet::new();
         let mut place = 0;
@@ -209,7 +225,7 @@ impl Offers {
     }
 
     /// Lists a template of a part whose cells begin at a place.
-    fn list_frame(
+    fn list_template(
         &mut self,
         part: &Part,
         template: &Template,
@@ -238,7 +254,7 @@ impl Offers {
                 used += 1;
             }
         }
-        self.frames.push(Frame { internal, cells })?;
+        self.templates.push(ListedTemplate { internal, cells })?;
         Ok(())
     }
 
@@ -252,25 +268,43 @@ impl Offers {
         let next = sheet.write(part, place);
         let slots = part.slots.len();
         let first_cell = self.cells.len();
-        let first_frame = self.frames.len();
-        let mut plain = NO_PRICE;
+        let first_template = self.templates.len();
+        let span = sheet.part_span(part);
         for template in part.templates.as_slice() {
-            plain = plain.min(sheet.span(template, slots).high);
-        }
-        for template in part.templates.as_slice() {
-            if sheet.span(template, slots).low < plain && self.frames.len() < MOST_LISTED {
-                self.list_frame(part, template, first_cell, sheet)?;
+            if sheet.span(template, slots).low < span.high && self.templates.len() < MOST_LISTED {
+                self.list_template(part, template, first_cell, sheet)?;
             }
         }
-        self.heads.push(Head {
+        let mut head = Head {
             weight: part.weight as u64,
-            plain,
+            plain: span.high,
             first_cell,
             end_cell: self.cells.len(),
-            first_frame,
-            end_frame: self.frames.len(),
-        })?;
+            first_template,
+            end_template: self.templates.len(),
+        };
+        if span.high == NO_PRICE || self.is_full(first_cell) {
+            self.is_whole = false;
+            head.plain = span.low;
+            head.end_cell = first_cell;
+            head.end_template = first_template;
+        }
+        self.heads.push(head)?;
         Ok(next)
+    }
+
+    /// Whether a list, or the cells of a part, have no room left, so that something of the part may be missing.
+    fn is_full(&self, first_cell: usize) -> bool {
+        self.cells.len() >= MOST_LISTED
+            || self.offers.len() >= MOST_LISTED
+            || self.templates.len() >= MOST_LISTED
+            || self.cells.len().saturating_sub(first_cell) >= MOST_CELLS - 1
+    }
+
+    /// Whether all parts are listed whole, and their costs are numbers of 64 bits: guides then tell Lagrangian values exactly,
+    /// and else at most these.
+    pub(crate) fn is_whole(&self) -> bool {
+        self.is_whole
     }
 
     /// How many parts there are.
@@ -293,8 +327,12 @@ impl Offers {
     }
 
     /// The templates of a part.
-    pub(crate) fn frames(&self, head: &Head) -> &[Frame] {
-        between(self.frames.as_slice(), head.first_frame, head.end_frame)
+    pub(crate) fn templates(&self, head: &Head) -> &[ListedTemplate] {
+        between(
+            self.templates.as_slice(),
+            head.first_template,
+            head.end_template,
+        )
     }
 
     /// The offers of a cell.

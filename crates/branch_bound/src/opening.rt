@@ -5,7 +5,14 @@ ghost use Rattle.lagrange_bound.specs.Ledgers.{HasRoom};
 ghost use Rattle.branch_bound.specs.inner.Runs as runs;
 
 use bip_model::{Multipliers, Programme};
-use lagrange_bound::{Ledger, open_ledger};
+use lagrange_bound::{Ledger, PriceRows, open_ledger};
+
+/// The ledgers of zeros and of each set, and the rows in which each of them prices parts.
+#[derive(Drop)]
+pub(crate) struct Books {
+    pub ledgers: Vec<Ledger>,
+    pub rows: PriceRows,
+}
 
 /// Opens the ledgers of zeros and of the sets.
 pub(crate) fn open_all(

@@ -13,9 +13,9 @@ use crate::fixing::fixed;
 use crate::guide::{Guide, brokenness};
 use crate::hands::Hands;
 use crate::incumbent::{exchanged, is_near, is_new, rounded, shares_of};
-use crate::taken::cheaper;
+use crate::taken::taken;
 use crate::task::Task;
-use crate::trial::is_closed;
+use crate::trial::closes;
 use adv_base::limits::MOST_CANDIDATES;
 use bip_model::{Fix, Multipliers, State};
 use lagrange_bound::{Pace, ascend};
@@ -156,12 +156,12 @@ pub(crate) fn better(
     ensures hands { proposals.AreHands task.now.programme.now hands.new }
 {
     let draft = rounded(task, shares, &mut hands.plain);
-    let known = cheaper(task, known, &draft);
+    let known = taken(task, known, &draft);
     if !is_new(&draft, &mut hands.seen) || !is_near(&draft, known.cost) {
         return known;
     }
     let draft = exchanged(task, draft, &mut hands.plain);
-    cheaper(task, known, &draft)
+    taken(task, known, &draft)
 }
 
 /// A node of the plan with a set of its own, made from the best one there, where that is higher.
@@ -236,7 +236,7 @@ fn grown(
         return leaf(fix, best, true);
     }
     let own = sets.as_slice();
-    if is_closed(
+    if closes(
         task,
         own,
         hands.guides.as_mut_slice(),

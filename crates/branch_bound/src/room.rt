@@ -22,12 +22,12 @@ use std::alloc::Global;
 /// All the memory that a search takes, in bytes: 4 for each node of its budget; 8 for each grant of the programme in each set of
 /// multipliers, of which there are zeros, one that is worked on and as many as `set_limit` says, so that these are at most
 /// 1500000 numbers or one set; 144 for each part, 208 for each candidate and 3 thousand in each of as many guides and one more;
-/// 17 for each part and 21 thousand in each of 17 ledgers; 8 for each part and 256 thousand for the parts that each candidate can
-/// make cheaper; for an ascent 42 for each grant, 40 for each part, and 16 for each template, for each order of each slot and for
+/// 17 for each part and 5 thousand in each of 17 ledgers; 8 for each part and 256 thousand for the parts that each candidate can
+/// make cheaper; for an ascent at most 44 for each grant, 40 for each part, and 16 for each template, for each order of each slot and for
 /// each price of a grant below what exists; for what candidates offer 48 for each part, and 24 for each order of a slot and for
-/// each price of a grant below what exists and 16 for each template, of each of which at most 131072 are listed; and half a
-/// million for the plan. With a million nodes, 1000 parts of 4096 templates, and 512000 grants of 9 prices each, that is some
-/// 195 million.
+/// each price of a grant below what exists and 16 for each template, of each of which at most 131072 are listed; and 220
+/// thousand for the plan. With a million nodes, 1000 parts of 4096 templates, and 512000 grants of 9 prices each, that is some
+/// 196 million.
 #[derive(Drop)]
 pub struct Room {
     pub(crate) tree: Vec<Node>,
@@ -53,15 +53,8 @@ pub(crate) fn set_limit(programme: &Programme) -> usize
     (MOST_ENTRIES / grants).min(MOST_SETS).max(1)
 }
 
-/// One set of multipliers.
-fn fresh(alloc: Global, programme: &Programme) -> Result<Multipliers, NoMemory>
-    ensures { IfOk result (AreMultipliers programme.now) }
-{
-    Multipliers::zero(alloc, programme)
-}
-
-/// So many sets of multipliers.
-fn fresh_sets(
+/// So many sets of multipliers, of zeros.
+fn zero_sets(
     alloc: Global,
     programme: &Programme,
     count: usize,
@@ -70,14 +63,31 @@ fn fresh_sets(
 {
     let mut sets = Vec::with_capacity(alloc, count)?;
     for round in 0..count {
-        let set = fresh(alloc, programme)?;
+        let set = Multipliers::zero(alloc, programme)?;
         sets.push(set)?;
     }
     Ok(sets)
 }
 
-/// A guide for each set.
-fn fresh_guides(
+/// So many ledgers, of which none is open.
+fn closed_ledgers(
+    alloc: Global,
+    programme: &Programme,
+    count: usize,
+) -> Result<Vec<Ledger>, NoMemory>
+    ensures all { IfOk result (λ ledgers. All (HasRoom programme.now) ledgers.items) }
+    ensures count { IfOk result (λ ledgers. length ledgers.items ≡ count) }
+{
+    let mut ledgers = Vec::with_capacity(alloc, count)?;
+    for round in 0..count {
+        let ledger = Ledger::new(alloc, programme)?;
+        ledgers.push(ledger)?;
+    }
+    Ok(ledgers)
+}
+
+/// So many guides, of which none is open.
+fn closed_guides(
     alloc: Global,
     programme: &Programme,
     count: usize,
@@ -90,50 +100,28 @@ fn fresh_guides(
     Ok(guides)
 }
 
-/// One ledger.
-fn fresh_ledger(alloc: Global, programme: &Programme) -> Result<Ledger, NoMemory>
-    ensures { IfOk result (HasRoom programme.now) }
-{
-    Ledger::new(alloc, programme)
-}
-
-/// So many ledgers.
-fn fresh_ledgers(
-    alloc: Global,
-    programme: &Programme,
-    count: usize,
-) -> Result<Vec<Ledger>, NoMemory>
-    ensures all { IfOk result (λ ledgers. All (HasRoom programme.now) ledgers.items) }
-    ensures count { IfOk result (λ ledgers. length ledgers.items ≡ count) }
-{
-    let mut ledgers = Vec::with_capacity(alloc, count)?;
-    for round in 0..count {
-        let ledger = fresh_ledger(alloc, programme)?;
-        ledgers.push(ledger)?;
+impl Hands {
+    /// What a plan of a programme is made with.
+    fn new(alloc: Global, programme: &Programme) -> Result<Hands, NoMemory>
+        ensures { IfOk result (proposals.AreHands programme.now) }
+    {
+        let count = set_limit(programme);
+        let others = zero_sets(alloc, programme, count - 1)?;
+        let spare = Multipliers::zero(alloc, programme)?;
+        let ascent = Ascent::new(alloc, programme)?;
+        let stack = Vec::with_capacity(alloc, MOST_WAITING)?;
+        let guides = closed_guides(alloc, programme, count)?;
+        let plain = Guide::new(alloc, programme)?;
+        Ok(Hands {
+            others,
+            spare,
+            ascent,
+            stack,
+            guides,
+            plain,
+            seen: [0; 16],
+        })
     }
-    Ok(ledgers)
-}
-
-/// What a plan is made with.
-fn fresh_hands(alloc: Global, programme: &Programme) -> Result<Hands, NoMemory>
-    ensures { IfOk result (proposals.AreHands programme.now) }
-{
-    let count = set_limit(programme);
-    let others = fresh_sets(alloc, programme, count - 1)?;
-    let spare = fresh(alloc, programme)?;
-    let ascent = Ascent::new(alloc, programme)?;
-    let stack = Vec::with_capacity(alloc, MOST_WAITING)?;
-    let guides = fresh_guides(alloc, programme, count)?;
-    let plain = Guide::new(alloc, programme)?;
-    Ok(Hands {
-        others,
-        spare,
-        ascent,
-        stack,
-        guides,
-        plain,
-        seen: [0; 16],
-    })
 }
 
 impl Room {
@@ -146,12 +134,12 @@ impl Room {
         let tree = Vec::with_capacity(alloc, nodes as usize)?;
         let sets = Vec::with_capacity(alloc, MOST_SETS)?;
         let zeros = Multipliers::zero(alloc, programme)?;
-        let first = fresh(alloc, programme)?;
-        let hands = fresh_hands(alloc, programme)?;
+        let first = Multipliers::zero(alloc, programme)?;
+        let hands = Hands::new(alloc, programme)?;
         let plan = Vec::with_capacity(alloc, MOST_STEPS)?;
         let cheaper = CheaperParts::new(alloc, programme)?;
         let offers = Offers::new(alloc, programme)?;
-        let ledgers = fresh_ledgers(alloc, programme, MOST_SETS + 1)?;
+        let ledgers = closed_ledgers(alloc, programme, MOST_SETS + 1)?;
         Ok(Room {
             tree,
             zeros,

@@ -38,7 +38,7 @@ fn obeys(states: &[State], flags: &[bool], count: usize) -> bool
 }
 
 /// The cheaper of the configuration that is known and of a draft, where that obeys the root and fits.
-pub(crate) fn cheaper(task: &Task<'_>, known: Costed, draft: &Draft) -> Costed
+pub(crate) fn taken(task: &Task<'_>, known: Costed, draft: &Draft) -> Costed
     requires { climbs.IsSoundHere task.now.programme.now task.now.budget task.now.root.now known }
     ensures { climbs.IsSoundHere task.now.programme.now task.now.budget task.now.root.now result }
 {

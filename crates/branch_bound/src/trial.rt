@@ -7,15 +7,15 @@ use crate::climb::Costed;
 use crate::fixing::{fixed, inside};
 use crate::guide::Guide;
 use crate::incumbent::Draft;
-use crate::taken::cheaper;
+use crate::taken::taken;
 use crate::task::Task;
 use adv_base::limits::MOST_CANDIDATES;
 use bip_model::{Fix, Multipliers, State};
 
-/// The most nodes that a trial has before it.
-pub(crate) const MOST_WAITING: usize = 600;
 /// The most nodes of a trial.
 const MOST_NODES: u32 = 200;
+/// The most nodes that a trial has before it: each node that it takes puts two there, and it begins with one.
+pub(crate) const MOST_WAITING: usize = 201;
 
 /// Puts a node before a trial; whether there was room.
 fn put(stack: &mut Vec<Fix>, fix: Fix) -> bool {
@@ -25,8 +25,8 @@ fn put(stack: &mut Vec<Fix>, fix: Fix) -> bool {
     }
 }
 
-/// Puts both sides of a branch before a trial; whether there was room. Where nothing is left to branch on, there is nothing
-/// below the node.
+/// Puts both sides of a branch before a trial; whether there was room. Where nothing is left to branch on, nothing but the node
+/// itself is below it: should that be cheaper than what is known, the tree that is explored after the trial finds it.
 fn put_sides(stack: &mut Vec<Fix>, fix: &Fix, index: usize) -> bool {
     if index >= MOST_CANDIDATES {
         return true;
@@ -39,7 +39,7 @@ fn visited(task: &Task<'_>, fix: &Fix, known: Costed, plain: &mut Guide) -> Cost
     requires known { climbs.IsSoundHere task.now.programme.now task.now.budget task.now.root.now known }
     ensures known { climbs.IsSoundHere task.now.programme.now task.now.budget task.now.root.now result }
 {
-    plain.carry(task.offers, task.zeros, &inside_of(fix));
+    plain.carry(task.offers, task.zeros, &inside_of(&scope_of(task), fix));
     let cost = plain.total(task.programme);
     if cost >= known.cost {
         return known;
@@ -49,12 +49,12 @@ fn visited(task: &Task<'_>, fix: &Fix, known: Costed, plain: &mut Guide) -> Cost
         pages: 0,
         cost,
     };
-    cheaper(task, known, &draft)
+    taken(task, known, &draft)
 }
 
 /// Whether a search of few nodes closes a subtree, under some sets and their guides. Where there are few candidates, what is
 /// known becomes the cheapest configuration that it meets.
-pub(crate) fn is_closed(
+pub(crate) fn closes(
     task: &Task<'_>,
     sets: &[Multipliers],
     guides: &mut [Guide],

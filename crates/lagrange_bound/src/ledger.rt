@@ -22,15 +22,14 @@ use bip_model::{Fix, Multipliers, Programme};
 use std::alloc::Global;
 
 /// What is kept of the bounds under one set of multipliers: the candidates that may be used at the node where it stands, what
-/// the plan of each part costs there, the sum of weight times cost, a mark for each part, rows to price one with, and what the
-/// rents of each candidate bring in.
+/// the plan of each part costs there, the sum of weight times cost, a mark for each part, and what the rents of each candidate
+/// bring in.
 #[derive(Drop)]
 pub struct Ledger {
     pub config: Config,
     pub least: Vec<u128>,
     pub plans: u128,
     pub marks: Vec<bool>,
-    pub rows: Rows,
     pub earned: Earned,
 }
 
@@ -44,9 +43,21 @@ impl Ledger {
             least: vec![in alloc; 0; programme.parts.len()]?,
             plans: 0,
             marks: vec![in alloc; false; programme.parts.len()]?,
-            rows: NO_ROWS,
             earned: [0; MOST_CANDIDATES],
         })
+    }
+}
+
+/// Room to price a part in, which any ledger can use: 16 thousand bytes.
+#[derive(Drop)]
+pub struct PriceRows {
+    rows: Rows,
+}
+
+impl PriceRows {
+    /// Rows without prices.
+    pub fn new() -> PriceRows {
+        PriceRows { rows: NO_ROWS }
     }
 }
 
@@ -75,6 +86,7 @@ fn moved(
     multipliers: &Multipliers,
     config: &Config,
     ledger: &mut Ledger,
+    rows: &mut Rows,
 )
     requires cheaper { ledgers.AreCheaperParts programme.now cheaper.now }
     requires multipliers { AreMultipliers programme.now multipliers.now }
@@ -96,7 +108,7 @@ fn moved(
         marks,
     };
     let least = ledger.least.as_mut_slice();
-    ledger.plans = price_marked(&task, ledger.plans, least, &mut ledger.rows);
+    ledger.plans = price_marked(&task, ledger.plans, least, rows);
     ledger.config = *config;
 }
 
@@ -110,6 +122,7 @@ pub fn bound_by(
     fix: &Fix,
     multipliers: &Multipliers,
     ledger: &mut Ledger,
+    room: &mut PriceRows,
 ) -> i128
     requires cheaper { ledgers.AreCheaperParts programme.now cheaper.now }
     requires budget { budget ≤ MOST_ROWS }
@@ -119,7 +132,14 @@ pub fn bound_by(
     ensures ledger { ledgers.IsLedger programme.now multipliers.now ledger.new }
 {
     let config = available(programme, budget, fix);
-    moved(programme, cheaper, multipliers, &config, ledger);
+    moved(
+        programme,
+        cheaper,
+        multipliers,
+        &config,
+        ledger,
+        &mut room.rows,
+    );
     value_of_plans(
         programme,
         budget,

@@ -19,6 +19,11 @@ pub record AreMore (programme : Programme) (most : ℕ) (before after : List Mul
   pub first : take 1 after ≡ take 1 before
   pub proposed : AreProposed programme most after
 
+-- multipliers that bound a node at least as high as others
+pub record AreNotLower (programme : Programme) (budget : ℕ) (fix : Fix) (before after : Multipliers) : Type 0 where
+  pub fit : AreMultipliers programme after
+  pub keeps : lagrangian programme budget fix before ≤ℤ lagrangian programme budget fix after
+
 -- what more sets are made with
 pub record AreHands (programme : Programme) (hands : Hands) : Type 0 where
   pub others_fit : All (AreMultipliers programme) hands.others.items

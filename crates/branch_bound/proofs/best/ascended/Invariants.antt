@@ -1,6 +1,3 @@
-use Rattle.std.specs.Prelude.{◌≤ℤ◌}
-use Rattle.bip_model.specs.Views.{AreMultipliers}
-use Rattle.lagrange_bound.specs.Bounds.{lagrangian}
 use Rattle.branch_bound.specs.inner.Climbs as climbs
 use Rattle.branch_bound.specs.inner.Proposals as proposals
 use Rattle.branch_bound.proofs.best.ascended.Given as goal
@@ -9,7 +6,6 @@ abbrev pub invariant-loop-turn : goal.invariant-loop-turn
 invariant-loop-turn l =
     record {
       sound : climbs.IsSoundHere l.task.programme.now l.task.budget l.task.root.now l.start.known;
-      first : AreMultipliers l.task.programme.now l.first;
+      first : proposals.AreNotLower l.task.programme.now l.task.budget l.task.root.now l.fn.first l.first;
       hands : proposals.AreHands l.task.programme.now l.hands;
-      keeps : lagrangian l.task.programme.now l.task.budget l.task.root.now l.fn.first ≤ℤ lagrangian l.task.programme.now l.task.budget l.task.root.now l.first;
     }

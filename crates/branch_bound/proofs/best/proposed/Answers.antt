@@ -20,5 +20,5 @@ returns-clause-sets c =
       tried = λ i few.
           at-most-both (lagrangian c.args.task.now.programme.now c.args.task.now.budget c.args.task.now.root.now (rent_multipliers c.args.task.now.programme.now (tried_price i)))
           (lagrangian c.args.task.now.programme.now c.args.task.now.budget c.args.task.now.root.now c.improve.new.mult)
-          (lagrangian c.args.task.now.programme.now c.args.task.now.budget c.args.task.now.root.now first) (c.improve.ensures.tried i few) c.ascended-start.ensures.keeps;
+          (lagrangian c.args.task.now.programme.now c.args.task.now.budget c.args.task.now.root.now first) (c.improve.ensures.tried i few) c.ascended-start.ensures.first.keeps;
     }

@@ -1,5 +1,5 @@
 use Rattle.branch_bound.specs.inner.Climbs as climbs
-use Rattle.branch_bound.proofs.trial.is_closed.Given as goal
+use Rattle.branch_bound.proofs.trial.closes.Given as goal
 
 abbrev pub invariant-loop : goal.invariant-loop
 invariant-loop l = climbs.IsSoundHere l.task.programme.now l.task.budget l.task.root.now l.known
