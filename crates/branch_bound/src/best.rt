@@ -35,13 +35,27 @@ use std::slice;
 /// The rounds in which the multipliers of the root are improved: each tries the rent multipliers of one price of a page.
 const ROUNDS: u32 = 41;
 
-/// How the multipliers of the root are raised, turn by turn.
-const TURNS: [Pace; 3] = [
+/// So many useful candidates are few: a search of few nodes is then tried after each turn, and turns are short.
+const MOST_OF_FEW: u32 = 64;
+/// The most nodes of the search that is tried.
+const MOST_TRIED: u32 = 100;
+
+/// How the multipliers of the root are raised, turn by turn, where few candidates are useful.
+const TURNS_OF_FEW: [Pace; 2] = [
     Pace {
         rounds: 100,
         step: 512,
         patience: 30,
     },
+    Pace {
+        rounds: 400,
+        step: 512,
+        patience: 15,
+    },
+];
+
+/// The same where many are.
+const TURNS_OF_MANY: [Pace; 2] = [
     Pace {
         rounds: 400,
         step: 512,
@@ -53,10 +67,6 @@ const TURNS: [Pace; 3] = [
         patience: 30,
     },
 ];
-
-/// So many useful candidates are few: a search of few nodes is then tried after each turn, and else the first turn is passed
-/// over.
-const MOST_OF_FEW: u32 = 64;
 
 /// What nothing that fits costs less than: the cost, or the least value of the leaves at which the search gave up.
 fn least_bound(cost: u128, low: i128) -> i128
@@ -153,6 +163,7 @@ fn turned(
         &mut known,
         task.root,
         &mut hands.stack,
+        MOST_TRIED,
     );
     Start { known, is_closed }
 }
@@ -176,9 +187,13 @@ fn ascended(task: &Task<'_>, first: &mut Multipliers, hands: &mut Hands) -> Star
         known: taken(task, task.bare, &draft),
         is_closed: false,
     };
-    let first_turn = if task.are_few { 0 } else { 1 };
-    for turn in first_turn..TURNS.len() {
-        start = turned(task, start.known, first, hands, TURNS[turn]);
+    let turns = if task.are_few {
+        TURNS_OF_FEW
+    } else {
+        TURNS_OF_MANY
+    };
+    for turn in 0..2 {
+        start = turned(task, start.known, first, hands, turns[turn]);
         if start.is_closed {
             return start;
         }

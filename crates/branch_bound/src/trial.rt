@@ -13,7 +13,7 @@ use adv_base::limits::MOST_CANDIDATES;
 use bip_model::{Fix, Multipliers, State};
 
 /// The most nodes of a trial.
-const MOST_NODES: u32 = 200;
+pub(crate) const MOST_NODES: u32 = 200;
 /// The most nodes that a trial has before it: each node that it takes puts two there, and it begins with one.
 pub(crate) const MOST_WAITING: usize = 201;
 
@@ -52,8 +52,8 @@ fn visited(task: &Task<'_>, fix: &Fix, known: Costed, plain: &mut Guide) -> Cost
     taken(task, known, &draft)
 }
 
-/// Whether a search of few nodes closes a subtree, under some sets and their guides. Where there are few candidates, what is
-/// known becomes the cheapest configuration that it meets.
+/// Whether a search of so many nodes, at most 200, closes a subtree, under some sets and their guides. Where there are few
+/// candidates, what is known becomes the cheapest configuration that it meets.
 pub(crate) fn closes(
     task: &Task<'_>,
     sets: &[Multipliers],
@@ -62,6 +62,7 @@ pub(crate) fn closes(
     known: &mut Costed,
     fix: &Fix,
     stack: &mut Vec<Fix>,
+    most: u32,
 ) -> bool
     requires known { climbs.IsSoundHere task.now.programme.now task.now.budget task.now.root.now known.old }
     ensures known { climbs.IsSoundHere task.now.programme.now task.now.budget task.now.root.now known.new }
@@ -70,7 +71,7 @@ pub(crate) fn closes(
     let mut hint = 0;
     stack.clear();
     let mut is_room = put(stack, *fix);
-    for _ in 0..MOST_NODES {
+    for _ in 0..most.min(MOST_NODES) {
         if !is_room {
             return false;
         }
