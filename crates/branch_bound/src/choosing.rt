@@ -148,7 +148,8 @@ pub(crate) fn best_set(
     best
 }
 
-/// The candidate whose branch promises most at a node where a guide stands, by its index; 256 where none is open and useful.
+/// The candidate whose branch promises most at a node where a guide stands, by its index; 256 where none is open and
+/// useful.
 fn pick(scope: &Scope<'_>, guide: &Guide, here: &Usable, gap: u128) -> usize {
     let mut best = MOST_CANDIDATES;
     let mut most = 0;
@@ -164,7 +165,24 @@ fn pick(scope: &Scope<'_>, guide: &Guide, here: &Usable, gap: u128) -> usize {
     best
 }
 
-/// The candidate to branch on at a node, by its index, where a set gives it the highest value; 256 for none.
+/// The candidate to branch on at the node at which the guide of a set stands, by its index, where that set gives it the
+/// highest value; 256 for none.
+pub(crate) fn choice_here(
+    scope: &Scope<'_>,
+    sets: &[Multipliers],
+    guides: &mut [Guide],
+    cost: u128,
+    best: Best,
+) -> usize {
+    if best.set >= sets.len() || best.set >= guides.len() {
+        return MOST_CANDIDATES;
+    }
+    let guide = &mut guides[best.set];
+    guide.fill(scope.offers, &sets[best.set]);
+    pick(scope, guide, &guide.here(), gap_to(cost, best.value))
+}
+
+/// The same at a node, to which the guide is carried.
 pub(crate) fn choice_at(
     scope: &Scope<'_>,
     sets: &[Multipliers],
@@ -176,10 +194,6 @@ pub(crate) fn choice_at(
     if best.set >= sets.len() || best.set >= guides.len() {
         return MOST_CANDIDATES;
     }
-    let here = usable(scope, fix);
-    let own = &sets[best.set];
-    let guide = &mut guides[best.set];
-    guide.carry(scope.offers, own, &here);
-    guide.fill(scope.offers, own);
-    pick(scope, guide, &here, gap_to(cost, best.value))
+    guides[best.set].carry(scope.offers, &sets[best.set], &usable(scope, fix));
+    choice_here(scope, sets, guides, cost, best)
 }

@@ -1,6 +1,6 @@
-//! What a set of multipliers says of nodes: their Lagrangian values, and what a branch on a candidate would gain on each side.
-//! A proposal alone: any candidate that is open and useful may be taken, and a value that closes a node is found anew. Costs of
-//! plans are cut to 64 bits, which makes a value too low, never too high.
+//! What a set of multipliers says of nodes: their Lagrangian values, and what a branch on a candidate would gain on
+//! each side. A proposal alone: any candidate that is open and useful may be taken, and a value that closes a node is
+//! found anew. Costs of plans are cut to 64 bits, which makes a value too low, never too high.
 
 use crate::marks::{
     Marks, NO_MARKS, NO_PLACES, Places, beyond, is_any, is_marked, join, mark_place, meet,
@@ -121,8 +121,8 @@ const NONE: Usable = Usable {
     inside: NO_MARKS,
 };
 
-/// What is kept of a part: its least cost, which candidate its least template takes at each cell, and how much more the part
-/// would cost without it, where these are known.
+/// What is kept of a part: its least cost, which candidate its least template takes at each cell, and how much more the
+/// part would cost without it, where these are known.
 #[derive(Clone, Copy)]
 struct PartGuide {
     least: u64,
@@ -144,9 +144,9 @@ const NO_PAIR: Pair = Pair {
     outside: 0,
 };
 
-/// What is kept of a candidate: what it costs beyond its rents and what its rents bring in beyond its cost, in parts of 65536,
-/// its upkeep, how much more all parts would cost without it, its share in the relaxation, and the parts that it can make
-/// cheaper.
+/// What is kept of a candidate: what it costs beyond its rents and what its rents bring in beyond its cost, in parts of
+/// 65536, its upkeep, how much more all parts would cost without it, its share in the relaxation, and the parts that it
+/// can make cheaper.
 #[derive(Clone, Copy)]
 struct Own {
     costs: Pair,
@@ -165,9 +165,9 @@ const NO_OWN: Own = Own {
     parts: NO_PLACES,
 };
 
-/// What is kept under a set of multipliers: the candidates that may be used where the guide stands, the weighted sum of the
-/// costs of parts, what the candidates there cost and bring in beyond that, and the upkeep of those that may be used; and what
-/// is kept of each candidate and of each part. `prices` is room for one part's prices.
+/// What is kept under a set of multipliers: the candidates that may be used where the guide stands, the weighted sum of
+/// the costs of parts, what the candidates there cost and bring in beyond that, and the upkeep of those that may be
+/// used; and what is kept of each candidate and of each part. `prices` is room for one part's prices.
 #[derive(Drop)]
 pub(crate) struct Guide {
     here: Usable,
@@ -179,7 +179,8 @@ pub(crate) struct Guide {
     prices: Vec<Price>,
 }
 
-/// Adds the rents of a part's grants, which begin at a place, to what each candidate brings in; answers where the next begin.
+/// Adds the rents of a part's grants, which begin at a place, to what each candidate brings in; answers where the next
+/// begin.
 fn earn(part: &Part, rents: &[u64], at: usize, earned: &mut [u128; MOST_CANDIDATES]) -> usize {
     let mut place = at;
     for slot in part.slots.as_slice() {
@@ -518,6 +519,11 @@ impl Guide {
         }
     }
 
+    /// Where the guide stands.
+    pub(crate) fn here(&self) -> Usable {
+        self.here
+    }
+
     /// Fills in the losses that aren't known.
     pub(crate) fn fill(&mut self, offers: &Offers, own: &Multipliers) {
         for place in 0..self.parts.len() {
@@ -546,15 +552,16 @@ impl Guide {
         }
     }
 
-    /// What the candidates cost that may be used where the guide stands, with what exists and the plans under its multipliers.
+    /// What the candidates cost that may be used where the guide stands, with what exists and the plans under its
+    /// multipliers.
     pub(crate) fn total(&self, programme: &Programme) -> u128 {
         self.plans
             .saturating_add(programme.kept)
             .saturating_add(self.upkeep)
     }
 
-    /// The Lagrangian value of the node at which the guide stands, in whole numbers, rounded up; none that is below 0. The sum
-    /// of plans can't wrap: it has at most 1000 parts, each of less than 2^64 with a weight of less than 2^32.
+    /// The Lagrangian value of the node at which the guide stands, in whole numbers, rounded up; none that is below 0.
+    /// The sum of plans can't wrap: it has at most 1000 parts, each of less than 2^64 with a weight of less than 2^32.
     pub(crate) fn value(&self, programme: &Programme, budget: u64, own: &Multipliers) -> i128 {
         let more = self
             .plans
@@ -593,8 +600,8 @@ pub(crate) fn brokenness(share: u64) -> u64 {
     share.min(65536u64.saturating_sub(share))
 }
 
-/// How much a branch on a candidate promises, where its sides gain so much, and so much is wanted: most where a side closes,
-/// and then by what the other gains; else by what its out-side gains.
+/// How much a branch on a candidate promises, where its sides gain so much, and so much is wanted: most where a side
+/// closes, and then by what the other gains; else by what its out-side gains.
 pub(crate) fn promise(gains: Pair, gap: u128) -> u128 {
     if gains.inside >= gap || gains.outside >= gap {
         return gap

@@ -6,7 +6,7 @@ ghost use Rattle.lagrange_bound.specs.Bounds as bounds;
 ghost use Rattle.branch_bound.specs.Sides as sides;
 ghost use Rattle.branch_bound.specs.inner.Runs as runs;
 
-use crate::choosing::{Best, best_set, choice_at, reaches};
+use crate::choosing::{Best, best_set, choice_here, reaches};
 use crate::fixing::{config_pages, inside, is_free};
 use crate::found::Found;
 use crate::frame::Frame;
@@ -100,7 +100,6 @@ fn chosen(frame: &Frame<'_>, fix: &Fix, proposal: usize) -> Option<usize>
 /// The candidate that the plan proposes at one of its nodes, or that a guide proposes; by its index, 256 for none.
 fn proposed(
     frame: &Frame<'_>,
-    fix: &Fix,
     cost: u128,
     place: usize,
     best: Best,
@@ -109,7 +108,7 @@ fn proposed(
     if place < frame.plan.len() && frame.plan[place].candidate < MOST_CANDIDATES {
         return frame.plan[place].candidate;
     }
-    choice_at(&frame.scope, frame.sets, guides, cost, fix, best)
+    choice_here(&frame.scope, frame.sets, guides, cost, best)
 }
 
 /// A candidate to branch on, where two more nodes are left.
@@ -128,7 +127,7 @@ fn branch(
     if found.made + 2 > frame.nodes {
         return None;
     }
-    let proposal = proposed(frame, fix, found.cost, place, best, guides);
+    let proposal = proposed(frame, found.cost, place, best, guides);
     chosen(frame, fix, proposal)
 }
 
@@ -240,8 +239,8 @@ fn leaf_fate(frame: &Frame<'_>, fix: &Fix, found: &Found, zero: i128, books: &mu
     }
 }
 
-/// What becomes of a node, after it is visited. Guides tell which set may close it, where the lists that they go by are whole;
-/// the set that closed the last leaf is tried first.
+/// What becomes of a node, after it is visited. Guides tell which set may close it, where the lists that they go by are
+/// whole; the set that closed the last leaf is tried first.
 pub(crate) fn fate_of(
     frame: &Frame<'_>,
     fix: &Fix,

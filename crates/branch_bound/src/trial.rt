@@ -1,8 +1,8 @@
-//! Whether few nodes close a subtree: a search that keeps no tree. A proposal alone: the tree that is explored after it is right
-//! whatever it says.
+//! Whether few nodes close a subtree: a search that keeps no tree. A proposal alone: the tree that is explored after it
+//! is right whatever it says.
 ghost use Rattle.branch_bound.specs.inner.Climbs as climbs;
 
-use crate::choosing::{best_set, choice_at, inside_of, reaches, scope_of};
+use crate::choosing::{best_set, choice_here, inside_of, reaches, scope_of};
 use crate::climb::Costed;
 use crate::fixing::{fixed, inside};
 use crate::guide::Guide;
@@ -25,8 +25,9 @@ fn put(stack: &mut Vec<Fix>, fix: Fix) -> bool {
     }
 }
 
-/// Puts both sides of a branch before a trial; whether there was room. Where nothing is left to branch on, nothing but the node
-/// itself is below it: should that be cheaper than what is known, the tree that is explored after the trial finds it.
+/// Puts both sides of a branch before a trial; whether there was room. Where nothing is left to branch on, nothing but
+/// the node itself is below it: should that be cheaper than what is known, the tree that is explored after the trial
+/// finds it.
 fn put_sides(stack: &mut Vec<Fix>, fix: &Fix, index: usize) -> bool {
     if index >= MOST_CANDIDATES {
         return true;
@@ -52,8 +53,8 @@ fn visited(task: &Task<'_>, fix: &Fix, known: Costed, plain: &mut Guide) -> Cost
     taken(task, known, &draft)
 }
 
-/// Whether a search of so many nodes, at most 200, closes a subtree, under some sets and their guides. Where there are few
-/// candidates, what is known becomes the cheapest configuration that it meets.
+/// Whether a search of so many nodes, at most 200, closes a subtree, under some sets and their guides. Where there are
+/// few candidates, what is known becomes the cheapest configuration that it meets.
 pub(crate) fn closes(
     task: &Task<'_>,
     sets: &[Multipliers],
@@ -84,7 +85,7 @@ pub(crate) fn closes(
                 let best = best_set(&scope, sets, guides, known.cost, &here, hint);
                 hint = best.set;
                 if !reaches(best.value, known.cost) {
-                    let index = choice_at(&scope, sets, guides, known.cost, &here, best);
+                    let index = choice_here(&scope, sets, guides, known.cost, best);
                     is_room = put_sides(stack, &here, index);
                 }
             }
