@@ -32,7 +32,8 @@ use bip_model::{Answer, Fix, Multipliers, Node, Programme, value};
 use lagrange_bound::{CheaperParts, Pace, PriceRows, ascend, improve};
 use std::slice;
 
-/// The rounds in which the multipliers of the root are improved: each tries the rent multipliers of one price of a page.
+/// The rounds in which the multipliers of the root are improved: each tries the rent multipliers of one price of a
+/// page.
 const ROUNDS: u32 = 41;
 
 /// So many useful candidates are few: a search of few nodes is then tried after each turn, and turns are short.
@@ -123,7 +124,8 @@ fn raised(task: &Task<'_>, cost: u128, first: &mut Multipliers, hands: &mut Hand
     );
 }
 
-/// What is known at the root before a plan is made: the cheapest configuration met, and whether few nodes close the search.
+/// What is known at the root before a plan is made: the cheapest configuration met, and whether few nodes close the
+/// search.
 #[derive(Clone, Copy)]
 struct Start {
     known: Costed,
@@ -306,10 +308,10 @@ fn answer(best: Costed, low: i128, sets: Vec<Multipliers>, tree: Vec<Node>, usef
     }
 }
 
-/// Branch and bound: a configuration of the programme below a root that fits a budget of pages, by depth-first search over
-/// CoPhy's programme with Lagrangian bounds, of at most so many nodes. The answer holds the tree that shows that none costs
-/// less than the bound; where the nodes sufficed, the bound is the cost, and the configuration a best one. Costs are in
-/// thousandths of a page read. All memory is the room's.
+/// Branch and bound: a configuration of the programme below a root that fits a budget of pages, by depth-first search
+/// over CoPhy's programme with Lagrangian bounds, of at most so many nodes. The answer holds the tree that shows that
+/// none costs less than the bound; where the nodes sufficed, the bound is the cost, and the configuration a best one.
+/// Costs are in thousandths of a page read. All memory is the room's.
 pub fn search(programme: &Programme, root: &Fix, budget: u64, nodes: u32, room: Room) -> Answer
     requires budget { budget ≤ MOST_ROWS }
     requires some_node { 1 ≤ nodes }

@@ -90,8 +90,8 @@ fn lower(programme: &Programme, budget: u64, root: &Fix, from: &Costed) -> Optio
     None
 }
 
-/// From a configuration to one that no single addition or removal of a candidate that the root leaves free makes cheaper, and
-/// no removal leaves as cheap.
+/// From a configuration to one that no single addition or removal of a candidate that the root leaves free makes
+/// cheaper, and no removal leaves as cheap.
 pub(crate) fn climb(programme: &Programme, budget: u64, root: &Fix, from: Costed) -> Costed
     requires { climbs.IsSoundHere programme.now budget root.now from }
     ensures sound { climbs.IsSoundHere programme.now budget root.now result }

@@ -98,8 +98,8 @@ pub(crate) struct Walk {
     pub guides: Vec<Guide>,
 }
 
-/// Explores what is below a node that was made, and appends its tree in preorder. What is in there costs so much, and it has
-/// this place in the plan.
+/// Explores what is below a node that was made, and appends its tree in preorder. What is in there costs so much, and
+/// it has this place in the plan.
 pub(crate) fn explore(
     frame: &Frame<'_>,
     fix: &Fix,

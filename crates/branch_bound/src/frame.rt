@@ -10,9 +10,10 @@ use adv_base::limits::MOST_CANDIDATES;
 use bip_model::{Multipliers, Programme};
 use lagrange_bound::CheaperParts;
 
-/// The programme, a budget of pages and one of nodes, the set of zeros and the other sets of multipliers, which candidates are
-/// useful, the plan, which parts each candidate can make cheaper, and what guides are asked about: a branch is on the candidate
-/// that the plan proposes, else on the one that a guide proposes, and where that isn't open and useful on the first one that is.
+/// The programme, a budget of pages and one of nodes, the set of zeros and the other sets of multipliers, which
+/// candidates are useful, the plan, which parts each candidate can make cheaper, and what guides are asked about: a
+/// branch is on the candidate that the plan proposes, else on the one that a guide proposes, and where that isn't open
+/// and useful on the first one that is.
 #[derive(Drop)]
 pub(crate) struct Frame<'a> {
     pub programme: &'a Programme,

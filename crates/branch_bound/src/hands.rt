@@ -3,8 +3,8 @@ use crate::guide::Guide;
 use bip_model::{Fix, Multipliers};
 use lagrange_bound::Ascent;
 
-/// Multipliers for more sets, and some that are worked on, what an ascent works with, the nodes that a trial has before it, a
-/// guide for each set, and one under zeros.
+/// Multipliers for more sets, and some that are worked on, what an ascent works with, the nodes that a trial has before
+/// it, a guide for each set, and one under zeros.
 #[derive(Drop)]
 pub(crate) struct Hands {
     pub others: Vec<Multipliers>,

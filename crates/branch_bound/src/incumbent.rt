@@ -1,5 +1,5 @@
-//! First configurations of a search: greedy by saving for each page, rounded from the relaxation, and bettered by exchanges.
-//! Proposals alone: what is taken of them is tested and priced anew.
+//! First configurations of a search: greedy by saving for each page, rounded from the relaxation, and bettered by
+//! exchanges. Proposals alone: what is taken of them is tested and priced anew.
 ghost use Rattle.std.specs.Prelude.{◌≡◌, ◌<◌, ◌≤◌, true};
 ghost use Rattle.adv_base.specs.declared.limits.TheConstants.{MOST_CANDIDATES};
 
@@ -124,8 +124,8 @@ fn unknown(useful: &[bool; MOST_CANDIDATES]) -> [u128; MOST_CANDIDATES] {
     savings
 }
 
-/// Adds the candidate that saves most for each page, again and again. What each saved beside fewer others stands for what it
-/// saves, until it is the largest.
+/// Adds the candidate that saves most for each page, again and again. What each saved beside fewer others stands for
+/// what it saves, until it is the largest.
 fn extended(task: &Task<'_>, from: Draft, guide: &mut Guide) -> Draft {
     let mut savings = unknown(task.useful);
     let mut best = from;
@@ -224,8 +224,8 @@ fn costs_beside(task: &Task<'_>, draft: &Draft, guide: &mut Guide) -> [u128; MOS
     costs
 }
 
-/// The least that a draft with a candidate less may cost with another one, which costs so much beside both: exact where no
-/// statement uses both, since then neither tells what the other saves.
+/// The least that a draft with a candidate less may cost with another one, which costs so much beside both: exact where
+/// no statement uses both, since then neither tells what the other saves.
 fn least_with(
     task: &Task<'_>,
     from: &Draft,
@@ -249,8 +249,8 @@ fn least_with(
     }
 }
 
-/// A draft with a candidate less and the best other one in its place, where that is cheaper. What it costs with each one more
-/// is told.
+/// A draft with a candidate less and the best other one in its place, where that is cheaper. What it costs with each
+/// one more is told.
 fn exchanged_one(
     task: &Task<'_>,
     from: Draft,

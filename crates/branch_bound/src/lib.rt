@@ -1,13 +1,14 @@
 //! Branch and bound over CoPhy's programme: which candidate indexes to choose within a budget of pages.
 //!
-//! In goes a programme, a root that fixes some candidates, a budget of pages and one of nodes; out comes a configuration
-//! that fits, what it costs, and a tree of Lagrangian bounds below which no configuration that fits goes; it is best where the
-//! bound is its cost, and else the cheapest one that was found. The tree is
-//! explored depth first, the side that takes a candidate in before the side that leaves it out, under zeros and up to 16
-//! sets of multipliers: the first bounds the root best, others are made for subtrees. All memory is taken before the search,
-//! in its room. Costs and bounds are in thousandths of a sequential page read, sizes in pages.
+//! In goes a programme, a root that fixes some candidates, a budget of pages and one of nodes; out comes a
+//! configuration that fits, what it costs, and a tree of Lagrangian bounds below which no configuration that fits goes;
+//! it is best where the bound is its cost, and else the cheapest one that was found. The tree is explored depth first,
+//! the side that takes a candidate in before the side that leaves it out, under zeros and up to 16 sets of multipliers:
+//! the first bounds the root best, others are made for subtrees. All memory is taken before the search, in its room.
+//! Costs and bounds are in thousandths of a sequential page read, sizes in pages.
 //!
-//! The programme, the `Fix` that is the root and the `Answer` are `bip_model`'s; the `Room` has the memory of one search.
+//! The programme, the `Fix` that is the root and the `Answer` are `bip_model`'s; the `Room` has the memory of one
+//! search.
 //!
 //! ```rust
 //! // Statements of weights 10 and 11, which cost 80000 each, and 13000 and 14000 with candidates 1 and 2, of 3 and 4

@@ -1,6 +1,6 @@
-//! What the candidates offer to the parts of a programme, in lists that are made once for a search: the orders that templates
-//! need and that some candidate gives for less than what exists, and the templates that may then be the cheapest. Guides
-//! price parts by them, so they are a proposal alone. Prices are in thousandths of a page read.
+//! What the candidates offer to the parts of a programme, in lists that are made once for a search: the orders that
+//! templates need and that some candidate gives for less than what exists, and the templates that may then be the
+//! cheapest. Guides price parts by them, so they are a proposal alone. Prices are in thousandths of a page read.
 
 use adv_base::NoMemory;
 use adv_base::limits::MOST_SLOTS;
@@ -33,7 +33,8 @@ pub(crate) struct Cell {
     pub end: usize,
 }
 
-/// A template: what it costs beside its cells, and the numbers of these in the part, filled up with 0, which costs nothing.
+/// A template: what it costs beside its cells, and the numbers of these in the part, filled up with 0, which costs
+/// nothing.
 #[derive(Clone, Copy)]
 pub(crate) struct ListedTemplate {
     pub internal: u64,
@@ -61,8 +62,9 @@ const NO_HEAD: Head = Head {
     end_template: 0,
 };
 
-/// The lists, part by part, and whether all parts are in them whole. One that isn't counts as its cheapest template with every
-/// candidate and without rents: guides then tell too little of nodes, so that none is taken as closed that isn't.
+/// The lists, part by part, and whether all parts are in them whole. One that isn't counts as its cheapest template
+/// with every candidate and without rents: guides then tell too little of nodes, so that none is taken as closed that
+/// isn't.
 #[derive(Drop)]
 pub(crate) struct Offers {
     is_whole: bool,
@@ -180,8 +182,8 @@ impl Sheet {
 }
 
 impl Offers {
-    /// What the candidates offer: 48 bytes for each part, at most 8 million for the lists, and 3 million more while they grow.
-    /// Want of memory is the one error.
+    /// What the candidates offer: 48 bytes for each part, at most 8 million for the lists, and 3 million more while
+    /// they grow. Want of memory is the one error.
     pub(crate) fn new(alloc: Global, programme: &Programme) -> Result<Offers, NoMemory> {
         let mut offers = Offers {
             is_whole: true,
@@ -301,8 +303,8 @@ impl Offers {
             || self.cells.len().saturating_sub(first_cell) >= MOST_CELLS - 1
     }
 
-    /// Whether all parts are listed whole, and their costs are numbers of 64 bits: guides then tell Lagrangian values exactly,
-    /// and else at most these.
+    /// Whether all parts are listed whole, and their costs are numbers of 64 bits: guides then tell Lagrangian values
+    /// exactly, and else at most these.
     pub(crate) fn is_whole(&self) -> bool {
         self.is_whole
     }

@@ -1,5 +1,5 @@
-//! The plan of a search: the top of its tree, made best node first, with a set of multipliers for each of its subtrees. A
-//! proposal alone: the tree that is explored after it is right under any sets and any branches.
+//! The plan of a search: the top of its tree, made best node first, with a set of multipliers for each of its subtrees.
+//! A proposal alone: the tree that is explored after it is right under any sets and any branches.
 ghost use Rattle.std.specs.Prelude.{◌≡◌, ◌+◌, ◌<◌, ◌≤◌, [], ◌∷◌, ◌++◌, All, length, vec_len};
 ghost use Rattle.std.specs.Vec.{vec_capacity};
 ghost use Rattle.adv_base.specs.declared.limits.TheConstants.{MOST_CANDIDATES, MOST_SETS};
@@ -44,8 +44,8 @@ const TRIED_FROM: usize = 9;
 /// The least brokenness of a candidate whose sides are tried.
 const LEAST_BROKEN: u64 = 1000;
 
-/// A node of a plan: the set that gives it the highest value, by its place, and that value, whether something cheaper may be
-/// below, and where it has a branch the candidate's index, else 256, and the places of both sides.
+/// A node of a plan: the set that gives it the highest value, by its place, and that value, whether something cheaper
+/// may be below, and where it has a branch the candidate's index, else 256, and the places of both sides.
 #[derive(Clone, Copy)]
 pub(crate) struct Step {
     pub fix: Fix,
@@ -142,8 +142,8 @@ fn keep_back(task: &Task<'_>, others: &mut Vec<Multipliers>, own: Multipliers)
     }
 }
 
-/// The cheaper of the configuration that is known and of one that is rounded from shares, and bettered by exchanges where it
-/// is new and near to that.
+/// The cheaper of the configuration that is known and of one that is rounded from shares, and bettered by exchanges
+/// where it is new and near to that.
 pub(crate) fn better(
     task: &Task<'_>,
     known: Costed,
@@ -209,8 +209,8 @@ fn added(
     leaf(fix, Best { set, value }, !reaches(value, known.cost))
 }
 
-/// A node of the plan, with a set of its own where the others leave it open, its other side isn't closed, and one more set may
-/// be kept.
+/// A node of the plan, with a set of its own where the others leave it open, its other side isn't closed, and one more
+/// set may be kept.
 fn grown(
     task: &Task<'_>,
     fix: &Fix,
@@ -254,7 +254,8 @@ fn grown(
     }
 }
 
-/// The shares of the candidates that are open and useful at a node, under the set that gives it the highest value; 0 for others.
+/// The shares of the candidates that are open and useful at a node, under the set that gives it the highest value; 0
+/// for others.
 fn open_shares(
     scope: &Scope<'_>,
     fix: &Fix,
@@ -347,8 +348,8 @@ fn tried_promise(
     outside.saturating_mul(inside)
 }
 
-/// The candidate whose branch promises most by short ascents on both sides, of the most broken ones; `index` where none is
-/// broken.
+/// The candidate whose branch promises most by short ascents on both sides, of the most broken ones; `index` where none
+/// is broken.
 fn tried_choice(
     task: &Task<'_>,
     step: &Step,

@@ -19,15 +19,15 @@ use bip_model::{Multipliers, Node, Programme, grant_count};
 use lagrange_bound::{Ascent, CheaperParts, Ledger};
 use std::alloc::Global;
 
-/// All the memory that a search takes, in bytes: 4 for each node of its budget; 8 for each grant of the programme in each set of
-/// multipliers, of which there are zeros, one that is worked on and as many as `set_limit` says, so that these are at most
-/// 1500000 numbers or one set; 144 for each part, 208 for each candidate and 3 thousand in each of as many guides and one more;
-/// 17 for each part and 5 thousand in each of 17 ledgers; 8 for each part and 256 thousand for the parts that each candidate can
-/// make cheaper; for an ascent at most 44 for each grant, 40 for each part, and 16 for each template, for each order of each slot and for
-/// each price of a grant below what exists; for what candidates offer 48 for each part, and 24 for each order of a slot and for
-/// each price of a grant below what exists and 16 for each template, of each of which at most 131072 are listed; and 220
-/// thousand for the plan. With a million nodes, 1000 parts of 4096 templates, and 512000 grants of 9 prices each, that is some
-/// 196 million.
+/// All the memory that a search takes, in bytes: 4 for each node of its budget; 8 for each grant of the programme in
+/// each set of multipliers, of which there are zeros, one that is worked on and as many as `set_limit` says, so that
+/// these are at most 1500000 numbers or one set; 144 for each part, 208 for each candidate and 3 thousand in each of as
+/// many guides and one more; 17 for each part and 5 thousand in each of 17 ledgers; 8 for each part and 256 thousand
+/// for the parts that each candidate can make cheaper; for an ascent at most 44 for each grant, 40 for each part, and
+/// 16 for each template, for each order of each slot and for each price of a grant below what exists; for what
+/// candidates offer 48 for each part, and 24 for each order of a slot and for each price of a grant below what exists
+/// and 16 for each template, of each of which at most 131072 are listed; and 220 thousand for the plan. With a million
+/// nodes, 1000 parts of 4096 templates, and 512000 grants of 9 prices each, that is some 196 million.
 #[derive(Drop)]
 pub struct Room {
     pub(crate) tree: Vec<Node>,
@@ -41,8 +41,8 @@ pub struct Room {
     pub(crate) ledgers: Vec<Ledger>,
 }
 
-/// How many sets of multipliers a search of a programme may keep: 16, or fewer where these were more rents than an answer
-/// may have, and at least one.
+/// How many sets of multipliers a search of a programme may keep: 16, or fewer where these were more rents than an
+/// answer may have, and at least one.
 pub(crate) fn set_limit(programme: &Programme) -> usize
     ensures { IsSetLimit programme.now result }
 {

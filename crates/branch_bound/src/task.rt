@@ -9,9 +9,9 @@ use crate::offers::Offers;
 use adv_base::limits::MOST_CANDIDATES;
 use bip_model::{Fix, Multipliers, Programme};
 
-/// The programme, what its candidates offer, the budget of pages, the root of the search and the configuration that it has in,
-/// which candidates are useful and whether these are few, multipliers of zeros, and how many sets of multipliers a search may
-/// keep.
+/// The programme, what its candidates offer, the budget of pages, the root of the search and the configuration that it
+/// has in, which candidates are useful and whether these are few, multipliers of zeros, and how many sets of
+/// multipliers a search may keep.
 #[derive(Drop)]
 pub(crate) struct Task<'a> {
     pub programme: &'a Programme,
