@@ -1,7 +1,7 @@
--- The columns of orders, side by side.
-use Rattle.std.proofs.Common.{◌≡◌, ◌≢◌, inl, inr, ℕ, ◌+◌, ◌<◌, true, false, List, [], ◌∷◌, ◌++◌, length, get_or, take, All, Some, None, refl, sym, ap, ◌∙◌, subst, arith, add-one}
+-- The columns of orders, and what offers begin with.
+use Rattle.std.proofs.Common.{◌≡◌, ◌≢◌, inl, inr, ℕ, ◌<◌, ◌≤◌, true, false, List, [], ◌∷◌, length, get_or, take, All, Some, None, refl, sym, ap, ◌∙◌, subst, arith}
 use Rattle.std.proofs.lemmas.Bool.{cases_Bool, cases_lt, eqb-true, false≢true}
-use Rattle.std.proofs.lemmas.List.{length_push, get_or_push, get_or_append_left}
+use Rattle.std.proofs.lemmas.List.{get_or_past}
 use Rattle.std.proofs.lemmas.List.Elements.{All-head}
 use Rattle.std.proofs.lemmas.Option.{slice_get-get_or}
 use Rattle.adv_base.specs.declared.workload.parts.Item.TheVariants.{Up, Down, Made}
@@ -11,56 +11,19 @@ use Rattle.adv_base.specs.OfferTables.{order_at, OfferTableLimits}
 use Rattle.adv_base.proofs.Begins.{begins_decides}
 use Rattle.inum_cache.specs.Numbering.{size_in, order_in}
 use Rattle.inum_cache.specs.inner.Keeping.{begins}
-use Rattle.inum_cache.specs.inner.Places.{start_in}
-use Rattle.inum_cache.specs.inner.Columns.{leading_column, column_of, IsColumn, AreColumns, AreSlotColumns}
-use Rattle.inum_cache.proofs.Pricing.{place-below}
+use Rattle.inum_cache.specs.inner.Columns.{leading_column, column_of, IsPlaceOf, ArePlaces, IsOfColumns}
 
--- ## In one list
+-- ## By column
 
-pub columns-none : (orders : List (List Order)) → AreColumns orders [] 0
-columns-none orders = record { count = refl; each = λ slot place below within. absurd (omega (arith, below)) }
-
-pub slot-columns-none : (orders : List (List Order)) (columns : List ℕ) (slot : ℕ) → AreColumns orders columns slot → AreSlotColumns orders columns slot 0
-slot-columns-none orders columns slot are =
-    record { count = omega (arith, are.count); before = are.each; here = λ place below. absurd (omega (arith, below)) }
-
-pub slot-columns-more : (orders : List (List Order)) (columns : List ℕ) (slot n column : ℕ) → column ≡ column_of (order_in orders slot n) → AreSlotColumns orders columns slot n → AreSlotColumns orders (columns ++ column ∷ []) slot (n + 1)
-slot-columns-more orders columns slot n column is are =
-    record {
-      count = (let longer = length_push columns column in omega (arith, longer, are.count));
-      before = λ s place below within.
-          let less : start_in (size_in orders) s + place < start_in (size_in orders) slot = place-below (size_in orders) s place slot below within in
-          get_or_append_left columns (column ∷ []) 0 (start_in (size_in orders) s + place) (omega (arith, less, are.count)) ∙ are.before s place below within;
-      here = λ place below.
-          elim (cases_lt place n) [
-            | inl less ↦
-                get_or_append_left columns (column ∷ []) 0 (start_in (size_in orders) slot + place) (omega (arith, less, are.count)) ∙ are.here place less
-            | inr past ↦
-                let last : n ≡ place = omega (arith, past, below) in
-                subst (λ p. get_or (columns ++ column ∷ []) (start_in (size_in orders) slot + p) 0 ≡ column_of (order_in orders slot p)) last
-                (get_or_push columns column 0 (start_in (size_in orders) slot + n) are.count ∙ is)
-          ];
-    }
-
-pub columns-more : (orders : List (List Order)) (columns : List ℕ) (slot n : ℕ) → n ≡ size_in orders slot → AreSlotColumns orders columns slot n → AreColumns orders columns (slot + 1)
-columns-more orders columns slot n e are =
-    record {
-      count = (let next : start_in (size_in orders) (slot + 1) ≡ start_in (size_in orders) slot + size_in orders slot = ap (start_in (size_in orders)) (add-one slot) in omega (arith, are.count, e, next));
-      each = λ s place below within.
-          elim (cases_lt s slot) [
-            | inl less ↦ are.before s place less within
-            | inr past ↦
-                let same : slot ≡ s = omega (arith, past, below) in
-                subst (λ t. place < size_in orders t → get_or columns (start_in (size_in orders) t + place) 0 ≡ column_of (order_in orders t place)) same
-                (λ inside. are.here place (omega (arith, inside, e))) within
-          ];
-    }
-
--- an order of one column is that of the list
-pub column-listed : (orders : List (List Order)) (columns : List ℕ) (slot place : ℕ) → AreColumns orders columns (length orders) → slot < length orders → place < size_in orders slot → IsColumn slot (order_in orders slot place) → order_in orders slot place ≡ Up slot (get_or columns (start_in (size_in orders) slot + place) 0) ∷ []
-column-listed orders columns slot place are below within one =
-    let listed : get_or columns (start_in (size_in orders) slot + place) 0 ≡ one.column = are.each slot place below within ∙ ap column_of one.is in
-    one.is ∙ ap (λ (c : ℕ). Up slot c ∷ []) (sym listed)
+-- a list has the first place for a column past its end
+pub places-past : (orders : List (List Order)) (places : List ℕ) (slot n : ℕ) → length places ≤ n → 0 < size_in orders slot → ((column : ℕ) → column < n → IsPlaceOf orders slot column (get_or places column 0)) → ArePlaces orders places slot
+places-past orders places slot n past some before column =
+    elim (cases_lt column n) [
+      | inl below ↦ before column below
+      | inr behind ↦
+          subst (IsPlaceOf orders slot column) (sym (get_or_past places column 0 (omega (arith, past, behind))))
+          (record { within = some; is = λ more. absurd (omega (arith, more)) })
+    ]
 
 -- ## What an offer's order begins with
 
@@ -120,3 +83,21 @@ pub order_at-own : (table : OfferTable) (slot offer : ℕ) → OfferTableLimits 
 order_at-own table slot offer limits within =
     let none : Offer = ([], 0) in
     rw (slice_get-get_or (table slot) offer none within) (limits slot offer none within).own
+
+-- it begins with the order at the place that its column has
+pub placed-begins : (orders : List (List Order)) (places : List ℕ) (slot column : ℕ) (o : Order) → IsOfColumns orders places slot → leading_column o ≡ Some column → All (λ item. is_up_of slot item ≡ true) o → 0 < get_or places column 0 → begins o (order_in orders slot (get_or places column 0)) ≡ true
+placed-begins orders places slot column o of' e limits some =
+    subst (λ (order : Order). begins o order ≡ true) (sym ((of'.places_are column).is some)) (column-begins slot column column o e limits refl)
+
+-- and with no other but the first
+pub placed-apart : (orders : List (List Order)) (places : List ℕ) (slot column : ℕ) (o : Order) → IsOfColumns orders places slot → leading_column o ≡ Some column → All (λ item. is_up_of slot item ≡ true) o → (p : ℕ) → 0 < p → p < size_in orders slot → p ≢ get_or places column 0 → begins o (order_in orders slot p) ≡ false
+placed-apart orders places slot column o of' e limits p some within other =
+    let own = of'.found p some within in
+    subst (λ (order : Order). begins o order ≡ false) (sym own.is)
+    (column-apart slot column (column_of (order_in orders slot p)) o e limits (λ same. other (sym own.found ∙ ap (λ c. get_or places c 0) same)))
+
+-- where it begins with no column, it begins with none but the first
+pub unled-placed : (orders : List (List Order)) (places : List ℕ) (slot : ℕ) (o : Order) → IsOfColumns orders places slot → leading_column o ≡ None → All (λ item. is_up_of slot item ≡ true) o → (p : ℕ) → 0 < p → p < size_in orders slot → begins o (order_in orders slot p) ≡ false
+unled-placed orders places slot o of' e limits p some within =
+    let own = of'.found p some within in
+    subst (λ (order : Order). begins o order ≡ false) (sym own.is) (unled-apart slot (column_of (order_in orders slot p)) o e limits)

@@ -35,6 +35,12 @@ place-below sizes slot place n below within =
     let more : start_in sizes (suc slot) ≤ start_in sizes n = start_in-more sizes (suc slot) n (omega (arith, below)) in
     omega (arith, more, within)
 
+-- with what a cache knows of where its slots' orders stand
+pub at-below : (orders : List (List Order)) (starts : List ℕ) (slot place count : ℕ) → ((s : ℕ) → s < length orders → get_or starts s 0 ≡ start_in (size_in orders) s) → count ≡ start_in (size_in orders) (length orders) → slot < length orders → place < size_in orders slot → get_or starts slot 0 + place < count
+at-below orders starts slot place count started counted below within =
+    let less = place-below (size_in orders) slot place (length orders) below within in
+    omega (arith, less, started slot below, counted)
+
 pub start_in-most : (sizes : ℕ → ℕ) (k : ℕ) → ((slot : ℕ) → slot < k → sizes slot ≤ 203) → start_in sizes k ≤ k * 203
 start_in-most sizes zero most = omega arith
 start_in-most sizes (suc k) most =
@@ -65,13 +71,13 @@ place-apart sizes s p slot place inside within apart same =
 pub prices-as : (table : OfferTable) (orders : List (List Order)) (prices : List ℕ) (seen other : ℕ → ℕ → ℕ) → ((s p : ℕ) → s < length orders → p < size_in orders s → price_of_first table s (order_in orders s p) (seen s p) ≡ price_of_first table s (order_in orders s p) (other s p)) → ArePricesOf table orders prices seen → ArePricesOf table orders prices other
 prices-as table orders prices seen other same are = record { each = λ s p below inside. are.each s p below inside ∙ same s p below inside }
 
--- what is written at an order's place is its price
-pub price-set : (table : OfferTable) (orders : List (List Order)) (prices : List ℕ) (slot place at' price : ℕ) (seen other : ℕ → ℕ → ℕ) → at' ≡ start_in (size_in orders) slot + place → place < size_in orders slot → at' < length prices → price ≡ price_of_first table slot (order_in orders slot place) (other slot place) → ((s p : ℕ) → (s ≡ slot → p ≡ place → ⊥) → s < length orders → p < size_in orders s → seen s p ≡ other s p) → ArePricesOf table orders prices seen → ArePricesOf table orders (set prices at' price) other
-price-set table orders prices slot place at' price seen other e within room is same are =
+-- what is written at an order's place is its price, where as many offers as have been seen of the others give theirs
+pub price-put : (table : OfferTable) (orders : List (List Order)) (prices : List ℕ) (slot place at' price : ℕ) (seen other : ℕ → ℕ → ℕ) → at' ≡ start_in (size_in orders) slot + place → place < size_in orders slot → at' < length prices → price ≡ price_of_first table slot (order_in orders slot place) (other slot place) → ((s p : ℕ) → (s ≡ slot → p ≡ place → ⊥) → s < length orders → p < size_in orders s → price_of_first table s (order_in orders s p) (seen s p) ≡ price_of_first table s (order_in orders s p) (other s p)) → ArePricesOf table orders prices seen → ArePricesOf table orders (set prices at' price) other
+price-put table orders prices slot place at' price seen other e within room is same are =
     let left : (s p : ℕ) → (s ≡ slot → p ≡ place → ⊥) → s < length orders → p < size_in orders s → get_or (set prices at' price) (start_in (size_in orders) s + p) 0 ≡ price_of_first table s (order_in orders s p) (other s p) = λ s p apart below inside.
     get_or-set_other prices at' (start_in (size_in orders) s + p) price 0 (λ here. place-apart (size_in orders) s p slot place inside within apart (omega (arith, here, e)))
     ∙ are.each s p below inside
-    ∙ ap (price_of_first table s (order_in orders s p)) (same s p apart below inside) in
+    ∙ same s p apart below inside in
     record {
       each = λ s p below inside.
           elim (cases_eq s slot) [
@@ -86,6 +92,13 @@ price-set table orders prices slot place at' price seen other e within room is s
             | inr apart ↦ left s p (λ slots _. apart slots) below inside
           ];
     }
+
+-- the same, where as many have been seen
+pub price-set : (table : OfferTable) (orders : List (List Order)) (prices : List ℕ) (slot place at' price : ℕ) (seen other : ℕ → ℕ → ℕ) → at' ≡ start_in (size_in orders) slot + place → place < size_in orders slot → at' < length prices → price ≡ price_of_first table slot (order_in orders slot place) (other slot place) → ((s p : ℕ) → (s ≡ slot → p ≡ place → ⊥) → s < length orders → p < size_in orders s → seen s p ≡ other s p) → ArePricesOf table orders prices seen → ArePricesOf table orders (set prices at' price) other
+price-set table orders prices slot place at' price seen other e within room is same are =
+    price-put table orders prices slot place at' price seen other e within room is
+    (λ s p apart below inside. ap (price_of_first table s (order_in orders s p)) (same s p apart below inside))
+    are
 
 -- where all offers have been seen, each price is the best
 pub prices-each : (table : OfferTable) (orders : List (List Order)) (prices : List ℕ) (slot place : ℕ) → ArePrices table orders prices → slot < length orders → place < size_in orders slot → get_or prices (start_in (size_in orders) slot + place) 0 ≡ best_price table slot (order_in orders slot place)

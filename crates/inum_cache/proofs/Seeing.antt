@@ -1,5 +1,5 @@
 -- How many offers have been seen of each order.
-use Rattle.std.proofs.Common.{◌≡◌, ◌≢◌, inl, inr, ℕ, suc, ◌+◌, ◌<◌, ◌≤◌, true, false, List, length, get_or, set, refl, sym, ap, ◌∙◌, subst, arith, add-one}
+use Rattle.std.proofs.Common.{◌≡◌, ◌≢◌, inl, inr, ℕ, ◌+◌, ◌<◌, ◌≤◌, true, false, List, length, get_or, set, refl, sym, ap, ◌∙◌, subst, arith, add-one}
 use Rattle.std.specs.Prelude.{nat_lt, if◌then◌else◌}
 use Rattle.std.proofs.lemmas.Bool.{cases_lt, cases_eq, lt-ltb, le-ltb, eq-eqb, ne_eqb}
 use Rattle.adv_base.specs.Items.{Order}
@@ -8,8 +8,8 @@ use Rattle.adv_base.specs.OfferTables.{price_at, order_at}
 use Rattle.inum_cache.specs.Numbering.{size_in, order_in}
 use Rattle.inum_cache.specs.inner.Keeping.{begins}
 use Rattle.inum_cache.specs.inner.Places.{start_in}
-use Rattle.inum_cache.specs.inner.Pricing.{price_of_first, ArePricesOf, slots_below, slots_and, places_below, offers_below}
-use Rattle.inum_cache.proofs.Pricing.{place-below, prices-as, price-set, one-served, one-passed}
+use Rattle.inum_cache.specs.inner.Pricing.{price_of_first, ArePricesOf, slots_below, slots_and, places_below, but_first}
+use Rattle.inum_cache.proofs.Pricing.{place-below, prices-as, price-set, price-put, one-served, one-passed}
 
 -- ## Of which slots
 
@@ -72,48 +72,17 @@ slot-ends table orders prices slot here all are =
 
 -- ## Of which orders of a slot
 
-offers-at : (n place p : ℕ) → 0 < p → offers_below n place p ≡ (if nat_lt p place then suc n else n)
-offers-at n place p some = rw (ne_eqb p 0 (λ e. omega (arith, e, some))) refl
-
 first-of : (p : ℕ) → p ≤ 0 → p ≡ 0
 first-of p most = omega (arith, most)
 
-pub offers-past : (n p : ℕ) → 0 < p → offers_below n 1 p ≡ n
-offers-past n p some = offers-at n 1 p some ∙ (rw (le-ltb p 1 (omega (arith, some))) refl)
+pub but_first-at : (n p : ℕ) → 0 < p → but_first n p ≡ n
+but_first-at n p some = rw (ne_eqb p 0 (λ e. omega (arith, e, some))) refl
 
-pub offers-before : (n place : ℕ) → 0 < place → offers_below n place place ≡ n
-offers-before n place some = offers-at n place place some ∙ (rw (le-ltb place place (omega arith)) refl)
-
-pub offers-after : (n place : ℕ) → 0 < place → offers_below n (place + 1) place ≡ suc n
-offers-after n place some = offers-at n (place + 1) place some ∙ (rw (lt-ltb place (place + 1) (omega arith)) refl)
-
-pub offers-none : (p : ℕ) → offers_below 0 1 p ≡ 0
-offers-none p =
+pub but_first-none : (p : ℕ) → but_first 0 p ≡ 0
+but_first-none p =
     elim (cases_lt 0 p) [
-      | inl some ↦ offers-past 0 p some
-      | inr first ↦ subst (λ q. offers_below 0 1 q ≡ 0) (sym (first-of p first)) refl
-    ]
-
-pub offers-all : (n size p : ℕ) → p < size → offers_below n size p ≡ offers_below (n + 1) 1 p
-offers-all n size p below =
-    elim (cases_lt 0 p) [
-      | inl some ↦
-          offers-at n size p some ∙ (rw (lt-ltb p size below) (sym (add-one n))) ∙ sym (offers-past (n + 1) p some)
-      | inr first ↦ subst (λ q. offers_below n size q ≡ offers_below (n + 1) 1 q) (sym (first-of p first)) refl
-    ]
-
-pub offers-other : (n place p : ℕ) → p ≢ place → offers_below n place p ≡ offers_below n (place + 1) p
-offers-other n place p other =
-    elim (cases_lt 0 p) [
-      | inr first ↦ subst (λ q. offers_below n place q ≡ offers_below n (place + 1) q) (sym (first-of p first)) refl
-      | inl some ↦
-          let same : (if nat_lt p place then suc n else n) ≡ (if nat_lt p (place + 1) then suc n else n) = elim (cases_lt p place) [
-            | inl before ↦ rw (lt-ltb p place before, lt-ltb p (place + 1) (omega (arith, before))) refl
-            | inr past ↦
-                let behind : place + 1 ≤ p = elim (cases_lt place p) [ inl more ↦ omega (arith, more) | inr not_more ↦ absurd (other (omega (arith, past, not_more))) ] in
-                rw (le-ltb p place past, le-ltb p (place + 1) behind) refl
-          ] in
-          offers-at n place p some ∙ same ∙ sym (offers-at n (place + 1) p some)
+      | inl some ↦ but_first-at 0 p some
+      | inr first ↦ subst (λ q. but_first 0 q ≡ 0) (sym (first-of p first)) refl
     ]
 
 pub places-none : (all p : ℕ) → places_below all 0 p ≡ 0
@@ -133,87 +102,57 @@ places-in all place p below = rw (lt-ltb p place below) refl
 
 -- ## One offer after the other
 
--- one more has been seen of an order with which it begins
-pub offer-served : (table : OfferTable) (orders : List (List Order)) (prices : List ℕ) (slot place at' n price : ℕ) → at' ≡ start_in (size_in orders) slot + place → slot < length orders → 0 < place → place < size_in orders slot → at' < length prices → begins (order_at table slot n) (order_in orders slot place) ≡ true → price ≡ price_at table slot n → ArePricesOf table orders prices (slots_and table slot (offers_below n place)) → ArePricesOf table orders (set prices at' (if nat_lt price (get_or prices at' 0) then price else get_or prices at' 0)) (slots_and table slot (offers_below n (place + 1)))
-offer-served table orders prices slot place at' n price e below some within room yes' is are =
-    let order = order_in orders slot place in
-    let old : get_or prices at' 0 ≡ price_of_first table slot order n =
-    ap (λ (i : ℕ). get_or prices i 0) e ∙ are.each slot place below within
-    ∙ ap (price_of_first table slot order) (slots-here table slot (offers_below n place) place ∙ offers-before n place some) in
-    let lowered : (if nat_lt price (get_or prices at' 0) then price else get_or prices at' 0) ≡ price_of_first table slot order (slots_and table slot (offers_below n (place + 1)) slot place) =
-    ap (λ (x : ℕ). if nat_lt price x then price else x) old
-    ∙ sym (one-served table slot order n price yes' is)
-    ∙ ap (price_of_first table slot order) (sym (slots-here table slot (offers_below n (place + 1)) place ∙ offers-after n place some)) in
-    price-set table orders prices slot place at' (if nat_lt price (get_or prices at' 0) then price else get_or prices at' 0) (slots_and table slot (offers_below n place)) (slots_and table slot (offers_below n (place + 1))) e within room lowered
-    (λ s p apart _ _. slots-same table slot (offers_below n place) (offers_below n (place + 1)) s p (λ slots. offers-other n place p (apart slots)))
-    are
-
--- and of one with which it doesn't
-pub offer-passed : (table : OfferTable) (orders : List (List Order)) (prices : List ℕ) (slot place n : ℕ) → 0 < place → begins (order_at table slot n) (order_in orders slot place) ≡ false → ArePricesOf table orders prices (slots_and table slot (offers_below n place)) → ArePricesOf table orders prices (slots_and table slot (offers_below n (place + 1)))
-offer-passed table orders prices slot place n some none are =
-    prices-as table orders prices (slots_and table slot (offers_below n place)) (slots_and table slot (offers_below n (place + 1)))
-    (λ s p _ _.
-    elim (cases_eq p place) [
-      | inr other ↦
-          ap (price_of_first table s (order_in orders s p)) (slots-same table slot (offers_below n place) (offers_below n (place + 1)) s p (λ _. offers-other n place p other))
-      | inl places ↦
-          elim (cases_eq s slot) [
-            | inr other ↦
-                ap (price_of_first table s (order_in orders s p)) (slots-same table slot (offers_below n place) (offers_below n (place + 1)) s p (λ slots. absurd (other slots)))
-            | inl slots ↦
-                subst (λ t. price_of_first table t (order_in orders t p) (slots_and table slot (offers_below n place) t p) ≡ price_of_first table t (order_in orders t p) (slots_and table slot (offers_below n (place + 1)) t p)) (sym slots)
-                (subst (λ q. price_of_first table slot (order_in orders slot q) (slots_and table slot (offers_below n place) slot q) ≡ price_of_first table slot (order_in orders slot q) (slots_and table slot (offers_below n (place + 1)) slot q)) (sym places)
-                (ap (price_of_first table slot (order_in orders slot place)) (slots-here table slot (offers_below n place) place ∙ offers-before n place some)
-                ∙ sym (one-passed table slot (order_in orders slot place) n none)
-                ∙ ap (price_of_first table slot (order_in orders slot place)) (sym (slots-here table slot (offers_below n (place + 1)) place ∙ offers-after n place some))))
-          ]
-    ])
-    are
-
--- it has been seen of all orders of the slot
-pub offer-ends : (table : OfferTable) (orders : List (List Order)) (prices : List ℕ) (slot n size : ℕ) → size ≡ size_in orders slot → ArePricesOf table orders prices (slots_and table slot (offers_below n size)) → ArePricesOf table orders prices (slots_and table slot (offers_below (n + 1) 1))
-offer-ends table orders prices slot n size e are =
-    prices-as table orders prices (slots_and table slot (offers_below n size)) (slots_and table slot (offers_below (n + 1) 1))
-    (λ s p _ inside. ap (price_of_first table s (order_in orders s p))
-    (slots-same table slot (offers_below n size) (offers_below (n + 1) 1) s p
-    (λ slots. offers-all n size p (subst (λ k. p < k) (sym e) (subst (λ t. p < size_in orders t) slots inside)))))
-    are
-
--- no order but the first is one with which it begins
-pub offer-unserved : (table : OfferTable) (orders : List (List Order)) (prices : List ℕ) (slot n : ℕ) → ((p : ℕ) → 0 < p → p < size_in orders slot → begins (order_at table slot n) (order_in orders slot p) ≡ false) → ArePricesOf table orders prices (slots_and table slot (offers_below n 1)) → ArePricesOf table orders prices (slots_and table slot (offers_below (n + 1) 1))
-offer-unserved table orders prices slot n none are =
-    prices-as table orders prices (slots_and table slot (offers_below n 1)) (slots_and table slot (offers_below (n + 1) 1))
-    (λ s p _ inside.
+-- an order with which it doesn't begin costs as much with it as without
+passed-at : (table : OfferTable) (orders : List (List Order)) (slot n s p : ℕ) → (s ≡ slot → 0 < p → begins (order_at table slot n) (order_in orders slot p) ≡ false) → price_of_first table s (order_in orders s p) (slots_and table slot (but_first n) s p) ≡ price_of_first table s (order_in orders s p) (slots_and table slot (but_first (n + 1)) s p)
+passed-at table orders slot n s p none =
     elim (cases_eq s slot) [
       | inr other ↦
-          ap (price_of_first table s (order_in orders s p)) (slots-same table slot (offers_below n 1) (offers_below (n + 1) 1) s p (λ slots. absurd (other slots)))
+          ap (price_of_first table s (order_in orders s p)) (slots-same table slot (but_first n) (but_first (n + 1)) s p (λ slots. absurd (other slots)))
       | inl slots ↦
           elim (cases_lt 0 p) [
             | inr first ↦
-                let zero' : p ≡ 0 = omega (arith, first) in
-                ap (price_of_first table s (order_in orders s p)) (slots-same table slot (offers_below n 1) (offers_below (n + 1) 1) s p (λ _. subst (λ q. offers_below n 1 q ≡ offers_below (n + 1) 1 q) (sym zero') refl))
+                ap (price_of_first table s (order_in orders s p)) (slots-same table slot (but_first n) (but_first (n + 1)) s p (λ _. subst (λ q. but_first n q ≡ but_first (n + 1) q) (sym (first-of p first)) refl))
             | inl some ↦
-                subst (λ t. p < size_in orders t → price_of_first table t (order_in orders t p) (slots_and table slot (offers_below n 1) t p) ≡ price_of_first table t (order_in orders t p) (slots_and table slot (offers_below (n + 1) 1) t p)) (sym slots)
-                (λ within.
-                ap (price_of_first table slot (order_in orders slot p)) (slots-here table slot (offers_below n 1) p ∙ offers-past n p some)
-                ∙ sym (one-passed table slot (order_in orders slot p) n (none p some within))
-                ∙ ap (price_of_first table slot (order_in orders slot p)) (sym (slots-here table slot (offers_below (n + 1) 1) p ∙ offers-past (n + 1) p some ∙ add-one n)))
-                inside
+                subst (λ t. price_of_first table t (order_in orders t p) (slots_and table slot (but_first n) t p) ≡ price_of_first table t (order_in orders t p) (slots_and table slot (but_first (n + 1)) t p)) (sym slots)
+                (ap (price_of_first table slot (order_in orders slot p)) (slots-here table slot (but_first n) p ∙ but_first-at n p some)
+                ∙ sym (one-passed table slot (order_in orders slot p) n (none slots some))
+                ∙ ap (price_of_first table slot (order_in orders slot p)) (sym (slots-here table slot (but_first (n + 1)) p ∙ but_first-at (n + 1) p some ∙ add-one n)))
           ]
-    ])
+    ]
+
+-- it begins with one order alone but the first, whose price it lowers
+pub offer-served : (table : OfferTable) (orders : List (List Order)) (prices : List ℕ) (slot place at' n price : ℕ) → at' ≡ start_in (size_in orders) slot + place → slot < length orders → 0 < place → place < size_in orders slot → at' < length prices → begins (order_at table slot n) (order_in orders slot place) ≡ true → price ≡ price_at table slot n → ((p : ℕ) → 0 < p → p < size_in orders slot → p ≢ place → begins (order_at table slot n) (order_in orders slot p) ≡ false) → ArePricesOf table orders prices (slots_and table slot (but_first n)) → ArePricesOf table orders (set prices at' (if nat_lt price (get_or prices at' 0) then price else get_or prices at' 0)) (slots_and table slot (but_first (n + 1)))
+offer-served table orders prices slot place at' n price e below some within room yes' is none are =
+    let order = order_in orders slot place in
+    let old : get_or prices at' 0 ≡ price_of_first table slot order n =
+    ap (λ (i : ℕ). get_or prices i 0) e ∙ are.each slot place below within
+    ∙ ap (price_of_first table slot order) (slots-here table slot (but_first n) place ∙ but_first-at n place some) in
+    let lowered : (if nat_lt price (get_or prices at' 0) then price else get_or prices at' 0) ≡ price_of_first table slot order (slots_and table slot (but_first (n + 1)) slot place) =
+    ap (λ (x : ℕ). if nat_lt price x then price else x) old
+    ∙ sym (one-served table slot order n price yes' is)
+    ∙ ap (price_of_first table slot order) (sym (slots-here table slot (but_first (n + 1)) place ∙ but_first-at (n + 1) place some ∙ add-one n)) in
+    price-put table orders prices slot place at' (if nat_lt price (get_or prices at' 0) then price else get_or prices at' 0) (slots_and table slot (but_first n)) (slots_and table slot (but_first (n + 1))) e within room lowered
+    (λ s p apart _ inside. passed-at table orders slot n s p (λ slots behind. none p behind (subst (λ t. p < size_in orders t) slots inside) (apart slots)))
+    are
+
+-- it begins with no order but the first
+pub offer-unserved : (table : OfferTable) (orders : List (List Order)) (prices : List ℕ) (slot n : ℕ) → ((p : ℕ) → 0 < p → p < size_in orders slot → begins (order_at table slot n) (order_in orders slot p) ≡ false) → ArePricesOf table orders prices (slots_and table slot (but_first n)) → ArePricesOf table orders prices (slots_and table slot (but_first (n + 1)))
+offer-unserved table orders prices slot n none are =
+    prices-as table orders prices (slots_and table slot (but_first n)) (slots_and table slot (but_first (n + 1)))
+    (λ s p _ inside. passed-at table orders slot n s p (λ slots some. none p some (subst (λ t. p < size_in orders t) slots inside)))
     are
 
 -- ## Whole slots
 
 -- all offers have been seen of a slot's orders, with the least price of all as that of the first
-pub row-ends : (table : OfferTable) (orders : List (List Order)) (prices : List ℕ) (slot at' n least : ℕ) → at' ≡ start_in (size_in orders) slot → 0 < size_in orders slot → at' < length prices → n ≡ length (table slot) → least ≡ price_of_first table slot (order_in orders slot 0) n → ArePricesOf table orders prices (slots_and table slot (offers_below n 1)) → ArePricesOf table orders (set prices at' least) (slots_below table (slot + 1))
+pub row-ends : (table : OfferTable) (orders : List (List Order)) (prices : List ℕ) (slot at' n least : ℕ) → at' ≡ start_in (size_in orders) slot → 0 < size_in orders slot → at' < length prices → n ≡ length (table slot) → least ≡ price_of_first table slot (order_in orders slot 0) n → ArePricesOf table orders prices (slots_and table slot (but_first n)) → ArePricesOf table orders (set prices at' least) (slots_below table (slot + 1))
 row-ends table orders prices slot at' n least e some room all is are =
     let whole : slots_below table (slot + 1) slot 0 ≡ n = rw (lt-ltb slot (slot + 1) (omega arith)) (sym all) in
-    price-set table orders prices slot 0 at' least (slots_and table slot (offers_below n 1)) (slots_below table (slot + 1)) (omega (arith, e)) some room
+    price-set table orders prices slot 0 at' least (slots_and table slot (but_first n)) (slots_below table (slot + 1)) (omega (arith, e)) some room
     (is ∙ ap (price_of_first table slot (order_in orders slot 0)) (sym whole))
-    (λ s p apart _ _. ends-at table slot (offers_below n 1) s p (λ slots.
+    (λ s p apart _ _. ends-at table slot (but_first n) s p (λ slots.
     let behind : 0 < p = elim (cases_lt 0 p) [ inl l ↦ l | inr m ↦ absurd (apart slots (omega (arith, m))) ] in
-    offers-past n p behind ∙ all))
+    but_first-at n p behind ∙ all))
     are
 
 -- the best price of one order more

@@ -64,14 +64,14 @@ fn made(alloc: Global, task: &Task, count: usize) -> Result<Cache, NoMemory>
     let choices = choices_of(alloc, task)?;
     let templates = templates_of(alloc, task, &choices, count)?;
     let (starts, count) = choices.starts();
-    let columns = choices.columns(alloc, count)?;
-    let of_columns = choices.of_columns();
+    let places = choices.places_by_column(alloc)?;
+    let of_columns = choices.of_columns(&places);
     Ok(Cache {
         choices,
         templates,
         starts,
         count,
-        columns,
+        places,
         of_columns,
     })
 }
@@ -79,8 +79,7 @@ fn made(alloc: Global, task: &Task, count: usize) -> Result<Cache, NoMemory>
 /// The cache of a task: one template for each combination of interesting orders that no weaker one replaces, where one
 /// is weaker if it asks of each slot for a front of what the other asks, and replaces it if it costs no more. Costs come
 /// from one search, whose table keeps the rows of the slots whose orders stay from one combination to the next (INUM's
-/// cache, over System R's interesting orders). Beside the templates it takes one number for each combination, and two
-/// bytes for each order. `TooManyCombinations` comes where the task has more than `MOST_COMBINATIONS`, with their number;
+/// cache, over System R's interesting orders). Beside the cache it takes one number for each combination. `TooManyCombinations` comes where the task has more than `MOST_COMBINATIONS`, with their number;
 /// `Memory` is want of memory.
 pub fn build(alloc: Global, task: &Task) -> Result<Cache, CacheFault>
     ensures made { IfOk result (λ cache. caches.IsCacheOf task.now cache) }

@@ -1,8 +1,8 @@
 //! The cache of a task.
-ghost use Rattle.std.specs.Prelude.{◌≡◌, ℕ, ◌+◌, ◌<◌, true, false, [], ◌∷◌, All, length, slice_index_or};
-ghost use Rattle.adv_base.specs.declared.workload.parts.Item.TheVariants.{Up};
-ghost use Rattle.inum_cache.specs.Numbering.{size_in, order_in};
+ghost use Rattle.std.specs.Prelude.{◌≡◌, ℕ, ◌<◌, true, false, [], All, length, slice_index_or};
+ghost use Rattle.inum_cache.specs.Numbering.{size_in};
 ghost use Rattle.inum_cache.specs.Templates.{FitsOrders};
+ghost use Rattle.inum_cache.specs.inner.Columns.{IsOfColumns};
 ghost use Rattle.inum_cache.specs.inner.Places.{start_in};
 
 use crate::choices::Choices;
@@ -11,7 +11,8 @@ use plan_model::Template;
 
 /// The templates of a task, after INUM's cache of plans: for each combination of interesting orders, one for each slot,
 /// that no weaker one replaces at most at its cost, what a least plan costs above leaves that deliver these orders. It
-/// keeps no query and no rows; for look-ups it has two bytes for each order beside.
+/// keeps no query and no rows: a template is 32 bytes; for look-ups each slot has beside one byte for each of its columns
+/// up to the last that begins one of its orders, at most 200.
 #[derive(Drop)]
 pub struct Cache {
     pub(crate) choices: Choices,
@@ -20,15 +21,15 @@ pub struct Cache {
     pub(crate) starts: [usize; 8],
     /// How many orders the slots have.
     pub(crate) count: usize,
-    /// The column by which each order begins, slot by slot.
-    pub(crate) columns: List<u16>,
-    /// Whether each order of a slot but the first is one column.
+    /// For each slot and column, the place of the order that begins with it; 0 where none does.
+    pub(crate) places: List<List<u8>>,
+    /// Whether each order of a slot but the first is one column, and is found by it.
     pub(crate) of_columns: [bool; 8],
     pub ghost fit: { All (FitsOrders choices.orders) templates },
     ghost started: { (slot : ℕ) → slot < length choices.orders → slice_index_or starts slot 0 ≡ start_in (size_in choices.orders) slot },
     ghost counted: { count ≡ start_in (size_in choices.orders) (length choices.orders) },
-    ghost columned: { length columns ≡ count },
-    ghost single: { (slot place : ℕ) → slot < length choices.orders → slice_index_or of_columns slot false ≡ true → 0 < place → place < size_in choices.orders slot → order_in choices.orders slot place ≡ Up slot (slice_index_or columns (start_in (size_in choices.orders) slot + place) 0) ∷ [] },
+    ghost placed: { length places ≡ length choices.orders },
+    ghost single: { (slot : ℕ) → slot < length choices.orders → slice_index_or of_columns slot false ≡ true → IsOfColumns choices.orders (slice_index_or places slot []) slot },
 }
 
 impl Cache {

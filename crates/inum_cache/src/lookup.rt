@@ -32,32 +32,16 @@ impl Cache {
         self.least_sum(prices, base)
     }
 
-    fn cost_of_few<O: Offers>(&self, offers: &O) -> u128
-        requires room { self.now.count ≤ FEW }
+    /// The same, with room of its own for so many prices.
+    #[inline(never)]
+    fn cost_in<O: Offers, const ROOM: usize>(&self, offers: &O) -> u128
+        requires room { self.now.count ≤ ROOM }
+        requires most { ROOM ≤ MANY }
         requires plain { HavePlain self.now (O.table offers.now) }
         ensures cached { (task : Task) → IsCacheOf task self.now → CachedBy (IsIn task self.now.templates) task (O.table offers.now) result }
         ensures least { (task : Task) → IsCacheOf task self.now → Least task (O.table offers.now) result }
     {
-        let mut prices = [UNOFFERED; FEW];
-        self.least_over(offers, &mut prices)
-    }
-
-    fn cost_of_some<O: Offers>(&self, offers: &O) -> u128
-        requires room { self.now.count ≤ SOME }
-        requires plain { HavePlain self.now (O.table offers.now) }
-        ensures cached { (task : Task) → IsCacheOf task self.now → CachedBy (IsIn task self.now.templates) task (O.table offers.now) result }
-        ensures least { (task : Task) → IsCacheOf task self.now → Least task (O.table offers.now) result }
-    {
-        let mut prices = [UNOFFERED; SOME];
-        self.least_over(offers, &mut prices)
-    }
-
-    fn cost_of_many<O: Offers>(&self, offers: &O) -> u128
-        requires { HavePlain self.now (O.table offers.now) }
-        ensures cached { (task : Task) → IsCacheOf task self.now → CachedBy (IsIn task self.now.templates) task (O.table offers.now) result }
-        ensures least { (task : Task) → IsCacheOf task self.now → Least task (O.table offers.now) result }
-    {
-        let mut prices = [UNOFFERED; MANY];
+        let mut prices = [UNOFFERED; ROOM];
         self.least_over(offers, &mut prices)
     }
 
@@ -70,11 +54,11 @@ impl Cache {
         ensures least { (task : Task) → IsCacheOf task self.now → Least task (O.table offers.now) result }
     {
         if self.count <= FEW {
-            self.cost_of_few(offers)
+            self.cost_in::<O, FEW>(offers)
         } else if self.count <= SOME {
-            self.cost_of_some(offers)
+            self.cost_in::<O, SOME>(offers)
         } else {
-            self.cost_of_many(offers)
+            self.cost_in::<O, MANY>(offers)
         }
     }
 }

@@ -1,5 +1,5 @@
 //! The least prices at which slots give orders.
-ghost use Rattle.std.specs.Prelude.{◌≡◌, ◌≢◌, ◌<◌, nat_lt, if◌then◌else◌, length, set, slice_index_or};
+ghost use Rattle.std.specs.Prelude.{◌≡◌, ◌<◌, nat_lt, if◌then◌else◌, length, set, slice_index_or};
 ghost use Rattle.inum_cache.specs.inner.Pricing as pricing;
 
 use crate::fronts::begins;
@@ -40,14 +40,11 @@ pub(crate) fn best_price<O: Offers>(offers: &O, slot: u8, order: &[Item]) -> u64
     best
 }
 
-/// Lowers the price at a place to this one, where its order is of this column.
+/// Lowers the price at a place to this one.
 #[inline]
-pub(crate) fn lower_at(prices: &mut [u64], at: usize, own: u16, column: u16, price: u64)
+pub(crate) fn lower_at(prices: &mut [u64], at: usize, price: u64)
     requires { at < length prices.old }
-    ensures same { own ≡ column → prices.new ≡ set prices.old at (if nat_lt price (slice_index_or prices.old at 0) then price else slice_index_or prices.old at 0) }
-    ensures other { own ≢ column → prices.new ≡ prices.old }
+    ensures { prices.new ≡ set prices.old at (if nat_lt price (slice_index_or prices.old at 0) then price else slice_index_or prices.old at 0) }
 {
-    if own == column {
-        prices[at] = lower(prices[at], price);
-    }
+    prices[at] = lower(prices[at], price);
 }

@@ -5,12 +5,22 @@ ghost use Rattle.plan_model.specs.Exchange.{sum_below};
 ghost use Rattle.inum_cache.specs.inner.Pricing as pricing;
 
 use crate::cache::Cache;
+use crate::columns::place_for;
 use crate::fronts::leading_column;
 use crate::prices::{UNOFFERED, best_price, lower, lower_at};
 use plan_model::Offers;
 
 impl Cache {
-    /// Lowers the prices of the orders with which an offer of this price begins, but for the first, with which each does.
+    /// The place of a slot's order that is this column; 0 where none is.
+    #[inline]
+    fn place_of(&self, slot: u8, column: u16) -> u8
+        requires { slot < length self.now.choices.orders }
+        ensures { result ≡ slice_index_or (slice_index_or self.now.places slot []) column 0 }
+    {
+        place_for(self.places.as_slice()[slot as usize].as_slice(), column)
+    }
+
+    /// Lowers the price of the order with which an offer of this price begins, but for the first, with which each does.
     #[inline]
     fn lower_by<O: Offers>(&self, offers: &O, prices: &mut [u64], slot: u8, offer: u32, price: u64)
         requires slot { slot < length self.now.choices.orders }
@@ -19,17 +29,16 @@ impl Cache {
         requires limits { OfferTableLimits (O.table offers.now) }
         requires offer { offer < length (O.table offers.now slot) }
         requires price { price ≡ price_at (O.table offers.now) slot offer }
-        requires before { pricing.ArePricesOf (O.table offers.now) self.now.choices.orders prices.old (pricing.slots_and (O.table offers.now) slot (pricing.offers_below offer 1)) }
-        ensures { pricing.ArePricesOf (O.table offers.now) self.now.choices.orders prices.new (pricing.slots_and (O.table offers.now) slot (pricing.offers_below (offer + 1) 1)) }
+        requires before { pricing.ArePricesOf (O.table offers.now) self.now.choices.orders prices.old (pricing.slots_and (O.table offers.now) slot (pricing.but_first offer)) }
+        ensures { pricing.ArePricesOf (O.table offers.now) self.now.choices.orders prices.new (pricing.slots_and (O.table offers.now) slot (pricing.but_first (offer + 1))) }
     {
         let Some(column) = leading_column(offers.order(slot, offer)) else {
             return;
         };
-        let start = self.starts[slot as usize];
-        let columns = self.columns.as_slice();
-        for place in 1..self.choices.size(slot) {
-            let at = start + place;
-            lower_at(prices, at, columns[at], column, price);
+        let place = self.place_of(slot, column);
+        if place > 0 {
+            let at = self.starts[slot as usize] + place as usize;
+            lower_at(prices, at, price);
         }
     }
 

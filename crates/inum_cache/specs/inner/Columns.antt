@@ -1,9 +1,8 @@
 -- The columns of orders.
-use Rattle.std.specs.Prelude.{◌≡◌, ℕ, ◌+◌, ◌<◌, List, [], ◌∷◌, length, Option, Some, None, slice_index_or}
+use Rattle.std.specs.Prelude.{◌≡◌, ℕ, ◌<◌, List, [], ◌∷◌, Option, Some, None, slice_index_or}
 use Rattle.adv_base.specs.declared.workload.parts.Item.TheVariants.{Up}
 use Rattle.adv_base.specs.Items.{Order}
 use Rattle.inum_cache.specs.Numbering.{size_in, order_in}
-use Rattle.inum_cache.specs.inner.Places.{start_in}
 
 -- the column of an order's first item, where it is one, upwards
 abbrev pub leading_column : Order → Option ℕ
@@ -16,21 +15,28 @@ column_of (Up slot column ∷ rest) = column
 column_of order = 0
 
 -- an order is one upward column of a slot
-pub record IsColumn (slot : ℕ) (order : Order) : Type 0 where
-  pub column : ℕ
-  pub is : order ≡ Up slot column ∷ []
+abbrev pub IsColumn : ℕ → ℕ → Order → Type 0
+IsColumn slot column order = order ≡ Up slot column ∷ []
 
--- each order of a slot but the first is
-abbrev pub IsOfColumns : List (List Order) → ℕ → Type 0
-IsOfColumns orders slot = (place : ℕ) → 0 < place → place < size_in orders slot → IsColumn slot (order_in orders slot place)
+-- an order is one upward column of a slot, for which the list has this place
+pub record IsFound (places : List ℕ) (slot place : ℕ) (order : Order) : Type 0 where
+  pub is : IsColumn slot (column_of order) order
+  pub found : slice_index_or places (column_of order) 0 ≡ place
 
--- the columns of the orders of the slots below k, slot by slot
-pub record AreColumns (orders : List (List Order)) (columns : List ℕ) (k : ℕ) : Type 0 where
-  pub count : length columns ≡ start_in (size_in orders) k
-  pub each : (slot place : ℕ) → slot < k → place < size_in orders slot → slice_index_or columns (start_in (size_in orders) slot + place) 0 ≡ column_of (order_in orders slot place)
+-- each order of a slot but the first is so
+abbrev pub AreFound : List (List Order) → List ℕ → ℕ → Type 0
+AreFound orders places slot = (place : ℕ) → 0 < place → place < size_in orders slot → IsFound places slot place (order_in orders slot place)
 
--- and those of the first n orders of one slot more
-pub record AreSlotColumns (orders : List (List Order)) (columns : List ℕ) (slot n : ℕ) : Type 0 where
-  pub count : length columns ≡ start_in (size_in orders) slot + n
-  pub before : (s place : ℕ) → s < slot → place < size_in orders s → slice_index_or columns (start_in (size_in orders) s + place) 0 ≡ column_of (order_in orders s place)
-  pub here : (place : ℕ) → place < n → slice_index_or columns (start_in (size_in orders) slot + place) 0 ≡ column_of (order_in orders slot place)
+-- a place is the first of a slot's orders, or that of an order that is this column
+pub record IsPlaceOf (orders : List (List Order)) (slot column place : ℕ) : Type 0 where
+  pub within : place < size_in orders slot
+  pub is : 0 < place → IsColumn slot column (order_in orders slot place)
+
+-- each place that a list has for a column is so
+abbrev pub ArePlaces : List (List Order) → List ℕ → ℕ → Type 0
+ArePlaces orders places slot = (column : ℕ) → IsPlaceOf orders slot column (slice_index_or places column 0)
+
+-- each order of a slot but the first is one column, and is found by it in the list
+pub record IsOfColumns (orders : List (List Order)) (places : List ℕ) (slot : ℕ) : Type 0 where
+  pub found : AreFound orders places slot
+  pub places_are : ArePlaces orders places slot

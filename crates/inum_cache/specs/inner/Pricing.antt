@@ -45,9 +45,9 @@ slots_and table k here slot place = if nat_lt slot k then length (table slot) el
 abbrev pub places_below : ℕ → ℕ → ℕ → ℕ
 places_below all place p = if nat_lt p place then all else 0
 
--- n for each order but the first, and one more for those below a place
-abbrev pub offers_below : ℕ → ℕ → ℕ → ℕ
-offers_below n place p = if p == 0 then 0 else if nat_lt p place then suc n else n
+-- n for each order but the first
+abbrev pub but_first : ℕ → ℕ → ℕ
+but_first n p = if p == 0 then 0 else n
 
 -- the prices of all orders
 abbrev pub ArePrices : OfferTable → List (List Order) → List ℕ → Type 0

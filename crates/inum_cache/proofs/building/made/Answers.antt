@@ -1,7 +1,6 @@
-use Rattle.std.proofs.Common.{slice_index_or, arith}
+use Rattle.std.proofs.Common.{slice_index_or}
 use Rattle.std.proofs.lemmas.Option.{slice_get-get_or}
 use Rattle.inum_cache.proofs.Kept.{are-kept}
-use Rattle.inum_cache.proofs.Leading.{column-listed}
 use Rattle.inum_cache.proofs.Made.{costed, templates-fit, templates-in-order, plain-kept}
 use Rattle.inum_cache.proofs.building.made.Goals as goal
 
@@ -13,9 +12,8 @@ invariant_of-result c =
       fit = λ k d within. templates-fit c.args.task.now orders templates c.in_ok-choices.ensures.orders c.in_ok-templates.ensures k (slice_index_or templates k d) (slice_get-get_or templates k d within);
       started = c.starts-count.ensures.started;
       counted = c.starts-count.ensures.counted;
-      columned = omega (arith, c.in_ok-columns.ensures.count, c.starts-count.ensures.counted);
-      single = λ slot place below of' some within.
-          column-listed orders c.in_ok-columns.columns slot place c.in_ok-columns.ensures below within (c.of_columns-of_columns.ensures slot below of' place some within);
+      placed = c.in_ok-places.ensures;
+      single = c.of_columns-of_columns.ensures;
     }
 
 pub returns : goal.returns

@@ -3,15 +3,15 @@ use Rattle.adv_base.specs.Items.{Order}
 use Rattle.inum_cache.specs.Numbering.{size_in, order_in}
 use Rattle.inum_cache.specs.inner.Pricing.{price_of_first}
 use Rattle.inum_cache.proofs.Pricing.{place-below}
-use Rattle.inum_cache.proofs.Seeing.{offers-none, slot-begins, row-ends}
-use Rattle.inum_cache.specs.inner.Pricing.{offers_below}
+use Rattle.inum_cache.proofs.Seeing.{but_first-none, slot-begins, row-ends}
+use Rattle.inum_cache.specs.inner.Pricing.{but_first}
 use Rattle.inum_cache.proofs.cache.Cache.price_columns.Goals as goal
 
 pub loop-offer-init : goal.loop-offer-init
 loop-offer-init g c =
     record {
       least = refl;
-      prices = slot-begins (g.O.Offers.table c.args.offers.now) c.args.self.now.choices.orders c.args.prices.now c.args.slot (offers_below 0 1) offers-none c.requires.before;
+      prices = slot-begins (g.O.Offers.table c.args.offers.now) c.args.self.now.choices.orders c.args.prices.now c.args.slot (but_first 0) but_first-none c.requires.before;
     }
 
 pub bounds-prices-start : goal.bounds-prices-start
