@@ -1,11 +1,11 @@
 -- Rows of the table of commands, read one word after another.
-use Rattle.std.proofs.Common.{◌≡◌, ℕ, suc, ◌+◌, Bool, true, false, List, [], ◌∷◌, length, codes, Result, Ok, Err, refl, ap, arith}
-use Rattle.std.specs.Prelude.{unwrap_or}
+use Rattle.std.proofs.Common.{◌≡◌, ℕ, suc, ◌+◌, Bool, true, false, List, [], ◌∷◌, length, Result, Ok, Err, refl, sym, ap, subst, ◌∙◌, arith}
 use Rattle.std.specs.Str.{bytes_eq}
 use Rattle.std.proofs.lemmas.Slice.Eq.{bytes_eq-Decides}
 use Rattle.adv_base.specs.Readings.{◌>>=◌}
 use Rattle.report.specs.declared.done.WordFault.{WordFault}
-use Rattle.cophy_core.specs.CommandLine.{PlainCommand, PlainOptions, WordKind, File, Number, Takes, Cost, WhatIf, Explain, Candidates, Advise, Check, Bench, statement, pages, no_options, named_command, word_at, number_at, end_at, options_from}
+use Rattle.cophy_core.specs.declared.command_line.Command.{Command}
+use Rattle.cophy_core.specs.CommandLine.{PlainCommand, PlainOptions, WordKind, File, Number, Takes, Row, Plain, Search, GivesBy, plain_command, no_options, name_of, read_row, named_command, word_at, number_at, end_at, options_from}
 use Rattle.cophy_core.specs.inner.Arguments.{Asked, rest}
 
 -- ## A word is read
@@ -51,35 +51,26 @@ unfolding rest
 row_searches (Ok u) words at command = let same : at + 0 ≡ at = omega arith in rw same
 row_searches (Err fault) words at command = refl
 
--- ## The rows by their names
+-- ## Rows by their names
 
-is_name : (word name : List ℕ) → bytes_eq word name ≡ true → word ≡ name
-is_name word name e = (bytes_eq-Decides word name).0 e
+-- what the words behind a row's name give, read one after another
+abbrev pub from_name : Row → List (List ℕ) → Result PlainCommand WordFault
+from_name (Plain name kinds asked) words = rest false (Ok tt) words 1 kinds asked
+from_name (Search name kinds asked) words = rest true (Ok tt) words 1 kinds asked
 
-pub cost_row_read : (name : List ℕ) (words : List (List ℕ)) → bytes_eq name (codes "cost") ≡ true → named_command name words ≡ rest false (Ok tt) words 1 (File ∷ File ∷ []) Cost
-unfolding named_command rest
-cost_row_read name words e = rw (is_name name (codes "cost") e)
+row_read : (row : Row) (words : List (List ℕ)) → read_row words row ≡ from_name row words
+unfolding rest
+row_read (Plain name kinds asked) words = let same : length kinds + 1 ≡ 1 + length kinds = omega arith in rw same
+row_read (Search name kinds asked) words = let same : length kinds + 2 ≡ 1 + length kinds + 1 = omega arith in rw same
 
-pub what_if_row_read : (name : List ℕ) (words : List (List ℕ)) → bytes_eq name (codes "whatif") ≡ true → named_command name words ≡ rest false (Ok tt) words 1 (File ∷ File ∷ File ∷ []) WhatIf
-unfolding named_command rest
-what_if_row_read name words e = rw (is_name name (codes "whatif") e)
+pub other_name : (word name : List ℕ) → (word ≡ name → ⊥) → bytes_eq word name ≡ false
+other_name word name other = not_true (bytes_eq word name) (λ e. other ((bytes_eq-Decides word name).0 e))
+  where
+    not_true : (t : Bool) → (t ≡ true → ⊥) → t ≡ false
+    not_true true never = absurd (never refl)
+    not_true false never = refl
 
-pub explain_row_read : (name : List ℕ) (words : List (List ℕ)) → bytes_eq name (codes "explain") ≡ true → named_command name words ≡ rest false (Ok tt) words 1 (File ∷ File ∷ File ∷ statement ∷ []) Explain
-unfolding named_command rest
-explain_row_read name words e = rw (is_name name (codes "explain") e)
-
-pub candidates_row_read : (name : List ℕ) (words : List (List ℕ)) → bytes_eq name (codes "candidates") ≡ true → named_command name words ≡ rest false (Ok tt) words 1 (File ∷ File ∷ []) Candidates
-unfolding named_command rest
-candidates_row_read name words e = rw (is_name name (codes "candidates") e)
-
-pub advise_row_read : (name : List ℕ) (words : List (List ℕ)) → bytes_eq name (codes "advise") ≡ true → named_command name words ≡ rest true (Ok tt) words 1 (File ∷ File ∷ pages ∷ []) (λ cat load budget options. Advise cat load budget (unwrap_or options.nodes 20000) options.cert)
-unfolding named_command rest
-advise_row_read name words e = rw (is_name name (codes "advise") e)
-
-pub check_row_read : (name : List ℕ) (words : List (List ℕ)) → bytes_eq name (codes "check") ≡ true → named_command name words ≡ rest false (Ok tt) words 1 (File ∷ File ∷ File ∷ []) Check
-unfolding named_command rest
-check_row_read name words e = rw (is_name name (codes "check") e)
-
-pub bench_row_read : (name : List ℕ) (words : List (List ℕ)) → bytes_eq name (codes "bench") ≡ true → named_command name words ≡ rest false (Ok tt) words 1 (Number 0 18446744073709551615 ∷ Number 2 20 ∷ Number 1 500 ∷ pages ∷ []) Bench
-unfolding named_command rest
-bench_row_read name words e = rw (is_name name (codes "bench") e)
+pub row_gives : (row : Row) (name : List ℕ) (words : List (List ℕ)) (command : Result Command WordFault) →
+    name ≡ name_of row → named_command (name_of row) words ≡ read_row words row → GivesBy plain_command command (from_name row words) → GivesBy plain_command command (named_command name words)
+row_gives row name words command is found gives =
+    rw is (subst (GivesBy plain_command command) (sym (found ∙ row_read row words)) gives)

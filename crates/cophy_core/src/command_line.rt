@@ -2,7 +2,7 @@
 ghost use Rattle.std.specs.Prelude.{◌≡◌, ◌+◌, ◌≤◌, ◌<◌, ◌↔◌, IfOk};
 ghost use Rattle.cophy_core.specs.Spellings.{IsCommandLine};
 ghost use Rattle.cophy_core.specs.CommandLine as spec;
-ghost use Rattle.cophy_core.specs.inner.Arguments.{next_word, next_number, next_options, at_end, ReadsFile, ReadsNumber};
+ghost use Rattle.cophy_core.specs.inner.Arguments.{next_word, next_number, next_options, at_end, by_row, ReadsFile, ReadsNumber};
 
 use crate::number::number_of;
 use report::WordFault;
@@ -197,33 +197,33 @@ fn read_options<'a>(words: &'a [String], first: u32) -> Result<Options<'a>, Word
 }
 
 /// The words of a command line, read one after another from the one behind its name. Behind the first fault nothing is read,
-/// and values that mean nothing stand in place of the words, so that a row of the table is read straight through.
+/// and values that mean nothing stand in place of the words, so that a command is read straight through.
 #[derive(Drop)]
 struct Arguments<'a> {
     words: &'a [String],
     /// The number of the last word that was read, from 1.
     at: u32,
     /// The first fault so far, if there is one.
-    read: Result<(), WordFault>,
+    so_far: Result<(), WordFault>,
 }
 
 impl<'a> Arguments<'a> {
     /// The next word, or the first fault.
-    fn word(&self) -> Result<&'a str, WordFault>
+    fn next_word(&self) -> Result<&'a str, WordFault>
         requires { self.now.at < 100 }
         ensures { spec.GivesBy (λ word. word.now) result (next_word self.now) }
     {
-        self.read?;
+        self.so_far?;
         word_at(self.words, self.at + 1)
     }
 
     /// The number that the next word is, or the first fault.
-    fn count(&self, least: u64, most: u64) -> Result<u64, WordFault>
+    fn next_number(&self, least: u64, most: u64) -> Result<u64, WordFault>
         requires { self.now.at < 100 }
         ensures exact { result ≡ next_number least most self.now }
         ensures range { IfOk result (λ n. n ≤ most) }
     {
-        self.read?;
+        self.so_far?;
         number_at(self.words, self.at + 1, least, most)
     }
 
@@ -233,12 +233,12 @@ impl<'a> Arguments<'a> {
         ensures next { self.new.at ≡ self.old.at + 1 }
         ensures reads { ReadsFile self.old self.new result.now }
     {
-        let word = self.word();
+        let word = self.next_word();
         self.at += 1;
         match word {
             Ok(word) => word,
             Err(fault) => {
-                self.read = Err(fault);
+                self.so_far = Err(fault);
                 ""
             }
         }
@@ -251,12 +251,12 @@ impl<'a> Arguments<'a> {
         ensures range { result ≤ most }
         ensures reads { ReadsNumber least most self.old self.new result }
     {
-        let number = self.count(least, most);
+        let number = self.next_number(least, most);
         self.at += 1;
         match number {
             Ok(number) => number,
             Err(fault) => {
-                self.read = Err(fault);
+                self.so_far = Err(fault);
                 0
             }
         }
@@ -267,7 +267,7 @@ impl<'a> Arguments<'a> {
         requires { self.now.at < 80 }
         ensures { spec.GivesBy spec.plain_options result (next_options self.now) }
     {
-        self.read?;
+        self.so_far?;
         read_options(self.words, self.at + 1)
     }
 
@@ -276,83 +276,130 @@ impl<'a> Arguments<'a> {
         requires { self.now.at < 100 }
         ensures { spec.GivesBy spec.plain_command result (at_end self.now (spec.plain_command command.entry)) }
     {
-        self.read?;
+        self.so_far?;
         end_at(self.words, self.at)?;
         Ok(command)
     }
 }
 
-/// The command of a name, with the rest of the words: a row for each.
-fn named<'a>(name: &str, words: &'a [String]) -> Result<Command<'a>, WordFault>
-    ensures { spec.GivesBy spec.plain_command result (spec.named_command name.now (spec.texts words.now)) }
-{
-    let mut line = Arguments {
-        words,
-        at: 1,
-        read: Ok(()),
-    };
-    if name == "cost" {
+/// A method for each command, which reads the words behind its name.
+impl<'a> Arguments<'a> {
+    /// `cost CAT LOAD`.
+    fn cost(mut self) -> Result<Command<'a>, WordFault>
+        requires { self.at < 70 }
+        ensures { spec.GivesBy spec.plain_command result (by_row spec.cost_row self.entry) }
+    {
         let command = Command::Cost {
-            cat: line.file(),
-            load: line.file(),
+            cat: self.file(),
+            load: self.file(),
         };
-        return line.end(command);
+        self.end(command)
     }
-    if name == "whatif" {
+
+    /// `whatif CAT LOAD CONF`.
+    fn what_if(mut self) -> Result<Command<'a>, WordFault>
+        requires { self.at < 70 }
+        ensures { spec.GivesBy spec.plain_command result (by_row spec.what_if_row self.entry) }
+    {
         let command = Command::WhatIf {
-            cat: line.file(),
-            load: line.file(),
-            conf: line.file(),
+            cat: self.file(),
+            load: self.file(),
+            conf: self.file(),
         };
-        return line.end(command);
+        self.end(command)
     }
-    if name == "explain" {
+
+    /// `explain CAT LOAD CONF N`.
+    fn explain(mut self) -> Result<Command<'a>, WordFault>
+        requires { self.at < 70 }
+        ensures { spec.GivesBy spec.plain_command result (by_row spec.explain_row self.entry) }
+    {
         let command = Command::Explain {
-            cat: line.file(),
-            load: line.file(),
-            conf: line.file(),
-            number: line.number(1, 1000) as u32,
+            cat: self.file(),
+            load: self.file(),
+            conf: self.file(),
+            number: self.number(1, 1000) as u32,
         };
-        return line.end(command);
+        self.end(command)
     }
-    if name == "candidates" {
+
+    /// `candidates CAT LOAD`.
+    fn candidates(mut self) -> Result<Command<'a>, WordFault>
+        requires { self.at < 70 }
+        ensures { spec.GivesBy spec.plain_command result (by_row spec.candidates_row self.entry) }
+    {
         let command = Command::Candidates {
-            cat: line.file(),
-            load: line.file(),
+            cat: self.file(),
+            load: self.file(),
         };
-        return line.end(command);
+        self.end(command)
     }
-    if name == "advise" {
-        let cat = line.file();
-        let load = line.file();
-        let budget = line.number(0, MOST_BUDGET);
-        let given = line.options()?;
-        return Ok(Command::Advise {
+
+    /// `advise CAT LOAD BUDGET [--nodes N] [--cert FILE]`.
+    fn advise(mut self) -> Result<Command<'a>, WordFault>
+        requires { self.at < 70 }
+        ensures { spec.GivesBy spec.plain_command result (by_row spec.advise_row self.entry) }
+    {
+        let cat = self.file();
+        let load = self.file();
+        let budget = self.number(0, MOST_BUDGET);
+        let given = self.options()?;
+        Ok(Command::Advise {
             cat,
             load,
             budget,
             nodes: given.nodes.unwrap_or(DEFAULT_NODES),
             cert: given.cert,
-        });
+        })
     }
-    if name == "check" {
+
+    /// `check CAT LOAD CERT`.
+    fn check(mut self) -> Result<Command<'a>, WordFault>
+        requires { self.at < 70 }
+        ensures { spec.GivesBy spec.plain_command result (by_row spec.check_row self.entry) }
+    {
         let command = Command::Check {
-            cat: line.file(),
-            load: line.file(),
-            cert: line.file(),
+            cat: self.file(),
+            load: self.file(),
+            cert: self.file(),
         };
-        return line.end(command);
+        self.end(command)
     }
-    if name == "bench" {
+
+    /// `bench SEED TABLES STATEMENTS BUDGET`.
+    fn bench(mut self) -> Result<Command<'a>, WordFault>
+        requires { self.at < 70 }
+        ensures { spec.GivesBy spec.plain_command result (by_row spec.bench_row self.entry) }
+    {
         let command = Command::Bench {
-            seed: line.number(0, u64::MAX),
-            tables: line.number(2, 20) as u32,
-            statements: line.number(1, 500) as u32,
-            budget: line.number(0, MOST_BUDGET),
+            seed: self.number(0, u64::MAX),
+            tables: self.number(2, 20) as u32,
+            statements: self.number(1, 500) as u32,
+            budget: self.number(0, MOST_BUDGET),
         };
-        return line.end(command);
+        self.end(command)
     }
-    Err(WordFault::UnknownCommand(1))
+}
+
+/// The command of a name, with the rest of the words.
+fn named<'a>(name: &str, words: &'a [String]) -> Result<Command<'a>, WordFault>
+    ensures { spec.GivesBy spec.plain_command result (spec.named_command name.now (spec.texts words.now)) }
+{
+    let line = Arguments {
+        words,
+        at: 1,
+        so_far: Ok(()),
+    };
+    match name {
+        "cost" => line.cost(),
+        "whatif" => line.what_if(),
+        "explain" => line.explain(),
+        "candidates" => line.candidates(),
+        "advise" => line.advise(),
+        "check" => line.check(),
+        "bench" => line.bench(),
+        _ => Err(WordFault::UnknownCommand(1)),
+    }
 }
 
 /// The command that the words are, or the first fault from the left. Takes no memory.

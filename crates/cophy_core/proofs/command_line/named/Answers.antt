@@ -1,32 +1,44 @@
-use Rattle.std.proofs.Common.{sym, refl, rules}
-use Rattle.cophy_core.specs.CommandLine.{texts, named_command}
-use Rattle.cophy_core.proofs.Rows.{row_ends, row_searches, cost_row_read, what_if_row_read, explain_row_read, candidates_row_read, advise_row_read, check_row_read, bench_row_read}
+use Rattle.std.proofs.Common.{codes, refl}
+use Rattle.cophy_core.specs.CommandLine.{texts, named_command, cost_row, what_if_row, explain_row, candidates_row, advise_row, check_row, bench_row}
+use Rattle.cophy_core.proofs.Rows.{row_gives, other_name}
 use Rattle.cophy_core.proofs.command_line.named.Goals as goal
 
-pub returns-then-eq : goal.returns-then-eq
-returns-then-eq c = rw (cost_row_read c.args.name.now (texts c.args.words.now) (sym c.if-eq.ensures), c.file.ensures.reads.step, c.file-then-eq.ensures.reads.step, row_ends) c.end.ensures
-
-pub returns-then-eq-2 : goal.returns-then-eq-2
-returns-then-eq-2 c = rw (what_if_row_read c.args.name.now (texts c.args.words.now) (sym c.if-eq-2.ensures), c.file-then-eq-2.ensures.reads.step, c.file-then-eq-2-2.ensures.reads.step, c.file-then-eq-2-3.ensures.reads.step, row_ends) c.end-then-eq-2.ensures
-
-pub returns-then-eq-3 : goal.returns-then-eq-3
-returns-then-eq-3 c = rw (explain_row_read c.args.name.now (texts c.args.words.now) (sym c.if-eq-3.ensures), c.file-then-eq-3.ensures.reads.step, c.file-then-eq-3-2.ensures.reads.step, c.file-then-eq-3-3.ensures.reads.step, c.number.ensures.reads.step, row_ends) c.end-then-eq-3.ensures
-
-pub returns-then-eq-4 : goal.returns-then-eq-4
-returns-then-eq-4 c = rw (candidates_row_read c.args.name.now (texts c.args.words.now) (sym c.if-eq-4.ensures), c.file-then-eq-4.ensures.reads.step, c.file-then-eq-4-2.ensures.reads.step, row_ends) c.end-then-eq-4.ensures
-
-pub returns-in_err-given : goal.returns-in_err-given
-returns-in_err-given c = rw (advise_row_read c.args.name.now (texts c.args.words.now) (sym c.if-eq-5.ensures), c.file-cat.ensures.reads.step, c.file-load.ensures.reads.step, c.number-budget.ensures.reads.step, row_searches) (search rules)
-
-pub returns-then-eq-5 : goal.returns-then-eq-5
-returns-then-eq-5 c = rw (advise_row_read c.args.name.now (texts c.args.words.now) (sym c.if-eq-5.ensures), c.file-cat.ensures.reads.step, c.file-load.ensures.reads.step, c.number-budget.ensures.reads.step, row_searches) (search rules)
-
-pub returns-then-eq-6 : goal.returns-then-eq-6
-returns-then-eq-6 c = rw (check_row_read c.args.name.now (texts c.args.words.now) (sym c.if-eq-6.ensures), c.file-then-eq-6.ensures.reads.step, c.file-then-eq-6-2.ensures.reads.step, c.file-then-eq-6-3.ensures.reads.step, row_ends) c.end-then-eq-6.ensures
-
-pub returns-then-eq-7 : goal.returns-then-eq-7
-returns-then-eq-7 c = rw (bench_row_read c.args.name.now (texts c.args.words.now) (sym c.if-eq-7.ensures), c.number-then-eq-7.ensures.reads.step, c.number-then-eq-7-2.ensures.reads.step, c.number-then-eq-7-3.ensures.reads.step, c.number-then-eq-7-4.ensures.reads.step, row_ends) c.end-then-eq-7.ensures
-
-pub returns : goal.returns
+pub returns-in-cost : goal.returns-in-cost
 unfolding named_command
-returns c = rw (sym c.if-eq.ensures, sym c.if-eq-2.ensures, sym c.if-eq-3.ensures, sym c.if-eq-4.ensures, sym c.if-eq-5.ensures, sym c.if-eq-6.ensures, sym c.if-eq-7.ensures)
+returns-in-cost c = row_gives cost_row c.args.name.now (texts c.args.words.now) c.cost.result c.in-cost.is refl c.cost.ensures
+
+pub returns-in-whatif : goal.returns-in-whatif
+unfolding named_command
+returns-in-whatif c = row_gives what_if_row c.args.name.now (texts c.args.words.now) c.what_if.result c.in-whatif.is refl c.what_if.ensures
+
+pub returns-in-explain : goal.returns-in-explain
+unfolding named_command
+returns-in-explain c = row_gives explain_row c.args.name.now (texts c.args.words.now) c.explain.result c.in-explain.is refl c.explain.ensures
+
+pub returns-in-candidates : goal.returns-in-candidates
+unfolding named_command
+returns-in-candidates c = row_gives candidates_row c.args.name.now (texts c.args.words.now) c.candidates.result c.in-candidates.is refl c.candidates.ensures
+
+pub returns-in-advise : goal.returns-in-advise
+unfolding named_command
+returns-in-advise c = row_gives advise_row c.args.name.now (texts c.args.words.now) c.advise.result c.in-advise.is refl c.advise.ensures
+
+pub returns-in-check : goal.returns-in-check
+unfolding named_command
+returns-in-check c = row_gives check_row c.args.name.now (texts c.args.words.now) c.check.result c.in-check.is refl c.check.ensures
+
+pub returns-in-bench : goal.returns-in-bench
+unfolding named_command
+returns-in-bench c = row_gives bench_row c.args.name.now (texts c.args.words.now) c.bench.result c.in-bench.is refl c.bench.ensures
+
+pub returns-in_default : goal.returns-in_default
+unfolding named_command
+returns-in_default c = rw (
+  other_name c.args.name.now (codes "cost") c.in_default.not-cost,
+  other_name c.args.name.now (codes "whatif") c.in_default.not-whatif,
+  other_name c.args.name.now (codes "explain") c.in_default.not-explain,
+  other_name c.args.name.now (codes "candidates") c.in_default.not-candidates,
+  other_name c.args.name.now (codes "advise") c.in_default.not-advise,
+  other_name c.args.name.now (codes "check") c.in_default.not-check,
+  other_name c.args.name.now (codes "bench") c.in_default.not-bench,
+)

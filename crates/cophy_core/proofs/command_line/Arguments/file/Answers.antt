@@ -7,12 +7,12 @@ pub returns-in-Ok-clause-reads : goal.returns-in-Ok-clause-reads
 returns-in-Ok-clause-reads c = record {
   step = λ searches kinds asked.
       let line = c.args.self.now in
-      file_read searches line.read (texts line.words.now) line.at (line.at + 1) kinds asked c.in-Ok.word.now (omega arith) c.in-Ok.ensures;
+      file_read searches line.so_far (texts line.words.now) line.at (line.at + 1) kinds asked c.in-Ok.word.now (omega arith) c.in-Ok.ensures;
 }
 
 pub returns-in-Err-clause-reads : goal.returns-in-Err-clause-reads
 returns-in-Err-clause-reads c = record {
   step = λ searches kinds asked.
       let line = c.args.self.now in
-      file_fault searches line.read (texts line.words.now) line.at (line.at + 1) kinds asked [] c.in-Err.fault (omega arith) c.in-Err.ensures;
+      file_fault searches line.so_far (texts line.words.now) line.at (line.at + 1) kinds asked [] c.in-Err.fault (omega arith) c.in-Err.ensures;
 }
