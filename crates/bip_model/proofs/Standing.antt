@@ -355,7 +355,7 @@ part-costs setting blocked part config named is =
     let table : OfferTable = offers setting.cat blocked.block setting.shapes config in
     let each : (s : ℕ) → s < task.slots → needed_price config part.slots template s ≡ Some (price_or config part.slots template s) = λ s below.
     let some : 0 < length (table s) = (tables-offered setting.cat blocked.block named setting.shapes config).some s (omega (arith, below, is.task_is.slots_are)) in
-    let order : needed task template s ≡ [] = ap (λ (o : ℕ). slice_index_or (interesting_orders task s) o []) (is.some_plan.asks_nothing s) ∙ first-order task s in
+    let order : needed task template s ≡ [] = ap (λ (o : ℕ). slice_index_or (interesting_orders task s) o []) (is.some_plan.asks_nothing s (omega (arith, below, slots-same setting blocked part is))) ∙ first-order task s in
     let given_is = needed-given setting blocked part config is is.some_plan.number template is.some_plan.found s below in
     elim (slice_get_cases (table s) 0).1 [
       | inl offer ↦

@@ -326,7 +326,7 @@ part-costs rent setting blocked part config rents named is rented =
     let table : OfferTable = charged_offers rent setting.cat blocked.block setting.shapes config in
     let each : (s : ℕ) → s < task.slots → needed_price config part.slots rents template s ≡ Some (price_or config part.slots rents template s) = λ s below.
     let some : 0 < length (table s) = (tables-charged rent setting.cat blocked.block named setting.shapes config).some s (omega (arith, below, is.task_is.slots_are)) in
-    let order : needed task template s ≡ [] = ap (λ (o : ℕ). slice_index_or (interesting_orders task s) o []) (is.some_plan.asks_nothing s) ∙ first-order task s in
+    let order : needed task template s ≡ [] = ap (λ (o : ℕ). slice_index_or (interesting_orders task s) o []) (is.some_plan.asks_nothing s (omega (arith, below, slots-same setting blocked part is))) ∙ first-order task s in
     let given_is = needed-given rent setting blocked part config rents is rented is.some_plan.number template is.some_plan.found s below in
     elim (slice_get_cases (table s) 0).1 [
       | inl offer ↦

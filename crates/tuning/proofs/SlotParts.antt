@@ -1,7 +1,7 @@
 -- What makes the part of a statement.
 use Rattle.std.proofs.Common.{◌≡◌, ◌∙◌, inl, inr, ℕ, ◌+◌, ◌<◌, ◌≤◌, List, [], ◌∷◌, ◌++◌, length, get_or, All, map, refl, sym, ap, subst, arith, length-append}
 use Rattle.std.specs.Prelude.{Some, slice_get}
-use Rattle.std.proofs.lemmas.Bool.{cases_lt, cases_eq}
+use Rattle.std.proofs.lemmas.Bool.{cases_eq}
 use Rattle.std.proofs.lemmas.List.{length-map}
 use Rattle.std.proofs.lemmas.Option.{slice_get_cases, slice_get_within, get_or_from_slice_get}
 use Rattle.access_paths.specs.declared.slot_offers.SlotOffers.{SlotOffers}
@@ -85,8 +85,8 @@ empty-first task s i within empty =
           absurd (interesting_orders-differ task s 0 i [] after within (first ∙ sym empty))
     ]
 
-pub asks-nothing : (task : Task) (cache : Cache) → IsCacheOf task cache → SomeAsksNothing cache.templates
-asks-nothing task cache is =
+pub asks-nothing : (task : Task) (cache : Cache) (slots : ℕ) → slots ≡ task.slots → IsCacheOf task cache → SomeAsksNothing slots cache.templates
+asks-nothing task cache slots same is =
     let plain = is.plain in
     let template : Template = plain.template in
     let fit : FitsOrders cache.choices.orders template = fits cache plain.number template plain.found in
@@ -95,14 +95,11 @@ asks-nothing task cache is =
       number = plain.number;
       template = template;
       found = plain.found;
-      asks_nothing = λ s.
-          elim (cases_lt s task.slots) [
-            | inl below ↦
-                let same : size_in cache.choices.orders s ≡ length (interesting_orders task s) = ap length (is.orders s below) in
-                let within : need template s < size_in cache.choices.orders s = fit.within s (omega (arith, below, counted)) in
-                empty-first task s (need template s) (omega (arith, within, same)) (sym (plain.needs_are s))
-            | inr past ↦ fit.past s (omega (arith, past, counted))
-          ];
+      asks_nothing = λ s here.
+          let below : s < task.slots = omega (arith, here, same) in
+          let sizes : size_in cache.choices.orders s ≡ length (interesting_orders task s) = ap length (is.orders s below) in
+          let within : need template s < size_in cache.choices.orders s = fit.within s (omega (arith, below, counted)) in
+          empty-first task s (need template s) (omega (arith, within, sizes)) (sym (plain.needs_are s));
     }
 
 pub template-limits : (cache : Cache) (slots : List SlotOffers) (n : ℕ) (parts : List SlotPart) → ArePriced slots cache n parts → ((s : ℕ) → s < n → HasParted slots s) → n ≡ length cache.choices.orders → All (TemplateLimits parts) cache.templates

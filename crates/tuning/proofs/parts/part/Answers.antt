@@ -64,7 +64,9 @@ returns-clause-part_is c =
       task = task;
       task_is = cached.task_is;
       decompose = subst (Decompose task) (sym c.in_ok-templates.ensures) (kept-list-decompose task cache.templates cached.cache_is.kept);
-      some_plan = subst SomeAsksNothing (sym c.in_ok-templates.ensures) (asks-nothing task cache cached.cache_is);
+      some_plan =
+          subst (SomeAsksNothing (length c.in_ok-slots.slots)) (sym c.in_ok-templates.ensures)
+          (asks-nothing task cache (length c.in_ok-slots.slots) (omega (arith, c.in_ok-slots.ensures.count, c.len.ensures, cached.task_is.slots_are)) cached.cache_is);
       slots_count = omega (arith, c.in_ok-slots.ensures.count, c.len.ensures);
       slots_are = λ s slot own found own_found.
           let within = slice_get_within block.slots s slot found in
