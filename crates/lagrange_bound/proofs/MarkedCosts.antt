@@ -3,7 +3,7 @@ use Rattle.std.proofs.Common.{◌≡◌, ◌∙◌, ◌≢◌, ◌⊎◌, inl, i
 use Rattle.std.specs.Prelude.{Option, Some, slice_get, slice_set, sum_by}
 use Rattle.std.proofs.Math.Nat.{mul-le-mul}
 use Rattle.std.proofs.lemmas.Bool.{cases_eq}
-use Rattle.std.proofs.lemmas.List.{drop-drop, ext_get_or, get_or-set_same}
+use Rattle.std.proofs.lemmas.List.{drop-drop, ext_get_or, get_or-set_same, take_all}
 use Rattle.std.proofs.lemmas.List.Elements.{All-head, All-tail}
 use Rattle.std.proofs.lemmas.List.Sums.{sum_by-cons}
 use Rattle.adv_base.specs.declared.limits.TheConstants.{MOST_WEIGHT}
@@ -32,25 +32,22 @@ keeps-set flags i within k on =
       | inr other ↦ get_or-set_other flags i k true false other ∙ on
     ]
 
-pub noted-kept : (old new : List Bool) (i : ℕ) (base : List (Option ℕ)) (grants : List Grant) → Keeps old new → All (IsNoted old i base) grants → All (IsNoted new i base) grants
-noted-kept old new i base grants keeps noted k d within = λ cheaper. keeps (((get_or grants k d).candidate - 1) * 1000 + i) (noted k d within cheaper)
+pub grant-kept : (old new : List Bool) (i : ℕ) (base : List (Option ℕ)) → Keeps old new → (grant : Grant) → IsNoted old i base grant → IsNoted new i base grant
+grant-kept old new i base keeps grant noted = λ cheaper. keeps ((grant.candidate - 1) * 1000 + i) (noted cheaper)
 
-pub slots-kept : (old new : List Bool) (i : ℕ) (slots : List SlotPart) → Keeps old new → All (AreNoted old i) slots → All (AreNoted new i) slots
-slots-kept old new i slots keeps noted s d within = noted-kept old new i (get_or slots s d).base (get_or slots s d).grants keeps (noted s d within)
+pub slot-kept : (old new : List Bool) (i : ℕ) → Keeps old new → (slot : SlotPart) → AreNoted old i slot → AreNoted new i slot
+slot-kept old new i keeps slot noted k d within = grant-kept old new i slot.base keeps (get_or slot.grants k d) (noted k d within)
 
--- the next grant of a slot is noted
-pub noted-more : (old new : List Bool) (i : ℕ) (base other : List (Option ℕ)) (grants list : List Grant) (k : ℕ) (grant : Grant) → list ≡ grants → other ≡ base → k < length list → grant ≡ get_or list k grant →
-    Keeps old new → All (IsNoted old i base) (take k grants) → IsNoted new i other grant → All (IsNoted new i base) (take (k + 1) grants)
-noted-more old new i base other grants list k grant same alike within is keeps before here =
-    all-more (IsNoted new i base) grants k grant (subst (λ (gs : List Grant). k < length gs) same within) (is ∙ ap (λ (gs : List Grant). get_or gs k grant) same)
-    (noted-kept old new i base (take k grants) keeps before) (subst (λ (b : List (Option ℕ)). IsNoted new i b grant) alike here)
+-- one element more of a list has what those before it keep; the list has a second name
+pub noted-more : {X : Type 0} (Old New : X → Type 0) (xs list : List X) (k : ℕ) (x : X) → list ≡ xs → k < length list → x ≡ get_or list k x →
+    ((y : X) → Old y → New y) → All Old (take k xs) → New x → All New (take (k + 1) xs)
+noted-more {X} Old New xs list k x same within is kept before here =
+    all-more New xs k x (subst (λ (ys : List X). k < length ys) same within) (is ∙ ap (λ (ys : List X). get_or ys k x) same)
+    (λ j d inside. kept (get_or (take k xs) j d) (before j d inside)) here
 
--- the next slot of a part is
-pub slots-more : (old new : List Bool) (i : ℕ) (slots list : List SlotPart) (s : ℕ) (slot : SlotPart) → list ≡ slots → s < length list → slot ≡ get_or list s slot →
-    Keeps old new → All (AreNoted old i) (take s slots) → AreNoted new i slot → All (AreNoted new i) (take (s + 1) slots)
-slots-more old new i slots list s slot same within is keeps before here =
-    all-more (AreNoted new i) slots s slot (subst (λ (ss : List SlotPart). s < length ss) same within) (is ∙ ap (λ (ss : List SlotPart). get_or ss s slot) same)
-    (slots-kept old new i (take s slots) keeps before) here
+-- and so all have it where none is left
+pub noted-all : {X : Type 0} (P : X → Type 0) (xs list : List X) (k : ℕ) → list ≡ xs → length list ≤ k → All P (take k xs) → All P xs
+noted-all {X} P xs list k same past before = subst (All P) (take_all k xs (subst (λ (ys : List X). length ys ≤ k) same past)) before
 
 -- ## The parts without a mark
 
