@@ -1,10 +1,11 @@
 -- Laws of plan costs that are kept from node to node.
 use Rattle.std.proofs.Common.{◌≡◌, ◌∙◌, inl, inr, ℕ, zero, suc, ◌+◌, ◌*◌, ◌^◌, ◌<◌, ◌≤◌, ◌⊎◌, Bool, true, false, not, List, [], ◌∷◌, ◌++◌, length, get_or, take, drop, fold, min, All, refl, sym, ap, subst, append-nil, append_assoc, arith}
-use Rattle.std.specs.Prelude.{Option, Some, None, if◌then◌else◌, slice_set, slice_index_or, option_and_then, unwrap_or}
+use Rattle.std.specs.Prelude.{Option, Some, None, if◌then◌else◌, sum_by, slice_set, slice_index_or, option_and_then, unwrap_or}
 use Rattle.std.specs.Option.{ForSome, option_map}
 use Rattle.std.proofs.lemmas.Bool.{false≢true}
 use Rattle.std.proofs.lemmas.List.{drop_all, drop_more, drop-drop, take_all, take_more, take_more_set}
 use Rattle.std.proofs.lemmas.List.Elements.{All-head, All-tail}
+use Rattle.std.proofs.lemmas.List.Sums.{sum_by_more, sum_by-take-le}
 use Rattle.std.proofs.lemmas.Option.{slice_get_cases}
 use Rattle.adv_base.specs.declared.limits.TheConstants.{MOST_PRICE, MOST_RENT}
 use Rattle.adv_base.specs.declared.setting.Config.{Config}
@@ -19,6 +20,22 @@ use Rattle.bip_model.specs.Values.{MOST_PLAN, lesser, plus, price_of, need, part
 use Rattle.lagrange_bound.specs.Rented.{asked, least_asked, rented_price, grants_before, needed_price, cost_below, template_cost, least_cost, rented_cost, plan_costs}
 use Rattle.lagrange_bound.proofs.CheaperPrices.{cheaper-nowhere, lesser-self, lesser-below, asked-idle}
 use Rattle.lagrange_bound.proofs.RentedPrices.{AreRents, drop-rents, rented_price-price}
+
+-- ## Where the rents of a part stand
+
+-- the next part's end where those of the part after it begin
+pub next-place : (parts : List Part) (i at : ℕ) (part : Part) → i < length parts → part ≡ get_or parts i part → at ≡ sum_by part_grants (take i parts) → at + part_grants part ≡ sum_by part_grants (take (i + 1) parts)
+next-place parts i at part within is place =
+    let more : sum_by part_grants (take (i + 1) parts) ≡ sum_by part_grants (take i parts) + part_grants (get_or parts i part) = sum_by_more part_grants parts i part within in
+    let own : part_grants part ≡ part_grants (get_or parts i part) = ap part_grants is in
+    omega (arith, more, own, place)
+
+-- and there are so many
+pub next-room : (parts : List Part) (rents : List ℕ) (i at : ℕ) (part : Part) → length rents ≡ sum_by part_grants parts → i < length parts → part ≡ get_or parts i part → at ≡ sum_by part_grants (take i parts) → at + part_grants part ≤ length rents
+next-room parts rents i at part each within is place =
+    let next = next-place parts i at part within is place in
+    let most : sum_by part_grants (take (i + 1) parts) ≤ sum_by part_grants parts = sum_by-take-le part_grants parts (i + 1) in
+    omega (arith, next, most, each)
 
 -- ## One part more
 
@@ -44,6 +61,15 @@ costs-more config parts rents costs whole at i v count part within inside is cou
     ap (λ (xs : List ℕ). xs ++ rest) (take_more_set costs i v inside)
     ∙ append_assoc (take i costs) (v ∷ []) rest
     ∙ ap (λ (xs : List ℕ). take i costs ++ xs) (sym split) ∙ before
+
+-- the same, by the place where the next part's rents begin
+pub costs-after : (config : Config) (parts : List Part) (rents costs whole : List ℕ) (at i v next : ℕ) (part : Part) → i < length parts → i < length costs → part ≡ get_or parts i part →
+    next ≡ at + part_grants part → v ≡ rented_cost config part (drop at rents) →
+    take i costs ++ plan_costs config (drop i parts) (drop at rents) ≡ whole →
+    take (i + 1) (slice_set costs i v) ++ plan_costs config (drop (i + 1) parts) (drop next rents) ≡ whole
+costs-after config parts rents costs whole at i v next part within inside is place made before =
+    ap (λ (n : ℕ). take (i + 1) (slice_set costs i v) ++ plan_costs config (drop (i + 1) parts) (drop n rents)) place
+    ∙ costs-more config parts rents costs whole at i v (part_grants part) part within inside is refl made before
 
 pub costs-done : (config : Config) (parts : List Part) (rents costs whole : List ℕ) (at i : ℕ) → length parts ≤ i → length costs ≡ length parts →
     take i costs ++ plan_costs config (drop i parts) (drop at rents) ≡ whole → costs ≡ whole

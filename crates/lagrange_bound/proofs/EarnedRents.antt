@@ -1,16 +1,17 @@
 -- Laws of what rents bring in.
-use Rattle.std.proofs.Common.{◌≡◌, ◌∙◌, inl, inr, ℕ, zero, suc, ◌+◌, ◌-◌, ◌*◌, ◌<◌, ◌≤◌, ◌==◌, Bool, true, false, List, [], ◌∷◌, length, get_or, take, drop, replicate, refl, sym, ap, arith}
+use Rattle.std.proofs.Common.{◌≡◌, ◌∙◌, inl, inr, ℕ, zero, suc, ◌+◌, ◌-◌, ◌*◌, ◌<◌, ◌≤◌, ◌==◌, Bool, true, false, List, [], ◌∷◌, All, length, get_or, take, drop, replicate, refl, sym, ap, arith}
 use Rattle.std.specs.Prelude.{if◌then◌else◌, slice_index_or, slice_set}
 use Rattle.std.proofs.Math.Nat.{mul-add, mul-le-mul}
 use Rattle.std.proofs.lemmas.Bool.{cases_eq, eq-eqb, ne_eqb}
-use Rattle.std.proofs.lemmas.List.{drop_more, drop-drop, get_or-set_same, get_or-set_other}
+use Rattle.std.proofs.lemmas.List.{drop_more, drop-drop, get_or_default, get_or-set_same, get_or-set_other}
 use Rattle.std.proofs.lemmas.List.Elements.{All-head, All-tail}
-use Rattle.adv_base.specs.declared.limits.TheConstants.{MOST_CANDIDATES, MOST_RENT, MOST_SLOTS, MOST_WEIGHT}
+use Rattle.adv_base.specs.declared.limits.TheConstants.{MOST_CANDIDATES, MOST_RENT, MOST_SLOTS, MOST_STATEMENTS, MOST_WEIGHT}
 use Rattle.bip_model.specs.declared.grant.Grant.{Grant}
 use Rattle.bip_model.specs.declared.part.Part.{Part}
 use Rattle.bip_model.specs.declared.slot_part.SlotPart.{SlotPart}
 use Rattle.bip_model.specs.Values.{part_grants}
 use Rattle.lagrange_bound.specs.Bounds.{grant_rents, slot_rents, part_rents}
+use Rattle.lagrange_bound.specs.inner.Limits.{MOST_RENTS}
 use Rattle.lagrange_bound.proofs.RentedPrices.{AreRents, drop-rents}
 
 -- ## Bounds
@@ -65,7 +66,7 @@ grant_rents-drop a grants rents i d within inside =
     ap (λ (gs : List Grant). grant_rents a gs (drop i rents)) (drop_more grants i d within)
     ∙ ap (grant_rents a (get_or grants i d ∷ drop (i + 1) grants)) (drop_more rents i 0 inside)
 
-pub earned-step : (grants : List Grant) (rents earned : List ℕ) (i : ℕ) (d : Grant) (weight a whole : ℕ) → i < length grants → i < length rents → (get_or grants i d).candidate - 1 < length earned →
+earned-step : (grants : List Grant) (rents earned : List ℕ) (i : ℕ) (d : Grant) (weight a whole : ℕ) → i < length grants → i < length rents → (get_or grants i d).candidate - 1 < length earned →
     get_or earned a 0 + weight * grant_rents (suc a) (drop i grants) (drop i rents) ≡ whole →
     slice_index_or (slice_set earned ((get_or grants i d).candidate - 1) (slice_index_or earned ((get_or grants i d).candidate - 1) 0 + weight * slice_index_or rents i 0)) a 0
     + weight * grant_rents (suc a) (drop (i + 1) grants) (drop (i + 1) rents) ≡ whole
@@ -94,6 +95,28 @@ earned-step grants rents earned i d weight a whole within inside fits before =
           let new : slice_index_or (slice_set earned (grant.candidate - 1) put) a 0 ≡ get_or earned a 0 = get_or-set_other earned (grant.candidate - 1) a put 0 (λ e. other (sym e)) in
           omega (arith, joined, new, before)
     ]
+
+-- the same, by names
+pub earn-step : (grants : List Grant) (rents earned new : List ℕ) (i : ℕ) (grant : Grant) (weight rent a whole : ℕ) → i < length grants → i < length rents → length earned ≡ 256 → grant ≡ get_or grants i grant → rent ≡ get_or rents i 0 →
+    new ≡ slice_set earned (grant.candidate - 1) (slice_index_or earned (grant.candidate - 1) 0 + weight * rent) →
+    get_or earned a 0 + weight * grant_rents (suc a) (drop i grants) (drop i rents) ≡ whole →
+    get_or new a 0 + weight * grant_rents (suc a) (drop (i + 1) grants) (drop (i + 1) rents) ≡ whole
+earn-step grants rents earned new i grant weight rent a whole within inside count is there made before =
+    let own : Grant = get_or grants i grant in
+    let most : own.candidate ≤ 256 = own.limits.most in
+    let put : Grant → ℕ → List ℕ = λ (g : Grant) (n : ℕ). slice_set earned (g.candidate - 1) (slice_index_or earned (g.candidate - 1) 0 + weight * n) in
+    let same : new ≡ put own (get_or rents i 0) = made ∙ ap (λ (g : Grant). put g rent) is ∙ ap (put own) there in
+    ap (λ (es : List ℕ). get_or es a 0 + weight * grant_rents (suc a) (drop (i + 1) grants) (drop (i + 1) rents)) same
+    ∙ earned-step grants rents earned i grant weight a whole within inside (omega (arith, most, count)) before
+
+-- what a candidate brings in fits before the rest of a whole that fits
+pub earn-fits : (earned : List ℕ) (rest whole : ℕ → ℕ) (grant : Grant) → ((a : ℕ) → a < MOST_CANDIDATES → whole a ≤ MOST_RENTS) → ((a : ℕ) → a < MOST_CANDIDATES → get_or earned a 0 + rest a ≡ whole a) →
+    get_or earned (grant.candidate - 1) 0 ≤ MOST_RENTS
+earn-fits earned rest whole grant fits each =
+    let some : 1 ≤ grant.candidate = grant.limits.least in
+    let most : grant.candidate ≤ MOST_CANDIDATES = grant.limits.most in
+    let below : grant.candidate - 1 < MOST_CANDIDATES = omega (arith, some, most) in
+    omega (arith, each (grant.candidate - 1) below, fits (grant.candidate - 1) below)
 
 -- the next slot, before the rest
 slot_rents-drop : (a : ℕ) (slots : List SlotPart) (rents : List ℕ) (next i : ℕ) (d : SlotPart) → i < length slots →
@@ -137,6 +160,23 @@ parts-step parts rents next i part slots a old whole within is same before =
     ∙ ap (λ (p : Part). p.weight * slot_rents (suc a) p.slots (drop next rents) + part_rents (suc a) (drop (i + 1) parts) (drop (next + part_grants p) rents)) (sym is)
     ∙ ap (λ (ss : List SlotPart). part.weight * slot_rents (suc a) ss (drop next rents) + part_rents (suc a) (drop (i + 1) parts) (drop (next + part_grants part) rents)) (sym same) in
     omega (arith, split, before)
+
+-- the rents of a part fit
+pub part-fits : (parts : List Part) (rents : List ℕ) (at i : ℕ) (part : Part) (slots : List SlotPart) (a old : ℕ) → length parts ≤ MOST_STATEMENTS → AreRents rents → i < length parts → part ≡ get_or parts i part → slots ≡ part.slots →
+    old + part_rents (suc a) (drop i parts) (drop at rents) ≡ part_rents (suc a) parts rents → old + part.weight * slot_rents (suc a) slots (drop at rents) ≤ MOST_RENTS
+part-fits parts rents at i part slots a old few are within is same before =
+    let step = parts-step parts rents at i part slots a old _ within is same before in
+    let most = part_rents-most (suc a) parts rents are in
+    omega (arith, step, most, few)
+
+-- and so do those of all, of which some may be left
+pub earned-fit : (parts : List Part) (rents earned : List ℕ) (rest : ℕ → ℕ) → length parts ≤ MOST_STATEMENTS → AreRents rents → length earned ≡ 256 →
+    ((a : ℕ) → a < MOST_CANDIDATES → get_or earned a 0 + rest a ≡ part_rents (suc a) parts rents) → All (λ sum. sum ≤ MOST_RENTS) earned
+earned-fit parts rents earned rest few are count each = λ k d within.
+    let here = each k (omega (arith, within, count)) in
+    let most = part_rents-most (suc k) parts rents are in
+    let same : get_or earned k d ≡ get_or earned k 0 = get_or_default earned k d 0 within in
+    omega (arith, here, most, same, few)
 
 pub nothing-yet : (n a k : ℕ) → get_or (replicate n 0) a 0 + k ≡ k
 nothing-yet zero a k = omega arith

@@ -2,11 +2,10 @@
 use Rattle.std.proofs.Common.{◌≡◌, ◌∙◌, inl, inr, ℕ, zero, suc, ◌+◌, ◌<◌, ◌≤◌, ◌==◌, false, List, [], ◌∷◌, length, fold, take, drop, get_or, min, All, refl, sym, ap, subst, arith}
 use Rattle.std.specs.Prelude.{Option, Some, None, slice_get, slice_index_or, slice_set, option_and_then}
 use Rattle.std.specs.Option.{ForSome, option_map}
-use Rattle.std.proofs.lemmas.Bool.{cases_lt, ne_eqb}
+use Rattle.std.proofs.lemmas.Bool.{cases_lt, cases_eq, ne_eqb}
 use Rattle.std.proofs.lemmas.Grind.{common_steps}
-use Rattle.std.proofs.lemmas.List.{drop-drop}
+use Rattle.std.proofs.lemmas.List.{drop-drop, get_or-set_same, get_or-set_other}
 use Rattle.std.proofs.lemmas.List.Elements.{All-head, All-tail}
-use Rattle.std.proofs.lemmas.List.Sums.{fold_more}
 use Rattle.std.proofs.lemmas.Option.{slice_get_cases}
 use Rattle.adv_base.specs.declared.limits.TheConstants.{MOST_PRICE, MOST_RENT}
 use Rattle.adv_base.specs.declared.setting.Config.{Config}
@@ -16,10 +15,11 @@ use Rattle.bip_model.specs.declared.part.Part.{Part}
 use Rattle.bip_model.specs.declared.slot_part.SlotPart.{SlotPart}
 use Rattle.bip_model.specs.Limits.Parts.{TemplateLimits}
 use Rattle.bip_model.specs.Values.{lesser, plus, price_of, granted, need}
-use Rattle.bip_model.proofs.Pricing.{price_of-price, granted-price}
 use Rattle.lagrange_bound.specs.declared.pricing.TheConstants.{NO_PRICE}
-use Rattle.lagrange_bound.specs.Rented.{asked, least_asked, rented_price, grants_before, needed_price, cost_below, template_cost}
-use Rattle.lagrange_bound.specs.inner.Words.{word, told, IsRow, AreRows, row_cost}
+use Rattle.bip_model.specs.inner.Words.{word, told, row_cost}
+use Rattle.bip_model.proofs.Pricing.{price_of-price, granted-price}
+use Rattle.lagrange_bound.specs.Rented.{asked, least_asked, rented_price, grants_before, needed_price, cost_below, template_cost, least_cost}
+use Rattle.lagrange_bound.specs.inner.Rows.{IsRow, IsRowBelow, AreRows, row_least}
 
 -- a price with a rent, if any, within both limits
 abbrev pub IsPrice : Option ℕ → Type 0
@@ -169,18 +169,6 @@ row_cost-template config slots rents rows template (suc n) few are limits within
     ap (λ (a : Option ℕ). plus a (told (slice_index_or (slice_index_or rows n []) (need template n) 0))) before
     ∙ ap (plus (cost_below config slots rents template n)) here
 
--- what misses a slot's price stays missing
-pub row_cost-none : (rows : List (List ℕ)) (template : Template) (m n : ℕ) → m ≤ n → row_cost rows template m ≡ None → row_cost rows template n ≡ None
-unfolding row_cost
-row_cost-none rows template m zero less none = let same : m ≡ 0 = omega (arith, less) in subst (λ k. row_cost rows template k ≡ None) same none
-row_cost-none rows template m (suc n) less none =
-    elim (cases_lt n m) [
-      | inl past ↦ let same : m ≡ suc n = omega (arith, less, past) in subst (λ k. row_cost rows template k ≡ None) same none
-      | inr below ↦
-          let rest : row_cost rows template n ≡ None = row_cost-none rows template m n below none in
-          ap (λ (a : Option ℕ). plus a (told (slice_index_or (slice_index_or rows n []) (need template n) 0))) rest
-    ]
-
 -- ## Steps of the loops
 
 -- one row more
@@ -202,29 +190,31 @@ rows-step config slots rents rows at next s slot row within found place are is =
           (subst (λ (rs : List ℕ). IsRow config other rs row) own (subst (λ (o : SlotPart). IsRow config o (drop next rents) row) (sym same) is))
     ]
 
--- one template more
-template-step : (config : Config) (slots : List SlotPart) (rents : List ℕ) (templates : List Template) (i : ℕ) (template : Template) (old new : Option ℕ) →
-    i < length templates →
-    old ≡ fold (λ best template. lesser best (template_cost config slots rents template)) None (take i templates) →
-    new ≡ lesser old (template_cost config slots rents (get_or templates i template)) →
-    new ≡ fold (λ best template. lesser best (template_cost config slots rents template)) None (take (i + 1) templates)
-template-step config slots rents templates i template old new within before after =
-    let step : Option ℕ → Template → Option ℕ = λ best template. lesser best (template_cost config slots rents template) in
-    let more : fold step None (take (i + 1) templates) ≡ step (fold step None (take i templates)) (get_or templates i template) = fold_more step None templates i template within in
-    after ∙ ap (λ (o : Option ℕ). lesser o (template_cost config slots rents (get_or templates i template))) before ∙ sym more
+-- the rows tell the least cost of templates
+templates-least : (config : Config) (slots : List SlotPart) (rents : List ℕ) (rows : List (List ℕ)) (best : Option ℕ) (templates : List Template) → AreRents rents → AreRows config slots rents (length slots) rows → All (TemplateLimits slots) templates →
+    fold (λ best template. lesser best (row_cost rows template (length slots))) best templates ≡ fold (λ best template. lesser best (template_cost config slots rents template)) best templates
+templates-least config slots rents rows best [] few are limits = refl
+templates-least config slots rents rows best (template ∷ templates) few are limits =
+    let own : row_cost rows template (length slots) ≡ template_cost config slots rents template =
+    row_cost-template config slots rents rows template (length slots) few are (All-head (TemplateLimits slots) template templates limits) (omega arith) in
+    ap (λ (cost : Option ℕ). fold (λ best template. lesser best (row_cost rows template (length slots))) (lesser best cost) templates) own
+    ∙ templates-least config slots rents rows (lesser best (template_cost config slots rents template)) templates few are (All-tail (TemplateLimits slots) template templates limits)
 
--- the same, where rows tell the cost of the template
-pub part-step : (part : Part) (config : Config) (rents : List ℕ) (slots : List SlotPart) (rows : List (List ℕ)) (templates : List Template) (i n : ℕ) (template : Template) (old cost new : Option ℕ) → AreRents rents →
-    slots ≡ part.slots → templates ≡ part.templates → n ≡ length part.slots → AreRows config slots rents (length slots) rows → i < length templates →
-    old ≡ fold (λ best template. lesser best (template_cost config part.slots rents template)) None (take i part.templates) →
-    cost ≡ row_cost rows (get_or templates i template) n → new ≡ lesser old cost →
-    new ≡ fold (λ best template. lesser best (template_cost config part.slots rents template)) None (take (i + 1) part.templates)
-part-step part config rents slots rows templates i n template old cost new few slots_are templates_are n_is are within before costs after =
-    let own : AreRows config part.slots rents (length part.slots) rows = subst (λ (ss : List SlotPart). AreRows config ss rents (length ss) rows) slots_are are in
-    let inside : i < length part.templates = subst (λ (ts : List Template). i < length ts) templates_are within in
-    let limits : TemplateLimits part.slots (get_or part.templates i template) = part.limits.templates_limits i template inside in
-    let told' : row_cost rows (get_or part.templates i template) (length part.slots) ≡ template_cost config part.slots rents (get_or part.templates i template) =
-    row_cost-template config part.slots rents rows (get_or part.templates i template) (length part.slots) few own limits (omega arith) in
-    let same : cost ≡ row_cost rows (get_or part.templates i template) (length part.slots) =
-    costs ∙ ap (λ (ts : List Template). row_cost rows (get_or ts i template) n) templates_are ∙ ap (row_cost rows (get_or part.templates i template)) n_is in
-    template-step config part.slots rents part.templates i template old new inside before (after ∙ ap (lesser old) (same ∙ told'))
+-- and so a part's
+pub row_least-part : (config : Config) (part : Part) (slots : List SlotPart) (rents : List ℕ) (rows : List (List ℕ)) → slots ≡ part.slots → AreRents rents → AreRows config slots rents (length slots) rows →
+    row_least rows part ≡ least_cost config part rents
+row_least-part config part slots rents rows same few are =
+    templates-least config part.slots rents rows None part.templates few (subst (λ (ss : List SlotPart). AreRows config ss rents (length ss) rows) same are) part.limits.templates_limits
+
+-- one order more
+pub row-more : (config : Config) (slot : SlotPart) (rents row : List ℕ) (n v : ℕ) → n < length row → v ≡ word (rented_price config slot rents n) → IsRowBelow config slot rents n row → IsRowBelow config slot rents (n + 1) (slice_set row n v)
+row-more config slot rents row n v within is before = λ o below inside.
+    elim (cases_eq o n) [
+      | inl here ↦
+          ap (λ (k : ℕ). slice_index_or (slice_set row n v) k 0) here ∙ get_or-set_same row n v 0 within ∙ is ∙ ap (λ (k : ℕ). word (rented_price config slot rents k)) (sym here)
+      | inr other ↦ get_or-set_other row n o v 0 other ∙ before o (omega (arith, below, other)) inside
+    ]
+
+-- no order stands below the first
+pub row-none : (config : Config) (slot : SlotPart) (rents row : List ℕ) → IsRowBelow config slot rents 0 row
+row-none config slot rents row = λ o below. absurd (omega (arith, below))

@@ -1,4 +1,4 @@
 pub mod Limits
 pub mod Marks
 pub mod Repricing
-pub mod Words
+pub mod Rows

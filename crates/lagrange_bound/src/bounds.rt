@@ -8,8 +8,9 @@ ghost use Rattle.lagrange_bound.specs.Rented as rented;
 ghost use Rattle.lagrange_bound.specs.inner.Limits as limits;
 
 use crate::candidates::{available, earned_in_all, paid_in_all};
-use crate::earnings::{Earned, earn_slots};
-use crate::pricing::{NO_ROWS, rented_cost};
+use crate::earnings::Earned;
+use crate::pricing::NO_ROWS;
+use crate::walking::earned_cost;
 use adv_base::Config;
 use adv_base::limits::MOST_CANDIDATES;
 use bip_model::{Fix, Multipliers, Part, Programme};
@@ -45,8 +46,9 @@ fn both_sums(parts: &[Part], config: &Config, rents: &[u64]) -> Sums
     let mut plans = 0;
     let mut at = 0;
     for part in parts {
-        plans += part.weight as u128 * rented_cost(part, config, rents, at, &mut rows);
-        at = earn_slots(part.slots.as_slice(), rents, at, part.weight, &mut earned);
+        let priced = earned_cost(part, config, rents, at, &mut rows, &mut earned);
+        plans += part.weight as u128 * priced.cost;
+        at = priced.next;
     }
     Sums { plans, earned }
 }

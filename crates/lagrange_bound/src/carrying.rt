@@ -26,9 +26,9 @@ pub(crate) fn write_costs(parts: &[Part], config: &Config, rents: &[u64], costs:
     let mut at = 0;
     for i in 0..parts.len() {
         let part = &parts[i];
-        let cost = rented_cost(part, config, rents, at, &mut rows);
-        costs[i] = cost;
-        at += part_grants(part);
+        let priced = rented_cost(part, config, rents, at, &mut rows);
+        costs[i] = priced.cost;
+        at = priced.next;
     }
 }
 
@@ -102,7 +102,7 @@ fn carried_cost(
     ensures { result ≡ rented.rented_cost to.now part.now (drop at rents.now) }
 {
     if differs(part, from, to) {
-        return rented_cost(part, to, rents, at, rows);
+        return rented_cost(part, to, rents, at, rows).cost;
     }
     old
 }

@@ -1,5 +1,5 @@
 //! What the rents of each candidate bring in.
-ghost use Rattle.std.specs.Prelude.{◌≡◌, ℕ, suc, ◌+◌, ◌*◌, ◌<◌, ◌≤◌, All, drop, length, sum_by, slice_index_or};
+ghost use Rattle.std.specs.Prelude.{◌≡◌, ℕ, suc, ◌+◌, ◌-◌, ◌*◌, ◌<◌, ◌≤◌, All, drop, length, sum_by, slice_index_or, slice_set};
 ghost use Rattle.adv_base.specs.declared.limits.TheConstants.{MOST_CANDIDATES, MOST_RENT, MOST_STATEMENTS};
 ghost use Rattle.bip_model.specs.Values as values;
 ghost use Rattle.lagrange_bound.specs.Bounds as bounds;
@@ -11,20 +11,28 @@ use bip_model::{Grant, Part, SlotPart};
 /// What the rents of each candidate bring in, by weight.
 pub(crate) type Earned = [u128; MOST_CANDIDATES];
 
-/// Adds the weighted rents of grants. The place of a candidate is told by a byte.
-fn earn_grants(grants: &[Grant], rents: &[u64], weight: u32, earned: &mut Earned)
+/// Adds the weighted rent of a grant to what its candidate brings in. The place of a candidate is told by a byte.
+pub(crate) fn earn(grant: &Grant, rent: u64, weight: u32, earned: &mut Earned)
+    requires { slice_index_or earned.old (grant.now.candidate - 1) 0 ≤ limits.MOST_RENTS }
+    ensures { earned.new ≡ slice_set earned.old (grant.now.candidate - 1) (slice_index_or earned.old (grant.now.candidate - 1) 0 + weight * rent) }
+{
+    let a = (grant.candidate - 1) as u8 as usize;
+    earned[a] += weight as u128 * rent as u128;
+}
+
+/// Adds the weighted rents of grants.
+pub(crate) fn earn_grants(grants: &[Grant], rents: &[u64], weight: u32, earned: &mut Earned)
     requires room { length grants.now ≤ length rents.now }
     requires fits { (a : ℕ) → a < MOST_CANDIDATES → slice_index_or earned.old a 0 + weight * bounds.grant_rents (suc a) grants.now rents.now ≤ limits.MOST_RENTS }
     ensures { (a : ℕ) → a < MOST_CANDIDATES → slice_index_or earned.new a 0 ≡ slice_index_or earned.old a 0 + weight * bounds.grant_rents (suc a) grants.now rents.now }
 {
     for i in 0..grants.len() {
-        let a = (grants[i].candidate - 1) as u8 as usize;
-        earned[a] += weight as u128 * rents[i] as u128;
+        earn(&grants[i], rents[i], weight, earned);
     }
 }
 
 /// Adds the weighted rents of the grants of slots, which begin at `at`, and answers where the next ones begin.
-pub(crate) fn earn_slots(
+fn earn_slots(
     slots: &[SlotPart],
     rents: &[u64],
     at: usize,

@@ -38,6 +38,7 @@ mod marking;
 mod pricing;
 mod repricing;
 mod sharing;
+mod walking;
 
 pub use ascending::{Ascent, Pace, ascend};
 pub use bounds::bound;

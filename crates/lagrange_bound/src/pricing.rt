@@ -1,13 +1,14 @@
 //! What plans cost where each use of a candidate pays a rent.
-ghost use Rattle.std.specs.Prelude.{◌≡◌, ℕ, ◌+◌, ◌*◌, ◌<◌, ◌≤◌, All, drop, length, min, sum_by, slice_index_or};
+ghost use Rattle.std.specs.Prelude.{◌≡◌, ℕ, ◌+◌, ◌*◌, ◌<◌, ◌≤◌, All, drop, length, min, sum_by, unwrap_or};
 ghost use Rattle.std.specs.Option.{ForSome, option_map};
 ghost use Rattle.adv_base.specs.Configs.{has_candidate};
 ghost use Rattle.adv_base.specs.declared.limits.TheConstants.{MOST_CANDIDATES, MOST_PRICE, MOST_RENT, MOST_SLOTS, MOST_STATEMENTS, MOST_WEIGHT};
 ghost use Rattle.plan_model.specs.declared.plan.TheConstants.{MOST_COST};
 ghost use Rattle.bip_model.specs.Limits.Grants.{ArePrices};
 ghost use Rattle.bip_model.specs.Values as values;
+ghost use Rattle.bip_model.specs.inner.Words as words;
 ghost use Rattle.lagrange_bound.specs.Rented as rented;
-ghost use Rattle.lagrange_bound.specs.inner.Words as words;
+ghost use Rattle.lagrange_bound.specs.inner.Rows as rows_spec;
 
 use adv_base::Config;
 use adv_base::limits::MOST_SLOTS;
@@ -20,7 +21,7 @@ const MOST_ORDERS: usize = 256;
 const NO_PRICE: u64 = u64::MAX;
 
 /// The least price of each order of a slot.
-type Row = [u64; MOST_ORDERS];
+pub(crate) type Row = [u64; MOST_ORDERS];
 /// A row for each slot.
 pub(crate) type Rows = [Row; MOST_SLOTS];
 
@@ -28,7 +29,7 @@ pub(crate) type Rows = [Row; MOST_SLOTS];
 pub(crate) const NO_ROWS: Rows = [[NO_PRICE; MOST_ORDERS]; MOST_SLOTS];
 
 /// A price as a word.
-fn word(price: Option<u64>) -> u64
+pub(crate) fn word(price: Option<u64>) -> u64
     ensures { result ≡ words.word price }
 {
     match price {
@@ -57,7 +58,7 @@ fn lowered(least: u64, price: Option<u64>, rent: u64) -> u64
 }
 
 /// The lesser of a price and what a grant asks for an order.
-fn lower_one(grant: &Grant, o: usize, rent: u64, config: &Config, least: u64) -> u64
+pub(crate) fn lower_one(grant: &Grant, o: usize, rent: u64, config: &Config, least: u64) -> u64
     requires order { o < length grant.now.prices }
     requires rent { rent ≤ MOST_RENT }
     ensures { result ≡ min least (words.word (rented.asked config.now o grant.now rent)) }
@@ -69,7 +70,13 @@ fn lower_one(grant: &Grant, o: usize, rent: u64, config: &Config, least: u64) ->
 }
 
 /// The same for an order and the next.
-fn lower_two(grant: &Grant, o: usize, rent: u64, config: &Config, least: (u64, u64)) -> (u64, u64)
+pub(crate) fn lower_two(
+    grant: &Grant,
+    o: usize,
+    rent: u64,
+    config: &Config,
+    least: (u64, u64),
+) -> (u64, u64)
     requires order { o + 1 < length grant.now.prices }
     requires rent { rent ≤ MOST_RENT }
     ensures first { result.0 ≡ min least.0 (words.word (rented.asked config.now o grant.now rent)) }
@@ -117,14 +124,22 @@ fn least_of_two(slot: &SlotPart, o: usize, config: &Config, rents: &[u64]) -> (u
     least
 }
 
-/// Puts the least price of each order of a slot into a row, two orders at a time, since most grants have more than one.
-fn write_row(slot: &SlotPart, config: &Config, rents: &[u64], row: &mut Row)
+/// Puts the least price of each order of a slot into a row, from a pair of orders on, two at a time, since most grants have
+/// more than one.
+pub(crate) fn write_later(
+    slot: &SlotPart,
+    from: usize,
+    config: &Config,
+    rents: &[u64],
+    row: &mut Row,
+)
+    requires before { rows_spec.IsRowBelow config.now slot.now rents.now (2 * from) row.old }
     requires room { length slot.now.grants ≤ length rents.now }
     requires most { All (λ rent. rent ≤ MOST_RENT) rents.now }
-    ensures { words.IsRow config.now slot.now rents.now row.new }
+    ensures { rows_spec.IsRow config.now slot.now rents.now row.new }
 {
     let orders = slot.base.len();
-    for pair in 0..orders / 2 {
+    for pair in from..orders / 2 {
         let o = 2 * pair;
         let (first, second) = least_of_two(slot, o, config, rents);
         row[o] = first;
@@ -135,24 +150,33 @@ fn write_row(slot: &SlotPart, config: &Config, rents: &[u64], row: &mut Row)
     }
 }
 
-/// Puts the least prices of the orders of each slot into rows; the rents of the slots' grants begin at `at`.
-fn write_rows(slots: &[SlotPart], config: &Config, rents: &[u64], at: usize, rows: &mut Rows)
+/// Puts the least prices of the orders of each slot into rows, where the rents of the slots' grants begin at `at`, and answers
+/// where the next ones begin.
+fn write_rows(
+    slots: &[SlotPart],
+    config: &Config,
+    rents: &[u64],
+    at: usize,
+    rows: &mut Rows,
+) -> usize
     requires few { length slots.now ≤ MOST_SLOTS }
     requires room { at + sum_by (λ slot. length slot.grants) slots.now ≤ length rents.now }
     requires most { All (λ rent. rent ≤ MOST_RENT) rents.now }
-    ensures { words.AreRows config.now slots.now (drop at rents.now) (length slots.now) rows.new }
+    ensures rows { rows_spec.AreRows config.now slots.now (drop at rents.now) (length slots.now) rows.new }
+    ensures next { result ≡ at + sum_by (λ slot. length slot.grants) slots.now }
 {
     let mut next = at;
     for s in 0..slots.len() {
         let slot = &slots[s];
         let end = next + slot.grants.len();
-        write_row(slot, config, &rents[next..end], &mut rows[s]);
+        write_later(slot, 0, config, &rents[next..end], &mut rows[s]);
         next = end;
     }
+    next
 }
 
 /// What a template and so many slots cost, by the rows of their least prices, or None where a slot doesn't give what it needs.
-#[tactic(auto, unfolding(crate::specs::inner::Words::row_cost))]
+#[tactic(auto, unfolding(bip_model::specs::inner::Words::row_cost))]
 fn template_cost(template: &Template, slots: usize, rows: &Rows) -> Option<u128>
     requires few { slots ≤ MOST_SLOTS }
     requires internal { template.now.internal < MOST_COST }
@@ -182,26 +206,32 @@ fn lesser(a: Option<u128>, b: Option<u128>) -> Option<u128>
     }
 }
 
-/// The least cost over a part's templates; `rows` is filled on the way.
-fn least_cost(
-    part: &Part,
-    config: &Config,
-    rents: &[u64],
-    at: usize,
-    rows: &mut Rows,
-) -> Option<u128>
-    requires room { at + values.part_grants part.now ≤ length rents.now }
-    requires most { All (λ rent. rent ≤ MOST_RENT) rents.now }
-    ensures exact { result ≡ rented.least_cost config.now part.now (drop at rents.now) }
+/// The least cost over a part's templates, by the rows of its slots.
+fn least_cost(part: &Part, rows: &Rows) -> Option<u128>
+    ensures exact { result ≡ rows_spec.row_least rows.now part.now }
     ensures most { ForSome result (λ cost. cost ≤ values.MOST_PLAN) }
 {
-    write_rows(part.slots.as_slice(), config, rents, at, rows);
     let slots = part.slots.len();
     let mut best = None;
     for template in part.templates.as_slice() {
         best = lesser(best, template_cost(template, slots, rows));
     }
     best
+}
+
+/// The plan cost of a part's statement, by the rows of its slots.
+pub(crate) fn cost_by_rows(part: &Part, rows: &Rows) -> u128
+    ensures exact { result ≡ unwrap_or (rows_spec.row_least rows.now part.now) 0 }
+    ensures most { result ≤ values.MOST_PLAN }
+{
+    least_cost(part, rows).unwrap_or(0)
+}
+
+/// The plan cost of a part's statement, and where the rents of the next part's grants begin.
+#[derive(Clone, Copy)]
+pub(crate) struct Priced {
+    pub cost: u128,
+    pub next: usize,
 }
 
 /// The plan cost of a part's statement, where the rents of its grants begin at `at`; `rows` is filled on the way.
@@ -212,13 +242,18 @@ pub(crate) fn rented_cost(
     rents: &[u64],
     at: usize,
     rows: &mut Rows,
-) -> u128
+) -> Priced
     requires room { at + values.part_grants part.now ≤ length rents.now }
     requires most { All (λ rent. rent ≤ MOST_RENT) rents.now }
-    ensures exact { result ≡ rented.rented_cost config.now part.now (drop at rents.now) }
-    ensures most { result ≤ values.MOST_PLAN }
+    ensures exact { result.cost ≡ rented.rented_cost config.now part.now (drop at rents.now) }
+    ensures most { result.cost ≤ values.MOST_PLAN }
+    ensures next { result.next ≡ at + values.part_grants part.now }
 {
-    least_cost(part, config, rents, at, rows).unwrap_or(0)
+    let next = write_rows(part.slots.as_slice(), config, rents, at, rows);
+    Priced {
+        cost: cost_by_rows(part, rows),
+        next,
+    }
 }
 
 /// How many grants a part has.

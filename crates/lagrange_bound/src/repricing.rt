@@ -31,7 +31,7 @@ fn price_place(
         return plans;
     }
     let part = &task.parts[place];
-    let cost = rented_cost(part, task.config, task.rents, task.starts[place], rows);
+    let cost = rented_cost(part, task.config, task.rents, task.starts[place], rows).cost;
     let sum = changed_sum(plans, part.weight, costs[place], cost);
     costs[place] = cost;
     sum

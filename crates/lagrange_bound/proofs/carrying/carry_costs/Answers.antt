@@ -1,9 +1,7 @@
-use Rattle.std.proofs.Common.{◌≡◌, ◌∙◌, ◌+◌, ◌<◌, ◌≤◌, length, take, get_or, refl, ap, arith, rules}
-use Rattle.std.specs.Prelude.{sum_by}
-use Rattle.std.proofs.lemmas.List.Sums.{sum_by_more, sum_by-take-le}
+use Rattle.std.proofs.Common.{◌≡◌, ◌∙◌, ◌<◌, length, refl, ap, arith, rules}
 use Rattle.bip_model.specs.declared.part.Part.{Part}
 use Rattle.bip_model.specs.Values.{part_grants}
-use Rattle.lagrange_bound.proofs.CarriedCosts.{costs-more, costs-done, length-plan_costs, next-old}
+use Rattle.lagrange_bound.proofs.CarriedCosts.{costs-more, costs-done, length-plan_costs, next-old, next-place, next-room}
 use Rattle.lagrange_bound.proofs.carrying.carry_costs.Goals as goal
 
 pub bounds-old-i : goal.bounds-old-i
@@ -13,12 +11,7 @@ bounds-old-i c =
 
 pub carried_cost-cost-requires-clause-room : goal.carried_cost-cost-requires-clause-room
 carried_cost-cost-requires-clause-room c =
-    let part : Part = c.index-parts-i.result in
-    let more : sum_by part_grants (take (c.loop-i.i + 1) c.args.parts.now) ≡ sum_by part_grants (take c.loop-i.i c.args.parts.now) + part_grants (get_or c.args.parts.now c.loop-i.i part) =
-    sum_by_more part_grants c.args.parts.now c.loop-i.i part c.loop-i-test.true in
-    let own : part_grants part ≡ part_grants (get_or c.args.parts.now c.loop-i.i part) = ap part_grants c.index-parts-i.is in
-    let most : sum_by part_grants (take (c.loop-i.i + 1) c.args.parts.now) ≤ sum_by part_grants c.args.parts.now = sum_by-take-le part_grants c.args.parts.now (c.loop-i.i + 1) in
-    omega (arith, more, own, most, c.requires.rent_each, c.loop-i.invariant.place)
+    next-room c.args.parts.now c.args.rents.now c.loop-i.i c.loop-i.at c.index-parts-i.result c.requires.rent_each c.loop-i-test.true c.index-parts-i.is c.loop-i.invariant.place
 
 pub carried_cost-cost-requires-clause-old : goal.carried_cost-cost-requires-clause-old
 carried_cost-cost-requires-clause-old c =
@@ -32,9 +25,7 @@ loop-i-preserved c =
     let part : Part = c.index-parts-i.result in
     let count : length c.args.old.now ≡ length c.args.parts.now = ap length c.requires.old ∙ length-plan_costs c.args.from.now c.args.parts.now c.args.rents.now in
     let there : c.loop-i.i < length c.args.old.now = omega (arith, count, c.loop-i-test.true) in
-    let more : sum_by part_grants (take (c.loop-i.i + 1) c.args.parts.now) ≡ sum_by part_grants (take c.loop-i.i c.args.parts.now) + part_grants (get_or c.args.parts.now c.loop-i.i part) =
-    sum_by_more part_grants c.args.parts.now c.loop-i.i part c.loop-i-test.true in
-    let own : part_grants part ≡ part_grants (get_or c.args.parts.now c.loop-i.i part) = ap part_grants c.index-parts-i.is in
+    let next = next-place c.args.parts.now c.loop-i.i c.loop-i.at part c.loop-i-test.true c.index-parts-i.is c.loop-i.invariant.place in
     let long : length c.loop-i.costs ≡ length c.args.costs.now = search rules in
     let inside : c.loop-i.i < length c.loop-i.costs = omega (arith, long, c.requires.place_each, c.loop-i-test.true) in
     record {
@@ -43,7 +34,7 @@ loop-i-preserved c =
           c.part_grants-at.ensures.exact c.carried_cost-cost.ensures c.loop-i.invariant.whole;
       old =
           (next-old c.args.from.now c.args.parts.now c.args.rents.now c.args.old.now c.loop-i.at c.loop-i.i c.part_grants-at.result part c.loop-i-test.true there c.index-parts-i.is c.part_grants-at.ensures.exact c.loop-i.invariant.old).rest;
-      place = omega (arith, more, own, c.part_grants-at.ensures.exact, c.loop-i.invariant.place);
+      place = omega (arith, next, c.part_grants-at.ensures.exact);
     }
 
 pub returns : goal.returns

@@ -1,13 +1,13 @@
-use Rattle.std.proofs.Common.{◌≡◌, ◌≤◌, drop, fold, take}
+use Rattle.std.proofs.Common.{◌≡◌, ◌≤◌, fold, length, take}
 use Rattle.std.specs.Prelude.{None}
 use Rattle.std.specs.Option.{ForSome}
 use Rattle.bip_model.specs.Values as values
-use Rattle.lagrange_bound.specs.Rented as rented
+use Rattle.bip_model.specs.inner.Words as words
 use Rattle.lagrange_bound.proofs.pricing.least_cost.Given as goal
 
 abbrev pub invariant-loop-template : goal.invariant-loop-template
 invariant-loop-template l =
     record {
-      least : l.best ≡ fold (λ best template. values.lesser best (rented.template_cost l.config l.part.slots (drop l.at l.rents) template)) None (take l.template-index l.part.templates);
+      least : l.best ≡ fold (λ best template. values.lesser best (words.row_cost l.rows template (length l.part.slots))) None (take l.template-index l.part.templates);
       most : ForSome l.best (λ cost. cost ≤ values.MOST_PLAN);
     }

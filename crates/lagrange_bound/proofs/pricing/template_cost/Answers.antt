@@ -1,7 +1,7 @@
 use Rattle.std.proofs.Common.{◌≡◌, suc, sym, arith}
 use Rattle.std.specs.Prelude.{None}
-use Rattle.lagrange_bound.specs.inner.Words.{row_cost}
-use Rattle.lagrange_bound.proofs.RentedPrices.{row_cost-none}
+use Rattle.bip_model.specs.inner.Words.{row_cost}
+use Rattle.bip_model.proofs.Pricing.{row_cost-none}
 use Rattle.lagrange_bound.proofs.pricing.template_cost.Goals as goal
 
 pub returns-then-price-clause-exact : goal.returns-then-price-clause-exact

@@ -14,7 +14,7 @@ loop-s-preserved c =
     sum_by_more (λ (slot : SlotPart). length slot.grants) c.args.slots.now c.loop-s.s slot c.loop-s-test.true in
     let own : length slot.grants ≡ length (get_or c.args.slots.now c.loop-s.s slot).grants = ap (λ (x : SlotPart). length x.grants) c.index-slots-s.is in
     let count : c.loop-s.next + c.len.result - c.loop-s.next ≡ length slot.grants = omega (arith, c.len.ensures) in
-    let row = row-own c.args.config.now slot (drop c.loop-s.next c.args.rents.now) (c.loop-s.next + c.len.result - c.loop-s.next) c.write_row.new.row count c.write_row.ensures in
+    let row = row-own c.args.config.now slot (drop c.loop-s.next c.args.rents.now) (c.loop-s.next + c.len.result - c.loop-s.next) c.write_later.new.row count c.write_later.ensures in
     record {
       are =
           rows-step c.args.config.now c.args.slots.now c.args.rents.now c.loop-s.rows c.args.at c.loop-s.next c.loop-s.s slot _ (omega (arith, c.loop-s.invariant.count, few, c.loop-s-test.true))
@@ -23,5 +23,5 @@ loop-s-preserved c =
       next = omega (arith, more, own, c.len.ensures, c.loop-s.invariant.next);
     }
 
-pub returns : goal.returns
-returns c = λ s slot below found. c.loop-s.invariant.are s slot (omega (arith, below, c.loop-s-test.false)) found
+pub returns-clause-rows : goal.returns-clause-rows
+returns-clause-rows c = λ s slot below found. c.loop-s.invariant.are s slot (omega (arith, below, c.loop-s-test.false)) found
