@@ -9,8 +9,10 @@ import os
 import pty
 import select
 import shutil
+import signal
 import subprocess
 import tempfile
+import time
 import unittest
 from pathlib import Path
 
@@ -49,6 +51,7 @@ class Copy:
             (self.root / "crates" / crate / "src").mkdir(parents=True)
         (folder / "bin").mkdir()
         self._script(folder / "bin" / "rt", RT)
+        self._script(folder / "bin" / "nproc", "#!/bin/sh\necho 4\n")
         self._script(folder / "program", PROGRAM)
         self.calls = folder / "calls"
 
@@ -147,7 +150,7 @@ class Wrapper(unittest.TestCase):
         self.assertIn(b"building cophy_cli (2 of 2), 0 min 0", ran.stderr)
         self.assertIn(b"built, in 0 min 0", ran.stderr)
         called = self.copy.called()
-        self.assertEqual(called[0], "rt lib in adv_base")
+        self.assertEqual(called[0], "rt lib --jobs 1 in adv_base")
         self.assertTrue(called[1].startswith("rt run -- cost "))
         self.assertEqual(called[2], "program cost a b")
 
@@ -161,12 +164,14 @@ class Wrapper(unittest.TestCase):
         self.assertEqual(called, ["base", "left", "right", "top"])
 
     def test_several_crates_are_proved_at_once_where_that_is_asked_or_the_machine_allows(self) -> None:
+        self.lay_crates(["base:", "top: base", "cophy_cli: top"], {"base": 1, "top": 1})
         ran = self.copy.call("cost", "a", "b", COPHY_JOBS="4", FAKE_TEXT="done\\n")
         self.assertEqual((ran.returncode, ran.stdout), (0, b"done\n"))
-        self.assertIn(b"proving 2 crates, with at most 4 processes, 0 min 0", ran.stderr)
-        self.assertIn(b"building cophy_cli (2 of 2), 0 min 0", ran.stderr)
+        self.assertIn(b"proving 3 crates, with at most 4 processes, 0 min 0", ran.stderr)
+        self.assertIn(b"building cophy_cli (3 of 3), 0 min 0", ran.stderr)
         called = self.copy.called()
-        self.assertEqual(called[0], "rt lib --jobs 3 in adv_base")
+        self.assertEqual(called.pop(0), "rt lib --jobs 3 in base")
+        self.assertEqual(called[0], "rt lib --jobs 3 in top")
         self.assertTrue(called[1].startswith("rt run -- cost "))
         self.assertEqual(called[2], "program cost a b")
 
@@ -202,8 +207,30 @@ class Wrapper(unittest.TestCase):
     def test_where_a_program_stands_crates_are_proved_in_turn_in_the_checkout(self) -> None:
         self.copy.build()
         (self.copy.root / "out" / "built").unlink()
-        self.copy.call("cost", "a", "b", COPHY_JOBS="4")
-        self.assertEqual(self.copy.called()[0], "rt lib in adv_base")
+        self.copy.call("cost", "a", "b", COPHY_JOBS="9")
+        self.assertEqual(self.copy.called()[0], "rt lib --jobs 4 in adv_base")
+
+    def test_an_interrupt_ends_what_is_begun_and_leaves_nothing(self) -> None:
+        self.lay_crates(["base:", "top: base", "cophy_cli: top"], {"base": 1, "top": 1})
+        room = self.copy.folder / "room"
+        room.mkdir()
+        started = subprocess.Popen(
+            [self.copy.root / "cophy", "cost", "a", "b"],
+            cwd=self.copy.root,
+            env=self.copy.environment(COPHY_JOBS="4", FAKE_SECONDS="30", TMPDIR=str(room)),
+            stdin=subprocess.DEVNULL,
+            stderr=subprocess.DEVNULL,
+            start_new_session=True,
+            preexec_fn=lambda: signal.signal(signal.SIGINT, signal.default_int_handler),
+        )
+        for _ in range(100):
+            if self.copy.called():
+                break
+            time.sleep(0.1)
+        os.killpg(started.pid, signal.SIGINT)
+        self.assertEqual(started.wait(timeout=20), 130)
+        self.assertEqual(list(room.iterdir()), [])
+        self.assertEqual(list((self.copy.root / "out").glob("build.log.*")), [])
 
     def test_a_crate_that_is_not_proved_ends_the_build(self) -> None:
         self.lay_crates(["base:", "top: base", "cophy_cli: top"], {"base": 1, "top": 1})
@@ -228,13 +255,13 @@ class Wrapper(unittest.TestCase):
         source.touch()
         os.utime(source, (2**31, 2**31))
         self.copy.call("cost", "a", "b")
-        self.assertEqual(self.copy.called()[0], "rt lib in adv_base")
+        self.assertEqual(self.copy.called()[0], "rt lib --jobs 1 in adv_base")
 
     def test_a_failed_build_ends_with_70_and_prints_nothing(self) -> None:
         ran = self.copy.call("cost", "a", "b", FAKE_RT="1")
         self.assertEqual((ran.returncode, ran.stdout), (70, b""))
         self.assertIn(b"the build failed", ran.stderr)
-        self.assertEqual(self.copy.called(), ["rt lib in adv_base"])
+        self.assertEqual(self.copy.called(), ["rt lib --jobs 1 in adv_base"])
         self.assertFalse((self.copy.root / "out" / "built").exists())
 
     def test_without_rt_it_says_what_to_install(self) -> None:
