@@ -2,7 +2,7 @@ use Rattle.std.proofs.Common.{◌+◌, ◌<◌, length, arith, ap, ◌∙◌, sl
 use Rattle.adv_base.specs.Items.{Order}
 use Rattle.inum_cache.specs.Numbering.{size_in, order_in}
 use Rattle.inum_cache.specs.inner.Pricing.{best_price, price_of_first, places_below}
-use Rattle.inum_cache.proofs.Pricing.{start_in-most, place-below}
+use Rattle.inum_cache.proofs.Pricing.{start_in-most, place-below, at-below}
 use Rattle.inum_cache.proofs.Seeing.{slot-begins, slot-ends, slots-here, places-none, places-in, place-set}
 use Rattle.inum_cache.proofs.cache.Cache.price_each.Goals as goal
 
@@ -14,8 +14,8 @@ loop-place-init g c =
 pub bounds-prices-at : goal.bounds-prices-at
 bounds-prices-at g c =
     let orders = c.args.self.now.choices.orders in
-    let below = place-below (size_in orders) c.args.slot c.loop-place.place (length orders) c.requires.slot (omega (arith, c.size-place-end.ensures)) in
-    omega (arith, below, c.args.self.now.started c.args.slot c.requires.slot, c.args.self.now.counted, c.requires.room, c.loop-place.auto.prices)
+    let below = at-below orders c.args.self.now.starts c.args.slot c.loop-place.place c.args.self.now.count c.args.self.now.started c.args.self.now.counted c.requires.slot (omega (arith, c.size-place-end.ensures)) in
+    omega (arith, below, c.requires.room, c.loop-place.auto.prices)
 
 pub loop-place-preserved : goal.loop-place-preserved
 loop-place-preserved g c =
@@ -24,15 +24,15 @@ loop-place-preserved g c =
     let slot = c.args.slot in
     let started = c.args.self.now.started slot c.requires.slot in
     let within : c.loop-place.place < size_in orders slot = omega (arith, c.size-place-end.ensures) in
-    let below = place-below (size_in orders) slot c.loop-place.place (length orders) c.requires.slot within in
-    let room : slice_index_or c.args.self.now.starts slot 0 + c.loop-place.place < length c.loop-place.prices = omega (arith, below, started, c.args.self.now.counted, c.requires.room, c.loop-place.auto.prices) in
+    let below = at-below orders c.args.self.now.starts slot c.loop-place.place c.args.self.now.count c.args.self.now.started c.args.self.now.counted c.requires.slot within in
+    let room : slice_index_or c.args.self.now.starts slot 0 + c.loop-place.place < length c.loop-place.prices = omega (arith, below, c.requires.room, c.loop-place.auto.prices) in
     place-set table orders c.loop-place.prices slot c.loop-place.place (slice_index_or c.args.self.now.starts slot 0 + c.loop-place.place) c.best_price.result (ap (λ n. n + c.loop-place.place) started) within room (c.best_price.ensures ∙ ap (λ (o : Order). best_price table slot o) c.order-order.ensures) c.loop-place.invariant
 
 pub bounds-prices-start : goal.bounds-prices-start
 bounds-prices-start g c =
     let orders = c.args.self.now.choices.orders in
-    let below = place-below (size_in orders) c.args.slot 0 (length orders) c.requires.slot (c.args.self.now.choices.sizes c.args.slot c.requires.slot).some in
-    omega (arith, below, c.args.self.now.started c.args.slot c.requires.slot, c.args.self.now.counted, c.requires.room, c.loop-place.auto.prices)
+    let below = at-below orders c.args.self.now.starts c.args.slot 0 c.args.self.now.count c.args.self.now.started c.args.self.now.counted c.requires.slot (c.args.self.now.choices.sizes c.args.slot c.requires.slot).some in
+    omega (arith, below, c.requires.room, c.loop-place.auto.prices)
 
 pub returns-clause-prices : goal.returns-clause-prices
 returns-clause-prices g c =
