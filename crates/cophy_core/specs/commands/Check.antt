@@ -47,8 +47,8 @@ Gives bytes setting (CheckedDone checked) = IsProved setting bytes checked
 Gives bytes setting (NotProvedDone why) = ProvesNothing setting bytes why
 Gives bytes setting done = ⊥
 
--- what proves something of a setting is never said to prove nothing
+-- bytes and a setting have one answer
 abbrev pub OneAnswer : Type 0
 OneAnswer =
-    (setting : TheSetting) (bytes : List ℕ) (checked : Checked) (why : NotProved) →
-    IsProved setting bytes checked → ProvesNothing setting bytes why → ⊥
+    (setting : TheSetting) (bytes : List ℕ) (done other : Done) →
+    Gives bytes setting done → Gives bytes setting other → done ≡ other

@@ -8,8 +8,8 @@ ghost use Rattle.cophy_core.specs.Causes.{IsBounded};
 ghost use Rattle.cophy_core.specs.commands.Check as spec;
 
 use adv_base::{NoMemory, Setting};
-use certificate::{Cert, CertFault, read_cert, texts_are_one};
-use gap_checker::{CheckFault, faults_exclude_proofs};
+use certificate::{Cert, CertFault, breaks_are_one, read_cert, texts_are_one};
+use gap_checker::{CheckFault, answers_are_one};
 use report::{Done, NotProved};
 use std::alloc::Global;
 
@@ -67,10 +67,12 @@ pub(crate) fn check(alloc: Global, setting: &Setting<'_>, bytes: &[u8]) -> Resul
     }
 }
 
-/// A file that proves something of a setting has no fault: `check` has one answer to it.
+/// `check` has one answer to the bytes of a file and a setting: what they prove, or the first line at which they are no
+/// certificate's, or the one fault of the certificate; all that is told with it is determined too.
 pub fn checks_have_one_answer()
     ensures { spec.OneAnswer }
 {
     texts_are_one();
-    faults_exclude_proofs();
+    breaks_are_one();
+    answers_are_one();
 }
