@@ -1,5 +1,5 @@
 //! How a programme is made.
-ghost use Rattle.std.specs.Prelude.{◌≡◌, ◌+◌, ◌++◌, ◌∷◌, [], IfErr, IfOk, OnOk, Some, length, option_map, slice_get};
+ghost use Rattle.std.specs.Prelude.{◌≡◌, ◌+◌, ◌++◌, ◌∷◌, [], IfErr, IfOk, OnOk, Some, length, slice_get};
 ghost use Rattle.adv_base.specs.declared.setting.Config.{Config};
 ghost use Rattle.bip_model.specs.StandsFor as stands;
 ghost use Rattle.bip_model.specs.Values as values;
@@ -12,16 +12,9 @@ ghost use Rattle.tuning.specs.inner.Parts as inner;
 use crate::fault::TuneFault;
 use crate::parts::part;
 use crate::sums::{sizes, upkeeps, weighted_kept};
-use adv_base::{Block, List, Setting, Statement, Work};
+use adv_base::{List, Setting, Statement};
 use bip_model::{Part, Programme};
 use std::alloc::Global;
-
-/// The block of a statement, whose rows it reads; an INSERT has none.
-pub fn block_of(work: &Work) -> Option<&Block>
-    ensures { option_map (λ b. b.now) result ≡ totals.block_of work.now }
-{
-    work.block()
-}
 
 /// Puts a part at the end.
 fn put(parts: &mut Vec<Part>, part: Part) -> Result<(), TuneFault>

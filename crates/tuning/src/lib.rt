@@ -28,6 +28,6 @@ mod parts;
 mod slots;
 mod sums;
 
-pub use building::{block_of, programme};
+pub use building::programme;
 pub use fault::TuneFault;
 pub use laws::blocks_have_one_count;

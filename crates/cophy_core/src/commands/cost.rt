@@ -14,7 +14,6 @@ use crate::tally::Tally;
 use adv_base::{Config, NoMemory, Setting, Statement, Work};
 use report::{Done, Prices};
 use std::alloc::Global;
-use tuning::block_of;
 
 /// What a least plan of a statement costs under a configuration. An INSERT has none.
 fn plan_cost(
@@ -27,7 +26,7 @@ fn plan_cost(
     ensures least { IfOk result (totals.IsPlanCost setting.now.cat.now setting.now.shapes.now config.now work.now) }
     ensures bound { IfOk result (λ cost. cost < MOST_COST) }
 {
-    match block_of(work) {
+    match work.block() {
         Some(block) => {
             let found = plan_block(alloc, setting, config, block)?;
             Ok(found.cost)

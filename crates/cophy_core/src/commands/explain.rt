@@ -16,7 +16,6 @@ use adv_base::{Block, Bytes, Config, NoMemory, Setting, Statement};
 use plan_model::plan_text;
 use report::{Done, Explained, Refusal};
 use std::alloc::Global;
-use tuning::block_of;
 
 /// A least plan of a block with its lines, beside the upkeep of its statement.
 fn explained_block(
@@ -76,7 +75,7 @@ fn explained_statement(
     ensures bound { IfOk result (λ explained. IsBounded (Done.Explained explained)) }
 {
     let upkeep = upkeep_of(setting, config, statement);
-    match block_of(&statement.work) {
+    match statement.work.block() {
         Some(block) => explained_block(alloc, setting, config, number, upkeep, block),
         None => Ok(explained_insert(alloc, number, upkeep)),
     }

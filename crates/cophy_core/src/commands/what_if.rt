@@ -21,7 +21,6 @@ use bip_model::{Part, Programme, part_cost, value_is_total};
 use hypo_indexes::config_pages;
 use report::{Done, Prices, Refusal};
 use std::alloc::Global;
-use tuning::block_of;
 
 /// What a least plan of a statement costs under a configuration, with the parts of the statements behind it. `parts` are
 /// those of this statement, `at` from 0, and of all behind it: the first tells the cost. An INSERT has no part and no plan.
@@ -38,7 +37,7 @@ fn plan_cost<'a>(
     ensures bound { result.0 < MOST_COST }
     ensures rest { ArePartsFrom (the_setting setting.now) (at + 1) result.1.now }
 {
-    match block_of(&statement.work) {
+    match statement.work.block() {
         Some(_) => {
             value_is_total();
             (part_cost(&parts[0], config), &parts[1..])
