@@ -18,7 +18,7 @@ use Rattle.bip_model.specs.declared.costs.TheConstants.{NO_PRICE}
 use Rattle.bip_model.specs.Limits.Grants.{ArePrices}
 use Rattle.bip_model.specs.Limits.Parts.{TemplateLimits}
 use Rattle.bip_model.specs.Values.{lesser, plus, price_of, granted, slot_price, need, needed_price, cost_below, template_cost}
-use Rattle.bip_model.specs.inner.Words.{word, told, IsRow, AreRows, row_cost}
+use Rattle.bip_model.specs.Words.{word, told, IsRow, AreRows, row_cost}
 
 -- a price, if any, within its limit
 abbrev pub IsPrice : Option ℕ → Type 0

@@ -9,4 +9,4 @@ pub mod Uses
 pub mod Best
 pub mod Candidates
 pub mod SearchLaws
-pub mod inner
+pub mod Words

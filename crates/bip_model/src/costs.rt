@@ -5,7 +5,7 @@ ghost use Rattle.adv_base.specs.Configs as configs;
 ghost use Rattle.adv_base.specs.declared.limits.TheConstants.{MOST_CANDIDATES, MOST_SLOTS, MOST_STATEMENTS, MOST_UPKEEP, MOST_WEIGHT};
 ghost use Rattle.plan_model.specs.declared.plan.TheConstants.{MOST_COST};
 ghost use Rattle.bip_model.specs.Values as values;
-ghost use Rattle.bip_model.specs.inner.Words as words;
+ghost use Rattle.bip_model.specs.Words as words;
 
 use crate::grant::Grant;
 use crate::part::Part;
@@ -86,7 +86,7 @@ fn write_rows(slots: &[SlotPart], config: &Config, rows: &mut Rows)
 }
 
 /// What a template and so many slots cost, by the rows of their least prices, or None where a slot doesn't give what it needs.
-#[tactic(auto, unfolding(crate::specs::inner::Words::row_cost))]
+#[tactic(auto, unfolding(crate::specs::Words::row_cost))]
 fn template_cost(template: &Template, slots: usize, rows: &Rows) -> Option<u128>
     requires few { slots ≤ MOST_SLOTS }
     requires internal { template.now.internal < MOST_COST }

@@ -122,7 +122,7 @@ pub fn bound_by(
     fix: &Fix,
     multipliers: &Multipliers,
     ledger: &mut Ledger,
-    room: &mut PriceRows,
+    rows: &mut PriceRows,
 ) -> i128
     requires cheaper { ledgers.AreCheaperParts programme.now cheaper.now }
     requires budget { budget ≤ MOST_ROWS }
@@ -138,7 +138,7 @@ pub fn bound_by(
         multipliers,
         &config,
         ledger,
-        &mut room.rows,
+        &mut rows.rows,
     );
     value_of_plans(
         programme,

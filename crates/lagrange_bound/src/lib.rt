@@ -10,7 +10,8 @@
 //!
 //! `Terms` are what the plan of each part costs at a node. A `Ledger` keeps these in place under one set of multipliers, and
 //! the `CheaperParts` of a programme say which parts each candidate can make cheaper, and so have to be priced anew where it
-//! comes or goes; `PriceRows` are room for that. An `Ascent` has the memory of ascents, and a `Pace` says how many rounds one has, and how long its steps are.
+//! comes or goes; `PriceRows` are room for that. An `Ascent` has the memory of ascents, and a `Pace` says how many rounds
+//! one has, and how long its steps are.
 //!
 //! ```rust
 //! // Statements of weights 10 and 11, which cost 80000 each, and 13000 and 14000 with candidates 1 and 2, of 3 and 4 pages.

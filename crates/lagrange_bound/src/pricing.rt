@@ -6,7 +6,7 @@ ghost use Rattle.adv_base.specs.declared.limits.TheConstants.{MOST_CANDIDATES, M
 ghost use Rattle.plan_model.specs.declared.plan.TheConstants.{MOST_COST};
 ghost use Rattle.bip_model.specs.Limits.Grants.{ArePrices};
 ghost use Rattle.bip_model.specs.Values as values;
-ghost use Rattle.bip_model.specs.inner.Words as words;
+ghost use Rattle.bip_model.specs.Words as words;
 ghost use Rattle.lagrange_bound.specs.Rented as rented;
 ghost use Rattle.lagrange_bound.specs.inner.Rows as rows_spec;
 
@@ -124,9 +124,9 @@ fn least_of_two(slot: &SlotPart, o: usize, config: &Config, rents: &[u64]) -> (u
     least
 }
 
-/// Puts the least price of each order of a slot into a row, from a pair of orders on, two at a time, since most grants have
-/// more than one.
-pub(crate) fn write_later(
+/// Puts the least price of each order of a slot into a row, from a pair of orders on, two at a time, since most grants
+/// have more than one.
+pub(crate) fn write_from(
     slot: &SlotPart,
     from: usize,
     config: &Config,
@@ -150,8 +150,8 @@ pub(crate) fn write_later(
     }
 }
 
-/// Puts the least prices of the orders of each slot into rows, where the rents of the slots' grants begin at `at`, and answers
-/// where the next ones begin.
+/// Puts the least prices of the orders of each slot into rows, where the rents of the slots' grants begin at `at`, and
+/// answers where the next ones begin.
 fn write_rows(
     slots: &[SlotPart],
     config: &Config,
@@ -169,14 +169,14 @@ fn write_rows(
     for s in 0..slots.len() {
         let slot = &slots[s];
         let end = next + slot.grants.len();
-        write_later(slot, 0, config, &rents[next..end], &mut rows[s]);
+        write_from(slot, 0, config, &rents[next..end], &mut rows[s]);
         next = end;
     }
     next
 }
 
 /// What a template and so many slots cost, by the rows of their least prices, or None where a slot doesn't give what it needs.
-#[tactic(auto, unfolding(bip_model::specs::inner::Words::row_cost))]
+#[tactic(auto, unfolding(bip_model::specs::Words::row_cost))]
 fn template_cost(template: &Template, slots: usize, rows: &Rows) -> Option<u128>
     requires few { slots ≤ MOST_SLOTS }
     requires internal { template.now.internal < MOST_COST }

@@ -2,14 +2,14 @@
 ghost use Rattle.std.specs.Prelude.{◌≡◌, ℕ, suc, ◌+◌, ◌*◌, ◌<◌, ◌≤◌, All, drop, length, sum_by, slice_index_or};
 ghost use Rattle.adv_base.specs.declared.limits.TheConstants.{MOST_CANDIDATES, MOST_RENT, MOST_SLOTS};
 ghost use Rattle.bip_model.specs.Values as values;
-ghost use Rattle.bip_model.specs.inner.Words as words;
+ghost use Rattle.bip_model.specs.Words as words;
 ghost use Rattle.lagrange_bound.specs.Bounds as bounds;
 ghost use Rattle.lagrange_bound.specs.Rented as rented;
 ghost use Rattle.lagrange_bound.specs.inner.Limits as limits;
 ghost use Rattle.lagrange_bound.specs.inner.Rows as rows_spec;
 
 use crate::earnings::{Earned, earn, earn_grants};
-use crate::pricing::{Priced, Row, Rows, cost_by_rows, lower_one, lower_two, word, write_later};
+use crate::pricing::{Priced, Row, Rows, cost_by_rows, lower_one, lower_two, word, write_from};
 use adv_base::Config;
 use bip_model::{Part, SlotPart};
 
@@ -126,13 +126,13 @@ fn earn_row(
             let least = earn_two(slot, weight, config, rents, earned);
             row[0] = least.0;
             row[1] = least.1;
-            write_later(slot, 1, config, rents, row);
+            write_from(slot, 1, config, rents, row);
         }
     }
 }
 
-/// Puts the least prices of the orders of each slot into rows and adds the weighted rents of the slots' grants, which begin at
-/// `at`, and answers where the next ones begin.
+/// Puts the least prices of the orders of each slot into rows and adds the weighted rents of the slots' grants, which
+/// begin at `at`, and answers where the next ones begin.
 fn earn_rows(
     slots: &[SlotPart],
     weight: u32,
@@ -167,8 +167,8 @@ fn earn_rows(
     next
 }
 
-/// The plan cost of a part's statement, where the rents of its grants begin at `at`; `rows` is filled on the way, and the
-/// weighted rents are added.
+/// The plan cost of a part's statement, where the rents of its grants begin at `at`; `rows` is filled on the way, and
+/// the weighted rents are added.
 #[tactic(auto, unfolding(crate::specs::Rented::rented_cost))]
 pub(crate) fn earned_cost(
     part: &Part,

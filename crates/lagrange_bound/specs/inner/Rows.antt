@@ -4,7 +4,7 @@ use Rattle.adv_base.specs.declared.setting.Config.{Config}
 use Rattle.bip_model.specs.declared.part.Part.{Part}
 use Rattle.bip_model.specs.declared.slot_part.SlotPart.{SlotPart}
 use Rattle.bip_model.specs.Values.{lesser}
-use Rattle.bip_model.specs.inner.Words.{word, row_cost}
+use Rattle.bip_model.specs.Words.{word, row_cost}
 use Rattle.lagrange_bound.specs.Rented.{rented_price, grants_before}
 
 -- a row has the least price of each order of a slot

@@ -1,6 +1,6 @@
 use Rattle.std.proofs.Common.{◌≡◌, ℕ, ◌<◌, slice_index_or}
 use Rattle.bip_model.specs.Values as values
-use Rattle.bip_model.specs.inner.Words as words
+use Rattle.bip_model.specs.Words as words
 use Rattle.bip_model.proofs.costs.write_base.Given as goal
 
 abbrev pub invariant-loop-o : goal.invariant-loop-o

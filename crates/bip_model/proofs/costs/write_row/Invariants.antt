@@ -1,6 +1,6 @@
 use Rattle.std.proofs.Common.{◌≡◌, ℕ, ◌<◌, length, fold, take, slice_index_or}
 use Rattle.bip_model.specs.Values as values
-use Rattle.bip_model.specs.inner.Words as words
+use Rattle.bip_model.specs.Words as words
 use Rattle.bip_model.proofs.costs.write_row.Given as goal
 
 abbrev pub invariant-loop-grant : goal.invariant-loop-grant

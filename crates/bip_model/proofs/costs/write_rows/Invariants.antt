@@ -1,5 +1,5 @@
 use Rattle.std.proofs.Common.{◌≡◌, length}
-use Rattle.bip_model.specs.inner.Words as words
+use Rattle.bip_model.specs.Words as words
 use Rattle.bip_model.proofs.costs.write_rows.Given as goal
 
 abbrev pub invariant-loop-s : goal.invariant-loop-s

@@ -1,6 +1,5 @@
 use Rattle.std.proofs.Common.{◌≡◌, ◌∙◌, ◌<◌, length, arith, rules}
 use Rattle.bip_model.specs.declared.part.Part.{Part}
-use Rattle.bip_model.specs.Values.{part_grants}
 use Rattle.lagrange_bound.proofs.CarriedCosts.{costs-after, costs-done, next-place, next-room}
 use Rattle.lagrange_bound.proofs.carrying.write_costs.Goals as goal
 

@@ -2,7 +2,7 @@ use Rattle.std.proofs.Common.{◌≡◌, ◌≤◌, fold, length, take}
 use Rattle.std.specs.Prelude.{None}
 use Rattle.std.specs.Option.{ForSome}
 use Rattle.bip_model.specs.Values as values
-use Rattle.bip_model.specs.inner.Words as words
+use Rattle.bip_model.specs.Words as words
 use Rattle.lagrange_bound.proofs.pricing.least_cost.Given as goal
 
 abbrev pub invariant-loop-template : goal.invariant-loop-template

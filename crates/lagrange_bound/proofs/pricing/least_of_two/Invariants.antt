@@ -1,7 +1,7 @@
 use Rattle.std.proofs.Common.{◌≡◌, ◌+◌, take}
 use Rattle.bip_model.specs.Values as values
 use Rattle.lagrange_bound.specs.Rented as rented
-use Rattle.bip_model.specs.inner.Words as words
+use Rattle.bip_model.specs.Words as words
 use Rattle.lagrange_bound.proofs.pricing.least_of_two.Given as goal
 
 abbrev pub invariant-loop-i : goal.invariant-loop-i

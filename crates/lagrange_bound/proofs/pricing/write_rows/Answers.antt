@@ -14,7 +14,7 @@ loop-s-preserved c =
     sum_by_more (λ (slot : SlotPart). length slot.grants) c.args.slots.now c.loop-s.s slot c.loop-s-test.true in
     let own : length slot.grants ≡ length (get_or c.args.slots.now c.loop-s.s slot).grants = ap (λ (x : SlotPart). length x.grants) c.index-slots-s.is in
     let count : c.loop-s.next + c.len.result - c.loop-s.next ≡ length slot.grants = omega (arith, c.len.ensures) in
-    let row = row-own c.args.config.now slot (drop c.loop-s.next c.args.rents.now) (c.loop-s.next + c.len.result - c.loop-s.next) c.write_later.new.row count c.write_later.ensures in
+    let row = row-own c.args.config.now slot (drop c.loop-s.next c.args.rents.now) (c.loop-s.next + c.len.result - c.loop-s.next) c.write_from.new.row count c.write_from.ensures in
     record {
       are =
           rows-step c.args.config.now c.args.slots.now c.args.rents.now c.loop-s.rows c.args.at c.loop-s.next c.loop-s.s slot _ (omega (arith, c.loop-s.invariant.count, few, c.loop-s-test.true))

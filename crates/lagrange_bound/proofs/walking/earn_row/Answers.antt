@@ -4,8 +4,8 @@ use Rattle.std.proofs.lemmas.List.{length-set}
 use Rattle.lagrange_bound.proofs.RentedPrices.{row-more, row-none}
 use Rattle.lagrange_bound.proofs.walking.earn_row.Goals as goal
 
-pub write_later-requires-clause-before : goal.write_later-requires-clause-before
-write_later-requires-clause-before c =
+pub write_from-requires-clause-before : goal.write_from-requires-clause-before
+write_from-requires-clause-before c =
     let long : length c.args.row.now ≡ 256 = c.told-row in
     let row : List ℕ = slice_set c.args.row.now 0 c.earn_two-least.result.0 in
     let same : length row ≡ 256 = length-set c.args.row.now 0 c.earn_two-least.result.0 ∙ long in

@@ -1,7 +1,7 @@
 use Rattle.std.proofs.Common.{◌≡◌, ℕ, suc, ◌+◌, ◌*◌, ◌<◌, drop, length, take, slice_index_or}
 use Rattle.adv_base.specs.declared.limits.TheConstants.{MOST_CANDIDATES}
 use Rattle.bip_model.specs.Values as values
-use Rattle.bip_model.specs.inner.Words as words
+use Rattle.bip_model.specs.Words as words
 use Rattle.lagrange_bound.specs.Bounds as bounds
 use Rattle.lagrange_bound.specs.Rented as rented
 use Rattle.lagrange_bound.proofs.walking.earn_three.Given as goal

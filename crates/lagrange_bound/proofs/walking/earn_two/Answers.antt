@@ -1,4 +1,4 @@
-use Rattle.std.proofs.Common.{◌≡◌, ◌∙◌, ℕ, suc, ◌*◌, ◌<◌, List, length, refl, ap, arith, rules}
+use Rattle.std.proofs.Common.{◌≡◌, suc, ◌*◌, ◌<◌, List, length, refl, ap, arith, rules}
 use Rattle.bip_model.specs.declared.grant.Grant.{Grant}
 use Rattle.lagrange_bound.specs.Bounds.{grant_rents}
 use Rattle.lagrange_bound.proofs.EarnedRents.{earn-step, earn-fits}

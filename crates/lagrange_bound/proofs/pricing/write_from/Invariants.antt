@@ -1,6 +1,6 @@
 use Rattle.std.proofs.Common.{◌≡◌, ◌*◌, length}
 use Rattle.lagrange_bound.specs.inner.Rows as rows_spec
-use Rattle.lagrange_bound.proofs.pricing.write_later.Given as goal
+use Rattle.lagrange_bound.proofs.pricing.write_from.Given as goal
 
 abbrev pub invariant-loop-pair : goal.invariant-loop-pair
 invariant-loop-pair l =
