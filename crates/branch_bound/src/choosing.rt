@@ -10,7 +10,7 @@ use crate::task::Task;
 use adv_base::limits::MOST_CANDIDATES;
 use bip_model::{Fix, Multipliers, Programme};
 
-/// What guides are asked about: the programme, the budget of pages, and which candidates are useful.
+/// What guides are asked about: the programme, what its candidates offer, the budget of pages, and which are useful.
 #[derive(Clone, Copy)]
 pub(crate) struct Scope<'a> {
     pub programme: &'a Programme,
