@@ -39,7 +39,7 @@ const ROUNDS: u32 = 41;
 /// So many useful candidates are few: a search of few nodes is then tried after each turn, and turns are short.
 const MOST_OF_FEW: u32 = 64;
 /// The most nodes of the search that is tried.
-const MOST_TRIED: u32 = 100;
+const ROOT_TRIAL_NODES: u32 = 100;
 
 /// How the multipliers of the root are raised, turn by turn, where few candidates are useful.
 const TURNS_OF_FEW: [Pace; 2] = [
@@ -165,7 +165,7 @@ fn turned(
         &mut known,
         task.root,
         &mut hands.stack,
-        MOST_TRIED,
+        ROOT_TRIAL_NODES,
     );
     Start { known, is_closed }
 }
@@ -194,7 +194,7 @@ fn ascended(task: &Task<'_>, first: &mut Multipliers, hands: &mut Hands) -> Star
     } else {
         TURNS_OF_MANY
     };
-    for turn in 0..2 {
+    for turn in 0..turns.len() {
         start = turned(task, start.known, first, hands, turns[turn]);
         if start.is_closed {
             return start;

@@ -144,9 +144,9 @@ pub(crate) fn explore(
             append(&mut walk.tree, Node::Branch(index as u16 + 1));
             let sides = sides_of(frame, place, index);
             let within = fixed(fix, index, State::In);
-            let before = branched(found, frame.nodes);
+            let inner = branched(found, frame.nodes);
             let total = total_at(frame, &within);
-            let middle = explore(frame, &within, total, before, sides.inside, walk);
+            let middle = explore(frame, &within, total, inner, sides.inside, walk);
             let without = outside(frame, fix, index, cost);
             explore(frame, &without, cost, middle, sides.outside, walk)
         }

@@ -15,7 +15,7 @@ use crate::hands::Hands;
 use crate::incumbent::{exchanged, is_near, is_new, rounded, shares_of};
 use crate::taken::taken;
 use crate::task::Task;
-use crate::trial::{MOST_NODES, closes};
+use crate::trial::{MOST_TRIAL_NODES, closes};
 use adv_base::limits::MOST_CANDIDATES;
 use bip_model::{Fix, Multipliers, State};
 use lagrange_bound::{Pace, ascend};
@@ -244,7 +244,7 @@ fn grown(
         known,
         fix,
         &mut hands.stack,
-        MOST_NODES,
+        MOST_TRIAL_NODES,
     ) {
         return leaf(fix, best, false);
     }

@@ -13,9 +13,9 @@ use adv_base::limits::MOST_CANDIDATES;
 use bip_model::{Fix, Multipliers, State};
 
 /// The most nodes of a trial.
-pub(crate) const MOST_NODES: u32 = 200;
+pub(crate) const MOST_TRIAL_NODES: u32 = 200;
 /// The most nodes that a trial has before it: each node that it takes puts two there, and it begins with one.
-pub(crate) const MOST_WAITING: usize = 201;
+pub(crate) const MOST_WAITING: usize = MOST_TRIAL_NODES as usize + 1;
 
 /// Puts a node before a trial; whether there was room.
 fn put(stack: &mut Vec<Fix>, fix: Fix) -> bool {
@@ -72,7 +72,7 @@ pub(crate) fn closes(
     let mut hint = 0;
     stack.clear();
     let mut is_room = put(stack, *fix);
-    for _ in 0..most.min(MOST_NODES) {
+    for _ in 0..most.min(MOST_TRIAL_NODES) {
         if !is_room {
             return false;
         }

@@ -1,5 +1,5 @@
 //! A text cut into its tokens.
-ghost use Rattle.std.specs.Prelude.{◌≡◌, ◌+◌, ◌<◌, ◌≤◌, ◌^◌, ◌++◌, ℕ, List, [], ◌∷◌, length, take, IfOk, IfErr, MatchResult, ◌⊎◌};
+ghost use Rattle.std.specs.Prelude.{◌≡◌, ◌+◌, ◌<◌, ◌≤◌, ◌^◌, ◌++◌, List, [], ◌∷◌, length, IfOk, IfErr, MatchResult, ◌⊎◌};
 ghost use Rattle.std.specs.Option.{option_to_list};
 ghost use Rattle.sql_tokens.specs.declared.token.Token.{Token};
 ghost use Rattle.sql_tokens.specs.declared.token_list.TokenFault.{TokenFault};
