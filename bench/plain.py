@@ -1,6 +1,6 @@
 """The crates of a repository as plain Rust, without contracts, built by rustc: a means to try in seconds how fast code is and
-how many nodes it takes, before anything is proved. It is no build of the product: nothing is proved, indexes are tested at run
-time, which costs some time, and the readers of text are left out."""
+how many nodes it takes, before anything is proved. It is no build of the product: nothing is proved, each access to a
+slice is checked when it runs, which costs some time, and the readers of text are left out."""
 import os
 import re
 import shutil
