@@ -21,12 +21,6 @@ abbrev pub FaultsExcludeProofs : Type 0
 FaultsExcludeProofs =
     (setting : TheSetting) (cert : Cert) (fault : CheckFault) → CertLimits cert → IsProof setting cert → IsFault setting cert fault → fault ≡ Memory
 
--- for a setting a certificate has one fault, the first; want of memory alone says nothing of it
-abbrev pub FaultsAreOne : Type 0
-FaultsAreOne =
-    (setting : TheSetting) (cert : Cert) (fault other : CheckFault) → CertLimits cert → fault ≢ Memory → other ≢ Memory →
-    IsFault setting cert fault → IsFault setting cert other → fault ≡ other
-
 -- what may be answered to a certificate, but for want of memory
 abbrev pub IsAnswer : TheSetting → Cert → Result Checked CheckFault → Type 0
 IsAnswer setting cert (Ok checked) = IsChecked setting cert checked

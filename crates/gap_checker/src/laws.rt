@@ -1,15 +1,9 @@
 //! Laws of what a checker answers.
-ghost use Rattle.gap_checker.specs.Laws.{FaultsExcludeProofs, FaultsAreOne, AnswersAreOne, BestAreProved};
+ghost use Rattle.gap_checker.specs.Laws.{FaultsExcludeProofs, AnswersAreOne, BestAreProved};
 
 /// A certificate that proves its bound for a setting has no fault there; want of memory alone says nothing of it.
 pub fn faults_exclude_proofs()
     ensures { FaultsExcludeProofs }
-{}
-
-/// A certificate has one fault for a setting: two answers of `check` to both that are faults are the same, but for want
-/// of memory.
-pub fn faults_are_one()
-    ensures { FaultsAreOne }
 {}
 
 /// A certificate has one answer for a setting: two answers of `check` to both are the same, but for want of memory.

@@ -50,4 +50,4 @@ mod uses;
 
 pub use checking::check;
 pub use fault::{CheckFault, Checked};
-pub use laws::{answers_are_one, best_answers_are_proved, faults_are_one, faults_exclude_proofs};
+pub use laws::{answers_are_one, best_answers_are_proved, faults_exclude_proofs};
