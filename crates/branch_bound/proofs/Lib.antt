@@ -7,5 +7,5 @@ pub mod Tight
 pub mod Finding
 pub mod Final
 pub mod Linking
-pub mod Ledgers
+pub mod OpenLedgers
 pub mod Proposing

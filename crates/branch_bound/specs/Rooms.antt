@@ -5,7 +5,7 @@ use Rattle.adv_base.specs.declared.limits.TheConstants.{MOST_ENTRIES, MOST_SETS}
 use Rattle.bip_model.specs.declared.programme.Programme.{Programme}
 use Rattle.bip_model.specs.Values.{grant_count}
 use Rattle.bip_model.specs.Views.{AreMultipliers}
-use Rattle.lagrange_bound.specs.Ledgers.{AreCheaperParts, HasRoom}
+use Rattle.lagrange_bound.specs.Ledgers.{AreCheaperParts, HasPlaces, HasRoom}
 use Rattle.branch_bound.specs.declared.room.Room.{Room}
 use Rattle.branch_bound.specs.inner.Proposals.{AreHands}
 
@@ -27,5 +27,6 @@ pub record IsRoomFor (programme : Programme) (nodes : ℕ) (room : Room) : Type 
   pub first_fits : AreMultipliers programme room.first
   pub hands_fit : AreHands programme room.hands
   pub cheaper_are : AreCheaperParts programme room.cheaper
-  pub ledgers_room : All (HasRoom programme) room.ledgers.items
-  pub ledgers_most : MOST_SETS < length room.ledgers.items
+  pub ledgers_room : All (HasRoom programme) room.ledgers.each.items
+  pub ledgers_most : MOST_SETS < length room.ledgers.each.items
+  pub rows_places : HasPlaces room.cheaper room.ledgers.rows

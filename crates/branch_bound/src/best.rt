@@ -6,20 +6,19 @@ ghost use Rattle.branch_bound.specs.Answers.{IsBestForEach};
 ghost use Rattle.branch_bound.specs.Rooms.{IsRoomFor};
 ghost use Rattle.branch_bound.specs.Sides as sides;
 ghost use Rattle.bip_model.specs.Views.{AreMultipliers};
-ghost use Rattle.lagrange_bound.specs.Ledgers.{AreCheaperParts, HasRoom};
+ghost use Rattle.lagrange_bound.specs.Ledgers.{AreCheaperParts, HasPlaces, HasRoom};
 ghost use Rattle.branch_bound.specs.inner.Climbs as climbs;
 ghost use Rattle.branch_bound.specs.inner.Proposals as proposals;
 ghost use Rattle.branch_bound.specs.inner.Runs as runs;
 
-use crate::choosing::scope_of;
 use crate::climb::{Costed, climb};
-use crate::explore::{Walk, explore};
+use crate::explore::{SearchState, explore};
 use crate::fixing::inside;
 use crate::found::Found;
 use crate::frame::Frame;
 use crate::hands::Hands;
 use crate::incumbent::{greedy, shares_of};
-use crate::opening::{Books, open_all};
+use crate::ledgers::open_all;
 use crate::plan::{Step, better, keep, open_guide, propose};
 use crate::room::{Room, set_limit};
 use crate::taken::taken;
@@ -29,7 +28,7 @@ use crate::useful::useful_of;
 use adv_base::List;
 use adv_base::limits::MOST_CANDIDATES;
 use bip_model::{Answer, Fix, Multipliers, Node, Programme, value};
-use lagrange_bound::{CheaperParts, Pace, PriceRows, ascend, improve};
+use lagrange_bound::{CheaperParts, Pace, ascend, improve};
 use std::slice;
 
 /// The rounds in which the multipliers of the root are improved: each tries the rent multipliers of one price of a
@@ -244,7 +243,7 @@ fn explored(
     plan: &[Step],
     cheaper: &CheaperParts,
     known: &Costed,
-    walk: &mut Walk,
+    state: &mut SearchState,
 ) -> Found
     requires some_node { 1 ≤ nodes }
     requires nodes { nodes ≤ MOST_NODES }
@@ -252,19 +251,15 @@ fn explored(
     requires sets { All (AreMultipliers task.now.programme.now) sets.now }
     requires few { length sets.now ≤ MOST_SETS }
     requires cheaper { AreCheaperParts task.now.programme.now cheaper.now }
-    requires empty { walk.old.tree.items ≡ [] }
-    requires room { nodes ≤ vec_capacity walk.old.tree }
-    requires ledgers { All (HasRoom task.now.programme.now) walk.old.books.ledgers.items }
-    requires enough { MOST_SETS < length walk.old.books.ledgers.items }
-    ensures explored { runs.IsExplored (runs.rules_for task.now nodes zeros.now sets.now) task.now.root.now (runs.started known.now) walk.old.tree.items result walk.new.tree.items }
+    requires empty { state.old.tree.items ≡ [] }
+    requires room { nodes ≤ vec_capacity state.old.tree }
+    requires ledgers { All (HasRoom task.now.programme.now) state.old.ledgers.each.items }
+    requires enough { MOST_SETS < length state.old.ledgers.each.items }
+    requires places { HasPlaces cheaper.now state.old.ledgers.rows }
+    ensures explored { runs.IsExplored (runs.rules_for task.now nodes zeros.now sets.now) task.now.root.now (runs.started known.now) state.old.tree.items result state.new.tree.items }
     ensures most { result.made ≤ nodes }
 {
-    open_all(
-        task.programme,
-        zeros,
-        sets,
-        walk.books.ledgers.as_mut_slice(),
-    );
+    open_all(task, cheaper, zeros, sets, &mut state.ledgers);
     let frame = Frame {
         programme: task.programme,
         budget: task.budget,
@@ -274,10 +269,10 @@ fn explored(
         useful: task.useful,
         plan,
         cheaper,
-        scope: scope_of(task),
+        offers: task.offers,
     };
     let before = started(known);
-    explore(&frame, task.root, task.bare.cost, before, 0, walk)
+    explore(&frame, task.root, task.bare.cost, before, 0, state)
 }
 
 /// Climbs from the cheapest configuration in the tree.
@@ -345,15 +340,7 @@ pub fn search(programme: &Programme, root: &Fix, budget: u64, nodes: u32, room: 
     };
     let known = proposed(&task, first, &mut hands, &mut sets, &mut plan);
     let Hands { guides, .. } = hands;
-    let mut walk = Walk {
-        tree,
-        hint: 0,
-        books: Books {
-            ledgers,
-            rows: PriceRows::new(),
-        },
-        guides,
-    };
+    let mut state = SearchState::new(tree, ledgers, guides);
     let found = explored(
         &task,
         nodes,
@@ -362,8 +349,8 @@ pub fn search(programme: &Programme, root: &Fix, budget: u64, nodes: u32, room: 
         plan.as_slice(),
         &cheaper,
         &known,
-        &mut walk,
+        &mut state,
     );
     let best = climbed(programme, budget, root, &found);
-    answer(best, found.low, sets, walk.tree, useful.count)
+    answer(best, found.low, sets, state.tree, useful.count)
 }

@@ -53,9 +53,9 @@ pub(crate) fn gap_to(cost: u128, value: i128) -> u128 {
 }
 
 /// The candidates that are in at a node.
-pub(crate) fn inside_of(scope: &Scope<'_>, fix: &Fix) -> Usable {
+pub(crate) fn inside_of(programme: &Programme, fix: &Fix) -> Usable {
     let mut marks = NO_MARKS;
-    for index in 0..scope.programme.sizes.len().min(MOST_CANDIDATES) {
+    for index in 0..programme.sizes.len().min(MOST_CANDIDATES) {
         if is_in(fix.state[index]) {
             mark(&mut marks, index);
         }

@@ -11,8 +11,8 @@ use crate::fixing::fixed;
 use crate::found::Found;
 use crate::frame::Frame;
 use crate::guide::Guide;
+use crate::ledgers::Ledgers;
 use crate::node::{Fate, fate_of, lag, total_at, visited};
-use crate::opening::Books;
 use bip_model::{Fix, Node, State};
 
 /// Appends a node, for which there is room.
@@ -29,16 +29,16 @@ fn append(tree: &mut Vec<Node>, node: Node)
 }
 
 /// What was found, with a leaf at which the search gives up, under the set of this number.
-fn given_up(frame: &Frame<'_>, fix: &Fix, found: Found, set: u8, books: &mut Books) -> Found
+fn given_up(frame: &Frame<'_>, fix: &Fix, found: Found, set: u8, ledgers: &mut Ledgers) -> Found
     requires set { set ≤ length frame.now.sets.now }
-    requires ledgers { runs.AreLedgers (runs.rules_of frame.now) books.old.ledgers.items }
-    ensures ledgers { runs.AreLedgers (runs.rules_of frame.now) books.new.ledgers.items }
+    requires ledgers { runs.AreLedgers (runs.rules_of frame.now) ledgers.old.each.items }
+    ensures ledgers { runs.AreLedgers (runs.rules_of frame.now) ledgers.new.each.items }
     ensures exact { result ≡ runs.lowered found (runs.lag (runs.rules_of frame.now) fix.now set) }
 {
     Found {
         config: found.config,
         cost: found.cost,
-        low: found.low.min(lag(frame, fix, set, books)),
+        low: found.low.min(lag(frame, fix, set, ledgers)),
         made: found.made,
     }
 }
@@ -91,11 +91,26 @@ fn outside(frame: &Frame<'_>, fix: &Fix, index: usize, cost: u128) -> Fix
 
 /// What a search writes on its way: the tree, the set that closed the last leaf, ledgers, and a guide for each set.
 #[derive(Drop)]
-pub(crate) struct Walk {
+pub(crate) struct SearchState {
     pub tree: Vec<Node>,
     pub hint: u8,
-    pub books: Books,
+    pub ledgers: Ledgers,
     pub guides: Vec<Guide>,
+}
+
+impl SearchState {
+    /// What a search begins with.
+    pub fn new(tree: Vec<Node>, ledgers: Ledgers, guides: Vec<Guide>) -> SearchState
+        ensures tree { result.tree ≡ tree }
+        ensures ledgers { result.ledgers ≡ ledgers }
+    {
+        SearchState {
+            tree,
+            hint: 0,
+            ledgers,
+            guides,
+        }
+    }
 }
 
 /// Explores what is below a node that was made, and appends its tree in preorder. What is in there costs so much, and
@@ -106,49 +121,49 @@ pub(crate) fn explore(
     cost: u128,
     before: Found,
     place: usize,
-    walk: &mut Walk,
+    state: &mut SearchState,
 ) -> Found
     requires cost { cost ≡ sides.total frame.now.programme.now fix.now }
-    requires pending { vec_len walk.old.tree < before.made }
+    requires pending { vec_len state.old.tree < before.made }
     requires made { before.made ≤ frame.now.nodes }
-    requires room { frame.now.nodes ≤ vec_capacity walk.old.tree }
-    requires ledgers { runs.AreLedgers (runs.rules_of frame.now) walk.old.books.ledgers.items }
-    ensures explored { runs.IsExplored (runs.rules_of frame.now) fix.now before walk.old.tree.items result walk.new.tree.items }
-    ensures count { vec_len walk.new.tree + before.made ≡ vec_len walk.old.tree + 1 + result.made }
+    requires room { frame.now.nodes ≤ vec_capacity state.old.tree }
+    requires ledgers { runs.AreLedgers (runs.rules_of frame.now) state.old.ledgers.each.items }
+    ensures explored { runs.IsExplored (runs.rules_of frame.now) fix.now before state.old.tree.items result state.new.tree.items }
+    ensures count { vec_len state.new.tree + before.made ≡ vec_len state.old.tree + 1 + result.made }
     ensures more { before.made ≤ result.made }
     ensures most { result.made ≤ frame.now.nodes }
-    ensures room { vec_capacity walk.old.tree ≤ vec_capacity walk.new.tree }
-    ensures ledgers { runs.AreLedgers (runs.rules_of frame.now) walk.new.books.ledgers.items }
+    ensures room { vec_capacity state.old.tree ≤ vec_capacity state.new.tree }
+    ensures ledgers { runs.AreLedgers (runs.rules_of frame.now) state.new.ledgers.each.items }
 {
     let found = visited(fix, cost, before);
-    let guides = walk.guides.as_mut_slice();
+    let guides = state.guides.as_mut_slice();
     match fate_of(
         frame,
         fix,
         &found,
-        walk.hint,
+        state.hint,
         place,
-        &mut walk.books,
+        &mut state.ledgers,
         guides,
     ) {
         Fate::Closed(set) => {
-            walk.hint = set;
-            append(&mut walk.tree, Node::Bounded(set));
+            state.hint = set;
+            append(&mut state.tree, Node::Bounded(set));
             found
         }
         Fate::Forced(set) => {
-            append(&mut walk.tree, Node::Bounded(set));
-            given_up(frame, fix, found, set, &mut walk.books)
+            append(&mut state.tree, Node::Bounded(set));
+            given_up(frame, fix, found, set, &mut state.ledgers)
         }
         Fate::Branch(index) => {
-            append(&mut walk.tree, Node::Branch(index as u16 + 1));
+            append(&mut state.tree, Node::Branch(index as u16 + 1));
             let sides = sides_of(frame, place, index);
             let within = fixed(fix, index, State::In);
             let inner = branched(found, frame.nodes);
             let total = total_at(frame, &within);
-            let middle = explore(frame, &within, total, inner, sides.inside, walk);
+            let middle = explore(frame, &within, total, inner, sides.inside, state);
             let without = outside(frame, fix, index, cost);
-            explore(frame, &without, cost, middle, sides.outside, walk)
+            explore(frame, &without, cost, middle, sides.outside, state)
         }
     }
 }

@@ -11,7 +11,7 @@ use crate::fixing::{config_pages, inside, is_free};
 use crate::found::Found;
 use crate::frame::Frame;
 use crate::guide::Guide;
-use crate::opening::Books;
+use crate::ledgers::Ledgers;
 use adv_base::limits::MOST_CANDIDATES;
 use bip_model::{Fix, Multipliers, Programme, value};
 use lagrange_bound::bound_by;
@@ -108,7 +108,7 @@ fn proposed(
     if place < frame.plan.len() && frame.plan[place].candidate < MOST_CANDIDATES {
         return frame.plan[place].candidate;
     }
-    choice_here(&frame.scope, frame.sets, guides, cost, best)
+    choice_here(&frame.scope(), frame.sets, guides, cost, best)
 }
 
 /// A candidate to branch on, where two more nodes are left.
@@ -145,11 +145,11 @@ fn own_set<'a>(frame: &Frame<'a>, set: u8) -> &'a Multipliers
 }
 
 /// The Lagrangian value of a node under the set of a number, to which its ledger is carried.
-pub(crate) fn lag(frame: &Frame<'_>, fix: &Fix, set: u8, books: &mut Books) -> i128
+pub(crate) fn lag(frame: &Frame<'_>, fix: &Fix, set: u8, ledgers: &mut Ledgers) -> i128
     requires set { set ≤ length frame.now.sets.now }
-    requires ledgers { runs.AreLedgers (runs.rules_of frame.now) books.old.ledgers.items }
+    requires ledgers { runs.AreLedgers (runs.rules_of frame.now) ledgers.old.each.items }
     ensures value { result ≡ runs.lag (runs.rules_of frame.now) fix.now set }
-    ensures ledgers { runs.AreLedgers (runs.rules_of frame.now) books.new.ledgers.items }
+    ensures ledgers { runs.AreLedgers (runs.rules_of frame.now) ledgers.new.each.items }
 {
     let own = own_set(frame, set);
     bound_by(
@@ -158,8 +158,8 @@ pub(crate) fn lag(frame: &Frame<'_>, fix: &Fix, set: u8, books: &mut Books) -> i
         frame.budget,
         fix,
         own,
-        &mut books.ledgers[set as usize],
-        &mut books.rows,
+        &mut ledgers.each[set as usize],
+        &mut ledgers.rows,
     )
 }
 
@@ -171,14 +171,14 @@ struct Valued {
 }
 
 /// The set of the higher value: that which was the highest, or the one of the next number.
-fn higher(frame: &Frame<'_>, fix: &Fix, best: Valued, set: u8, books: &mut Books) -> Valued
+fn higher(frame: &Frame<'_>, fix: &Fix, best: Valued, set: u8, ledgers: &mut Ledgers) -> Valued
     requires within { set < length frame.now.sets.now }
     requires best { runs.IsHighest (runs.rules_of frame.now) fix.now set best.set best.value }
-    requires ledgers { runs.AreLedgers (runs.rules_of frame.now) books.old.ledgers.items }
+    requires ledgers { runs.AreLedgers (runs.rules_of frame.now) ledgers.old.each.items }
     ensures best { runs.IsHighest (runs.rules_of frame.now) fix.now (set + 1) result.set result.value }
-    ensures ledgers { runs.AreLedgers (runs.rules_of frame.now) books.new.ledgers.items }
+    ensures ledgers { runs.AreLedgers (runs.rules_of frame.now) ledgers.new.each.items }
 {
-    let value = lag(frame, fix, set + 1, books);
+    let value = lag(frame, fix, set + 1, ledgers);
     if value > best.value {
         Valued {
             set: set + 1,
@@ -190,10 +190,10 @@ fn higher(frame: &Frame<'_>, fix: &Fix, best: Valued, set: u8, books: &mut Books
 }
 
 /// The set of the highest value at a node, or one whose value is at least a cost, where that of zeros isn't.
-fn highest(frame: &Frame<'_>, fix: &Fix, cost: u128, zero: i128, books: &mut Books) -> Valued
+fn highest(frame: &Frame<'_>, fix: &Fix, cost: u128, zero: i128, ledgers: &mut Ledgers) -> Valued
     requires zero { zero ≡ runs.lag (runs.rules_of frame.now) fix.now 0 }
-    requires ledgers { runs.AreLedgers (runs.rules_of frame.now) books.old.ledgers.items }
-    ensures ledgers { runs.AreLedgers (runs.rules_of frame.now) books.new.ledgers.items }
+    requires ledgers { runs.AreLedgers (runs.rules_of frame.now) ledgers.old.each.items }
+    ensures ledgers { runs.AreLedgers (runs.rules_of frame.now) ledgers.new.each.items }
     ensures set { result.set ≤ length frame.now.sets.now }
     ensures value { result.value ≡ runs.lag (runs.rules_of frame.now) fix.now result.set }
     ensures over { runs.reaches result.value cost ≡ false → runs.IsHighest (runs.rules_of frame.now) fix.now (length frame.now.sets.now) result.set result.value }
@@ -203,7 +203,7 @@ fn highest(frame: &Frame<'_>, fix: &Fix, cost: u128, zero: i128, books: &mut Boo
         value: zero,
     };
     for set in 0..frame.sets.len() {
-        best = higher(frame, fix, best, set as u8, books);
+        best = higher(frame, fix, best, set as u8, ledgers);
         if reaches(best.value, cost) {
             return best;
         }
@@ -223,15 +223,15 @@ fn number_of(frame: &Frame<'_>, set: usize) -> u8
 }
 
 /// What becomes of a node at which nothing branches: a leaf of the set of the highest value.
-fn leaf_fate(frame: &Frame<'_>, fix: &Fix, found: &Found, zero: i128, books: &mut Books) -> Fate
+fn leaf_fate(frame: &Frame<'_>, fix: &Fix, found: &Found, zero: i128, ledgers: &mut Ledgers) -> Fate
     requires zero { zero ≡ runs.lag (runs.rules_of frame.now) fix.now 0 }
     requires promising { runs.reaches (runs.lag (runs.rules_of frame.now) fix.now 0) found.now.cost ≡ false }
     requires why { (frame.now.nodes < found.now.made + 2) ⊎ runs.NoChoice (runs.rules_of frame.now) fix.now }
-    requires ledgers { runs.AreLedgers (runs.rules_of frame.now) books.old.ledgers.items }
+    requires ledgers { runs.AreLedgers (runs.rules_of frame.now) ledgers.old.each.items }
     ensures fate { runs.IsFate (runs.rules_of frame.now) fix.now found.now result }
-    ensures ledgers { runs.AreLedgers (runs.rules_of frame.now) books.new.ledgers.items }
+    ensures ledgers { runs.AreLedgers (runs.rules_of frame.now) ledgers.new.each.items }
 {
-    let best = highest(frame, fix, found.cost, zero, books);
+    let best = highest(frame, fix, found.cost, zero, ledgers);
     if reaches(best.value, found.cost) {
         Fate::Closed(best.set)
     } else {
@@ -247,27 +247,28 @@ pub(crate) fn fate_of(
     found: &Found,
     hint: u8,
     place: usize,
-    books: &mut Books,
+    ledgers: &mut Ledgers,
     guides: &mut [Guide],
 ) -> Fate
     requires made { found.now.made ≤ frame.now.nodes }
-    requires ledgers { runs.AreLedgers (runs.rules_of frame.now) books.old.ledgers.items }
+    requires ledgers { runs.AreLedgers (runs.rules_of frame.now) ledgers.old.each.items }
     ensures fate { runs.IsFate (runs.rules_of frame.now) fix.now found.now result }
-    ensures ledgers { runs.AreLedgers (runs.rules_of frame.now) books.new.ledgers.items }
+    ensures ledgers { runs.AreLedgers (runs.rules_of frame.now) ledgers.new.each.items }
 {
     let first = (hint as usize).saturating_sub(1);
-    let guess = best_set(&frame.scope, frame.sets, guides, found.cost, fix, first);
+    let scope = frame.scope();
+    let guess = best_set(&scope, frame.sets, guides, found.cost, fix, first);
     let set = number_of(frame, guess.set);
-    let is_hopeful = reaches(guess.value, found.cost) || !frame.scope.offers.is_whole();
-    if is_hopeful && reaches(lag(frame, fix, set, books), found.cost) {
+    let is_hopeful = reaches(guess.value, found.cost) || !frame.offers.is_whole();
+    if is_hopeful && reaches(lag(frame, fix, set, ledgers), found.cost) {
         return Fate::Closed(set);
     }
-    let zero = lag(frame, fix, 0, books);
+    let zero = lag(frame, fix, 0, ledgers);
     if reaches(zero, found.cost) {
         return Fate::Closed(0);
     }
     match branch(frame, fix, found, place, guess, guides) {
         Some(index) => Fate::Branch(index),
-        None => leaf_fate(frame, fix, found, zero, books),
+        None => leaf_fate(frame, fix, found, zero, ledgers),
     }
 }

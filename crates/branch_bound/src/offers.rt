@@ -270,6 +270,7 @@ impl Offers {
         let next = sheet.write(part, place);
         let slots = part.slots.len();
         let first_cell = self.cells.len();
+        let first_offer = self.offers.len();
         let first_template = self.templates.len();
         let span = sheet.part_span(part);
         for template in part.templates.as_slice() {
@@ -277,22 +278,28 @@ impl Offers {
                 self.list_template(part, template, first_cell, sheet)?;
             }
         }
-        let mut head = Head {
+        let mut plain = span.high;
+        if span.high == NO_PRICE || self.is_full(first_cell) {
+            self.take_back(first_cell, first_offer, first_template);
+            plain = span.low;
+        }
+        self.heads.push(Head {
             weight: part.weight as u64,
-            plain: span.high,
+            plain,
             first_cell,
             end_cell: self.cells.len(),
             first_template,
             end_template: self.templates.len(),
-        };
-        if span.high == NO_PRICE || self.is_full(first_cell) {
-            self.is_whole = false;
-            head.plain = span.low;
-            head.end_cell = first_cell;
-            head.end_template = first_template;
-        }
-        self.heads.push(head)?;
+        })?;
         Ok(next)
+    }
+
+    /// Takes what was listed of a part off the lists, since it isn't all: later parts have the room.
+    fn take_back(&mut self, first_cell: usize, first_offer: usize, first_template: usize) {
+        self.is_whole = false;
+        self.cells.truncate(first_cell);
+        self.offers.truncate(first_offer);
+        self.templates.truncate(first_template);
     }
 
     /// Whether a list, or the cells of a part, have no room left, so that something of the part may be missing.

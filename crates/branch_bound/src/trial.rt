@@ -40,7 +40,7 @@ fn visited(task: &Task<'_>, fix: &Fix, known: Costed, plain: &mut Guide) -> Cost
     requires known { climbs.IsSoundHere task.now.programme.now task.now.budget task.now.root.now known }
     ensures known { climbs.IsSoundHere task.now.programme.now task.now.budget task.now.root.now result }
 {
-    plain.carry(task.offers, task.zeros, &inside_of(&scope_of(task), fix));
+    plain.carry(task.offers, task.zeros, &inside_of(task.programme, fix));
     let cost = plain.total(task.programme);
     if cost >= known.cost {
         return known;

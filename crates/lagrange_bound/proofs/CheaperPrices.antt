@@ -65,7 +65,7 @@ pub lesser-self : (a : Option ℕ) → lesser a a ≡ a
 lesser-self None = refl
 lesser-self (Some a) = ap Some (omega arith)
 
-lesser-none : (a : Option ℕ) → lesser a None ≡ a
+pub lesser-none : (a : Option ℕ) → lesser a None ≡ a
 lesser-none None = refl
 lesser-none (Some a) = refl
 
@@ -83,7 +83,7 @@ lesser-below (Some a) (Some b) None is = is
 lesser-below (Some a) (Some b) (Some p) is = let low : min a b ≡ a = some-is (min a b) a is in ap Some (omega (arith, low))
 
 -- a price that isn't cheaper lowers nothing that is at most what exists, with any rent
-raised-idle : (best base price : Option ℕ) (rent : ℕ) → lesser best base ≡ best → is_cheaper price base ≡ false → lesser best (option_map (λ p. p + rent) price) ≡ best
+pub raised-idle : (best base price : Option ℕ) (rent : ℕ) → lesser best base ≡ best → is_cheaper price base ≡ false → lesser best (option_map (λ p. p + rent) price) ≡ best
 raised-idle best base None rent is none = lesser-none best
 raised-idle best None (Some p) rent is none = absurd (false≢true (sym none))
 raised-idle None (Some b) (Some p) rent is none = absurd (cc)

@@ -1,6 +1,8 @@
 pub mod RentedPrices
 pub mod AvailableCandidates
 pub mod EarnedRents
+pub mod FlatSlots
+pub mod ListedCosts
 pub mod RentPlaces
 pub mod StandingRents
 pub mod StandingValue
@@ -9,3 +11,5 @@ pub mod CheaperPrices
 pub mod CarriedCosts
 pub mod MarkedCosts
 pub mod WrittenRents
+pub mod LeastPrices
+pub mod MadeLists

@@ -34,7 +34,7 @@ AreRents rents = All (λ rent. rent ≤ MOST_RENT) rents
 none-price : IsPrice None
 none-price = λ x is. cc
 
-lesser-price : (a b : Option ℕ) → IsPrice a → IsPrice b → IsPrice (lesser a b)
+pub lesser-price : (a b : Option ℕ) → IsPrice a → IsPrice b → IsPrice (lesser a b)
 lesser-price None b a_is b_is = b_is
 lesser-price (Some a) None a_is b_is = a_is
 lesser-price (Some a) (Some b) a_is b_is = λ x is.
@@ -45,14 +45,14 @@ lesser-price (Some a) (Some b) a_is b_is = λ x is.
 plain-price : (a : Option ℕ) → ForSome a (λ p. p ≤ MOST_PRICE) → IsPrice a
 plain-price a is = λ x e. let most : x ≤ MOST_PRICE = is x e in omega (arith, most)
 
-raised-price : (a : Option ℕ) (rent : ℕ) → ForSome a (λ p. p ≤ MOST_PRICE) → rent ≤ MOST_RENT → IsPrice (option_map (λ p. p + rent) a)
+pub raised-price : (a : Option ℕ) (rent : ℕ) → ForSome a (λ p. p ≤ MOST_PRICE) → rent ≤ MOST_RENT → IsPrice (option_map (λ p. p + rent) a)
 raised-price None rent is most = none-price
 raised-price (Some a) rent is most = λ x e.
     let same : a + rent ≡ x = cc in
     let first : a ≤ MOST_PRICE = is a refl in
     omega (arith, same, first, most)
 
-asked-price : (config : Config) (o : ℕ) (grant : Grant) (rent : ℕ) → rent ≤ MOST_RENT → IsPrice (asked config o grant rent)
+pub asked-price : (config : Config) (o : ℕ) (grant : Grant) (rent : ℕ) → rent ≤ MOST_RENT → IsPrice (asked config o grant rent)
 asked-price config o grant rent most = raised-price (granted config o grant) rent (granted-price config o grant) most
 
 least_asked-price : (config : Config) (o : ℕ) (best : Option ℕ) (grants : List Grant) (rents : List ℕ) → IsPrice best → AreRents rents → IsPrice (least_asked config o best grants rents)
@@ -63,7 +63,7 @@ least_asked-price config o best (grant ∷ grants) (rent ∷ rents) is are =
     (lesser-price best (asked config o grant rent) is (asked-price config o grant rent (All-head (λ (r : ℕ). r ≤ MOST_RENT) rent rents are)))
     (All-tail (λ (r : ℕ). r ≤ MOST_RENT) rent rents are)
 
-base-price : (slot : SlotPart) (o : ℕ) → IsPrice (price_of slot.base o)
+pub base-price : (slot : SlotPart) (o : ℕ) → IsPrice (price_of slot.base o)
 base-price slot o = plain-price (price_of slot.base o) (price_of-price slot.base slot.limits.base_limits o)
 
 pub rented_price-price : (config : Config) (slot : SlotPart) (rents : List ℕ) (o : ℕ) → AreRents rents → IsPrice (rented_price config slot rents o)

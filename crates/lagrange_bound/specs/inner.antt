@@ -1,4 +1,6 @@
 pub mod Limits
+pub mod Listed
+pub mod Lists
 pub mod Marks
 pub mod Repricing
 pub mod Rows

@@ -7,18 +7,23 @@ ghost use Rattle.bip_model.specs.declared.part.Part as the_part;
 ghost use Rattle.lagrange_bound.specs.Ledgers as ledgers;
 ghost use Rattle.lagrange_bound.specs.inner.Marks as marks;
 
+use crate::prices::PriceLists;
 use crate::pricing::part_grants;
-use adv_base::NoMemory;
+use crate::uses::{WeightedGrant, all_uses};
 use adv_base::limits::{MOST_CANDIDATES, MOST_STATEMENTS};
+use adv_base::{List, NoMemory};
 use bip_model::{Grant, Part, Programme, SlotPart};
 use std::alloc::Global;
 
-/// For each candidate 1000 flags, of which that of a part is on where the candidate gives some order of a slot of it for less
-/// than all that exists; and for each part how many grants stand before its own. Made once for a programme.
+/// For each candidate 1000 flags, of which that of a part is on where the candidate gives some order of a slot of it
+/// for less than all that exists; for each part how many grants stand before its own; the prices of all parts in lists;
+/// and the grants of each candidate. Made once for a programme.
 #[derive(Drop)]
 pub struct CheaperParts {
     pub flags: Vec<bool>,
     pub starts: Vec<usize>,
+    pub prices: PriceLists,
+    pub uses: Vec<List<WeightedGrant>>,
 }
 
 /// Whether a price is below another, or stands where there is no other.
@@ -116,7 +121,8 @@ fn write_starts(parts: &[Part], starts: &mut [usize])
 }
 
 impl CheaperParts {
-    /// Those of a programme: 256000 bytes, and 8 for each part. Want of memory is the one error.
+    /// Those of a programme: 256000 bytes, 8 for each part and each grant, and the lists of prices, with what vectors
+    /// that grow hold ready. Want of memory is the one error.
     pub fn new(alloc: Global, programme: &Programme) -> Result<CheaperParts, NoMemory>
         ensures { IfOk result (ledgers.AreCheaperParts programme.now) }
     {
@@ -125,6 +131,15 @@ impl CheaperParts {
         let mut starts = vec![in alloc; 0; parts.len()]?;
         note_parts(parts, flags.as_mut_slice());
         write_starts(parts, starts.as_mut_slice());
-        Ok(CheaperParts { flags, starts })
+        let prices = PriceLists::new(alloc, programme)?;
+        let places = starts.as_slice();
+        let owners = prices.owners.as_slice();
+        let uses = all_uses(alloc, parts, places, owners)?;
+        Ok(CheaperParts {
+            flags,
+            starts,
+            prices,
+            uses,
+        })
     }
 }

@@ -9,13 +9,15 @@ ghost use Rattle.lagrange_bound.specs.inner.Limits as limits;
 
 use crate::bounds::value_of_plans;
 use crate::candidates::available;
-use crate::carrying::{weighted_costs, write_costs};
+use crate::carrying::weighted_costs;
 use crate::cheaper::CheaperParts;
-use crate::earnings::{Earned, earned_rents};
+use crate::earnings::Earned;
+use crate::listed::price_all;
 use crate::marked::Marked;
 use crate::marking::mark_changed;
 use crate::pricing::{NO_ROWS, Rows};
 use crate::repricing::price_marked;
+use crate::uses::used_rents;
 use adv_base::limits::MOST_CANDIDATES;
 use adv_base::{Config, NoMemory};
 use bip_model::{Fix, Multipliers, Programme};
@@ -48,34 +50,23 @@ impl Ledger {
     }
 }
 
-/// Room to price a part in, which any ledger can use: 16 thousand bytes.
+/// Room to price parts in, which any ledger can use: rows for a part, and a place for each order of all parts.
 #[derive(Drop)]
 pub struct PriceRows {
-    rows: Rows,
+    pub(crate) rows: Rows,
+    pub least: Vec<u64>,
 }
 
 impl PriceRows {
-    /// Rows without prices.
-    pub fn new() -> PriceRows {
-        PriceRows { rows: NO_ROWS }
+    /// Room for the prices of a programme: 16 thousand bytes, and 8 for each order. Want of memory is the one error.
+    pub fn new(alloc: Global, cheaper: &CheaperParts) -> Result<PriceRows, NoMemory>
+        ensures { IfOk result (ledgers.HasPlaces cheaper.now) }
+    {
+        Ok(PriceRows {
+            rows: NO_ROWS,
+            least: vec![in alloc; 0; cheaper.prices.bases.len()]?,
+        })
     }
-}
-
-/// Lets a ledger stand where no candidate may be used, under multipliers.
-#[tactic(auto, unfolding(bip_model::specs::Values::grant_count))]
-pub fn open_ledger(programme: &Programme, multipliers: &Multipliers, ledger: &mut Ledger)
-    requires multipliers { AreMultipliers programme.now multipliers.now }
-    requires room { ledgers.HasRoom programme.now ledger.old }
-    ensures { ledgers.IsLedger programme.now multipliers.now ledger.new }
-{
-    let parts = programme.parts.as_slice();
-    let rents = multipliers.lambda.as_slice();
-    let config = Config::none();
-    let least = ledger.least.as_mut_slice();
-    write_costs(parts, &config, rents, least);
-    ledger.plans = weighted_costs(parts, least);
-    ledger.config = config;
-    ledger.earned = earned_rents(parts, rents);
 }
 
 /// Carries a ledger to where other candidates may be used.
@@ -112,9 +103,33 @@ fn moved(
     ledger.config = *config;
 }
 
+/// The Lagrangian value of the node at which a ledger stands.
+#[tactic(auto, unfolding(crate::specs::Bounds::lagrangian))]
+fn value_at(
+    programme: &Programme,
+    budget: u64,
+    fix: &Fix,
+    multipliers: &Multipliers,
+    ledger: &Ledger,
+) -> i128
+    requires budget { budget ≤ MOST_ROWS }
+    requires multipliers { AreMultipliers programme.now multipliers.now }
+    requires ledger { ledgers.IsLedger programme.now multipliers.now ledger.now }
+    requires config { ledger.now.config ≡ bounds.available programme.now budget fix.now }
+    ensures { result ≡ bounds.lagrangian programme.now budget fix.now multipliers.now }
+{
+    value_of_plans(
+        programme,
+        budget,
+        fix,
+        multipliers,
+        ledger.plans,
+        &ledger.earned,
+    )
+}
+
 /// The Lagrangian value of a node, as `bound` tells it, to which a ledger is carried: a part is priced anew where a candidate
 /// that can make it cheaper may be used either there or where the ledger stood. Takes no memory.
-#[tactic(auto, unfolding(crate::specs::Bounds::lagrangian))]
 pub fn bound_by(
     programme: &Programme,
     cheaper: &CheaperParts,
@@ -130,6 +145,7 @@ pub fn bound_by(
     requires ledger { ledgers.IsLedger programme.now multipliers.now ledger.old }
     ensures value { result ≡ bounds.lagrangian programme.now budget fix.now multipliers.now }
     ensures ledger { ledgers.IsLedger programme.now multipliers.now ledger.new }
+    ensures places { rows.new.least ≡ rows.old.least }
 {
     let config = available(programme, budget, fix);
     moved(
@@ -140,12 +156,59 @@ pub fn bound_by(
         ledger,
         &mut rows.rows,
     );
-    value_of_plans(
-        programme,
-        budget,
-        fix,
-        multipliers,
-        ledger.plans,
-        &ledger.earned,
-    )
+    value_at(programme, budget, fix, multipliers, ledger)
+}
+
+/// Lets a ledger stand where these candidates may be used, under multipliers: all parts are priced by the lists.
+#[tactic(auto, unfolding(bip_model::specs::Values::grant_count))]
+fn priced(
+    programme: &Programme,
+    cheaper: &CheaperParts,
+    multipliers: &Multipliers,
+    config: &Config,
+    ledger: &mut Ledger,
+    rows: &mut PriceRows,
+)
+    requires cheaper { ledgers.AreCheaperParts programme.now cheaper.now }
+    requires multipliers { AreMultipliers programme.now multipliers.now }
+    requires room { ledgers.HasRoom programme.now ledger.old }
+    requires places { ledgers.HasPlaces cheaper.now rows.old }
+    ensures ledger { ledgers.IsLedger programme.now multipliers.now ledger.new }
+    ensures config { ledger.new.config ≡ config.now }
+    ensures places { ledgers.HasPlaces cheaper.now rows.new }
+{
+    let parts = programme.parts.as_slice();
+    let rents = multipliers.lambda.as_slice();
+    let least = rows.least.as_mut_slice();
+    let costs = ledger.least.as_mut_slice();
+    price_all(parts, &cheaper.prices, config, rents, least, costs);
+    ledger.plans = weighted_costs(parts, costs);
+    ledger.earned = used_rents(cheaper.uses.as_slice(), rents);
+    ledger.config = *config;
+}
+
+/// The Lagrangian value of a node, as `bound` tells it, at which a ledger of these multipliers then stands: all parts are
+/// priced by the lists. Takes no memory.
+pub fn open_ledger(
+    programme: &Programme,
+    cheaper: &CheaperParts,
+    budget: u64,
+    fix: &Fix,
+    multipliers: &Multipliers,
+    ledger: &mut Ledger,
+    rows: &mut PriceRows,
+) -> i128
+    requires cheaper { ledgers.AreCheaperParts programme.now cheaper.now }
+    requires budget { budget ≤ MOST_ROWS }
+    requires multipliers { AreMultipliers programme.now multipliers.now }
+    requires room { ledgers.HasRoom programme.now ledger.old }
+    requires places { ledgers.HasPlaces cheaper.now rows.old }
+    ensures value { result ≡ bounds.lagrangian programme.now budget fix.now multipliers.now }
+    ensures ledger { ledgers.IsLedger programme.now multipliers.now ledger.new }
+    ensures room { ledgers.HasRoom programme.now ledger.new }
+    ensures places { ledgers.HasPlaces cheaper.now rows.new }
+{
+    let config = available(programme, budget, fix);
+    priced(programme, cheaper, multipliers, &config, ledger, rows);
+    value_at(programme, budget, fix, multipliers, ledger)
 }

@@ -5,13 +5,15 @@
 //! budget's price, bounds every fitting configuration below the node. `bound` tells that number from a programme alone;
 //! `specs/` says which number it is, and a law that it is the Lagrangian value of every setting for which the programme
 //! stands. `rent` makes multipliers under which no candidate earns more than it costs, `improve` picks the best of these, and
-//! `ascend` raises multipliers further, with a scratch that is made once. `terms`, `carry` and `total` are the parts of a bound,
-//! and `bound_by` carries one from node to node. Costs are in thousandths of a sequential page read, sizes in pages.
+//! `ascend` raises multipliers further, with a scratch that is made once. `terms`, `carry` and `total` are the parts of a bound;
+//! `open_ledger` makes one anew by lists of prices, and `bound_by` carries it from node to node. Costs are in thousandths of a
+//! sequential page read, sizes in pages.
 //!
 //! `Terms` are what the plan of each part costs at a node. A `Ledger` keeps these in place under one set of multipliers, and
 //! the `CheaperParts` of a programme say which parts each candidate can make cheaper, and so have to be priced anew where it
-//! comes or goes; `PriceRows` are room for that. An `Ascent` has the memory of ascents, and a `Pace` says how many rounds
-//! one has, and how long its steps are.
+//! comes or goes. They have the `PriceLists` too: the price of what exists for each order of each slot, and each
+//! `CheaperPrice` of a grant, one that is below. `PriceRows` are room for least prices. An `Ascent` has the memory of ascents,
+//! and a `Pace` says how many rounds one has, and how long its steps are.
 //!
 //! ```rust
 //! // Statements of weights 10 and 11, which cost 80000 each, and 13000 and 14000 with candidates 1 and 2, of 3 and 4 pages.
@@ -34,11 +36,14 @@ mod improving;
 mod kept;
 mod laws;
 mod ledger;
+mod listed;
 mod marked;
 mod marking;
+mod prices;
 mod pricing;
 mod repricing;
 mod sharing;
+mod uses;
 mod walking;
 
 pub use ascending::{Ascent, Pace, ascend};
@@ -49,4 +54,6 @@ pub use improving::improve;
 pub use kept::Terms;
 pub use laws::{lagrangian_is_it, rents_are_covered};
 pub use ledger::{Ledger, PriceRows, bound_by, open_ledger};
+pub use prices::{CheaperPrice, PriceLists};
 pub use sharing::rent;
+pub use uses::WeightedGrant;

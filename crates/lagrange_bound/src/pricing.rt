@@ -18,7 +18,7 @@ use plan_model::Template;
 /// The interesting orders of a slot that a byte can tell.
 const MOST_ORDERS: usize = 256;
 /// In place of a price where none is given: more than any with a rent.
-const NO_PRICE: u64 = u64::MAX;
+pub(crate) const NO_PRICE: u64 = u64::MAX;
 
 /// The least price of each order of a slot.
 pub(crate) type Row = [u64; MOST_ORDERS];
@@ -195,7 +195,7 @@ fn template_cost(template: &Template, slots: usize, rows: &Rows) -> Option<u128>
 }
 
 /// The lesser of two costs, of which either may be missing.
-fn lesser(a: Option<u128>, b: Option<u128>) -> Option<u128>
+pub(crate) fn lesser(a: Option<u128>, b: Option<u128>) -> Option<u128>
     ensures exact { result ≡ values.lesser a b }
     ensures most { ForSome a (λ cost. cost ≤ values.MOST_PLAN) → ForSome b (λ cost. cost ≤ values.MOST_PLAN) → ForSome result (λ cost. cost ≤ values.MOST_PLAN) }
 {

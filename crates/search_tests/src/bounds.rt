@@ -1,11 +1,16 @@
 //! Bounds that are worked out by hand, and those of small programmes at all nodes against a plain program.
 ghost use Rattle.std.specs.Prelude.{◌≡◌, ◌<◌, ◌≤◌, length};
+ghost use Rattle.adv_base.specs.declared.limits.TheConstants.{MOST_ROWS};
 ghost use Rattle.bip_model.specs.Views.{AreMultipliers};
+ghost use Rattle.lagrange_bound.specs.Ledgers as ledgers;
 
 use crate::made::{knapsack, mixed};
 use crate::plain::Priced;
 use bip_model::{Fix, Multipliers, Programme, State};
-use lagrange_bound::{Terms, bound, carry, improve, rent, terms, total};
+use lagrange_bound::{
+    CheaperParts, Ledger, PriceRows, Terms, bound, bound_by, carry, improve, open_ledger, rent,
+    terms, total,
+};
 use std::alloc::Global;
 use std::process::Abort;
 
@@ -79,48 +84,114 @@ fn knapsack_by_hand(rt: HostRuntime) {
     assert_eq!(rt; bound(&programme, 4, &free(), &multipliers), 677204);
 }
 
-/// `bound` and the plain program agree at each node.
-fn agree_within(rt: &impl Abort, programme: &Programme, budget: u64, multipliers: &Multipliers)
+/// A programme with its prices in lists.
+#[derive(Drop)]
+struct Listed<'a> {
+    programme: &'a Programme,
+    cheaper: CheaperParts,
+    alloc: Global,
+    ghost cheaper_are: { ledgers.AreCheaperParts programme.now cheaper },
+}
+
+/// The lists of a programme.
+fn with_lists<'a>(rt: &impl Abort, alloc: Global, programme: &'a Programme) -> Listed<'a> {
+    Listed {
+        programme,
+        cheaper: CheaperParts::new(alloc, programme).expect(rt, "memory"),
+        alloc,
+    }
+}
+
+/// What `bound` tells of a node, what a ledger that is opened at the root tells when it is carried there, and what it tells
+/// when it is opened there anew.
+#[tactic(auto, using(crate::proofs::Ledgers::ledger_room))]
+fn told(
+    rt: &impl Abort,
+    listed: &Listed<'_>,
+    budget: u64,
+    fix: &Fix,
+    multipliers: &Multipliers,
+) -> [i128; 3]
+    requires budget { budget ≤ MOST_ROWS }
+    requires multipliers { AreMultipliers listed.now.programme.now multipliers.now }
+{
+    let programme = listed.programme;
+    let cheaper = &listed.cheaper;
+    let mut ledger = Ledger::new(listed.alloc, programme).expect(rt, "memory");
+    let mut rows = PriceRows::new(listed.alloc, cheaper).expect(rt, "memory");
+    open_ledger(
+        programme,
+        cheaper,
+        budget,
+        &free(),
+        multipliers,
+        &mut ledger,
+        &mut rows,
+    );
+    let carried = bound_by(
+        programme,
+        cheaper,
+        budget,
+        fix,
+        multipliers,
+        &mut ledger,
+        &mut rows,
+    );
+    let opened = open_ledger(
+        programme,
+        cheaper,
+        budget,
+        fix,
+        multipliers,
+        &mut ledger,
+        &mut rows,
+    );
+    [bound(programme, budget, fix, multipliers), carried, opened]
+}
+
+/// `bound`, ledgers and the plain program agree at each node.
+fn agree_within(rt: &impl Abort, listed: &Listed<'_>, budget: u64, multipliers: &Multipliers)
     requires budget { budget ≤ 1000 }
-    requires multipliers { AreMultipliers programme.now multipliers.now }
+    requires multipliers { AreMultipliers listed.now.programme.now multipliers.now }
 {
     for number in 0..81 {
         let fix = numbered_node(number);
         let plain = Priced {
-            programme,
+            programme: listed.programme,
             budget,
             fix: &fix,
             multipliers,
         };
-        let value = bound(programme, budget, &fix, multipliers);
-        assert_eq!(rt; value, plain.value(), "node {number} within {budget}");
+        let told = told(rt, listed, budget, &fix, multipliers);
+        assert_eq!(rt; told, [plain.value(); 3], "node {number} within {budget}");
     }
 }
 
 /// They agree within budgets that no, some and all candidates fit.
-fn agree(rt: &impl Abort, programme: &Programme, multipliers: &Multipliers)
-    requires { AreMultipliers programme.now multipliers.now }
+fn agree(rt: &impl Abort, listed: &Listed<'_>, multipliers: &Multipliers)
+    requires { AreMultipliers listed.now.programme.now multipliers.now }
 {
-    agree_within(rt, programme, 1, multipliers);
-    agree_within(rt, programme, 6, multipliers);
-    agree_within(rt, programme, 18, multipliers);
+    agree_within(rt, listed, 1, multipliers);
+    agree_within(rt, listed, 6, multipliers);
+    agree_within(rt, listed, 18, multipliers);
 }
 
 /// They agree for rents with their own price of a page and with a third of it.
-fn agree_at_price(rt: &impl Abort, alloc: Global, programme: &Programme, price: u64) {
-    let mut multipliers = zero(rt, alloc, programme);
-    rent(programme, price, &mut multipliers);
-    agree(rt, programme, &multipliers);
+fn agree_at_price(rt: &impl Abort, listed: &Listed<'_>, price: u64) {
+    let mut multipliers = zero(rt, listed.alloc, listed.programme);
+    rent(listed.programme, price, &mut multipliers);
+    agree(rt, listed, &multipliers);
     multipliers.mu = (price / 3) as u128;
-    agree(rt, programme, &multipliers);
+    agree(rt, listed, &multipliers);
 }
 
 /// They agree for the multipliers that are 0, and at prices of a page that are small, middling and great.
 fn agree_on(rt: &impl Abort, alloc: Global, programme: &Programme) {
-    agree(rt, programme, &zero(rt, alloc, programme));
-    agree_at_price(rt, alloc, programme, 1048577);
-    agree_at_price(rt, alloc, programme, 8589934592);
-    agree_at_price(rt, alloc, programme, 549755813888);
+    let listed = with_lists(rt, alloc, programme);
+    agree(rt, &listed, &zero(rt, alloc, listed.programme));
+    agree_at_price(rt, &listed, 1048577);
+    agree_at_price(rt, &listed, 8589934592);
+    agree_at_price(rt, &listed, 549755813888);
 }
 
 #[test]

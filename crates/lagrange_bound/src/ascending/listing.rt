@@ -1,8 +1,8 @@
 //! Makes the lists of an ascent at a node.
 
 use crate::ascending::lists::{
-    Cell, Counts, Frame, Head, Lists, MOST_LOOKED_AT, NO_CELL, NO_PRICE, NO_RENT, NONE, Offer,
-    Rent, looked_at,
+    Cell, Counts, Frame, Head, Link, Lists, MOST_LOOKED_AT, NO_CELL, NO_PRICE, NO_RENT, NONE,
+    Offer, Rent, Stride, looked_at,
 };
 use crate::ascending::places::{at, inverse, put};
 use crate::ascending::scratch::Ascent;
@@ -41,13 +41,14 @@ impl Ascent {
         }
         let place = slot.place.wrapping_add(j);
         let number = self.lists.counts.rents;
-        let rent = Rent {
-            parts: parts_of(slot.mult, place),
-            direction: 0,
+        let link = Link {
+            head: (self.lists.counts.heads & 0x7fff_ffff) as u32,
             candidate: (candidate.wrapping_sub(1) & 255) as u8,
-            used: false,
         };
-        put(self.rents.as_mut_slice(), number, rent);
+        let parts = parts_of(slot.mult, place);
+        put(self.links.as_mut_slice(), number, link);
+        put(self.rents.as_mut_slice(), number, Rent { parts });
+        put(self.directions.as_mut_slice(), number, 0);
         put(self.places.as_mut_slice(), number, place);
         self.lists.counts.rents = number.wrapping_add(1);
         let number = (number & 0x7fff_ffff) as u32;
@@ -150,7 +151,6 @@ impl Ascent {
     /// Lists the head of a part behind what it has, or counts its cost where no offer serves it.
     fn list_head(&mut self, part: &Part, before: &Counts, cells: u8, plain: i64) {
         let frames = self.lists.counts.frames.wrapping_sub(before.frames);
-        let rents = self.lists.counts.rents.wrapping_sub(before.rents);
         if frames == 0 {
             let cost = (part.weight as i128).wrapping_mul(plain as i128);
             self.lists.fixed = self.lists.fixed.wrapping_add(cost);
@@ -162,11 +162,15 @@ impl Ascent {
             slots: part.slots.len() as u32,
             cells: cells as u32,
             templates: (frames & 0x7fff_ffff) as u32,
-            rents: (rents & 0x7fff_ffff) as u32,
             plain,
+        };
+        let stride = Stride {
+            step: 0,
+            weight: head.weight,
         };
         let number = self.lists.counts.heads;
         put(self.lists.heads.as_mut_slice(), number, head);
+        put(self.strides.as_mut_slice(), number, stride);
         self.lists.counts.heads = number.wrapping_add(1);
     }
 

@@ -9,12 +9,12 @@ use std::alloc::{AllocError, Global};
 pub(crate) const NO_PRICE: i64 = 576_460_752_303_423_488;
 /// The most that is looked at of a price or of an internal cost.
 pub(crate) const MOST_LOOKED_AT: u64 = 36_028_797_018_963_968;
-/// In place of a cell or of a rent where there is none.
+/// In place of a cell where there is none.
 pub(crate) const NO_CELL: u8 = 255;
+/// The number of no rent; those of rents begin behind it.
+pub(crate) const NO_RENT: u32 = 0;
 
-pub(crate) const NO_RENT: u32 = u32::MAX;
-
-/// The part of a statement: its weight, the weight's inverse in parts of 2^63, how many slots, cells, templates and rents it
+/// The part of a statement: its weight, the weight's inverse in parts of 2^63, how many slots, cells and templates it
 /// has, and what it costs by templates that no offer serves.
 #[derive(Clone, Copy)]
 pub(crate) struct Head {
@@ -23,7 +23,6 @@ pub(crate) struct Head {
     pub slots: u32,
     pub cells: u32,
     pub templates: u32,
-    pub rents: u32,
     pub plain: i64,
 }
 
@@ -48,13 +47,24 @@ pub(crate) struct Frame {
     pub cells: [u8; 8],
 }
 
-/// The rent of a grant in parts of 1024, the direction in which it goes, its candidate, and whether a plan just used it.
+/// The rent of a grant in parts of 1024, at least 0.
 #[derive(Clone, Copy)]
 pub(crate) struct Rent {
     pub parts: i64,
-    pub direction: i32,
+}
+
+/// What a rent stands between: its part, by the number of its head, and its candidate.
+#[derive(Clone, Copy)]
+pub(crate) struct Link {
+    pub head: u32,
     pub candidate: u8,
-    pub used: bool,
+}
+
+/// How far the rents of a part go by their directions, and how much they count.
+#[derive(Clone, Copy)]
+pub(crate) struct Stride {
+    pub step: i64,
+    pub weight: i64,
 }
 
 /// Nothing of each.
@@ -64,7 +74,6 @@ pub(crate) const NO_HEAD: Head = Head {
     slots: 0,
     cells: 0,
     templates: 0,
-    rents: 0,
     plain: 0,
 };
 
@@ -80,12 +89,14 @@ pub(crate) const NO_FRAME: Frame = Frame {
     cells: [NO_CELL; 8],
 };
 
-pub(crate) const FREE: Rent = Rent {
-    parts: 0,
-    direction: 0,
+pub(crate) const FREE: Rent = Rent { parts: 0 };
+
+pub(crate) const NO_LINK: Link = Link {
+    head: 0,
     candidate: 0,
-    used: false,
 };
+
+pub(crate) const NO_STRIDE: Stride = Stride { step: 0, weight: 0 };
 
 /// How many there are of each.
 #[derive(Clone, Copy)]
@@ -97,13 +108,13 @@ pub(crate) struct Counts {
     pub rents: usize,
 }
 
-/// None of each.
+/// None of each, but for the place of no rent.
 pub(crate) const NONE: Counts = Counts {
     heads: 0,
     cells: 0,
     offers: 0,
     frames: 0,
-    rents: 0,
+    rents: 1,
 };
 
 /// The lists, part by part, with the sum of weight times cost of the parts that no offer serves.
@@ -144,16 +155,17 @@ pub(crate) fn looked_at(price: Option<u64>) -> i64 {
 /// How many there are at most of each.
 pub(crate) fn most(programme: &Programme) -> Counts {
     let mut counts = NONE;
+    let mut grants = 0usize;
     for part in programme.parts.as_slice() {
         counts.heads = counts.heads.saturating_add(1);
         counts.frames = counts.frames.saturating_add(part.templates.len());
         counts.offers = counts.offers.saturating_add(offers_below(part));
         for slot in part.slots.as_slice() {
             counts.cells = counts.cells.saturating_add(slot.base.len());
-            counts.rents = counts.rents.saturating_add(slot.grants.len());
+            grants = grants.saturating_add(slot.grants.len());
         }
     }
-    counts.rents = counts.rents.min(counts.offers);
+    counts.rents = grants.min(counts.offers).saturating_add(1);
     counts
 }
 

@@ -2,11 +2,10 @@
 
 use crate::ascending::knapsack::{Book, Value};
 use crate::ascending::lists::{
-    Cell, FREE, Frame, Head, Lists, NO_FRAME, NO_HEAD, NO_RENT, Offer, Rent,
+    Cell, FREE, Frame, Head, Link, Lists, NO_FRAME, NO_RENT, NO_STRIDE, Offer, Rent, Stride,
 };
-use crate::ascending::places::{at, run};
+use crate::ascending::places::{at, put, run};
 use crate::ascending::scratch::Ascent;
-use crate::ascending::step::move_rents;
 
 /// What the cells of a part cost, and by which rents; the last cell costs nothing.
 #[derive(Clone, Copy)]
@@ -21,7 +20,6 @@ struct Place {
     cell: usize,
     offer: usize,
     frame: usize,
-    rent: usize,
 }
 
 /// The price of a cell whose offers begin at a place, with the rent that it uses.
@@ -78,23 +76,15 @@ fn frame_cost(frame: &Frame, slots: u32, prices: &Prices) -> i64 {
 }
 
 /// Marks the rents that a template uses.
-fn mark(frame: &Frame, slots: u32, prices: &Prices, rents: &mut [Rent]) {
+fn mark(frame: &Frame, slots: u32, prices: &Prices, used: &mut [bool]) {
     for s in 0..slots {
-        let number = prices.rent[frame.cells[(s & 7) as usize] as usize] as usize;
-        if number < rents.len() {
-            rents[number].used = true;
-        }
+        let number = prices.rent[frame.cells[(s & 7) as usize] as usize];
+        put(used, number as usize, true);
     }
 }
 
 /// The least cost of a part, whose rents that it uses are marked.
-fn part_cost(
-    lists: &Lists,
-    rents: &mut [Rent],
-    head: &Head,
-    place: &Place,
-    prices: &Prices,
-) -> i64 {
+fn part_cost(lists: &Lists, head: &Head, place: &Place, prices: &Prices, used: &mut [bool]) -> i64 {
     let frames = lists.frames.as_slice();
     let mut best = head.plain;
     let mut chosen = &NO_FRAME;
@@ -105,52 +95,71 @@ fn part_cost(
             chosen = frame;
         }
     }
-    mark(chosen, head.slots, prices, rents);
+    mark(chosen, head.slots, prices, used);
     best
 }
 
-/// Counts what the rents of a part bring in.
-fn earn(rents: &[Rent], head: &Head, first: usize, book: &mut Book) {
-    for rent in run(rents, first, head.rents as usize) {
-        book.earn(rent, head.weight);
+/// Counts what rents bring in.
+fn earn(links: &[Link], strides: &[Stride], rents: &[Rent], book: &mut Book) {
+    let end = links.len().min(rents.len());
+    for i in 1..end {
+        let stride = at(strides, links[i].head as usize, NO_STRIDE);
+        book.earn(&links[i], rents[i].parts, stride.weight);
     }
 }
 
+/// Forgets which rents were used.
+fn forget(used: &mut [bool]) {
+    for i in 0..used.len() {
+        used[i] = false;
+    }
+}
+
+/// The least cost of all parts under rents, of which those that it uses are marked.
+fn parts_cost(lists: &Lists, rents: &[Rent], used: &mut [bool]) -> i128 {
+    let mut prices = Prices {
+        price: [0; 256],
+        rent: [NO_RENT; 256],
+    };
+    let mut place = Place {
+        cell: 0,
+        offer: 0,
+        frame: 0,
+    };
+    let mut plans = lists.fixed;
+    for head in run(lists.heads.as_slice(), 0, lists.counts.heads) {
+        let next = price_cells(lists, rents, head, &place, &mut prices);
+        let cost = part_cost(lists, head, &place, &prices, used);
+        plans = plans.wrapping_add((head.weight as i128).wrapping_mul(cost as i128));
+        place = Place {
+            cell: place.cell.wrapping_add(head.cells as usize),
+            offer: next,
+            frame: place.frame.wrapping_add(head.templates as usize),
+        };
+    }
+    plans
+}
+
 impl Ascent {
+    /// Counts what the rents bring in, where they stay as they are.
+    fn stay(&mut self) {
+        earn(
+            run(self.links.as_slice(), 0, self.lists.counts.rents),
+            self.strides.as_slice(),
+            self.rents.as_slice(),
+            &mut self.book,
+        );
+    }
+
     /// The value of the rents after a step, if there is one, with the choices of plans and candidates that it rests on.
     pub(crate) fn evaluate(&mut self, step: Option<i64>) -> Value {
-        let mut prices = Prices {
-            price: [0; 256],
-            rent: [NO_RENT; 256],
-        };
-        let mut place = Place {
-            cell: 0,
-            offer: 0,
-            frame: 0,
-            rent: 0,
-        };
-        let mut plans = self.lists.fixed;
         self.book.sums = [0; 256];
-        for i in 0..self.lists.counts.heads {
-            let head = at(self.lists.heads.as_slice(), i, NO_HEAD);
-            let rents = self.rents.as_mut_slice();
-            match step {
-                Some(step) => {
-                    let averages = self.average.as_mut_slice();
-                    move_rents(&head, place.rent, step, rents, averages, &mut self.book);
-                }
-                None => earn(rents, &head, place.rent, &mut self.book),
-            }
-            let next = price_cells(&self.lists, rents, &head, &place, &mut prices);
-            let cost = part_cost(&self.lists, rents, &head, &place, &prices);
-            plans = plans.wrapping_add((head.weight as i128).wrapping_mul(cost as i128));
-            place = Place {
-                cell: place.cell.wrapping_add(head.cells as usize),
-                offer: next,
-                frame: place.frame.wrapping_add(head.templates as usize),
-                rent: place.rent.wrapping_add(head.rents as usize),
-            };
+        match step {
+            Some(step) => self.go(step),
+            None => self.stay(),
         }
+        forget(self.used.as_mut_slice());
+        let plans = parts_cost(&self.lists, self.rents.as_slice(), self.used.as_mut_slice());
         self.book.choose(plans)
     }
 }

@@ -2,19 +2,27 @@
 ghost use Rattle.std.specs.Prelude.{◌≤◌};
 
 use crate::ascending::knapsack::Book;
-use crate::ascending::lists::{FREE, Lists, Rent, most};
+use crate::ascending::lists::{FREE, Link, Lists, NO_LINK, NO_STRIDE, Rent, Stride, most};
 use adv_base::NoMemory;
 use bip_model::Programme;
 use std::alloc::Global;
 
-/// All the memory that the ascents of a programme's multipliers take, and what the last one found: how much of each candidate
-/// the best fractional choices take. Where the programme has p parts, t templates, o orders of slots, g grants, and b prices of
-/// grants below what exists, it is 40 p + 16 t + 16 o + 16 b + 40 min(g, b) bytes, at most 4 g, and some 15 thousand for candidates.
+/// All the memory that the ascents of a programme's multipliers take, and what the last one found: how much of each
+/// candidate the best fractional choices take. Where the programme has p parts, t templates, o orders of slots, g grants,
+/// and b prices of grants below what exists, it is 56 p + 16 t + 16 o + 16 b + 45 min(g, b) bytes, at most 4 g for the
+/// grants' candidates, and some 15 thousand for candidates.
 #[derive(Drop)]
 pub struct Ascent {
     pub(crate) lists: Lists,
+    /// How far the rents of each part go.
+    pub(crate) strides: Vec<Stride>,
+    /// The rents, each at its number, with what they stand between.
     pub(crate) rents: Vec<Rent>,
-    /// Where the rents stand among those of multipliers.
+    pub(crate) links: Vec<Link>,
+    /// The directions in which they go, and whether a plan just used them.
+    pub(crate) directions: Vec<i32>,
+    pub(crate) used: Vec<bool>,
+    /// Where they stand among those of multipliers; that of no rent is no place there.
     pub(crate) places: Vec<usize>,
     /// Their average, and those of the best value, in parts of 1024.
     pub(crate) average: Vec<i64>,
@@ -41,15 +49,23 @@ impl Ascent {
     pub fn new(alloc: Global, programme: &Programme) -> Result<Ascent, NoMemory> {
         let counts = most(programme);
         let lists = Lists::new(alloc, &counts)?;
+        let strides = vec![in alloc; NO_STRIDE; counts.heads]?;
         let rents = vec![in alloc; FREE; counts.rents]?;
-        let places = vec![in alloc; 0; counts.rents]?;
+        let links = vec![in alloc; NO_LINK; counts.rents]?;
+        let directions = vec![in alloc; 0; counts.rents]?;
+        let used = vec![in alloc; false; counts.rents]?;
+        let places = vec![in alloc; usize::MAX; counts.rents]?;
         let average = vec![in alloc; 0; counts.rents]?;
         let top = vec![in alloc; 0; counts.rents]?;
         let mut owners = Vec::new(alloc);
         write_owners(programme, &mut owners)?;
         Ok(Ascent {
             lists,
+            strides,
             rents,
+            links,
+            directions,
+            used,
             places,
             average,
             top,

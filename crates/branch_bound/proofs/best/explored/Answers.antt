@@ -5,5 +5,5 @@ use Rattle.branch_bound.proofs.best.explored.Goals as goal
 
 pub returns-clause-explored : goal.returns-clause-explored
 returns-clause-explored c =
-    subst (λ (f : Found). IsExplored (rules_for c.args.task.now c.args.nodes c.args.zeros.now c.args.sets.now) c.args.task.now.root.now f c.args.walk.now.tree.items c.explore.result c.explore.new.walk.tree.items)
+    subst (λ (f : Found). IsExplored (rules_for c.args.task.now c.args.nodes c.args.zeros.now c.args.sets.now) c.args.task.now.root.now f c.args.state.now.tree.items c.explore.result c.explore.new.state.tree.items)
     c.started-before.ensures.exact c.explore.ensures.explored
