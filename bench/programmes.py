@@ -1,6 +1,6 @@
 #!/usr/bin/env python3
-"""Programmes of workloads of the generator: how long one takes to make, and how long a bound, a carried one and a round of
-better multipliers take, beside the numbers of templates and grants."""
+"""Programmes of workloads of the generator: how long one takes to make, and how long a bound, one over lists, a carried
+one and a round of better multipliers take, beside the numbers of templates and grants."""
 import argparse
 
 from advice import Advice, add_options, made
@@ -11,25 +11,26 @@ from workloads import Workload
 TABLES = 20
 SEED = 1
 STATEMENTS = (20, 100, 500)
-HEADS = ("statements", "candidates", "parts", "templates", "grants", "programme ms", "bound us", "terms us", "carry us",
-         "total us", "carried us", "improve us", "ascend us")
-WIDTHS = (10, 10, 5, 9, 6, 12, 8, 8, 8, 8, 10, 10, 9)
+HEADS = ("statements", "candidates", "parts", "templates", "grants", "programme ms", "bound us", "lists us",
+         "opened us", "terms us", "carry us", "total us", "carried us", "improve us", "ascend us")
+WIDTHS = (10, 10, 5, 9, 6, 12, 8, 8, 9, 8, 8, 8, 10, 10, 9)
 # What is hoped for at the most statements, in microseconds.
-GOALS = {"bound": 20, "carried": 5, "round": 40}
+GOALS = {"bound": 20, "opened": 20, "carried": 5, "round": 40}
 
 
 def unmet(told: dict[str, int]) -> list[str]:
-    """The goals that the nanoseconds of a line don't meet. A carried bound is one of `bound_by`, where one candidate changes."""
-    times = {"bound": told["bound"], "carried": told["carried"], "round": told.get("ascend", told["improve"])}
+    """The goals that the nanoseconds of a line don't meet. A bound is made anew, by `bound` or over lists that are made
+    once, by `open_ledger`; a carried one is one of `bound_by`, where one candidate changes."""
+    times = {"round": told.get("ascend", told["improve"])} | {name: told[name] for name in ("bound", "opened", "carried")}
     return [f"{name}: {times[name] / 1000:.1f} us in the place of {most}"
             for name, most in GOALS.items() if times[name] > 1000 * most]
 
 
 def print_line(told: dict[str, int]) -> None:
     counts = [told[name] for name in ("statements", "candidates", "parts", "templates", "grants")]
-    calls = [told[name] / 1000 for name in ("bound", "terms", "carry", "total", "carried", "improve")]
-    ascend = f"{told['ascend'] / 1000:.1f}" if "ascend" in told else "-"
-    print_row((*counts, f"{told['programme'] / 1e6:.1f}", *(f"{it:.1f}" for it in calls), ascend), WIDTHS)
+    calls = ("bound", "lists", "opened", "terms", "carry", "total", "carried", "improve", "ascend")
+    times = [f"{told[name] / 1000:.1f}" if name in told else "-" for name in calls]
+    print_row((*counts, f"{told['programme'] / 1e6:.1f}", *times), WIDTHS)
 
 
 def print_all(advice: Advice, workloads: list[Workload], rounds: int) -> None:

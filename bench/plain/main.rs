@@ -97,11 +97,12 @@ fn programme(setting: &Setting, rounds: u64) {
     terms(p, budget, &free(), &mult, &mut old);
     let c = fastest(rounds, || { for i in 0..n { carry(p, budget, &free(), &without(i), &mult, &old, &mut into); } n as u32 });
     let s = fastest(rounds, || { for _ in 0..n { black_box(total(p, budget, &free(), &mult, &old)); } n as u32 });
+    let l = fastest(rounds, || { black_box(CheaperParts::new(Global, p).ok().unwrap()); 1 });
     let cheaper = CheaperParts::new(Global, p).ok().unwrap();
     let mut ledger = Ledger::new(Global, p).ok().unwrap();
-    let mut rows = PriceRows::new();
-    open_ledger(p, &mult, &mut ledger);
-    bound_by(p, &cheaper, budget, &free(), &mult, &mut ledger, &mut rows);
+    let mut rows = PriceRows::new(Global, &cheaper).ok().unwrap();
+    let o = fastest(rounds, || { for i in 0..n { black_box(open_ledger(p, &cheaper, budget, &without(i), &mult, &mut ledger, &mut rows)); } n as u32 });
+    open_ledger(p, &cheaper, budget, &free(), &mult, &mut ledger, &mut rows);
     let k = fastest(rounds, || {
         for i in 0..n { for fix in [without(i), free()] { black_box(bound_by(p, &cheaper, budget, &fix, &mult, &mut ledger, &mut rows)); } }
         2 * n as u32
@@ -115,7 +116,7 @@ fn programme(setting: &Setting, rounds: u64) {
         300
     });
     println!("{}", counts(setting, p));
-    println!("programme {made} bound {b} terms {t} carry {c} total {s} carried {k} improve {i} ascend {a}");
+    println!("programme {made} bound {b} lists {l} opened {o} terms {t} carry {c} total {s} carried {k} improve {i} ascend {a}");
 }
 fn print_search(p: &Programme, budget: u64, nodes: u32) {
     let t = Instant::now();
