@@ -65,7 +65,7 @@ pub(crate) fn zero(rt: &impl Abort, alloc: Global, programme: &Programme) -> Mul
 }
 
 /// Terms of which nothing is known yet.
-fn no_terms(rt: &impl Abort, alloc: Global, programme: &Programme) -> Terms
+pub(crate) fn no_terms(rt: &impl Abort, alloc: Global, programme: &Programme) -> Terms
     ensures { length result.least ≡ length programme.now.parts }
 {
     Terms::new(alloc, programme).expect(rt, "memory")
@@ -86,15 +86,19 @@ fn knapsack_by_hand(rt: HostRuntime) {
 
 /// A programme with its prices in lists.
 #[derive(Drop)]
-struct Listed<'a> {
-    programme: &'a Programme,
+pub(crate) struct Listed<'a> {
+    pub programme: &'a Programme,
     cheaper: CheaperParts,
     alloc: Global,
     ghost cheaper_are: { ledgers.AreCheaperParts programme.now cheaper },
 }
 
 /// The lists of a programme.
-fn with_lists<'a>(rt: &impl Abort, alloc: Global, programme: &'a Programme) -> Listed<'a> {
+pub(crate) fn with_lists<'a>(
+    rt: &impl Abort,
+    alloc: Global,
+    programme: &'a Programme,
+) -> Listed<'a> {
     Listed {
         programme,
         cheaper: CheaperParts::new(alloc, programme).expect(rt, "memory"),
@@ -168,7 +172,7 @@ fn agree_within(rt: &impl Abort, listed: &Listed<'_>, budget: u64, multipliers: 
 }
 
 /// They agree within budgets that no, some and all candidates fit.
-fn agree(rt: &impl Abort, listed: &Listed<'_>, multipliers: &Multipliers)
+pub(crate) fn agree(rt: &impl Abort, listed: &Listed<'_>, multipliers: &Multipliers)
     requires { AreMultipliers listed.now.programme.now multipliers.now }
 {
     agree_within(rt, listed, 1, multipliers);

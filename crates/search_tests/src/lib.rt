@@ -14,6 +14,8 @@ mod made;
 #[cfg(test)]
 mod plain;
 #[cfg(test)]
+mod rented;
+#[cfg(test)]
 mod searches;
 #[cfg(test)]
 mod values;

@@ -344,3 +344,41 @@ pub(crate) fn mixed(rt: &impl Abort, alloc: Global) -> Programme {
     let upkeep = [0, 24060, 8020, 100, 0, 0];
     programme(rt, alloc, [3, 4, 2, 9, 1, 1], upkeep, 16020, first, second)
 }
+
+/// A join of a table with itself and a read of it, of one weight, both of which the first two candidates serve, and a
+/// statement of that weight that the third and the fourth serve. The two last candidates serve no statement.
+pub(crate) fn shared(rt: &impl Abort, alloc: Global) -> Programme {
+    let one = wide_slot(
+        rt,
+        alloc,
+        30000,
+        ordered(rt, alloc, 1, 13000),
+        unordered(rt, alloc, 2, 9000),
+    );
+    let other = wide_slot(
+        rt,
+        alloc,
+        30000,
+        ordered(rt, alloc, 1, 12000),
+        ordered(rt, alloc, 2, 16000),
+    );
+    let read = wide_slot(
+        rt,
+        alloc,
+        30000,
+        ordered(rt, alloc, 1, 7000),
+        unordered(rt, alloc, 2, 5000),
+    );
+    let apart = wide_slot(
+        rt,
+        alloc,
+        30000,
+        ordered(rt, alloc, 3, 8000),
+        ordered(rt, alloc, 4, 2000),
+    );
+    let first = joined_part(rt, alloc, 5, one, other);
+    let second = part(rt, alloc, 2, 5, 50000, read);
+    let third = part(rt, alloc, 3, 5, 40000, apart);
+    let upkeep = [30000, 24060, 8020, 100, 0, 0];
+    wide_programme(rt, alloc, [3, 4, 2, 9, 1, 1], upkeep, first, second, third)
+}

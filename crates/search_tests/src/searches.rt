@@ -19,7 +19,7 @@ fn free() -> Fix
 }
 
 /// The configuration whose candidates are the binary digits of a number.
-fn configuration(number: usize) -> Config {
+pub(crate) fn configuration(number: usize) -> Config {
     let mut config = Config::none();
     for index in 0..6 {
         config.on[index] = (number >> index) & 1 == 1;
@@ -28,7 +28,7 @@ fn configuration(number: usize) -> Config {
 }
 
 /// The pages of a configuration.
-fn pages(programme: &Programme, config: &Config) -> u64 {
+pub(crate) fn pages(programme: &Programme, config: &Config) -> u64 {
     let mut sum: u64 = 0;
     for (size, on) in programme.sizes.as_slice().iter().zip(config.on.iter()) {
         if *on {
