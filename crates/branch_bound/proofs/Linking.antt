@@ -6,23 +6,19 @@ use Rattle.std.proofs.Math.Nat.{mul-le-mul}
 use Rattle.std.proofs.Math.Pow.{pow_mono}
 use Rattle.adv_base.specs.declared.limits.TheConstants.{MOST_CANDIDATES, MOST_ENTRIES, MOST_PAGE_PRICE}
 use Rattle.adv_base.specs.declared.setting.Config.{Config}
-use Rattle.adv_base.specs.Settings.{TheSetting}
 use Rattle.plan_model.specs.Lagrangian.{TheMultipliers}
 use Rattle.bip_model.specs.declared.answer.Node.{Node}
 use Rattle.bip_model.specs.declared.fix.Fix.{Fix}
 use Rattle.bip_model.specs.declared.multipliers.Multipliers.{Multipliers}
 use Rattle.bip_model.specs.declared.programme.Programme.{Programme}
 use Rattle.bip_model.specs.Candidates.{is_useful, useful_below}
-use Rattle.bip_model.specs.StandsFor.{StandsFor}
 use Rattle.bip_model.specs.Trees.{preorder, zeros}
-use Rattle.bip_model.specs.Uses as of_uses
 use Rattle.bip_model.specs.Values.{grant_count}
 use Rattle.bip_model.specs.Views.{Place, is_place, rent_at, places, multipliers_of, AreMultipliers}
-use Rattle.bip_model.proofs.Sharing.{rents-same}
-use Rattle.lagrange_bound.specs.Bounds.{candidate_cost, lagrangian}
-use Rattle.lagrange_bound.specs.Rents.{uses, rent_multipliers, tried_price}
+use Rattle.lagrange_bound.specs.Bounds.{lagrangian}
+use Rattle.lagrange_bound.specs.Rents.{rent_multipliers, tried_price}
 use Rattle.lagrange_bound.proofs.StandingValue.{lagrangian-is}
-use Rattle.lagrange_bound.proofs.WrittenRents.{rents-within}
+use Rattle.lagrange_bound.proofs.WrittenRents.{rents-within, rents-agree}
 use Rattle.branch_bound.specs.declared.climb.Costed.{Costed}
 use Rattle.branch_bound.specs.declared.found.Found.{Found}
 use Rattle.branch_bound.specs.Answers.{IsBestForEach}
@@ -41,10 +37,6 @@ tried-most (suc j) few = let less : j ≤ 39 = omega (arith, few) in let up : 2 
 
 tried-within : (programme : Programme) (i : ℕ) → i < 41 → AreMultipliers programme (rent_multipliers programme (tried_price i))
 tried-within programme i few = rents-within programme (rent_multipliers programme (tried_price i)) (tried_price i) (tried-most i few) refl refl
-
-rents-linked : (setting : TheSetting) (programme : Programme) (page : ℕ) → StandsFor setting programme → multipliers_of programme (rent_multipliers programme page) ≡ of_uses.rent_multipliers setting page
-unfolding candidate_cost uses
-rents-linked setting programme page stands = rents-same setting programme (rent_multipliers programme page) page stands refl refl
 
 -- ## Zeros
 
@@ -115,7 +107,7 @@ search-best rules root known before after old tree_list config cost first count 
       values = λ fix multipliers fit. lagrangian-is setting rules.programme rules.budget fix multipliers limits stands fit;
     } in
     let at-most : (i : ℕ) → i < 41 → AtMostRents setting rules root (tried_price i) = λ i few.
-    at-most-rents setting rules root (tried_price i) (rent_multipliers rules.programme (tried_price i)) are (tried-within rules.programme i few) (rents-linked setting rules.programme (tried_price i) stands)
+    at-most-rents setting rules root (tried_price i) (rent_multipliers rules.programme (tried_price i)) are (tried-within rules.programme i few) (rents-agree setting rules.programme (tried_price i) stands)
     (subst (λ (m : Multipliers). lagrangian rules.programme rules.budget root (rent_multipliers rules.programme (tried_price i)) ≤ℤ lagrangian rules.programme rules.budget root m) (sym (front-is rules.sets first rules.zeros kept.front))
     (tried i (omega (arith, few)))) in
     let run : Runs rules root (started known) explored.tree after = subst (λ (f : Found). Runs rules root f explored.tree after) at_start explored.run in

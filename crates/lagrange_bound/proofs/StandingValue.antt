@@ -44,6 +44,7 @@ use Rattle.bip_model.specs.Views.{is_in, is_out, node_of, part_places, rent_at, 
 use Rattle.bip_model.specs.Views as views
 use Rattle.bip_model.proofs.Totalling.{named-of, chosen-sum}
 use Rattle.lagrange_bound.specs.Bounds.{state_at, pages_inside, fits_beside, may_use, available, grant_rents, slot_rents, part_rents, candidate_cost, candidate_rents, paid, earned, paid_in_all, earned_in_all, rounded_up, value_of_plans, costs_at, lagrangian}
+use Rattle.lagrange_bound.specs.Laws.{AreLeastPlans}
 use Rattle.lagrange_bound.specs.Rented.{rented_cost, plan_costs, weighted_costs}
 use Rattle.lagrange_bound.proofs.RentPlaces.{RentsAre, SlotsAre, PartsAre, Ascending, SlotsAscending, PartsAscending, ascending-below, parts-below, parts-rents}
 use Rattle.lagrange_bound.proofs.StandingRents.{rented-least}
@@ -436,6 +437,32 @@ summed setting config rent limit q (statement ∷ statements) parts rents named 
           sum = omega (arith, rest.sum, same);
         }
 
+-- the costs of the parts' plans are those of least plans of their blocks
+abbrev IsRentedFor : TheSetting → Config → (ℕ → ℕ → ℕ → ℕ) → Blocked → ℕ → Type 0
+IsRentedFor setting config rent blocked cost = plain.IsRentedCost setting config (rent blocked.number) blocked.block cost
+
+least-each : (setting : TheSetting) (config : Config) (rent : ℕ → ℕ → ℕ → ℕ) → ((r : ℕ) → IsRent (rent r)) → (q : ℕ) (statements : List Statement) (parts : List Part) (rents : List ℕ) → All (λ statement. NamesWork setting.cat statement.work) statements →
+    AreEach (IsPart setting) (blocked_from q statements) parts → PartsAre rent parts rents → AreEach (IsRentedFor setting config rent) (blocked_from q statements) (plan_costs config parts rents)
+least-each setting config rent limit q [] [] rents named are rented = tt
+least-each setting config rent limit q [] (part ∷ parts) rents named are rented = absurd are
+least-each setting config rent limit q (statement ∷ statements) parts rents named are rented =
+    one (block_of statement.work) refl (λ ps rs each own. least-each setting config rent limit (suc q) statements ps rs (All-tail (λ (s : Statement). NamesWork setting.cat s.work) statement statements named) each own) parts rents are rented
+  where
+    here : NamesWork setting.cat statement.work
+    here = All-head (λ (s : Statement). NamesWork setting.cat s.work) statement statements named
+
+    one : (there : Option Block) → block_of statement.work ≡ there →
+        ((ps : List Part) (rs : List ℕ) → AreEach (IsPart setting) (blocked_from (suc q) statements) ps → PartsAre rent ps rs → AreEach (IsRentedFor setting config rent) (blocked_from (suc q) statements) (plan_costs config ps rs)) →
+        (parts : List Part) (rents : List ℕ) → AreEach (IsPart setting) (blocked_in q statement.weight there (blocked_from (suc q) statements)) parts → PartsAre rent parts rents →
+        AreEach (IsRentedFor setting config rent) (blocked_in q statement.weight there (blocked_from (suc q) statements)) (plan_costs config parts rents)
+    one None none more parts rents are rented = more parts rents are rented
+    one (Some block) is more [] rents are rented = absurd are
+    one (Some block) is more (part ∷ parts) rents are rented =
+        let blocked : Blocked = record { number = q; weight = statement.weight; block = block } in
+        let paid_here : SlotsAre (rent q) 0 part.slots rents = subst (λ (r : ℕ). SlotsAre (rent r) 0 part.slots rents) are.0.statement_is rented.0 in
+        let least = rented-least (rent q) setting blocked part config rents (limit q) (named-of setting.cat statement.work block here is) are.0 paid_here in
+        (record { task = are.0.task; task_is = are.0.task_is; least = least }, more parts (drop (part_grants part) rents) are.1 rented.1)
+
 -- ## Rents within limits
 
 rent-most : (list : List views.Place) (rents : List ℕ) (q s a most : ℕ) → All (λ rent. rent ≤ most) rents → rent_at list rents q s a ≤ most
@@ -482,3 +509,14 @@ lagrangian-is setting programme budget fix multipliers limits stands are =
           subst (λ (n : ℕ). plain.IsRoundedUp n (plain.earnings setting M budget (node_of fix) 1 setting.shapes + M.page * budget) (rounded_up up down)) more
           (subst (λ (n : ℕ). plain.IsRoundedUp up n (rounded_up up down)) less (rounded up down ((pos up -ℤ pos down) +ℤ pos 65535) refl));
     }
+
+-- the plan costs in it
+pub plans-least : (setting : TheSetting) (programme : Programme) (budget : ℕ) (fix : Fix) (multipliers : Multipliers) → KeepsLimits setting → StandsFor setting programme → AreMultipliers programme multipliers →
+    AreLeastPlans setting budget (node_of fix) (multipliers_of programme multipliers) (costs_at programme budget fix multipliers)
+plans-least setting programme budget fix multipliers limits stands are =
+    let M : plain.TheMultipliers = multipliers_of programme multipliers in
+    let config : Config = nodes.available setting.cat setting.shapes budget (node_of fix) in
+    let rented : PartsAre M.rent programme.parts multipliers.lambda = parts-are setting programme multipliers stands are in
+    let limit : (r : ℕ) → IsRent (M.rent r) = λ r s a. rent-most (views.places programme) multipliers.lambda r s a MOST_RENT are.rents_most in
+    subst (λ (c : Config). AreEach (IsRentedFor setting config M.rent) (blocked_from 1 setting.statements) (plan_costs c programme.parts multipliers.lambda)) (sym (available-is setting programme budget fix stands))
+    (least-each setting config M.rent limit 1 setting.statements programme.parts multipliers.lambda limits.statements_named stands.parts_are rented)

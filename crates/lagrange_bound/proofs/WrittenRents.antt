@@ -6,14 +6,19 @@ use Rattle.std.proofs.lemmas.Bool.{cases_eq, eq-eqb, ne_eqb}
 use Rattle.std.proofs.lemmas.List.{flat_map_more, length-map, get_or-set_same, get_or-set_other, map_more, take_more, take_more_set}
 use Rattle.std.proofs.lemmas.List.Sums.{count_by-le-length, sum_by-cons, sum_by-drop_more, sum_by-le}
 use Rattle.adv_base.specs.declared.limits.TheConstants.{MOST_CANDIDATES, MOST_PAGE_PRICE, MOST_RENT, MOST_SLOTS}
+use Rattle.adv_base.specs.Settings.{TheSetting}
 use Rattle.bip_model.specs.declared.grant.Grant.{Grant}
 use Rattle.bip_model.specs.declared.part.Part.{Part}
 use Rattle.bip_model.specs.declared.programme.Programme.{Programme}
 use Rattle.bip_model.specs.declared.multipliers.Multipliers.{Multipliers}
 use Rattle.bip_model.specs.declared.slot_part.SlotPart.{SlotPart}
 use Rattle.bip_model.specs.Values.{part_grants, grant_count}
-use Rattle.bip_model.specs.Views.{AreMultipliers}
-use Rattle.lagrange_bound.specs.Rents.{slot_uses, part_uses, grant_rent, slot_list, part_list, rents_of}
+use Rattle.bip_model.specs.StandsFor.{StandsFor}
+use Rattle.bip_model.specs.Uses as of_uses
+use Rattle.bip_model.specs.Views.{multipliers_of, AreMultipliers}
+use Rattle.bip_model.proofs.Sharing.{rents-same}
+use Rattle.lagrange_bound.specs.Bounds.{candidate_cost}
+use Rattle.lagrange_bound.specs.Rents.{slot_uses, part_uses, uses, grant_rent, slot_list, part_list, rents_of, rent_multipliers}
 
 -- ## Counts
 
@@ -125,3 +130,8 @@ rents-within programme multipliers m most page rents =
       page_most = omega (arith, most, page);
       rents_most = subst (λ (rs : List ℕ). All (λ rent. rent ≤ MOST_RENT) rs) (sym rents) (rents_of-most programme m);
     }
+
+-- in a programme that stands for a setting they are the setting's
+pub rents-agree : (setting : TheSetting) (programme : Programme) (page : ℕ) → StandsFor setting programme → multipliers_of programme (rent_multipliers programme page) ≡ of_uses.rent_multipliers setting page
+unfolding candidate_cost uses
+rents-agree setting programme page stands = rents-same setting programme (rent_multipliers programme page) page stands refl refl

@@ -1,3 +1,4 @@
+-- What retells the loops of the code, and bounds on numbers; what is public cites of it what is made once and handed on.
 pub mod Limits
 pub mod Listed
 pub mod Lists

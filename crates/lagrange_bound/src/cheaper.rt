@@ -1,4 +1,5 @@
-//! Which parts of a programme a candidate can make cheaper.
+//! What is made once of a programme for bounds: which parts each candidate can make cheaper, and prices and grants in
+//! lists.
 ghost use Rattle.std.specs.Prelude.{◌≡◌, ℕ, ◌*◌, ◌<◌, ◌≤◌, true, All, IfOk, Some, length, slice_get, slice_index_or, sum_by, take};
 ghost use Rattle.adv_base.specs.declared.limits.TheConstants.{MOST_CANDIDATES, MOST_STATEMENTS};
 ghost use Rattle.bip_model.specs.Candidates as candidates;

@@ -129,7 +129,7 @@ fn value_at(
 }
 
 /// The Lagrangian value of a node, as `bound` tells it, to which a ledger is carried: a part is priced anew where a candidate
-/// that can make it cheaper may be used either there or where the ledger stood. Takes no memory.
+/// that can make it cheaper may be used at one of the two nodes alone. Takes no memory.
 pub fn bound_by(
     programme: &Programme,
     cheaper: &CheaperParts,

@@ -1,13 +1,14 @@
 //! Lagrangian bounds over CoPhy's binary programme.
 //!
-//! At a node of a search each candidate is in, out or free. Where each use of a candidate pays a rent and each page of the
-//! budget has a price, what the least plans of all statements cost, with what is in, less what the rents bring in and the
-//! budget's price, bounds every fitting configuration below the node. `bound` tells that number from a programme alone;
-//! `specs/` says which number it is, and a law that it is the Lagrangian value of every setting for which the programme
-//! stands. `rent` makes multipliers under which no candidate earns more than it costs, `improve` picks the best of these, and
-//! `ascend` raises multipliers further, with a scratch that is made once. `terms`, `carry` and `total` are the parts of a bound;
-//! `open_ledger` makes one anew by lists of prices, and `bound_by` carries it from node to node. Costs are in thousandths of a
-//! sequential page read, sizes in pages.
+//! At a node of a search each candidate is in, out or free. Where each use of a candidate pays a rent and each page of
+//! the budget has a price, what the least plans of all statements cost, with what is in, less what the rents bring in
+//! and the budget's price, bounds every fitting configuration below the node. `bound` tells that number from a
+//! programme alone; `specs/` says which number it is, and a law that it is the Lagrangian value of every setting for
+//! which the programme stands. `rent` makes multipliers under which no candidate earns more than it costs, `improve`
+//! takes the best of these where one is better than what it has, and `ascend` raises multipliers further, with a
+//! scratch that is made once. `terms`, `carry` and `total` are the parts of a bound; `open_ledger` makes one anew by
+//! lists of prices, and `bound_by` carries it from node to node. Costs are in thousandths of a sequential page read,
+//! sizes in pages.
 //!
 //! `Terms` are what the plan of each part costs at a node. A `Ledger` keeps these in place under one set of multipliers, and
 //! the `CheaperParts` of a programme say which parts each candidate can make cheaper, and so have to be priced anew where it
@@ -52,7 +53,7 @@ pub use carrying::{carry, terms, total};
 pub use cheaper::{CheaperParts, has_cheaper};
 pub use improving::improve;
 pub use kept::Terms;
-pub use laws::{lagrangian_is_it, rents_are_covered};
+pub use laws::{lagrangian_is_it, plan_costs_are_least, rent_multipliers_agree, rents_are_covered};
 pub use ledger::{Ledger, PriceRows, bound_by, open_ledger};
 pub use prices::{CheaperPrice, PriceLists};
 pub use sharing::rent;

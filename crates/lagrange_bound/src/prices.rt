@@ -22,7 +22,7 @@ pub struct CheaperPrice {
 
 /// The orders and grants of all slots of a programme, one slot after the other: where the orders of each slot begin,
 /// the price at which what exists gives each order, as a word, the place of each grant's candidate, and the grants'
-/// prices that are below what exists. A grant's price that isn't lowers none, whatever rents are paid. Made once for a
+/// prices that are below what exists. One that isn't can't become the least, whatever rents are paid. Made once for a
 /// programme.
 #[derive(Drop)]
 pub struct PriceLists {
