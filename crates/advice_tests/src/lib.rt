@@ -1,9 +1,12 @@
 //! Tests of the public calls of `candidates`, `hypo_indexes`, `access_paths`, `tuning` and `gap_checker`, apart from them, so
-//! that they aren't proved twice: what is said of catalogues and workloads that are written down.
+//! that they aren't proved twice: what is said of catalogues and workloads that are written down. And a test of
+//! `lagrange_bound` on the programmes that `tuning` makes, against the planner.
 #![tactic(auto)]
 
 #[cfg(test)]
 mod checks;
+#[cfg(test)]
+mod lagrangian;
 #[cfg(test)]
 mod opened;
 #[cfg(test)]
@@ -16,6 +19,8 @@ mod printed;
 mod programmes;
 #[cfg(test)]
 mod proposals;
+#[cfg(test)]
+mod rented;
 #[cfg(test)]
 mod texts;
 #[cfg(test)]

@@ -63,7 +63,12 @@ fn weighted_cost(
 }
 
 /// What the workload costs under a configuration.
-fn planned_total(rt: &impl Abort, alloc: Global, setting: &Setting<'_>, config: &Config) -> u128 {
+pub(crate) fn planned_total(
+    rt: &impl Abort,
+    alloc: Global,
+    setting: &Setting<'_>,
+    config: &Config,
+) -> u128 {
     let mut total: u128 = 0;
     for statement in setting.statements {
         total = total.saturating_add(weighted_cost(rt, alloc, setting, config, statement));

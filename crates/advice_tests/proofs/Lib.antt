@@ -1,0 +1,2 @@
+pub mod Rents
+pub mod Cutting
