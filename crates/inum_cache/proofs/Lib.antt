@@ -4,7 +4,9 @@ pub mod Testing
 pub mod Costing
 pub mod Kept
 pub mod Pricing
-pub mod Leading
-pub mod Seeing
+pub mod Priced
+pub mod Wants
+pub mod Placements
+pub mod Ranked
 pub mod Made
 pub mod Cached

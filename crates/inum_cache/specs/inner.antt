@@ -2,5 +2,6 @@
 pub mod Columns
 pub mod Costing
 pub mod Keeping
-pub mod Places
+pub mod Placing
 pub mod Pricing
+pub mod Walks

@@ -11,6 +11,7 @@ use crate::choices::Choices;
 use crate::fault::CacheFault;
 use crate::internals::internal_costs;
 use crate::keep::Costs;
+use crate::placed::placed_templates;
 use adv_base::limits::MOST_COMBINATIONS;
 use adv_base::{Item, List, NoMemory};
 use interesting_orders::{combinations, slot_orders};
@@ -63,16 +64,15 @@ fn made(alloc: Global, task: &Task, count: usize) -> Result<Cache, NoMemory>
 {
     let choices = choices_of(alloc, task)?;
     let templates = templates_of(alloc, task, &choices, count)?;
-    let (starts, count) = choices.starts();
-    let places = choices.places_by_column(alloc)?;
-    let of_columns = choices.of_columns(&places);
+    let walks = choices.walks_for(alloc, templates.as_slice())?;
+    let wanted = walks.wanted(alloc)?;
+    let placed = placed_templates(alloc, &choices, wanted.as_slice(), templates.as_slice())?;
     Ok(Cache {
         choices,
         templates,
-        starts,
-        count,
-        places,
-        of_columns,
+        walks,
+        count: wanted.len(),
+        placed,
     })
 }
 

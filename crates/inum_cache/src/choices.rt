@@ -4,7 +4,6 @@ ghost use Rattle.adv_base.specs.declared.limits.TheConstants.{MOST_COMBINATIONS,
 ghost use Rattle.adv_base.specs.OfferTables.{OfferLimits};
 ghost use Rattle.inum_cache.specs.Numbering as numbering;
 ghost use Rattle.inum_cache.specs.inner.Keeping as keeping;
-ghost use Rattle.inum_cache.specs.inner.Places as placed;
 
 use adv_base::{Item, List};
 
@@ -69,20 +68,6 @@ impl Choices {
             rest /= size;
         }
         places
-    }
-
-    /// How many orders stand before those of each slot, and how many there are.
-    pub(crate) fn starts(&self) -> ([usize; 8], usize)
-        ensures started { (slot : ℕ) → slot < length self.now.orders → slice_index_or result.0 slot 0 ≡ placed.start_in (numbering.size_in self.now.orders) slot }
-        ensures counted { result.1 ≡ placed.start_in (numbering.size_in self.now.orders) (length self.now.orders) }
-    {
-        let mut starts = [0; 8];
-        let mut count = 0;
-        for slot in 0..self.slots() {
-            starts[slot as usize] = count;
-            count += self.size(slot);
-        }
-        (starts, count)
     }
 
     /// The number of a combination with the place of one slot replaced.

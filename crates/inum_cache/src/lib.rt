@@ -19,16 +19,20 @@
 mod building;
 mod cache;
 mod choices;
-mod columns;
 mod fault;
 mod free;
 mod fronts;
 mod internals;
 mod keep;
 mod lookup;
+mod needed;
+mod placed;
+mod placed_template;
 mod prices;
+mod slot_prices;
 mod sums;
 mod walk;
+mod walks;
 
 pub use building::build;
 pub use cache::Cache;

@@ -1,5 +1,5 @@
 //! The least prices at which slots give orders.
-ghost use Rattle.std.specs.Prelude.{◌≡◌, ◌<◌, nat_lt, if◌then◌else◌, length, set, slice_index_or};
+ghost use Rattle.std.specs.Prelude.{◌≡◌, ◌<◌, ◌≤◌, nat_lt, if◌then◌else◌, length};
 ghost use Rattle.inum_cache.specs.inner.Pricing as pricing;
 
 use crate::fronts::begins;
@@ -40,11 +40,15 @@ pub(crate) fn best_price<O: Offers>(offers: &O, slot: u8, order: &[Item]) -> u64
     best
 }
 
-/// Lowers the price at a place to this one.
+/// What the least price of an order is above its slot's least.
 #[inline]
-pub(crate) fn lower_at(prices: &mut [u64], at: usize, price: u64)
-    requires { at < length prices.old }
-    ensures { prices.new ≡ set prices.old at (if nat_lt price (slice_index_or prices.old at 0) then price else slice_index_or prices.old at 0) }
+pub(crate) fn above(least: u64, price: u64) -> u64
+    requires { least ≤ price }
+    ensures { result ≡ pricing.above least price }
 {
-    prices[at] = lower(prices[at], price);
+    if price == UNOFFERED {
+        UNOFFERED
+    } else {
+        price - least
+    }
 }

@@ -1,116 +1,120 @@
-//! The prices of the orders of slots.
-ghost use Rattle.std.specs.Prelude.{◌≡◌, ◌+◌, ◌<◌, ◌≤◌, true, false, [], length, slice_index_or};
-ghost use Rattle.adv_base.specs.OfferTables.{OfferTableLimits, price_at};
+//! The prices of the orders that templates need.
+ghost use Rattle.std.specs.Prelude.{◌≡◌, ◌+◌, ◌*◌, ◌++◌, ◌≤◌, [], All, length, take};
+ghost use Rattle.adv_base.specs.OfferTables.{OfferTableLimits};
 ghost use Rattle.plan_model.specs.Exchange.{sum_below};
 ghost use Rattle.inum_cache.specs.inner.Pricing as pricing;
+ghost use Rattle.inum_cache.specs.inner.Walks as walks;
 
 use crate::cache::Cache;
-use crate::columns::place_for;
-use crate::fronts::leading_column;
-use crate::prices::{UNOFFERED, best_price, lower, lower_at};
+use crate::prices::{above, best_price};
+use crate::slot_prices::column_prices;
+use crate::walks::{SlotColumns, Wanted};
 use plan_model::Offers;
 
+/// How many orders are priced, and the sum of the least prices of the slots that have been walked over.
+#[derive(Clone, Copy)]
+pub(crate) struct Priced {
+    pub count: usize,
+    pub base: u128,
+}
+
 impl Cache {
-    /// The place of a slot's order that is this column; 0 where none is.
-    #[inline]
-    fn place_of(&self, slot: u8, column: u16) -> u8
-        requires { slot < length self.now.choices.orders }
-        ensures { result ≡ slice_index_or (slice_index_or self.now.places slot []) column 0 }
-    {
-        place_for(self.places.as_slice()[slot as usize].as_slice(), column)
-    }
-
-    /// Lowers the price of the order with which an offer of this price begins, but for the first, with which each does.
-    #[inline]
-    fn lower_by<O: Offers>(&self, offers: &O, prices: &mut [u64], slot: u8, offer: u32, price: u64)
-        requires slot { slot < length self.now.choices.orders }
-        requires room { self.now.count ≤ length prices.old }
-        requires of_columns { slice_index_or self.now.of_columns slot false ≡ true }
+    /// Prices the first N columns of a walk, from this place on, and gives the slot's least price.
+    #[inline(always)]
+    fn price_walk<O: Offers, const N: usize>(
+        &self,
+        offers: &O,
+        walk: &SlotColumns,
+        prices: &mut [u64],
+        from: usize,
+    ) -> u64
+        requires most { N ≤ 3 }
+        requires room { from + N ≤ length prices.old }
         requires limits { OfferTableLimits (O.table offers.now) }
-        requires offer { offer < length (O.table offers.now slot) }
-        requires price { price ≡ price_at (O.table offers.now) slot offer }
-        requires before { pricing.ArePricesOf (O.table offers.now) self.now.choices.orders prices.old (pricing.slots_and (O.table offers.now) slot (pricing.but_first offer)) }
-        ensures { pricing.ArePricesOf (O.table offers.now) self.now.choices.orders prices.new (pricing.slots_and (O.table offers.now) slot (pricing.but_first (offer + 1))) }
+        requires walk { walks.IsWalk self.now.choices.orders N walk.now }
+        ensures prices { take (from + N) prices.new ≡ take from prices.old ++ pricing.wanted_prices (O.table offers.now) self.now.choices.orders (walks.wanted_at walk.now.slot (take N walk.now.places)) }
+        ensures sized { length prices.new ≡ length prices.old }
+        ensures least { result ≡ pricing.best_price (O.table offers.now) walk.now.slot [] }
     {
-        let Some(column) = leading_column(offers.order(slot, offer)) else {
-            return;
-        };
-        let place = self.place_of(slot, column);
-        if place > 0 {
-            let at = self.starts[slot as usize] + place as usize;
-            lower_at(prices, at, price);
+        let (least, found) = column_prices::<O, N>(offers, walk);
+        for i in 0..N {
+            prices[from + i] = above(least, found[i]);
         }
-    }
-
-    /// Prices the orders of a slot by one walk over its offers, and gives the least price.
-    #[inline]
-    fn price_columns<O: Offers>(&self, offers: &O, prices: &mut [u64], slot: u8) -> u64
-        requires slot { slot < length self.now.choices.orders }
-        requires room { self.now.count ≤ length prices.old }
-        requires of_columns { slice_index_or self.now.of_columns slot false ≡ true }
-        requires limits { OfferTableLimits (O.table offers.now) }
-        requires before { pricing.ArePricesOf (O.table offers.now) self.now.choices.orders prices.old (pricing.slots_below (O.table offers.now) slot) }
-        ensures prices { pricing.ArePricesOf (O.table offers.now) self.now.choices.orders prices.new (pricing.slots_below (O.table offers.now) (slot + 1)) }
-        ensures least { result ≡ pricing.best_price (O.table offers.now) slot [] }
-    {
-        let mut least = UNOFFERED;
-        for offer in 0..offers.count(slot) {
-            let price = offers.price(slot, offer);
-            least = lower(least, price);
-            self.lower_by(offers, prices, slot, offer, price);
-        }
-        let start = self.starts[slot as usize];
-        prices[start] = least;
         least
     }
 
-    /// Prices the orders of a slot one by one, and gives the least price.
-    fn price_each<O: Offers>(&self, offers: &O, prices: &mut [u64], slot: u8) -> u64
-        requires slot { slot < length self.now.choices.orders }
-        requires room { self.now.count ≤ length prices.old }
-        requires before { pricing.ArePricesOf (O.table offers.now) self.now.choices.orders prices.old (pricing.slots_below (O.table offers.now) slot) }
-        ensures prices { pricing.ArePricesOf (O.table offers.now) self.now.choices.orders prices.new (pricing.slots_below (O.table offers.now) (slot + 1)) }
-        ensures least { result ≡ pricing.best_price (O.table offers.now) slot [] }
-    {
-        let start = self.starts[slot as usize];
-        for place in 0..self.choices.size(slot) {
-            let order = self.choices.order(slot, place as u8);
-            let at = start + place;
-            prices[at] = best_price(offers, slot, order);
-        }
-        prices[start]
-    }
-
-    /// Prices the orders of a slot, and gives the least price.
-    #[inline]
-    fn price_slot<O: Offers>(&self, offers: &O, prices: &mut [u64], slot: u8) -> u64
-        requires slot { slot < length self.now.choices.orders }
-        requires room { self.now.count ≤ length prices.old }
+    /// Prices the orders of walks over N columns, behind those that are priced.
+    #[inline(always)]
+    fn price_group<O: Offers, const N: usize>(
+        &self,
+        offers: &O,
+        group: &[SlotColumns],
+        prices: &mut [u64],
+        priced: Priced,
+    ) -> Priced
+        requires most { N ≤ 3 }
+        requires few { length group.now ≤ 8 }
+        requires room { priced.count + N * length group.now ≤ length prices.old }
+        requires base { priced.base ≤ 24 * 18446744073709551615 }
         requires limits { OfferTableLimits (O.table offers.now) }
-        requires before { pricing.ArePricesOf (O.table offers.now) self.now.choices.orders prices.old (pricing.slots_below (O.table offers.now) slot) }
-        ensures prices { pricing.ArePricesOf (O.table offers.now) self.now.choices.orders prices.new (pricing.slots_below (O.table offers.now) (slot + 1)) }
-        ensures least { result ≡ pricing.best_price (O.table offers.now) slot [] }
+        requires walks { All (walks.IsWalk self.now.choices.orders N) group.now }
+        ensures count { result.count ≡ priced.count + N * length group.now }
+        ensures prices { take result.count prices.new ≡ take priced.count prices.old ++ pricing.wanted_prices (O.table offers.now) self.now.choices.orders (walks.group_wants N group.now) }
+        ensures sized { length prices.new ≡ length prices.old }
+        ensures base { result.base ≡ priced.base + walks.group_sum (λ slot. pricing.best_price (O.table offers.now) slot []) group.now }
+        ensures most { result.base ≤ priced.base + 8 * 18446744073709551615 }
     {
-        if self.of_columns[slot as usize] {
-            self.price_columns(offers, prices, slot)
-        } else {
-            self.price_each(offers, prices, slot)
+        let Priced {
+            mut count,
+            mut base,
+        } = priced;
+        for walk in group {
+            base += self.price_walk::<O, N>(offers, walk, prices, count) as u128;
+            count += N;
+        }
+        Priced { count, base }
+    }
+
+    /// What the least price of an order is above its slot's least.
+    fn price_single<O: Offers>(&self, offers: &O, order: &Wanted) -> u64
+        ensures { result ≡ pricing.wanted_price (O.table offers.now) self.now.choices.orders order.now }
+    {
+        let least = best_price(offers, order.slot, &[]);
+        let own = self.choices.order(order.slot, order.place);
+        above(least, best_price(offers, order.slot, own))
+    }
+
+    /// Prices the orders that no walk over columns prices, from this place on.
+    #[inline(never)]
+    fn price_singly<O: Offers>(&self, offers: &O, prices: &mut [u64], from: usize)
+        requires room { from + length self.now.walks.singly ≤ length prices.old }
+        ensures prices { take (from + length self.now.walks.singly) prices.new ≡ take from prices.old ++ pricing.wanted_prices (O.table offers.now) self.now.choices.orders self.now.walks.singly }
+        ensures sized { length prices.new ≡ length prices.old }
+    {
+        let singly = self.walks.singly.as_slice();
+        for k in 0..singly.len() {
+            prices[from + k] = self.price_single(offers, &singly[k]);
         }
     }
 
-    /// Prices the orders of all slots, and gives the sum of their least prices. No offer has been seen before.
-    #[inline]
+    /// Prices the orders that templates need, and gives the sum of the slots' least prices.
+    #[inline(always)]
     pub(crate) fn price_all<O: Offers>(&self, offers: &O, prices: &mut [u64]) -> u128
         requires room { self.now.count ≤ length prices.old }
         requires limits { OfferTableLimits (O.table offers.now) }
-        requires before { pricing.ArePricesOf (O.table offers.now) self.now.choices.orders prices.old (pricing.slots_below (O.table offers.now) 0) }
-        ensures prices { pricing.ArePrices (O.table offers.now) self.now.choices.orders prices.new }
+        ensures prices { take self.now.count prices.new ≡ pricing.wanted_prices (O.table offers.now) self.now.choices.orders (walks.wants self.now.walks) }
+        ensures sized { length prices.new ≡ length prices.old }
         ensures base { result ≡ sum_below (λ slot. pricing.best_price (O.table offers.now) slot []) (length self.now.choices.orders) }
     {
-        let mut base = 0;
-        for slot in 0..self.choices.slots() {
-            base += self.price_slot(offers, prices, slot) as u128;
+        let walks = &self.walks;
+        let none = Priced { count: 0, base: 0 };
+        let slots = self.price_group::<O, 0>(offers, walks.by_none.as_slice(), prices, none);
+        let ones = self.price_group::<O, 1>(offers, walks.by_one.as_slice(), prices, slots);
+        let twos = self.price_group::<O, 2>(offers, walks.by_two.as_slice(), prices, ones);
+        let threes = self.price_group::<O, 3>(offers, walks.by_three.as_slice(), prices, twos);
+        if !walks.singly.is_empty() {
+            self.price_singly(offers, prices, threes.count);
         }
-        base
+        threes.base
     }
 }

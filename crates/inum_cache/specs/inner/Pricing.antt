@@ -1,16 +1,16 @@
 -- The least prices at which slots give orders, and what templates cost over them.
-use Rattle.std.specs.Prelude.{◌≡◌, ℕ, zero, suc, ◌+◌, ◌-◌, ◌<◌, ◌≤◌, nat_lt, ◌==◌, Bool, if◌then◌else◌, List, length, slice_get, slice_index_or}
+use Rattle.std.specs.Prelude.{ℕ, zero, suc, ◌+◌, ◌-◌, nat_lt, ◌==◌, Bool, if◌then◌else◌, List, [], length, map, slice_get, slice_index_or}
 use Rattle.std.specs.Option.{option_map_or}
 use Rattle.adv_base.specs.Items.{Order}
 use Rattle.adv_base.specs.Offers.{OfferTable}
 use Rattle.adv_base.specs.OfferTables.{price_at, order_at}
-use Rattle.plan_model.specs.declared.template.Template.{Template}
 use Rattle.plan_model.specs.Exchange.{sum_below}
 use Rattle.inum_cache.specs.declared.prices.TheConstants.{UNOFFERED}
 use Rattle.inum_cache.specs.declared.sums.TheConstants.{UNPRICED}
-use Rattle.inum_cache.specs.Numbering.{size_in, order_in}
+use Rattle.inum_cache.specs.declared.placed_template.PlacedTemplate.{PlacedTemplate}
+use Rattle.inum_cache.specs.declared.walks.Wanted.{Wanted}
+use Rattle.inum_cache.specs.Numbering.{order_in}
 use Rattle.inum_cache.specs.inner.Keeping.{begins, any_below}
-use Rattle.inum_cache.specs.inner.Places.{start_in}
 
 -- the least of a number and what a function gives for the numbers below n
 abbrev pub least_below : ℕ → (ℕ → ℕ) → ℕ → ℕ
@@ -29,52 +29,39 @@ price_of_first table slot order n = least_below UNOFFERED (offer_price table slo
 abbrev pub best_price : OfferTable → ℕ → Order → ℕ
 best_price table slot order = price_of_first table slot order (length (table slot))
 
--- the prices of all orders, slot by slot, where of each order so many offers have been seen
-pub record ArePricesOf (table : OfferTable) (orders : List (List Order)) (prices : List ℕ) (seen : ℕ → ℕ → ℕ) : Type 0 where
-  pub each : (slot place : ℕ) → slot < length orders → place < size_in orders slot → slice_index_or prices (start_in (size_in orders) slot + place) 0 ≡ price_of_first table slot (order_in orders slot place) (seen slot place)
+-- what the least price of an order is above its slot's least, or what stands for a price where the order isn't offered
+abbrev pub above : ℕ → ℕ → ℕ
+above least price = if price == UNOFFERED then UNOFFERED else price - least
 
--- all offers of the slots below k have been seen, and none of the others
-abbrev pub slots_below : OfferTable → ℕ → ℕ → ℕ → ℕ
-slots_below table k slot place = if nat_lt slot k then length (table slot) else 0
+-- that of the order of a slot at a place
+abbrev pub price_above : OfferTable → List (List Order) → ℕ → ℕ → ℕ
+price_above table orders slot place = above (best_price table slot []) (best_price table slot (order_in orders slot place))
 
--- all offers of the slots below k, and so many of slot k for each order
-abbrev pub slots_and : OfferTable → ℕ → (ℕ → ℕ) → ℕ → ℕ → ℕ
-slots_and table k here slot place = if nat_lt slot k then length (table slot) else if slot == k then here place else 0
+-- that of an order that is wanted
+abbrev pub wanted_price : OfferTable → List (List Order) → Wanted → ℕ
+wanted_price table orders order = price_above table orders order.slot order.place
 
--- all that a slot has, for the orders below a place
-abbrev pub places_below : ℕ → ℕ → ℕ → ℕ
-places_below all place p = if nat_lt p place then all else 0
+-- the prices of wanted orders, in turn
+abbrev pub wanted_prices : OfferTable → List (List Order) → List Wanted → List ℕ
+wanted_prices table orders wanted = map (wanted_price table orders) wanted
 
--- n for each order but the first
-abbrev pub but_first : ℕ → ℕ → ℕ
-but_first n p = if p == 0 then 0 else n
-
--- the prices of all orders
-abbrev pub ArePrices : OfferTable → List (List Order) → List ℕ → Type 0
-ArePrices table orders prices = ArePricesOf table orders prices (slots_below table (length orders))
-
--- the price of the order that a template needs of a slot
-abbrev pub template_price : List (List Order) → List ℕ → Template → ℕ → ℕ
-template_price orders prices template slot = slice_index_or prices (start_in (size_in orders) slot + slice_index_or template.needs slot 0) 0
+-- the price of the order at a place of a template
+abbrev pub placed_price : List ℕ → PlacedTemplate → ℕ → ℕ
+placed_price prices placed k = slice_index_or prices (slice_index_or placed.places k 0) 0
 
 -- whether that order isn't offered
-abbrev pub is_unoffered : List (List Order) → List ℕ → Template → ℕ → Bool
-is_unoffered orders prices template slot = template_price orders prices template slot == UNOFFERED
+abbrev pub is_unoffered : List ℕ → PlacedTemplate → ℕ → Bool
+is_unoffered prices placed k = placed_price prices placed k == UNOFFERED
 
 -- what comes of a template's internal cost and these prices
-abbrev pub template_sum : List (List Order) → List ℕ → Template → ℕ
-template_sum orders prices template =
-    if any_below (is_unoffered orders prices template) (length orders) then UNPRICED else template.internal + sum_below (template_price orders prices template) (length orders)
+abbrev pub placed_cost : List ℕ → PlacedTemplate → ℕ
+placed_cost prices placed =
+    if any_below (is_unoffered prices placed) placed.count then UNPRICED else placed.internal + sum_below (placed_price prices placed) placed.count
 
--- the same of the template of a number, counted from the last
-abbrev pub sum_at : List (List Order) → List ℕ → List Template → ℕ → ℕ
-sum_at orders prices templates k = option_map_or (template_sum orders prices) (slice_get templates (length templates - 1 - k)) 0
+-- the same of the template of a number
+abbrev pub cost_at : List ℕ → List PlacedTemplate → ℕ → ℕ
+cost_at prices list k = option_map_or (placed_cost prices) (slice_get list k) 0
 
--- the least of these over the templates
-abbrev pub least_sum : List (List Order) → List ℕ → List Template → ℕ → ℕ
-least_sum orders prices templates k = least_below UNPRICED (sum_at orders prices templates) k
-
--- no price that a template needs is above that of an order that isn't offered, and their sum is at least this
-pub record IsPricedFrom (orders : List (List Order)) (prices : List ℕ) (base : ℕ) (template : Template) : Type 0 where
-  pub most : (slot : ℕ) → slot < length orders → template_price orders prices template slot ≤ UNOFFERED
-  pub from : base ≤ sum_below (template_price orders prices template) (length orders)
+-- the least of these over the first k templates
+abbrev pub least_cost : List ℕ → List PlacedTemplate → ℕ → ℕ
+least_cost prices list k = least_below UNPRICED (cost_at prices list) k

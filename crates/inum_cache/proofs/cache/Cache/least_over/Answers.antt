@@ -1,20 +1,38 @@
-use Rattle.std.proofs.Common.{slice_index_or}
+use Rattle.std.proofs.Common.{◌+◌, ℕ, List, length, take, ap, ◌∙◌, sym, arith}
+use Rattle.std.proofs.lemmas.List.Elements.{All-same}
 use Rattle.plan_model.proofs.Listing.{kept-list-decompose}
-use Rattle.inum_cache.proofs.Cached.{priced-from, cached-by}
+use Rattle.inum_cache.specs.declared.placed_template.PlacedTemplate.{PlacedTemplate}
+use Rattle.inum_cache.specs.inner.Pricing.{cost_at, least_cost}
+use Rattle.inum_cache.specs.inner.Walks.{wants}
+use Rattle.inum_cache.proofs.Pricing.{least_below-most}
+use Rattle.inum_cache.proofs.Cached.{base-most, PlacesWithin, places-within, cached-by}
 use Rattle.inum_cache.proofs.cache.Cache.least_over.Goals as goal
 
-pub least_sum-requires-clause-priced : goal.least_sum-requires-clause-priced
-least_sum-requires-clause-priced g c = λ k d within.
+pub least_cost-requires-clause-within : goal.least_cost-requires-clause-within
+least_cost-requires-clause-within g c =
     let cache = c.args.self.now in
-    priced-from (g.O.Offers.table c.args.offers.now) cache.choices.orders c.price_all-base.new.prices c.price_all-base.result (slice_index_or cache.templates k d) c.price_all-base.ensures.prices c.price_all-base.ensures.base (cache.fit k d within)
+    let room : ℕ = length c.price_all-base.new.prices in
+    All-same (PlacesWithin room) c.as_slice.result.now cache.placed c.as_slice.ensures
+    (places-within cache.choices.orders (wants cache.walks) cache.templates cache.placed room cache.ranked
+    (omega (arith, cache.counted, c.requires.room, c.price_all-base.ensures.sized)))
+
+pub overflow_add-result : goal.overflow_add-result
+overflow_add-result g c =
+    let cache = c.args.self.now in
+    let base = base-most (g.O.Offers.table c.args.offers.now) (length cache.choices.orders) in
+    let least = least_below-most 1000000000000000000000000000000 (cost_at c.price_all-base.new.prices c.as_slice.result.now) (length c.as_slice.result.now) in
+    omega (arith, base, least, c.price_all-base.ensures.base, c.least_cost.ensures, cache.choices.few)
 
 pub returns-clause-cached : goal.returns-clause-cached
 returns-clause-cached g c = λ task is.
     let cache = c.args.self.now in
-    cached-by task (g.O.Offers.table c.args.offers.now) cache.choices.orders c.price_all-base.new.prices cache.templates is.internal c.least_sum.result (record { count = is.slots; each = is.orders }) c.price_all-base.ensures.prices cache.fit is.plain c.requires.plain c.limits.ensures c.least_sum.ensures
+    let prices = c.price_all-base.new.prices in
+    cached-by task (g.O.Offers.table c.args.offers.now) cache.choices.orders (wants cache.walks) prices cache.templates cache.placed is.internal c.price_all-base.result (c.price_all-base.result + c.least_cost.result)
+    (record { count = is.slots; each = is.orders })
+    (record { first = cache.choices.first; plain = c.requires.plain; limits = c.limits.ensures; priced = ap (λ (n : ℕ). take n prices) (sym cache.counted) ∙ c.price_all-base.ensures.prices })
+    cache.ranked cache.fit is.plain c.price_all-base.ensures.base
+    (ap (λ (n : ℕ). c.price_all-base.result + n) (c.least_cost.ensures ∙ ap (λ (list : List PlacedTemplate). least_cost prices list (length list)) c.as_slice.ensures))
 
 pub returns-clause-least : goal.returns-clause-least
 returns-clause-least g c = λ task is.
-    let cache = c.args.self.now in
-    (kept-list-decompose task cache.templates is.kept (g.O.Offers.table c.args.offers.now) c.least_sum.result c.limits.ensures).0
-    (cached-by task (g.O.Offers.table c.args.offers.now) cache.choices.orders c.price_all-base.new.prices cache.templates is.internal c.least_sum.result (record { count = is.slots; each = is.orders }) c.price_all-base.ensures.prices cache.fit is.plain c.requires.plain c.limits.ensures c.least_sum.ensures)
+    (kept-list-decompose task c.args.self.now.templates is.kept (g.O.Offers.table c.args.offers.now) _ c.limits.ensures).0 (returns-clause-cached g c task is)

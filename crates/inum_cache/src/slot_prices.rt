@@ -1,0 +1,68 @@
+//! The least prices of a slot's offers by the columns with which they begin.
+ghost use Rattle.std.specs.Prelude.{◌≡◌, ℕ, ◌<◌, ◌≤◌, ◌==◌, [], ◌∷◌, nat_lt, ◌&&◌, if◌then◌else◌, length, slice_index_or};
+ghost use Rattle.adv_base.specs.OfferTables.{OfferTableLimits};
+ghost use Rattle.adv_base.specs.declared.workload.parts.Item.TheVariants.{Up};
+ghost use Rattle.inum_cache.specs.inner.Columns as led;
+ghost use Rattle.inum_cache.specs.inner.Pricing as pricing;
+
+use crate::fronts::leading_column;
+use crate::prices::{UNOFFERED, lower};
+use crate::walks::SlotColumns;
+use adv_base::Item;
+use plan_model::Offers;
+
+/// Lowers the prices of those of the columns that are this one.
+#[inline(always)]
+fn lower_column<const N: usize>(prices: &mut [u64], columns: &[u16; 3], column: u16, price: u64)
+    requires most { N ≤ 3 }
+    requires sized { length prices.old ≡ N }
+    ensures sized { length prices.new ≡ N }
+    ensures each { (i : ℕ) → i < N → slice_index_or prices.new i 0 ≡ (if slice_index_or columns.now i 0 == column && nat_lt price (slice_index_or prices.old i 0) then price else slice_index_or prices.old i 0) }
+{
+    for i in 0..N {
+        if columns[i] == column {
+            prices[i] = lower(prices[i], price);
+        }
+    }
+}
+
+/// Lowers the prices of those of the columns with which an order begins.
+#[inline(always)]
+fn lower_leading<const N: usize>(prices: &mut [u64], columns: &[u16; 3], order: &[Item], price: u64)
+    requires most { N ≤ 3 }
+    requires sized { length prices.old ≡ N }
+    requires led { led.IsLedUp order.now }
+    ensures sized { length prices.new ≡ N }
+    ensures each { (i : ℕ) → i < N → slice_index_or prices.new i 0 ≡ (if led.is_led_by order.now (slice_index_or columns.now i 0) && nat_lt price (slice_index_or prices.old i 0) then price else slice_index_or prices.old i 0) }
+{
+    if let Some(column) = leading_column(order) {
+        lower_column::<N>(prices, columns, column, price);
+    }
+}
+
+/// By one walk over a slot's offers, the least price of all, and of those that begin with each of the first N columns;
+/// `UNOFFERED` where none does.
+#[inline(always)]
+pub(crate) fn column_prices<O: Offers, const N: usize>(
+    offers: &O,
+    walk: &SlotColumns,
+) -> (u64, [u64; N])
+    requires most { N ≤ 3 }
+    requires limits { OfferTableLimits (O.table offers.now) }
+    ensures least { result.0 ≡ pricing.best_price (O.table offers.now) walk.now.slot [] }
+    ensures each { (i : ℕ) → i < N → slice_index_or result.1 i 0 ≡ pricing.best_price (O.table offers.now) walk.now.slot (Up walk.now.slot (slice_index_or walk.now.columns i 0) ∷ []) }
+{
+    let mut least = UNOFFERED;
+    let mut prices = [UNOFFERED; N];
+    for offer in 0..offers.count(walk.slot) {
+        let price = offers.price(walk.slot, offer);
+        least = lower(least, price);
+        lower_leading::<N>(
+            &mut prices,
+            &walk.columns,
+            offers.order(walk.slot, offer),
+            price,
+        );
+    }
+    (least, prices)
+}
