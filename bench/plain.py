@@ -30,7 +30,6 @@ CHANGES = (
     (r"Box::new\((\w+), ", r"shim::boxed(\1, "),
     (r"<(\w+): Drop>", r"<\1>"),
     (r"\.collect\(alloc\)", ".collect_in(alloc)"),
-    (r"(\.sort_by_key\([^;]*\))\?;", r"\1;"),
 )
 
 

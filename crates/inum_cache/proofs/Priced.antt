@@ -1,5 +1,5 @@
 -- The prices of the orders that templates need.
-use Rattle.std.proofs.Common.{◌≡◌, inl, inr, ℕ, zero, suc, ◌+◌, ◌*◌, ◌<◌, ◌≤◌, List, [], ◌∷◌, ◌++◌, length, get_or, take, map, All, refl, sym, ap, ◌∙◌, subst, arith, add-one}
+use Rattle.std.proofs.Common.{◌≡◌, inl, inr, ℕ, zero, suc, ◌+◌, ◌*◌, ◌<◌, ◌≤◌, List, [], ◌∷◌, ◌++◌, length, get_or, take, map, All, refl, sym, ap, ◌∙◌, arith, add-one}
 use Rattle.std.specs.Prelude.{Bool, true, nat_lt, ◌==◌, ◌&&◌, if◌then◌else◌}
 use Rattle.std.proofs.lemmas.Bool.{cases_Bool, cases_lt, cases_eq, eq-eqb, ne_eqb, false≢true}
 use Rattle.std.proofs.lemmas.List.{length-append, length-map, length-take-le, map-append, get_or_past}
@@ -16,7 +16,7 @@ use Rattle.inum_cache.specs.declared.walks.SlotColumns.{SlotColumns}
 use Rattle.inum_cache.specs.declared.walks.Walks.{Walks}
 use Rattle.inum_cache.specs.declared.walks.Wanted.{Wanted}
 use Rattle.inum_cache.specs.Numbering.{order_in}
-use Rattle.inum_cache.specs.inner.Columns.{IsLedUp, is_led_by}
+use Rattle.inum_cache.specs.inner.Columns.{begins_with_column}
 use Rattle.inum_cache.specs.inner.Keeping.{begins}
 use Rattle.inum_cache.specs.inner.Pricing.{price_of_first, best_price, wanted_price, wanted_prices}
 use Rattle.inum_cache.specs.inner.Walks.{IsWalk, wanted_at, group_wants, wants, group_sum, slots_sum}
@@ -30,19 +30,8 @@ order_at-own table slot offer limits within =
     let none : Offer = ([], 0) in
     rw (slice_get-get_or (table slot) offer none within) (limits slot offer none within).own
 
--- orders of a slot's own columns go upwards
-own-led : (slot : ℕ) (o : Order) → All (λ item. is_up_of slot item ≡ true) o → IsLedUp o
-own-led slot [] own = tt
-own-led slot (Up s c ∷ rest) own = tt
-own-led slot (Down s c ∷ rest) own = absurd (false≢true (All-head (λ item. is_up_of slot item ≡ true) (Down s c) rest own))
-own-led slot (Made n ∷ rest) own = absurd (false≢true (All-head (λ item. is_up_of slot item ≡ true) (Made n) rest own))
-
-pub offer-led : (table : OfferTable) (slot offer : ℕ) (o : Order) → OfferTableLimits table → offer < length (table slot) → o ≡ order_at table slot offer → IsLedUp o
-offer-led table slot offer o limits within delivers =
-    subst (λ (r : Order). IsLedUp r) (sym delivers) (own-led slot (order_at table slot offer) (order_at-own table slot offer limits within))
-
--- and begin with the order of a column where they begin with the column
-own-begins : (slot column : ℕ) (o : Order) → All (λ item. is_up_of slot item ≡ true) o → begins o (Up slot column ∷ []) ≡ is_led_by o column
+-- an order of a slot's own columns begins with the order of a column where it begins with the column
+own-begins : (slot column : ℕ) (o : Order) → All (λ item. is_up_of slot item ≡ true) o → begins o (Up slot column ∷ []) ≡ begins_with_column o column
 own-begins slot column [] own = refl
 own-begins slot column (Up s c ∷ rest) own =
     let head : s == slot ≡ true = All-head (λ item. is_up_of slot item ≡ true) (Up s c) rest own in
@@ -64,12 +53,12 @@ least-step table slot n price least after costs before is =
     ∙ sym (one-served table slot [] n price refl costs))
 
 -- and that of a column with which its order begins
-pub column-step : (table : OfferTable) (slot column n price before after : ℕ) (o : Order) → OfferTableLimits table → n < length (table slot) → o ≡ order_at table slot n → price ≡ price_at table slot n → before ≡ price_of_first table slot (Up slot column ∷ []) n → after ≡ (if is_led_by o column && nat_lt price before then price else before) → after ≡ price_of_first table slot (Up slot column ∷ []) (n + 1)
+pub column-step : (table : OfferTable) (slot column n price before after : ℕ) (o : Order) → OfferTableLimits table → n < length (table slot) → o ≡ order_at table slot n → price ≡ price_at table slot n → before ≡ price_of_first table slot (Up slot column ∷ []) n → after ≡ (if begins_with_column o column && nat_lt price before then price else before) → after ≡ price_of_first table slot (Up slot column ∷ []) (n + 1)
 column-step table slot column n price before after o limits within delivers costs was is =
-    let leads : begins (order_at table slot n) (Up slot column ∷ []) ≡ is_led_by o column =
-    own-begins slot column (order_at table slot n) (order_at-own table slot n limits within) ∙ ap (λ (r : Order). is_led_by r column) (sym delivers) in
+    let leads : begins (order_at table slot n) (Up slot column ∷ []) ≡ begins_with_column o column =
+    own-begins slot column (order_at table slot n) (order_at-own table slot n limits within) ∙ ap (λ (r : Order). begins_with_column r column) (sym delivers) in
     rw (add-one n)
-    (elim (cases_Bool (is_led_by o column)) [
+    (elim (cases_Bool (begins_with_column o column)) [
       | inl led ↦
           is
           ∙ ap (λ (b : Bool). if b && nat_lt price before then price else before) led

@@ -29,6 +29,13 @@ least-more prices list k placed cost least result found e before is =
     ∙ ap (λ (x : ℕ). if nat_lt (cost_at prices list k) x then cost_at prices list k else x) before
     ∙ ap (least_cost prices list) (sym (add-one k))
 
+-- a template that has no cost is passed over
+pub least-passed : (prices : List ℕ) (list : List PlacedTemplate) (k : ℕ) (placed : PlacedTemplate) (least : ℕ) → slice_get list k ≡ Some placed → 1000000000000000000000000000000 ≡ placed_cost prices placed → least ≡ least_cost prices list k → least ≡ least_cost prices list (k + 1)
+least-passed prices list k placed least found none before =
+    let most = least_below-most 1000000000000000000000000000000 (cost_at prices list) k in
+    let test : nat_lt (cost_at prices list k) (least_cost prices list k) ≡ false = le-ltb (cost_at prices list k) (least_cost prices list k) (omega (arith, most, none, cost_at-is prices list k placed found)) in
+    rw (add-one k, test) before
+
 -- where nothing from k on is less, the least stays
 least_below-stays : (most : ℕ) (f : ℕ → ℕ) (k n : ℕ) → k ≤ n → ((j : ℕ) → k ≤ j → j < n → least_below most f k ≤ f j) → least_below most f n ≡ least_below most f k
 least_below-stays most f k zero above none = let e : zero ≡ k = omega (arith, above) in ap (least_below most f) e

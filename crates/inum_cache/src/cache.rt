@@ -12,8 +12,8 @@ use plan_model::Template;
 
 /// The templates of a task, after INUM's cache of plans: for each combination of interesting orders, one for each slot,
 /// that no weaker one replaces at most at its cost, what a least plan costs above leaves that deliver these orders. It
-/// keeps no query and no rows: a template is 32 bytes, and 48 once more for look-ups, which know beside for each slot the
-/// columns that templates need.
+/// keeps no query and no rows: a template is 32 bytes, and 48 once more for look-ups, which know beside for each slot
+/// the columns that templates need.
 #[derive(Drop)]
 pub struct Cache {
     pub(crate) choices: Choices,
@@ -33,8 +33,8 @@ pub struct Cache {
 impl Cache {
     ghost use Rattle.inum_cache.specs.Caches.{orders_of};
 
-    /// The templates, in increasing order of `needs` read from the first slot. `needs[s]` is a number into the orders of
-    /// slot s.
+    /// The templates, in increasing order of `needs` read from the first slot. `needs[s]` is a number into the orders
+    /// of slot s.
     pub fn templates(&self) -> &[Template]
         ensures { result.now ≡ self.now.templates }
     {

@@ -20,15 +20,13 @@ pub(crate) fn is_front(order: &[Item], front: &[Item]) -> bool
     front.len() < order.len() && begins(order, front)
 }
 
-/// The column with which an order of upward columns begins, where it has any.
-#[inline]
+/// The column of an order's first item, where it is one, upwards.
+#[inline(always)]
 pub(crate) fn leading_column(order: &[Item]) -> Option<u16>
-    requires { columns.IsLedUp order.now }
     ensures { result ≡ columns.leading_column order.now }
 {
     match order.split_first() {
-        None => None,
         Some((Item::Up { column, .. }, _)) => Some(*column),
-        Some(_) => unreachable!(),
+        _ => None,
     }
 }

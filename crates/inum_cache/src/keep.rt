@@ -26,8 +26,8 @@ impl Costs<'_> {
         self.list.as_slice()[number]
     }
 
-    /// Whether the combination of these places costs at most this with the slot's order replaced by the front of it that
-    /// stands at that place.
+    /// Whether the combination of these places costs at most this with the slot's order replaced by the front of it
+    /// that stands at that place.
     fn is_replaced_by(&self, places: &[u8; 8], cost: u128, slot: u8, place: u8) -> bool
         requires places { (s : ℕ) → s < length self.now.choices.now.orders → slice_index_or places.now s 0 < numbering.size_in self.now.choices.now.orders s }
         requires slot { slot < length self.now.choices.now.orders }

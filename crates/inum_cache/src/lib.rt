@@ -1,8 +1,8 @@
 //! The cache of internal plans of a task, after INUM.
 //!
-//! In goes a task; out comes a cache of templates: for each combination of interesting orders that no weaker one replaces,
-//! what a least plan costs above leaves that deliver these orders. From them the cost of a least plan over any offers is
-//! found without a search.
+//! In goes a task; out comes a cache of templates: for each combination of interesting orders that no weaker one
+//! replaces, what a least plan costs above leaves that deliver these orders. From them the cost of a least plan over any
+//! offers is found without a search.
 //!
 //! `build` makes a `Cache` of `plan_model`'s `Template`s, or says by a `CacheFault` that there are too many
 //! combinations.

@@ -44,8 +44,8 @@ impl Cache {
     }
 
     /// What a least plan of the cache's task costs over these offers, in thousandths of a page read: the least over the
-    /// templates of the internal cost and, for each slot, the least price of an offer that begins with the order that the
-    /// template needs of it (INUM's cached cost). Each slot has an offer with no order. It takes no memory.
+    /// templates of the internal cost and, for each slot, the least price of an offer that begins with the order that
+    /// the template needs of it (INUM's cached cost). Each slot has an offer with no order. It takes no memory.
     pub fn cost<O: Offers>(&self, offers: &O) -> u128
         requires { HavePlain self.now (O.table offers.now) }
         ensures cached { (task : Task) → IsCacheOf task self.now → CachedBy (IsIn task self.now.templates) task (O.table offers.now) result }

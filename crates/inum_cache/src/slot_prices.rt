@@ -2,7 +2,7 @@
 ghost use Rattle.std.specs.Prelude.{◌≡◌, ℕ, ◌<◌, ◌≤◌, ◌==◌, [], ◌∷◌, nat_lt, ◌&&◌, if◌then◌else◌, length, slice_index_or};
 ghost use Rattle.adv_base.specs.OfferTables.{OfferTableLimits};
 ghost use Rattle.adv_base.specs.declared.workload.parts.Item.TheVariants.{Up};
-ghost use Rattle.inum_cache.specs.inner.Columns as led;
+ghost use Rattle.inum_cache.specs.inner.Columns as orders;
 ghost use Rattle.inum_cache.specs.inner.Pricing as pricing;
 
 use crate::fronts::leading_column;
@@ -31,9 +31,8 @@ fn lower_column<const N: usize>(prices: &mut [u64], columns: &[u16; 3], column: 
 fn lower_leading<const N: usize>(prices: &mut [u64], columns: &[u16; 3], order: &[Item], price: u64)
     requires most { N ≤ 3 }
     requires sized { length prices.old ≡ N }
-    requires led { led.IsLedUp order.now }
     ensures sized { length prices.new ≡ N }
-    ensures each { (i : ℕ) → i < N → slice_index_or prices.new i 0 ≡ (if led.is_led_by order.now (slice_index_or columns.now i 0) && nat_lt price (slice_index_or prices.old i 0) then price else slice_index_or prices.old i 0) }
+    ensures each { (i : ℕ) → i < N → slice_index_or prices.new i 0 ≡ (if orders.begins_with_column order.now (slice_index_or columns.now i 0) && nat_lt price (slice_index_or prices.old i 0) then price else slice_index_or prices.old i 0) }
 {
     if let Some(column) = leading_column(order) {
         lower_column::<N>(prices, columns, column, price);
@@ -52,17 +51,13 @@ pub(crate) fn column_prices<O: Offers, const N: usize>(
     ensures least { result.0 ≡ pricing.best_price (O.table offers.now) walk.now.slot [] }
     ensures each { (i : ℕ) → i < N → slice_index_or result.1 i 0 ≡ pricing.best_price (O.table offers.now) walk.now.slot (Up walk.now.slot (slice_index_or walk.now.columns i 0) ∷ []) }
 {
+    let SlotColumns { slot, columns, .. } = *walk;
     let mut least = UNOFFERED;
     let mut prices = [UNOFFERED; N];
-    for offer in 0..offers.count(walk.slot) {
-        let price = offers.price(walk.slot, offer);
+    for offer in 0..offers.count(slot) {
+        let price = offers.price(slot, offer);
         least = lower(least, price);
-        lower_leading::<N>(
-            &mut prices,
-            &walk.columns,
-            offers.order(walk.slot, offer),
-            price,
-        );
+        lower_leading::<N>(&mut prices, &columns, offers.order(slot, offer), price);
     }
     (least, prices)
 }

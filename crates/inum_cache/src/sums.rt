@@ -1,6 +1,7 @@
 //! What templates cost over the prices of orders.
 ghost use Rattle.std.specs.Prelude.{◌≡◌, ℕ, ◌<◌, ◌≤◌, nat_lt, if◌then◌else◌, All, length, slice_index_or};
 ghost use Rattle.std.specs.List.Sorted.{IsNonDecreasingBy};
+ghost use Rattle.std.specs.Option.{option_map_or};
 ghost use Rattle.inum_cache.specs.inner.Pricing as pricing;
 
 use crate::placed_template::PlacedTemplate;
@@ -17,21 +18,21 @@ fn lower_cost(least: u128, cost: u128) -> u128
     if cost < least { cost } else { least }
 }
 
-/// What comes of a template's internal cost and the prices of the orders that it needs.
+/// What comes of a template's internal cost and the prices of the orders that it needs; none where one isn't offered.
 #[inline(always)]
-fn cost_of(prices: &[u64], placed: &PlacedTemplate) -> u128
+fn cost_of(prices: &[u64], placed: &PlacedTemplate) -> Option<u128>
     requires within { (k : ℕ) → k < placed.now.count → slice_index_or placed.now.places k 0 < length prices.now }
-    ensures { result ≡ pricing.placed_cost prices.now placed.now }
+    ensures { option_map_or (λ cost. cost) result UNPRICED ≡ pricing.placed_cost prices.now placed.now }
 {
     let mut sum = placed.internal;
     for k in 0..placed.count {
         let price = prices[placed.places[k] as usize];
         if price == UNOFFERED {
-            return UNPRICED;
+            return None;
         }
         sum += price as u128;
     }
-    sum
+    Some(sum)
 }
 
 /// The least cost over templates by increasing internal cost. No later one can cost less than what is found, once the
@@ -47,7 +48,9 @@ pub(crate) fn least_cost(list: &[PlacedTemplate], prices: &[u64]) -> u128
         if least <= placed.internal {
             return least;
         }
-        least = lower_cost(least, cost_of(prices, placed));
+        if let Some(cost) = cost_of(prices, placed) {
+            least = lower_cost(least, cost);
+        }
     }
     least
 }

@@ -55,7 +55,7 @@ impl Cache {
         requires most { N ≤ 3 }
         requires few { length group.now ≤ 8 }
         requires room { priced.count + N * length group.now ≤ length prices.old }
-        requires base { priced.base ≤ 24 * 18446744073709551615 }
+        requires behind_three { priced.base ≤ 24 * 18446744073709551615 }
         requires limits { OfferTableLimits (O.table offers.now) }
         requires walks { All (walks.IsWalk self.now.choices.orders N) group.now }
         ensures count { result.count ≡ priced.count + N * length group.now }

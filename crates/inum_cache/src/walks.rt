@@ -10,8 +10,8 @@ use std::alloc::Global;
 /// How many orders walks price at most: eight slots have at most 203 each.
 pub(crate) const MOST_WANTED: usize = 1624;
 
-/// A slot, columns of it that templates need, and the places of their orders among the slot's. A walk over so many columns
-/// looks at the first so many.
+/// A slot, columns of it that templates need, and the places of their orders among the slot's. A walk over so many
+/// columns looks at the first so many.
 #[derive(Clone, Copy)]
 pub(crate) struct SlotColumns {
     pub slot: u8,
@@ -26,8 +26,9 @@ pub(crate) struct Wanted {
     pub place: u8,
 }
 
-/// The walks of a look-up: each slot is walked over once, for its least price and for at most three columns that begin its
-/// offers. Where templates need more orders of a slot, or others, each of these is priced on its own.
+/// The walks of a look-up: each slot is walked over once, for its least price and for at most three columns that begin
+/// its offers. Where templates need more orders of a slot, or one that isn't a column, each that they need of it is
+/// priced on its own.
 #[derive(Drop)]
 pub(crate) struct Walks {
     pub by_none: List<SlotColumns>,

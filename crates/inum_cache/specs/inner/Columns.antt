@@ -12,13 +12,7 @@ leading_column order = None
 abbrev pub IsColumn : ℕ → ℕ → Order → Type 0
 IsColumn slot column order = order ≡ Up slot column ∷ []
 
--- an order is none, or begins with an upward column
-abbrev pub IsLedUp : Order → Type 0
-IsLedUp [] = Unit {0}
-IsLedUp (Up slot column ∷ rest) = Unit {0}
-IsLedUp order = ⊥
-
--- whether it begins with this column
-abbrev pub is_led_by : Order → ℕ → Bool
-is_led_by (Up slot own ∷ rest) column = column == own
-is_led_by order column = false
+-- whether an order begins with this column, upwards
+abbrev pub begins_with_column : Order → ℕ → Bool
+begins_with_column (Up slot own ∷ rest) column = column == own
+begins_with_column order column = false

@@ -1,13 +1,6 @@
 use Rattle.std.proofs.Common.{◌<◌, length, arith, slice_index_or}
-use Rattle.inum_cache.proofs.Priced.{offer-led, least-step, column-step}
+use Rattle.inum_cache.proofs.Priced.{least-step, column-step}
 use Rattle.inum_cache.proofs.slot_prices.column_prices.Goals as goal
-
-pub lower_leading-requires-clause-led : goal.lower_leading-requires-clause-led
-lower_leading-requires-clause-led g c =
-    let table = g.O.Offers.table c.args.offers.now in
-    let slot = c.args.walk.now.slot in
-    let within : c.loop-offer.offer < length (table slot) = omega (arith, c.count-offer-end.ensures, c.loop-offer-test.true) in
-    offer-led table slot c.loop-offer.offer c.order.result.now c.requires.limits within c.order.ensures
 
 pub loop-offer-preserved : goal.loop-offer-preserved
 loop-offer-preserved g c =

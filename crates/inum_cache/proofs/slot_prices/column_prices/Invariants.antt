@@ -7,6 +7,6 @@ abbrev pub invariant-loop-offer : goal.invariant-loop-offer
 invariant-loop-offer g l =
     record {
       sized : length l.prices ≡ g.row.N;
-      least : l.least ≡ price_of_first (g.O.Offers.table l.offers) l.walk.slot [] l.offer;
-      each : (i : ℕ) → i < g.row.N → slice_index_or l.prices i 0 ≡ price_of_first (g.O.Offers.table l.offers) l.walk.slot (Up l.walk.slot (slice_index_or l.walk.columns i 0) ∷ []) l.offer;
+      least : l.least ≡ price_of_first (g.O.Offers.table l.offers) l.slot [] l.offer;
+      each : (i : ℕ) → i < g.row.N → slice_index_or l.prices i 0 ≡ price_of_first (g.O.Offers.table l.offers) l.slot (Up l.slot (slice_index_or l.columns i 0) ∷ []) l.offer;
     }
