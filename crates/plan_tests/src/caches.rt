@@ -1,11 +1,13 @@
 //! Caches of tasks that are worked out by hand, and of made ones against the planner.
+ghost use Rattle.std.specs.Prelude.{◌<◌};
+
 use crate::least_plans::planned;
-use crate::made::{Draws, made_table, made_task};
+use crate::made::{Draws, made_indexes, made_table, made_task};
 use crate::table::Table;
 use crate::tasks::{edge, star_edges, task, up};
 use adv_base::NoMemory;
 use inum_cache::{Cache, CacheFault, build};
-use plan_model::Task;
+use plan_model::{Task, TaskEdge};
 use std::alloc::Global;
 use std::process::Abort;
 
@@ -71,4 +73,54 @@ fn as_the_planner(rt: HostRuntime) {
         }
     }
     assert!(rt; kept > 600);
+}
+
+/// Edges that tie so many columns of the first slot, each to the same column of the second.
+fn ties(rt: &impl Abort, alloc: Global, columns: u8) -> Vec<TaskEdge> {
+    let mut edges = Vec::new(alloc);
+    for column in 0..columns {
+        let column = column as u16;
+        edges.push(edge(0, column, 1, column)).expect(rt, "memory");
+    }
+    edges
+}
+
+/// The cost from a cache of the task is that of the planner over twelve tables of offers, with indexes of so many
+/// columns; and the cache has more templates than there are columns.
+fn agrees(rt: &impl Abort, alloc: Global, draws: &mut Draws, task: &Task, columns: u8)
+    requires { 0 < columns }
+{
+    let cache = build(alloc, task).expect(rt, "a cache");
+    assert!(rt; cache.templates().len() > columns as usize);
+    for number in 0..12 {
+        let table = made_indexes(alloc, draws, task.slots, columns).expect(rt, "memory");
+        let (planned, cached) = costs(alloc, task, &cache, &table).expect(rt, "memory");
+        assert_eq!(rt; cached, planned, "table {number} of {columns} columns");
+    }
+}
+
+/// The same for a task of two slots that are tied by so many columns.
+fn pair_agrees(rt: &impl Abort, alloc: Global, draws: &mut Draws, columns: u8)
+    requires { 0 < columns }
+{
+    let edges = ties(rt, alloc, columns);
+    let rows = [1, 1000, 100, 1000];
+    let pair = task(rt, alloc, 2, edges.as_slice(), &rows, None, &[]);
+    agrees(rt, alloc, draws, &pair, columns)
+}
+
+/// The cost from the cache is that of the planner also where slots have more orders than in the drawn tasks: two slots
+/// that are tied by 3, by 7 or by 33 columns, and three slots of 3, 4 and 1 orders. A table offers some of the orders.
+#[test]
+fn many_orders(rt: HostRuntime) {
+    let alloc = rt.alloc();
+    let mut draws = Draws::new(1990);
+    pair_agrees(&rt, alloc, &mut draws, 3);
+    pair_agrees(&rt, alloc, &mut draws, 7);
+    pair_agrees(&rt, alloc, &mut draws, 33);
+    let mut edges = ties(&rt, alloc, 3);
+    edges.push(edge(1, 3, 2, 0)).expect(&rt, "memory");
+    let rows = [1, 1000, 100, 1000, 1000, 1000, 1000, 1000];
+    let chain = task(&rt, alloc, 3, edges.as_slice(), &rows, None, &[]);
+    agrees(&rt, alloc, &mut draws, &chain, 4)
 }

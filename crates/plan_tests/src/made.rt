@@ -248,3 +248,39 @@ pub fn made_table(
     }
     Ok(Table { slots: reads })
 }
+
+/// A column below another, in half of the cases this one.
+fn column(draws: &mut Draws, common: u8, columns: u8) -> u16
+    requires { 0 < columns }
+{
+    if draws.comes(2) {
+        return common as u16;
+    }
+    draws.below(columns) as u16
+}
+
+/// Offers for the slots of a task: the whole table, an index of one of so many columns and an index of two of them. One
+/// column is in many of a table's indexes, so that joins find it in both slots.
+pub fn made_indexes(
+    alloc: Global,
+    draws: &mut Draws,
+    slots: u8,
+    columns: u8,
+) -> Result<Table, AllocError>
+    requires { 0 < columns }
+{
+    let common = draws.below(columns);
+    let mut reads = Vec::new(alloc);
+    for slot in 0..slots {
+        let heap = price(draws);
+        let one = [column(draws, common, columns)];
+        let first = (charged(draws, 0), one.as_slice());
+        let two = [
+            column(draws, common, columns),
+            column(draws, common, columns),
+        ];
+        let second = (charged(draws, 0), two.as_slice());
+        reads.push(Reads::new(alloc, slot, heap, first, second)?)?;
+    }
+    Ok(Table { slots: reads })
+}
