@@ -78,7 +78,7 @@ pub least-le : (table : OfferTable) (slot column least found : ℕ) → least �
 least-le table slot column least found is found-is = omega (arith, plain-le table slot (Up slot column ∷ []), is, found-is)
 
 -- a walk has a place for each of its first n columns, since none of them is the empty order at place 0
-walk-sized : (orders : List (List Order)) (n : ℕ) (walk : SlotColumns) → ((slot : ℕ) → slot < length orders → order_in orders slot 0 ≡ []) → IsWalk orders n walk → n ≤ length walk.places
+pub walk-sized : (orders : List (List Order)) (n : ℕ) (walk : SlotColumns) → ((slot : ℕ) → slot < length orders → order_in orders slot 0 ≡ []) → IsWalk orders n walk → n ≤ length walk.places
 walk-sized orders n walk first is =
     elim (cases_lt (length walk.places) n) [
       | inl short ↦

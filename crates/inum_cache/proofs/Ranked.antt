@@ -21,6 +21,15 @@ unpriced prices placed k below is =
 pub cost_at-is : (prices : List ℕ) (list : List PlacedTemplate) (k : ℕ) (placed : PlacedTemplate) → slice_get list k ≡ Some placed → cost_at prices list k ≡ placed_cost prices placed
 cost_at-is prices list k placed found = ap (λ (o : Option PlacedTemplate). option_map_or (placed_cost prices) o 0) found
 
+-- over templates without a cost, the least is what stands for none
+pub least-unpriced : (prices : List ℕ) (list : List PlacedTemplate) (n : ℕ) → ((k : ℕ) → k < n → cost_at prices list k ≡ 1000000000000000000000000000000) → 1000000000000000000000000000000 ≡ least_cost prices list n
+least-unpriced prices list zero none = refl
+least-unpriced prices list (suc n) none =
+    let before : 1000000000000000000000000000000 ≡ least_cost prices list n = least-unpriced prices list n (λ k below. none k (omega (arith, below))) in
+    let here : cost_at prices list n ≡ 1000000000000000000000000000000 = none n (omega arith) in
+    let test : nat_lt (cost_at prices list n) (least_cost prices list n) ≡ false = le-ltb (cost_at prices list n) (least_cost prices list n) (omega (arith, before, here)) in
+    rw test before
+
 -- the least cost over one template more
 pub least-more : (prices : List ℕ) (list : List PlacedTemplate) (k : ℕ) (placed : PlacedTemplate) (cost least result : ℕ) → slice_get list k ≡ Some placed → cost ≡ placed_cost prices placed → least ≡ least_cost prices list k → result ≡ (if nat_lt cost least then cost else least) → result ≡ least_cost prices list (k + 1)
 least-more prices list k placed cost least result found e before is =

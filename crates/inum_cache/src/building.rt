@@ -11,6 +11,7 @@ use crate::choices::Choices;
 use crate::fault::CacheFault;
 use crate::internals::internal_costs;
 use crate::keep::Costs;
+use crate::needing::early_needing;
 use crate::placed::placed_templates;
 use adv_base::limits::MOST_COMBINATIONS;
 use adv_base::{Item, List, NoMemory};
@@ -67,12 +68,15 @@ fn made(alloc: Global, task: &Task, count: usize) -> Result<Cache, NoMemory>
     let walks = choices.walks_for(alloc, templates.as_slice())?;
     let wanted = walks.wanted(alloc)?;
     let placed = placed_templates(alloc, &choices, wanted.as_slice(), templates.as_slice())?;
+    let priced = wanted.len();
+    let needing = early_needing(alloc, placed.as_slice(), priced)?;
     Ok(Cache {
         choices,
         templates,
         walks,
-        count: wanted.len(),
+        count: priced,
         placed,
+        needing,
     })
 }
 

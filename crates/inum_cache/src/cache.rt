@@ -1,10 +1,12 @@
 //! The cache of a task.
 ghost use Rattle.std.specs.Prelude.{◌≡◌, All, length};
 ghost use Rattle.inum_cache.specs.Templates.{FitsOrders};
+ghost use Rattle.inum_cache.specs.inner.Early.{AreAllNeeding};
 ghost use Rattle.inum_cache.specs.inner.Placing.{ArePlaced};
 ghost use Rattle.inum_cache.specs.inner.Walks.{AreWalks, wants};
 
 use crate::choices::Choices;
+use crate::early::EarlyTemplates;
 use crate::placed_template::PlacedTemplate;
 use crate::walks::Walks;
 use adv_base::{Item, List};
@@ -13,7 +15,7 @@ use plan_model::Template;
 /// The templates of a task, after INUM's cache of plans: for each combination of interesting orders, one for each slot,
 /// that no weaker one replaces at most at its cost, what a least plan costs above leaves that deliver these orders. It
 /// keeps no query and no rows: a template is 32 bytes, and 48 once more for look-ups, which know beside for each slot
-/// the columns that templates need.
+/// the columns that templates need, and with eight bytes for each of these which of the first 64 templates need it.
 #[derive(Drop)]
 pub struct Cache {
     pub(crate) choices: Choices,
@@ -24,10 +26,13 @@ pub struct Cache {
     pub(crate) count: usize,
     /// The templates once more, by increasing internal cost.
     pub(crate) placed: List<PlacedTemplate>,
+    /// For each of the orders, the early templates that need it.
+    pub(crate) needing: List<EarlyTemplates>,
     pub ghost fit: { All (FitsOrders choices.orders) templates },
     pub ghost walked: { AreWalks choices.orders walks },
     pub ghost counted: { count ≡ length (wants walks) },
     pub ghost ranked: { ArePlaced choices.orders (wants walks) templates placed },
+    pub ghost early: { AreAllNeeding placed count needing },
 }
 
 impl Cache {

@@ -19,6 +19,7 @@
 mod building;
 mod cache;
 mod choices;
+mod early;
 mod fault;
 mod free;
 mod fronts;
@@ -26,6 +27,7 @@ mod internals;
 mod keep;
 mod lookup;
 mod needed;
+mod needing;
 mod placed;
 mod placed_template;
 mod prices;

@@ -1,5 +1,5 @@
 //! What a least plan costs, from the cache.
-ghost use Rattle.std.specs.Prelude.{◌≤◌, length};
+ghost use Rattle.std.specs.Prelude.{◌≡◌, ◌≤◌, All, length};
 ghost use Rattle.plan_model.specs.declared.task.Task.{Task};
 ghost use Rattle.plan_model.specs.Combinations.{CachedBy, IsIn};
 ghost use Rattle.plan_model.specs.Least.{Least};
@@ -21,13 +21,15 @@ impl Cache {
     #[inline(always)]
     fn least_over<O: Offers>(&self, offers: &O, prices: &mut [u64]) -> u128
         requires room { self.now.count ≤ length prices.old }
+        requires fresh { All (λ price. price ≡ UNOFFERED) prices.old }
         requires plain { HavePlain self.now (O.table offers.now) }
         ensures cached { (task : Task) → IsCacheOf task self.now → CachedBy (IsIn task self.now.templates) task (O.table offers.now) result }
         ensures least { (task : Task) → IsCacheOf task self.now → Least task (O.table offers.now) result }
     {
         offers.limits();
-        let base = self.price_all(offers, prices);
-        base + least_cost(self.placed.as_slice(), prices)
+        let priced = self.price_all(offers, prices);
+        let first = priced.unpriced.leading();
+        priced.base + least_cost(self.placed.as_slice(), prices, first)
     }
 
     /// The same, with room of its own for so many prices.

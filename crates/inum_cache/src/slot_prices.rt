@@ -1,5 +1,5 @@
 //! The least prices of a slot's offers by the columns with which they begin.
-ghost use Rattle.std.specs.Prelude.{◌≡◌, ℕ, ◌<◌, ◌≤◌, ◌==◌, [], ◌∷◌, nat_lt, ◌&&◌, if◌then◌else◌, length, slice_index_or};
+ghost use Rattle.std.specs.Prelude.{◌≡◌, ℕ, ◌<◌, ◌≤◌, ◌==◌, [], ◌∷◌, nat_lt, ◌&&◌, if◌then◌else◌, All, length, slice_index_or};
 ghost use Rattle.adv_base.specs.OfferTables.{OfferTableLimits};
 ghost use Rattle.adv_base.specs.declared.workload.parts.Item.TheVariants.{Up};
 ghost use Rattle.inum_cache.specs.inner.Columns as orders;
@@ -20,8 +20,8 @@ fn lower_column<const N: usize>(prices: &mut [u64], columns: &[u16; 3], column: 
     ensures each { (i : ℕ) → i < N → slice_index_or prices.new i 0 ≡ (if slice_index_or columns.now i 0 == column && nat_lt price (slice_index_or prices.old i 0) then price else slice_index_or prices.old i 0) }
 {
     for i in 0..N {
-        if columns[i] == column {
-            prices[i] = lower(prices[i], price);
+        if columns[i] == column && price < prices[i] {
+            prices[i] = price;
         }
     }
 }
@@ -39,25 +39,28 @@ fn lower_leading<const N: usize>(prices: &mut [u64], columns: &[u16; 3], order: 
     }
 }
 
-/// By one walk over a slot's offers, the least price of all, and of those that begin with each of the first N columns;
-/// `UNOFFERED` where none does.
+/// By one walk over a slot's offers, the least price of all; and in place of `UNOFFERED`, the least of those that begin with
+/// each of the first N columns, where one does.
 #[inline(always)]
 pub(crate) fn column_prices<O: Offers, const N: usize>(
     offers: &O,
     walk: &SlotColumns,
-) -> (u64, [u64; N])
+    prices: &mut [u64],
+) -> u64
     requires most { N ≤ 3 }
+    requires sized { length prices.old ≡ N }
+    requires fresh { All (λ price. price ≡ UNOFFERED) prices.old }
     requires limits { OfferTableLimits (O.table offers.now) }
-    ensures least { result.0 ≡ pricing.best_price (O.table offers.now) walk.now.slot [] }
-    ensures each { (i : ℕ) → i < N → slice_index_or result.1 i 0 ≡ pricing.best_price (O.table offers.now) walk.now.slot (Up walk.now.slot (slice_index_or walk.now.columns i 0) ∷ []) }
+    ensures sized { length prices.new ≡ N }
+    ensures least { result ≡ pricing.best_price (O.table offers.now) walk.now.slot [] }
+    ensures each { (i : ℕ) → i < N → slice_index_or prices.new i 0 ≡ pricing.best_price (O.table offers.now) walk.now.slot (Up walk.now.slot (slice_index_or walk.now.columns i 0) ∷ []) }
 {
     let SlotColumns { slot, columns, .. } = *walk;
     let mut least = UNOFFERED;
-    let mut prices = [UNOFFERED; N];
     for offer in 0..offers.count(slot) {
         let price = offers.price(slot, offer);
         least = lower(least, price);
-        lower_leading::<N>(&mut prices, &columns, offers.order(slot, offer), price);
+        lower_leading::<N>(prices, &columns, offers.order(slot, offer), price);
     }
-    (least, prices)
+    least
 }

@@ -35,16 +35,19 @@ fn cost_of(prices: &[u64], placed: &PlacedTemplate) -> Option<u128>
     Some(sum)
 }
 
-/// The least cost over templates by increasing internal cost. No later one can cost less than what is found, once the
-/// internal cost alone doesn't.
+/// The least cost over templates by increasing internal cost, of which so many first ones need an order that isn't offered.
+/// No later one can cost less than what is found, once the internal cost alone doesn't.
 #[inline(always)]
-pub(crate) fn least_cost(list: &[PlacedTemplate], prices: &[u64]) -> u128
+pub(crate) fn least_cost(list: &[PlacedTemplate], prices: &[u64], first: usize) -> u128
     requires within { All (λ placed. (k : ℕ) → k < placed.count → slice_index_or placed.places k 0 < length prices.now) list.now }
     requires ranked { IsNonDecreasingBy (λ (placed : PlacedTemplate). placed.internal) list.now }
+    requires first { first ≤ length list.now }
+    requires unpriced { (k : ℕ) → k < first → pricing.cost_at prices.now list.now k ≡ UNPRICED }
     ensures { result ≡ pricing.least_cost prices.now list.now (length list.now) }
 {
     let mut least = UNPRICED;
-    for placed in list {
+    for k in first..list.len() {
+        let placed = &list[k];
         if least <= placed.internal {
             return least;
         }

@@ -3,10 +3,12 @@ use Rattle.std.proofs.lemmas.Option.{slice_get-get_or}
 use Rattle.adv_base.specs.Items.{Order}
 use Rattle.plan_model.specs.declared.task.Task.{Task}
 use Rattle.plan_model.specs.declared.template.Template.{Template}
+use Rattle.inum_cache.specs.declared.placed_template.PlacedTemplate.{PlacedTemplate}
 use Rattle.inum_cache.specs.declared.walks.Wanted.{Wanted}
 use Rattle.inum_cache.specs.Numbering.{AreOrders}
 use Rattle.inum_cache.specs.Templates.{FitsOrders}
 use Rattle.inum_cache.specs.inner.Costing.{AreTemplates}
+use Rattle.inum_cache.specs.inner.Early.{AreAllNeeding}
 use Rattle.inum_cache.specs.inner.Placing.{ArePlaced}
 use Rattle.inum_cache.proofs.Kept.{are-kept}
 use Rattle.inum_cache.proofs.Made.{costed, templates-fit, templates-in-order, plain-kept}
@@ -38,8 +40,9 @@ invariant_of-result c =
     record {
       fit = fit c.args.task.now orders templates c.in_ok-choices.ensures.orders c.in_ok-templates.ensures;
       walked = c.in_ok-walks.ensures.walks;
-      counted = c.len.ensures ∙ ap (λ (wanted : List Wanted). length wanted) c.in_ok-wanted.ensures;
+      counted = c.len-priced.ensures ∙ ap (λ (wanted : List Wanted). length wanted) c.in_ok-wanted.ensures;
       ranked = subst (λ (wanted : List Wanted). ArePlaced orders wanted templates placed) same listed;
+      early = subst (λ (list : List PlacedTemplate). AreAllNeeding list c.len-priced.result c.in_ok-needing.needing) c.as_slice-4.ensures c.in_ok-needing.ensures;
     }
 
 pub returns : goal.returns

@@ -1,0 +1,5 @@
+use Rattle.inum_cache.proofs.EarlySets.{has-with}
+use Rattle.inum_cache.proofs.early.EarlyTemplates.with.Goals as goal
+
+pub returns : goal.returns
+returns c = λ k. has-with c.args.self.bits c.args.place k c.requires
