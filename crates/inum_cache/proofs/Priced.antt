@@ -1,17 +1,19 @@
 -- The prices of the orders that templates need.
 use Rattle.std.proofs.Common.{◌≡◌, inl, inr, ℕ, zero, suc, ◌+◌, ◌*◌, ◌<◌, ◌≤◌, List, [], ◌∷◌, ◌++◌, length, get_or, take, map, All, refl, sym, ap, ◌∙◌, arith, add-one}
 use Rattle.std.specs.Prelude.{Bool, true, nat_lt, ◌==◌, ◌&&◌, if◌then◌else◌}
-use Rattle.std.proofs.lemmas.Bool.{cases_Bool, cases_lt, cases_eq, eq-eqb, ne_eqb, false≢true}
+use Rattle.std.proofs.lemmas.Bool.{cases_Bool, cases_lt, cases_eq, eq-eqb, ne_eqb, lt-ltb, false≢true}
 use Rattle.std.proofs.lemmas.List.{length-append, length-map, length-take-le, map-append, get_or_past}
 use Rattle.std.proofs.lemmas.List.Elements.{All-head, All-tail}
 use Rattle.std.proofs.lemmas.List.Sums.{sum_by-cons}
 use Rattle.std.proofs.lemmas.Option.{slice_get-get_or}
+use Rattle.adv_base.specs.declared.limits.TheConstants.{MOST_PRICE}
 use Rattle.adv_base.specs.declared.workload.parts.Item.TheVariants.{Up, Down, Made}
 use Rattle.adv_base.specs.Items.{Order, is_up_of}
 use Rattle.adv_base.specs.Offers.{Offer, OfferTable}
 use Rattle.adv_base.specs.OfferTables.{price_at, order_at, OfferTableLimits}
 use Rattle.plan_model.specs.Exchange.{sum_below}
 use Rattle.inum_cache.specs.declared.cache.Cache.{Cache}
+use Rattle.inum_cache.specs.declared.prices.TheConstants.{UNOFFERED}
 use Rattle.inum_cache.specs.declared.walks.SlotColumns.{SlotColumns}
 use Rattle.inum_cache.specs.declared.walks.Walks.{Walks}
 use Rattle.inum_cache.specs.declared.walks.Wanted.{Wanted}
@@ -44,6 +46,15 @@ own-begins slot column (Made n ∷ rest) own = absurd (false≢true (All-head (�
 
 -- ## Offers one by one
 
+-- a price is below what stands for one where an order isn't offered
+price_at-below :
+    (table : OfferTable) (slot offer : ℕ) →
+    OfferTableLimits table → offer < length (table slot) → price_at table slot offer < UNOFFERED
+price_at-below table slot offer limits within =
+    let none : Offer = ([], 0) in
+    let most : (get_or (table slot) offer none).1 ≤ MOST_PRICE = (limits slot offer none within).price in
+    rw (slice_get-get_or (table slot) offer none within) (omega (arith, most))
+
 -- one more lowers the price of its slot
 pub least-step : (table : OfferTable) (slot n price least after : ℕ) → price ≡ price_at table slot n → least ≡ price_of_first table slot [] n → after ≡ (if nat_lt price least then price else least) → after ≡ price_of_first table slot [] (n + 1)
 least-step table slot n price least after costs before is =
@@ -70,6 +81,15 @@ column-step table slot column n price before after o limits within delivers cost
           ∙ was
           ∙ sym (one-passed table slot (Up slot column ∷ []) n (leads ∙ none))
     ])
+
+-- the first price of a slot is the least so far
+pub least-first :
+    (table : OfferTable) (slot price : ℕ) →
+    OfferTableLimits table → 0 < length (table slot) → price ≡ price_at table slot 0 →
+    price ≡ price_of_first table slot [] 1
+least-first table slot price limits some costs =
+    let low : price < UNOFFERED = omega (arith, costs, price_at-below table slot 0 limits some) in
+    least-step table slot 0 price UNOFFERED price costs refl (rw (lt-ltb price UNOFFERED low) refl)
 
 -- ## Walks
 

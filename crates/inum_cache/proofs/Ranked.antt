@@ -3,7 +3,7 @@ use Rattle.std.proofs.Common.{◌≡◌, ◌⊎◌, inl, inr, ℕ, zero, suc, �
 use Rattle.std.specs.Prelude.{nat_lt, if◌then◌else◌, slice_get}
 use Rattle.std.specs.List.Sorted.{IsNonDecreasingBy}
 use Rattle.std.specs.Option.{option_map_or}
-use Rattle.std.proofs.lemmas.Bool.{cases_Bool, cases_lt, cases_eq, le-ltb, eq-eqb}
+use Rattle.std.proofs.lemmas.Bool.{cases_Bool, cases_lt, cases_eq, le-ltb, ltb-false, eq-eqb}
 use Rattle.std.proofs.lemmas.Option.{slice_get_within, slice_get-get_or, get_or_from_slice_get}
 use Rattle.inum_cache.specs.declared.placed_template.PlacedTemplate.{PlacedTemplate}
 use Rattle.inum_cache.specs.inner.Keeping.{any_below}
@@ -37,6 +37,16 @@ least-more prices list k placed cost least result found e before is =
     ∙ ap (λ (x : ℕ). if nat_lt x least then x else least) (e ∙ sym (cost_at-is prices list k placed found))
     ∙ ap (λ (x : ℕ). if nat_lt (cost_at prices list k) x then cost_at prices list k else x) before
     ∙ ap (least_cost prices list) (sym (add-one k))
+
+-- the least cost over templates without one, and the next
+pub least-head : (prices : List ℕ) (list : List PlacedTemplate) (n : ℕ) (placed : PlacedTemplate) (cost : ℕ) → slice_get list n ≡ Some placed → cost ≡ placed_cost prices placed → cost ≤ 1000000000000000000000000000000 → ((k : ℕ) → k < n → cost_at prices list k ≡ 1000000000000000000000000000000) → cost ≡ least_cost prices list (n + 1)
+least-head prices list n placed cost found e most none =
+    let least : cost ≡ (if nat_lt cost 1000000000000000000000000000000 then cost else 1000000000000000000000000000000) =
+    elim (cases_Bool (nat_lt cost 1000000000000000000000000000000)) [
+      | inl less ↦ rw less refl
+      | inr more ↦ rw more (let low = ltb-false cost 1000000000000000000000000000000 more in omega (arith, most, low))
+    ] in
+    least-more prices list n placed cost 1000000000000000000000000000000 cost found e (least-unpriced prices list n none) least
 
 -- a template that has no cost is passed over
 pub least-passed : (prices : List ℕ) (list : List PlacedTemplate) (k : ℕ) (placed : PlacedTemplate) (least : ℕ) → slice_get list k ≡ Some placed → 1000000000000000000000000000000 ≡ placed_cost prices placed → least ≡ least_cost prices list k → least ≡ least_cost prices list (k + 1)

@@ -51,13 +51,15 @@ pub(crate) fn column_prices<O: Offers, const N: usize>(
     requires sized { length prices.old ≡ N }
     requires fresh { All (λ price. price ≡ UNOFFERED) prices.old }
     requires limits { OfferTableLimits (O.table offers.now) }
+    requires some { 0 < length (O.table offers.now walk.now.slot) }
     ensures sized { length prices.new ≡ N }
     ensures least { result ≡ pricing.best_price (O.table offers.now) walk.now.slot [] }
     ensures each { (i : ℕ) → i < N → slice_index_or prices.new i 0 ≡ pricing.best_price (O.table offers.now) walk.now.slot (Up walk.now.slot (slice_index_or walk.now.columns i 0) ∷ []) }
 {
     let SlotColumns { slot, columns, .. } = *walk;
-    let mut least = UNOFFERED;
-    for offer in 0..offers.count(slot) {
+    let mut least = offers.price(slot, 0);
+    lower_leading::<N>(prices, &columns, offers.order(slot, 0), least);
+    for offer in 1..offers.count(slot) {
         let price = offers.price(slot, offer);
         least = lower(least, price);
         lower_leading::<N>(prices, &columns, offers.order(slot, offer), price);

@@ -1,5 +1,5 @@
 //! What templates cost over the prices of orders.
-ghost use Rattle.std.specs.Prelude.{◌≡◌, ℕ, ◌<◌, ◌≤◌, nat_lt, if◌then◌else◌, All, length, slice_index_or};
+ghost use Rattle.std.specs.Prelude.{◌≡◌, ℕ, ◌<◌, ◌≤◌, nat_lt, if◌then◌else◌, All, IfSome, length, slice_index_or};
 ghost use Rattle.std.specs.List.Sorted.{IsNonDecreasingBy};
 ghost use Rattle.std.specs.Option.{option_map_or};
 ghost use Rattle.inum_cache.specs.inner.Pricing as pricing;
@@ -22,7 +22,8 @@ fn lower_cost(least: u128, cost: u128) -> u128
 #[inline(always)]
 fn cost_of(prices: &[u64], placed: &PlacedTemplate) -> Option<u128>
     requires within { (k : ℕ) → k < placed.now.count → slice_index_or placed.now.places k 0 < length prices.now }
-    ensures { option_map_or (λ cost. cost) result UNPRICED ≡ pricing.placed_cost prices.now placed.now }
+    ensures cost { option_map_or (λ cost. cost) result UNPRICED ≡ pricing.placed_cost prices.now placed.now }
+    ensures most { IfSome result (λ cost. cost ≤ UNPRICED) }
 {
     let mut sum = placed.internal;
     for k in 0..placed.count {
@@ -35,6 +36,16 @@ fn cost_of(prices: &[u64], placed: &PlacedTemplate) -> Option<u128>
     Some(sum)
 }
 
+/// The same, with what stands for none.
+#[inline(always)]
+fn cost_or_unpriced(prices: &[u64], placed: &PlacedTemplate) -> u128
+    requires within { (k : ℕ) → k < placed.now.count → slice_index_or placed.now.places k 0 < length prices.now }
+    ensures cost { result ≡ pricing.placed_cost prices.now placed.now }
+    ensures most { result ≤ UNPRICED }
+{
+    cost_of(prices, placed).unwrap_or(UNPRICED)
+}
+
 /// The least cost over templates by increasing internal cost, of which so many first ones need an order that isn't offered.
 /// No later one can cost less than what is found, once the internal cost alone doesn't.
 #[inline(always)]
@@ -45,8 +56,11 @@ pub(crate) fn least_cost(list: &[PlacedTemplate], prices: &[u64], first: usize) 
     requires unpriced { (k : ℕ) → k < first → pricing.cost_at prices.now list.now k ≡ UNPRICED }
     ensures { result ≡ pricing.least_cost prices.now list.now (length list.now) }
 {
-    let mut least = UNPRICED;
-    for k in first..list.len() {
+    if first >= list.len() {
+        return UNPRICED;
+    }
+    let mut least = cost_or_unpriced(prices, &list[first]);
+    for k in first + 1..list.len() {
         let placed = &list[k];
         if least <= placed.internal {
             return least;

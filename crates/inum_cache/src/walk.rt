@@ -68,6 +68,7 @@ impl Cache {
         requires counted { priced.count + N ≤ self.now.count }
         requires behind { priced.base ≤ 31 * 18446744073709551615 }
         requires limits { OfferTableLimits (O.table offers.now) }
+        requires some { 0 < length (O.table offers.now walk.now.slot) }
         requires walk { walks.IsWalk self.now.choices.orders N walk.now }
         requires fresh { All (λ price. price ≡ UNOFFERED) (drop priced.count prices.old) }
         requires unpriced { early.AreUnpriced prices.old self.now.needing priced.count priced.unpriced }
@@ -107,6 +108,7 @@ impl Cache {
         requires counted { priced.count + N * length group.now ≤ self.now.count }
         requires behind_three { priced.base ≤ 24 * 18446744073709551615 }
         requires limits { OfferTableLimits (O.table offers.now) }
+        requires some { pricing.HaveOffers (O.table offers.now) (length self.now.choices.orders) }
         requires walks { All (walks.IsWalk self.now.choices.orders N) group.now }
         requires fresh { All (λ price. price ≡ UNOFFERED) (drop priced.count prices.old) }
         requires unpriced { early.AreUnpriced prices.old self.now.needing priced.count priced.unpriced }
@@ -154,6 +156,7 @@ impl Cache {
         requires room { self.now.count ≤ length prices.old }
         requires fresh { All (λ price. price ≡ UNOFFERED) prices.old }
         requires limits { OfferTableLimits (O.table offers.now) }
+        requires some { pricing.HaveOffers (O.table offers.now) (length self.now.choices.orders) }
         ensures prices { take self.now.count prices.new ≡ pricing.wanted_prices (O.table offers.now) self.now.choices.orders (walks.wants self.now.walks) }
         ensures sized { length prices.new ≡ length prices.old }
         ensures base { result.base ≡ sum_below (λ slot. pricing.best_price (O.table offers.now) slot []) (length self.now.choices.orders) }

@@ -1,5 +1,5 @@
 -- The least prices at which slots give orders, and what templates cost over them.
-use Rattle.std.specs.Prelude.{ℕ, zero, suc, ◌+◌, ◌-◌, nat_lt, ◌==◌, Bool, if◌then◌else◌, List, [], length, map, slice_get, slice_index_or}
+use Rattle.std.specs.Prelude.{ℕ, zero, suc, ◌+◌, ◌-◌, ◌<◌, nat_lt, ◌==◌, Bool, if◌then◌else◌, List, [], length, map, slice_get, slice_index_or}
 use Rattle.std.specs.Option.{option_map_or}
 use Rattle.adv_base.specs.Items.{Order}
 use Rattle.adv_base.specs.Offers.{OfferTable}
@@ -16,6 +16,10 @@ use Rattle.inum_cache.specs.inner.Keeping.{begins, any_below}
 abbrev pub least_below : ℕ → (ℕ → ℕ) → ℕ → ℕ
 least_below most f zero = most
 least_below most f (suc n) = if nat_lt (f n) (least_below most f n) then f n else least_below most f n
+
+-- each slot below n has an offer
+abbrev pub HaveOffers : OfferTable → ℕ → Type 0
+HaveOffers table n = (slot : ℕ) → slot < n → 0 < length (table slot)
 
 -- the price of an offer where it begins with the order
 abbrev pub offer_price : OfferTable → ℕ → Order → ℕ → ℕ

@@ -1,11 +1,23 @@
-use Rattle.std.proofs.Common.{length, refl}
+use Rattle.std.proofs.Common.{◌≡◌, length, refl, ap, ◌∙◌, arith}
 use Rattle.std.proofs.lemmas.Option.{slice_get_read}
-use Rattle.inum_cache.proofs.Ranked.{least-unpriced, least-more, least-passed, least-stays}
+use Rattle.inum_cache.specs.inner.Pricing.{least_cost}
+use Rattle.inum_cache.proofs.Ranked.{least-unpriced, least-head, least-more, least-passed, least-stays}
 use Rattle.inum_cache.proofs.sums.least_cost.Goals as goal
 use Rattle.inum_cache.proofs.sums.least_cost.Goals.{in-Some, in_default}
 
+pub returns-then-first-list : goal.returns-then-first-list
+returns-then-first-list c =
+    let list = c.args.list.now in
+    let all : c.args.first ≡ length list = omega arith in
+    least-unpriced c.args.prices.now list c.args.first c.requires.unpriced ∙ ap (least_cost c.args.prices.now list) all
+
 pub loop-k-init : goal.loop-k-init
-loop-k-init c = least-unpriced c.args.prices.now c.args.list.now c.args.first c.requires.unpriced
+loop-k-init c =
+    let list = c.args.list.now in
+    let head = c.index-list-first.result in
+    least-head c.args.prices.now list c.args.first head c.cost_or_unpriced-least.result
+    (slice_get_read list (length list) c.args.first head refl c.if-first-list.false c.index-list-first.is)
+    c.cost_or_unpriced-least.ensures.cost c.cost_or_unpriced-least.ensures.most c.requires.unpriced
 
 pub returns-then-least-placed : goal.returns-then-least-placed
 returns-then-least-placed c =
@@ -25,8 +37,8 @@ loop-k-preserved c =
     elim c.match-cost_of.branch [
       | in-Some w ↦
           rw w.least-is
-          (least-more prices list k placed w.in-Some.cost c.loop-k.least w.lower_cost-least.result found w.in-Some.ensures c.loop-k.invariant w.lower_cost-least.ensures)
+          (least-more prices list k placed w.in-Some.cost c.loop-k.least w.lower_cost-least.result found w.in-Some.ensures.cost c.loop-k.invariant w.lower_cost-least.ensures)
       | in_default w ↦
           rw w.least-is
-          (least-passed prices list k placed c.loop-k.least found w.in_default.ensures c.loop-k.invariant)
+          (least-passed prices list k placed c.loop-k.least found w.in_default.ensures.cost c.loop-k.invariant)
     ]
