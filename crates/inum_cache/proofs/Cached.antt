@@ -1,6 +1,6 @@
 -- The least over the templates, above the slots' least prices, is the cached cost.
 use Rattle.std.proofs.Common.{◌≡◌, inl, inr, ℕ, zero, suc, ◌+◌, ◌*◌, ◌<◌, ◌≤◌, false, List, [], ◌∷◌, length, get_or, take, All, Some, refl, sym, ap, ◌∙◌, subst, arith}
-use Rattle.std.specs.Prelude.{slice_get, ◌-◌, ◌==◌, if◌then◌else◌, Contains}
+use Rattle.std.specs.Prelude.{slice_get, ◌==◌, if◌then◌else◌, Contains}
 use Rattle.std.proofs.lemmas.Bool.{cases_Bool, cases_lt, both_ways, eq-eqb, ne_eqb}
 use Rattle.std.proofs.lemmas.List.{get_or-take, get_or-map}
 use Rattle.std.proofs.lemmas.List.Elements.{Contains-get_or}
@@ -25,7 +25,7 @@ use Rattle.inum_cache.specs.Templates.{FitsOrders}
 use Rattle.inum_cache.specs.Caches.{no_orders, HasPlain}
 use Rattle.inum_cache.proofs.Kept.{order-same}
 use Rattle.inum_cache.proofs.Testing.{any_below-at, any_below-found}
-use Rattle.inum_cache.proofs.Pricing.{least_below-le, least_below-is, least_below-most, best-le, best-is, plain-le, sum_below-most}
+use Rattle.inum_cache.proofs.Pricing.{above-offered, least_below-le, least_below-is, least_below-most, best-le, best-is, plain-le, sum_below-most}
 use Rattle.inum_cache.proofs.Ranked.{cost_at-is}
 
 -- what the slots' orders, their offers and the prices of wanted orders are known to be
@@ -80,10 +80,7 @@ best-most table slot order = least_below-most 18446744073709551615 (offer_price 
 pub base-most : (table : OfferTable) (n : ℕ) → sum_below (λ slot. best_price table slot []) n ≤ n * 18446744073709551615
 base-most table n = sum_below-most (λ slot. best_price table slot []) n 18446744073709551615 (λ slot below. best-most table slot [])
 
--- a price above a least one
-above-some : (least price : ℕ) → price < 18446744073709551615 → above least price ≡ price - least
-above-some least price some = rw (ne_eqb price 18446744073709551615 (λ e. absurd (omega (arith, e, some)))) refl
-
+-- a price above a least one is none only where the price is none
 above-none : (least price : ℕ) → price ≤ 18446744073709551615 → (above least price ≡ 18446744073709551615 → ⊥) → price < 18446744073709551615
 above-none least price most offered =
     elim (cases_lt price 18446744073709551615) [
@@ -97,7 +94,7 @@ first-above : (table : OfferTable) (orders : List (List Order)) (wanted : List W
 first-above table orders wanted prices known slot below =
     let least = least-price table slot (known.plain slot below) known.limits in
     let same : best_price table slot (order_in orders slot 0) ≡ best_price table slot [] = ap (best_price table slot) (known.first slot below) in
-    let is = above-some (best_price table slot []) (best_price table slot (order_in orders slot 0)) (omega (arith, same, least)) in
+    let is = above-offered (best_price table slot []) (best_price table slot (order_in orders slot 0)) (λ e. absurd (omega (arith, e, same, least))) in
     omega (arith, is, same)
 
 first-there : (table : OfferTable) (orders : List (List Order)) (wanted : List Wanted) (prices : List ℕ) → AreKnown table orders wanted prices → (slot : ℕ) → slot < length orders → missing table orders slot 0 ≡ 0
@@ -159,7 +156,7 @@ offered-all table orders wanted prices t p known stands offered =
           let same = sum-missing table orders wanted prices t p known stands in
           let each : (slot : ℕ) → slot < length orders → needed_value (missing table orders) t slot ≡ 0 = λ slot below.
           (let own = offered slot below in
-          let is = above-some (best_price table slot []) (own_price table orders t slot) own in
+          let is = above-offered (best_price table slot []) (own_price table orders t slot) (λ e. absurd (omega (arith, e, own))) in
           rw (ne_eqb (price_above table orders slot (get_or t.needs slot 0)) 18446744073709551615 (λ e. absurd (omega (arith, e, is, own)))) refl) in
           let whole = sum-none (needed_value (missing table orders) t) (length orders) each in
           absurd (omega (arith, one, here, same, whole))
@@ -177,7 +174,7 @@ cost-offered table orders wanted prices t p known stands offered =
     let joined = sum_below-add b (needed_value (price_above table orders) t) (length orders) in
     let each : (slot : ℕ) → slot < length orders → b slot + needed_value (price_above table orders) t slot ≡ own_price table orders t slot = λ slot below.
     (let low = plain-le table slot (order_in orders slot (get_or t.needs slot 0)) in
-    let over = above-some (b slot) (own_price table orders t slot) (offered slot below) in
+    let over = above-offered (b slot) (own_price table orders t slot) (λ e. absurd (omega (arith, e, offered slot below))) in
     omega (arith, low, over)) in
     let same = sum_below-same (λ slot. b slot + needed_value (price_above table orders) t slot) (own_price table orders t) (length orders) each in
     omega (arith, is, sums, joined, same, stands.internal)

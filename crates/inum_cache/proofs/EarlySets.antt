@@ -30,18 +30,18 @@ has-or a b k =
     ap (λ bit. bit == 1) (bit_at_or a b k)
     ∙ greater-bit (bit_at a k) (bit_at b k) (bit_at-lt a k) (bit_at-lt b k)
 
--- `n | 1 << place` has a one at that place too
-pub has-with : (n place k : ℕ) → place < 64 →
-    (bit_at (bit_or n (1 * 2 ^ place % 18446744073709551616)) k == 1) ≡ ((bit_at n k == 1) || (k == place))
-has-with n place k within =
-    let after = bit_or n (1 * 2 ^ place % 18446744073709551616) in
-    elim (cases_eq k place) [
+-- `n | 1 << rank` has a one there too
+pub has-with : (n rank k : ℕ) → rank < 64 →
+    (bit_at (bit_or n (1 * 2 ^ rank % 18446744073709551616)) k == 1) ≡ ((bit_at n k == 1) || (k == rank))
+has-with n rank k within =
+    let after = bit_or n (1 * 2 ^ rank % 18446744073709551616) in
+    elim (cases_eq k rank) [
       | inl same ↦
-          ap (λ bit. bit == 1) (ap (bit_at after) same ∙ bit_at_set_same w64 n place within)
-          ∙ sym (or_right (bit_at n k == 1) (k == place) (eq-eqb k place same))
+          ap (λ bit. bit == 1) (ap (bit_at after) same ∙ bit_at_set_same w64 n rank within)
+          ∙ sym (or_right (bit_at n k == 1) (k == rank) (eq-eqb k rank same))
       | inr other ↦
-          ap (λ bit. bit == 1) (bit_at_set_other w64 n place within k other)
-          ∙ sym (or-none (bit_at n k == 1) (k == place) (ne_eqb k place other))
+          ap (λ bit. bit == 1) (bit_at_set_other w64 n rank within k other)
+          ∙ sym (or-none (bit_at n k == 1) (k == rank) (ne_eqb k rank other))
     ]
 
 -- the greatest number of 64 bits has no 0 among them
@@ -75,7 +75,7 @@ leading-next n fits some =
 
 -- ## The templates that need an order
 
--- a set has those of the first n places that need the order, and none from there on
-pub record AreFound (list : List PlacedTemplate) (order n : ℕ) (set : EarlyTemplates) : Type 0 where
-  pub below : (k : ℕ) → k < n → has set k ≡ is_needed_at list order k
+-- a set has those of the first n templates that need the order of a number, and none from there on
+pub record AreNeedingBelow (list : List PlacedTemplate) (number n : ℕ) (set : EarlyTemplates) : Type 0 where
+  pub below : (k : ℕ) → k < n → has set k ≡ is_needed_at list number k
   pub above : (k : ℕ) → n ≤ k → has set k ≡ false

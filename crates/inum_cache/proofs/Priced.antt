@@ -110,13 +110,18 @@ walk-sized orders n walk first is =
       | inr long ↦ long
     ]
 
+-- so it wants n orders of its slot
+pub wanted-length : (n : ℕ) (walk : SlotColumns) → n ≤ length walk.places → length (wanted_at walk.slot (take n walk.places)) ≡ n
+wanted-length n walk sized =
+    let wanted-of : ℕ → Wanted = λ place. record { slot = walk.slot; place = place } in
+    length-map (take n walk.places) wanted-of ∙ length-take-le n walk.places sized
+
 -- walks over n columns price n orders each
 group-length : (orders : List (List Order)) (n : ℕ) (group : List SlotColumns) → ((slot : ℕ) → slot < length orders → order_in orders slot 0 ≡ []) → All (IsWalk orders n) group → length (group_wants n group) ≡ n * length group
 group-length orders n [] first are = omega arith
 group-length orders n (walk ∷ rest) first are =
     let sized : n ≤ length walk.places = walk-sized orders n walk first (All-head (IsWalk orders n) walk rest are) in
-    let of' : ℕ → Wanted = λ place. record { slot = walk.slot; place = place } in
-    let here : length (wanted_at walk.slot (take n walk.places)) ≡ n = length-map (take n walk.places) of' ∙ length-take-le n walk.places sized in
+    let here : length (wanted_at walk.slot (take n walk.places)) ≡ n = wanted-length n walk sized in
     let others : length (group_wants n rest) ≡ n * length rest = group-length orders n rest first (All-tail (IsWalk orders n) walk rest are) in
     length-append (wanted_at walk.slot (take n walk.places)) (group_wants n rest) ∙ omega (arith, here, others)
 

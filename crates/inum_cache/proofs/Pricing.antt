@@ -1,7 +1,7 @@
 -- The least prices of orders.
-use Rattle.std.proofs.Common.{◌≡◌, ◌⊎◌, inl, inr, ℕ, zero, suc, ◌+◌, ◌*◌, ◌<◌, ◌≤◌, true, false, [], length, refl, sym, ◌∙◌, subst, arith}
+use Rattle.std.proofs.Common.{◌≡◌, ◌⊎◌, inl, inr, ℕ, zero, suc, ◌+◌, ◌-◌, ◌*◌, ◌<◌, ◌≤◌, true, false, [], length, refl, sym, ◌∙◌, subst, arith}
 use Rattle.std.specs.Prelude.{nat_lt, if◌then◌else◌}
-use Rattle.std.proofs.lemmas.Bool.{cases_Bool, cases_lt, cases_eq, ltb-true, ltb-false}
+use Rattle.std.proofs.lemmas.Bool.{cases_Bool, cases_lt, cases_eq, eq-eqb, ne_eqb, ltb-true, ltb-false}
 use Rattle.std.proofs.Math.Nat.{suc-mul}
 use Rattle.adv_base.specs.Items.{Order}
 use Rattle.adv_base.specs.Offers.{OfferTable}
@@ -9,8 +9,9 @@ use Rattle.adv_base.specs.OfferTables.{price_at, order_at}
 use Rattle.adv_base.proofs.Begins.{begins_decides, begins_nil}
 use Rattle.plan_model.specs.Exchange.{sum_below}
 use Rattle.plan_model.specs.Combinations.{IsOffered, IsLeastPrice}
+use Rattle.inum_cache.specs.declared.prices.TheConstants.{UNOFFERED}
 use Rattle.inum_cache.specs.inner.Keeping.{begins}
-use Rattle.inum_cache.specs.inner.Pricing.{least_below, offer_price, price_of_first, best_price}
+use Rattle.inum_cache.specs.inner.Pricing.{least_below, offer_price, price_of_first, best_price, above}
 
 -- ## The least of what a function gives
 
@@ -97,6 +98,15 @@ plain-le table slot order =
           let most = least_below-most 18446744073709551615 (offer_price table slot []) (length (table slot)) in
           omega (arith, none, most)
     ]
+
+-- ## Prices above a least one
+
+-- what isn't offered stays so
+pub above-unoffered : (least price : ℕ) → price ≡ UNOFFERED → above least price ≡ UNOFFERED
+above-unoffered least price e = rw (eq-eqb price UNOFFERED e) refl
+
+pub above-offered : (least price : ℕ) → (price ≡ UNOFFERED → ⊥) → above least price ≡ price - least
+above-offered least price some = rw (ne_eqb price UNOFFERED some) refl
 
 -- ## Offers one by one
 

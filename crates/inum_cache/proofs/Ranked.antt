@@ -6,6 +6,7 @@ use Rattle.std.specs.Option.{option_map_or}
 use Rattle.std.proofs.lemmas.Bool.{cases_Bool, cases_lt, cases_eq, le-ltb, ltb-false, eq-eqb}
 use Rattle.std.proofs.lemmas.Option.{slice_get_within, slice_get-get_or, get_or_from_slice_get}
 use Rattle.inum_cache.specs.declared.placed_template.PlacedTemplate.{PlacedTemplate}
+use Rattle.inum_cache.specs.declared.sums.TheConstants.{UNPRICED}
 use Rattle.inum_cache.specs.inner.Keeping.{any_below}
 use Rattle.inum_cache.specs.inner.Pricing.{least_below, placed_price, is_unoffered, placed_cost, cost_at, least_cost}
 use Rattle.inum_cache.proofs.Testing.{any_below-at}
@@ -21,15 +22,6 @@ unpriced prices placed k below is =
 pub cost_at-is : (prices : List ℕ) (list : List PlacedTemplate) (k : ℕ) (placed : PlacedTemplate) → slice_get list k ≡ Some placed → cost_at prices list k ≡ placed_cost prices placed
 cost_at-is prices list k placed found = ap (λ (o : Option PlacedTemplate). option_map_or (placed_cost prices) o 0) found
 
--- over templates without a cost, the least is what stands for none
-pub least-unpriced : (prices : List ℕ) (list : List PlacedTemplate) (n : ℕ) → ((k : ℕ) → k < n → cost_at prices list k ≡ 1000000000000000000000000000000) → 1000000000000000000000000000000 ≡ least_cost prices list n
-least-unpriced prices list zero none = refl
-least-unpriced prices list (suc n) none =
-    let before : 1000000000000000000000000000000 ≡ least_cost prices list n = least-unpriced prices list n (λ k below. none k (omega (arith, below))) in
-    let here : cost_at prices list n ≡ 1000000000000000000000000000000 = none n (omega arith) in
-    let test : nat_lt (cost_at prices list n) (least_cost prices list n) ≡ false = le-ltb (cost_at prices list n) (least_cost prices list n) (omega (arith, before, here)) in
-    rw test before
-
 -- the least cost over one template more
 pub least-more : (prices : List ℕ) (list : List PlacedTemplate) (k : ℕ) (placed : PlacedTemplate) (cost least result : ℕ) → slice_get list k ≡ Some placed → cost ≡ placed_cost prices placed → least ≡ least_cost prices list k → result ≡ (if nat_lt cost least then cost else least) → result ≡ least_cost prices list (k + 1)
 least-more prices list k placed cost least result found e before is =
@@ -37,16 +29,6 @@ least-more prices list k placed cost least result found e before is =
     ∙ ap (λ (x : ℕ). if nat_lt x least then x else least) (e ∙ sym (cost_at-is prices list k placed found))
     ∙ ap (λ (x : ℕ). if nat_lt (cost_at prices list k) x then cost_at prices list k else x) before
     ∙ ap (least_cost prices list) (sym (add-one k))
-
--- the least cost over templates without one, and the next
-pub least-head : (prices : List ℕ) (list : List PlacedTemplate) (n : ℕ) (placed : PlacedTemplate) (cost : ℕ) → slice_get list n ≡ Some placed → cost ≡ placed_cost prices placed → cost ≤ 1000000000000000000000000000000 → ((k : ℕ) → k < n → cost_at prices list k ≡ 1000000000000000000000000000000) → cost ≡ least_cost prices list (n + 1)
-least-head prices list n placed cost found e most none =
-    let least : cost ≡ (if nat_lt cost 1000000000000000000000000000000 then cost else 1000000000000000000000000000000) =
-    elim (cases_Bool (nat_lt cost 1000000000000000000000000000000)) [
-      | inl less ↦ rw less refl
-      | inr more ↦ rw more (let low = ltb-false cost 1000000000000000000000000000000 more in omega (arith, most, low))
-    ] in
-    least-more prices list n placed cost 1000000000000000000000000000000 cost found e (least-unpriced prices list n none) least
 
 -- a template that has no cost is passed over
 pub least-passed : (prices : List ℕ) (list : List PlacedTemplate) (k : ℕ) (placed : PlacedTemplate) (least : ℕ) → slice_get list k ≡ Some placed → 1000000000000000000000000000000 ≡ placed_cost prices placed → least ≡ least_cost prices list k → least ≡ least_cost prices list (k + 1)
@@ -68,6 +50,20 @@ least_below-stays most f k (suc n) above none =
           let test : nat_lt (f n) (least_below most f n) ≡ false = le-ltb (f n) (least_below most f n) (omega (arith, before, here)) in
           rw test before
     ]
+
+-- over templates without a cost, the least is what stands for none
+pub least-unpriced : (prices : List ℕ) (list : List PlacedTemplate) (n : ℕ) → ((k : ℕ) → k < n → cost_at prices list k ≡ UNPRICED) → UNPRICED ≡ least_cost prices list n
+least-unpriced prices list n none = sym (least_below-stays UNPRICED (cost_at prices list) 0 n (omega arith) (λ j from below. omega (arith, none j below)))
+
+-- the least cost over templates without one, and the next
+pub least-head : (prices : List ℕ) (list : List PlacedTemplate) (n : ℕ) (placed : PlacedTemplate) (cost : ℕ) → slice_get list n ≡ Some placed → cost ≡ placed_cost prices placed → cost ≤ UNPRICED → ((k : ℕ) → k < n → cost_at prices list k ≡ UNPRICED) → cost ≡ least_cost prices list (n + 1)
+least-head prices list n placed cost found e most none =
+    let least : cost ≡ (if nat_lt cost UNPRICED then cost else UNPRICED) =
+    elim (cases_Bool (nat_lt cost UNPRICED)) [
+      | inl less ↦ rw less refl
+      | inr more ↦ rw more (let low = ltb-false cost UNPRICED more in omega (arith, most, low))
+    ] in
+    least-more prices list n placed cost UNPRICED cost found e (least-unpriced prices list n none) least
 
 -- a cost is at least the internal cost, unless it stands for none
 cost-from : (prices : List ℕ) (placed : PlacedTemplate) → (placed_cost prices placed ≡ 1000000000000000000000000000000) ⊎ (placed.internal ≤ placed_cost prices placed)

@@ -13,7 +13,7 @@ use Rattle.inum_cache.specs.declared.walks.Wanted.{Wanted}
 use Rattle.inum_cache.specs.Numbering.{order_in}
 use Rattle.inum_cache.specs.inner.Pricing.{above, best_price, price_above, wanted_price, wanted_prices}
 use Rattle.inum_cache.specs.inner.Walks.{IsWalk, wanted_at}
-use Rattle.inum_cache.proofs.Priced.{least-le, walk-sized}
+use Rattle.inum_cache.proofs.Priced.{least-le, walk-sized, wanted-length}
 
 -- ## A part of a list, which now holds something else
 
@@ -25,6 +25,12 @@ module _ (from size n : ℕ) (prices part : List ℕ) (room : from ≤ length pr
       ap (λ (m : ℕ). get_or (put_mid from size prices part) (m + i) 0) (sym before)
       ∙ get_or-append-add (take from prices) _ i 0
       ∙ get_or_append_left part _ 0 i (omega (arith, below, sized))
+
+  -- what stands before the part stays
+  pub front-at : (i : ℕ) → i < from → get_or (put_mid from size prices part) i 0 ≡ get_or prices i 0
+  front-at i below =
+      get_or_append_left (take from prices) _ 0 i (omega (arith, below, length-take-le from prices room))
+      ∙ get_or-take from prices i 0 below
 
   -- the part as it is taken from the list
   part-is : take n (drop from (put_mid from size prices part)) ≡ part
@@ -50,10 +56,7 @@ module _ (table : OfferTable) (orders : List (List Order)) (n : ℕ) (walk : Slo
     (room : n ≤ length walk.places) where
   wanted-sized : length (wanted_prices table orders (wanted_at walk.slot (take n walk.places))) ≡ n
   wanted-sized =
-      let wanted-of : ℕ → Wanted = λ place. record { slot = walk.slot; place = place } in
-      length-map (wanted_at walk.slot (take n walk.places)) (wanted_price table orders)
-      ∙ length-map (take n walk.places) wanted-of
-      ∙ length-take-le n walk.places room
+      length-map (wanted_at walk.slot (take n walk.places)) (wanted_price table orders) ∙ wanted-length n walk room
 
   wanted-price-at : (i : ℕ) → i < n →
       get_or (wanted_prices table orders (wanted_at walk.slot (take n walk.places))) i 0
@@ -62,20 +65,20 @@ module _ (table : OfferTable) (orders : List (List Order)) (n : ℕ) (walk : Slo
       let places = take n walk.places in
       let wanted-of : ℕ → Wanted = λ place. record { slot = walk.slot; place = place } in
       let sized : length places ≡ n = length-take-le n walk.places room in
-      let many : length (wanted_at walk.slot places) ≡ n = length-map places wanted-of ∙ sized in
+      let many : length (wanted_at walk.slot places) ≡ n = wanted-length n walk room in
       get_or-map (wanted_price table orders) (wanted_at walk.slot places) i (wanted-of 0) 0 (omega (arith, below, many))
       ∙ ap (wanted_price table orders) (get_or-map wanted-of places i 0 (wanted-of 0) (omega (arith, below, sized)))
       ∙ ap (price_above table orders walk.slot) (get_or-take n walk.places i 0 below)
 
 -- a part holds the least prices of the first n columns of a walk, and this is its slot's least
-pub record AreFound (table : OfferTable) (n least : ℕ) (walk : SlotColumns) (part : List ℕ) : Type 0 where
+pub record AreColumnPrices (table : OfferTable) (n least : ℕ) (walk : SlotColumns) (part : List ℕ) : Type 0 where
   pub sized : length part ≡ n
   pub least_is : least ≡ best_price table walk.slot []
   pub each : (i : ℕ) → i < n →
       get_or part i 0 ≡ best_price table walk.slot (Up walk.slot (get_or walk.columns i 0) ∷ [])
 
 module _ (table : OfferTable) (n least : ℕ) (walk : SlotColumns) (part : List ℕ)
-    (found : AreFound table n least walk part) where
+    (found : AreColumnPrices table n least walk part) where
   -- the slot's least is at most each of them
   pub least-within : (from size : ℕ) (prices : List ℕ) → from ≤ length prices → (i : ℕ) → i < n →
       least ≤ get_or (put_mid from size prices part) (from + i) 0

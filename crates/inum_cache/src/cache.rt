@@ -15,7 +15,7 @@ use plan_model::Template;
 /// The templates of a task, after INUM's cache of plans: for each combination of interesting orders, one for each slot,
 /// that no weaker one replaces at most at its cost, what a least plan costs above leaves that deliver these orders. It
 /// keeps no query and no rows: a template is 32 bytes, and 48 once more for look-ups, which know beside for each slot
-/// the columns that templates need, and with eight bytes for each of these which of the first 64 templates need it.
+/// the orders that templates need, and in eight bytes for each of these which of the first 64 templates need it.
 #[derive(Drop)]
 pub struct Cache {
     pub(crate) choices: Choices,
@@ -26,7 +26,7 @@ pub struct Cache {
     pub(crate) count: usize,
     /// The templates once more, by increasing internal cost.
     pub(crate) placed: List<PlacedTemplate>,
-    /// For each of the orders, the early templates that need it.
+    /// For each of these orders, the early templates that need it.
     pub(crate) needing: List<EarlyTemplates>,
     pub ghost fit: { All (FitsOrders choices.orders) templates },
     pub ghost walked: { AreWalks choices.orders walks },

@@ -28,8 +28,8 @@ impl Cache {
     {
         offers.limits();
         let priced = self.price_all(offers, prices);
-        let first = priced.unpriced.leading();
-        priced.base + least_cost(self.placed.as_slice(), prices, first)
+        let passed = priced.unpriced.leading();
+        priced.base + least_cost(self.placed.as_slice(), prices, passed)
     }
 
     /// The same, with room of its own for so many prices.
@@ -45,7 +45,7 @@ impl Cache {
         self.least_over(offers, &mut prices)
     }
 
-    /// The same, as a call of its own, so that small joins don't make more room.
+    /// The same, as a call of its own, so that the look-up of a small join makes no more room than it needs.
     #[inline(never)]
     fn cost_apart<O: Offers, const ROOM: usize>(&self, offers: &O) -> u128
         requires room { self.now.count ≤ ROOM }

@@ -2,17 +2,17 @@
 ghost use Rattle.std.specs.Prelude.{◌≡◌, IfOk};
 ghost use Rattle.inum_cache.specs.inner.Early as early;
 
-use crate::early::{EARLY, EarlyTemplates};
+use crate::early::{EarlyTemplates, MOST_EARLY};
 use crate::placed_template::PlacedTemplate;
 use adv_base::{List, NoMemory};
 use std::alloc::Global;
 
 /// Whether a template needs the order of a number among those that are priced.
-fn needs_order(order: usize, placed: &PlacedTemplate) -> bool
-    ensures { result ≡ early.needs_order order placed.now }
+fn needs_number(number: usize, placed: &PlacedTemplate) -> bool
+    ensures { result ≡ early.needs_number number placed.now }
 {
     for k in 0..placed.count {
-        if placed.places[k] as usize == order {
+        if placed.places[k] as usize == number {
             return true;
         }
     }
@@ -20,13 +20,13 @@ fn needs_order(order: usize, placed: &PlacedTemplate) -> bool
 }
 
 /// The early templates that need it.
-fn needing(list: &[PlacedTemplate], order: usize) -> EarlyTemplates
-    ensures { early.AreNeeding list.now order result }
+fn needing(list: &[PlacedTemplate], number: usize) -> EarlyTemplates
+    ensures { early.AreNeeding list.now number result }
 {
     let mut found = EarlyTemplates::none();
-    for place in 0..list.len().min(EARLY) {
-        if needs_order(order, &list[place]) {
-            found = found.with(place);
+    for rank in 0..list.len().min(MOST_EARLY) {
+        if needs_number(number, &list[rank]) {
+            found = found.with(rank);
         }
     }
     found
@@ -41,8 +41,8 @@ pub(crate) fn early_needing(
     ensures { IfOk result (early.AreAllNeeding list.now count) }
 {
     let mut items = Vec::new(alloc);
-    for order in 0..count {
-        items.push(needing(list, order))?;
+    for number in 0..count {
+        items.push(needing(list, number))?;
     }
     Ok(List { items })
 }

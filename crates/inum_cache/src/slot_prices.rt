@@ -2,11 +2,12 @@
 ghost use Rattle.std.specs.Prelude.{◌≡◌, ℕ, ◌<◌, ◌≤◌, ◌==◌, [], ◌∷◌, nat_lt, ◌&&◌, if◌then◌else◌, All, length, slice_index_or};
 ghost use Rattle.adv_base.specs.OfferTables.{OfferTableLimits};
 ghost use Rattle.adv_base.specs.declared.workload.parts.Item.TheVariants.{Up};
+ghost use Rattle.inum_cache.specs.declared.prices.TheConstants.{UNOFFERED};
 ghost use Rattle.inum_cache.specs.inner.Columns as orders;
 ghost use Rattle.inum_cache.specs.inner.Pricing as pricing;
 
 use crate::fronts::leading_column;
-use crate::prices::{UNOFFERED, lower};
+use crate::prices::lower;
 use crate::walks::SlotColumns;
 use adv_base::Item;
 use plan_model::Offers;
@@ -39,8 +40,8 @@ fn lower_leading<const N: usize>(prices: &mut [u64], columns: &[u16; 3], order: 
     }
 }
 
-/// By one walk over a slot's offers, the least price of all; and in place of `UNOFFERED`, the least of those that begin with
-/// each of the first N columns, where one does.
+/// By one walk over a slot's offers, the least price of all; and in place of `UNOFFERED`, the least of those that begin
+/// with each of the first N columns, where one does.
 #[inline(always)]
 pub(crate) fn column_prices<O: Offers, const N: usize>(
     offers: &O,

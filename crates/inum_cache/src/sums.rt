@@ -46,21 +46,21 @@ fn cost_or_unpriced(prices: &[u64], placed: &PlacedTemplate) -> u128
     cost_of(prices, placed).unwrap_or(UNPRICED)
 }
 
-/// The least cost over templates by increasing internal cost, of which so many first ones need an order that isn't offered.
-/// No later one can cost less than what is found, once the internal cost alone doesn't.
+/// The least cost over templates by increasing internal cost. So many at first are passed over, since each needs an
+/// order that isn't offered. No later one can cost less than what is found, once the internal cost alone doesn't.
 #[inline(always)]
-pub(crate) fn least_cost(list: &[PlacedTemplate], prices: &[u64], first: usize) -> u128
+pub(crate) fn least_cost(list: &[PlacedTemplate], prices: &[u64], passed: usize) -> u128
     requires within { All (λ placed. (k : ℕ) → k < placed.count → slice_index_or placed.places k 0 < length prices.now) list.now }
     requires ranked { IsNonDecreasingBy (λ (placed : PlacedTemplate). placed.internal) list.now }
-    requires first { first ≤ length list.now }
-    requires unpriced { (k : ℕ) → k < first → pricing.cost_at prices.now list.now k ≡ UNPRICED }
+    requires passed { passed ≤ length list.now }
+    requires unpriced { (k : ℕ) → k < passed → pricing.cost_at prices.now list.now k ≡ UNPRICED }
     ensures { result ≡ pricing.least_cost prices.now list.now (length list.now) }
 {
-    if first >= list.len() {
+    if passed >= list.len() {
         return UNPRICED;
     }
-    let mut least = cost_or_unpriced(prices, &list[first]);
-    for k in first + 1..list.len() {
+    let mut least = cost_or_unpriced(prices, &list[passed]);
+    for k in passed + 1..list.len() {
         let placed = &list[k];
         if least <= placed.internal {
             return least;

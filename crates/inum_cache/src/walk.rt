@@ -13,8 +13,8 @@ use crate::slot_prices::column_prices;
 use crate::walks::{SlotColumns, Wanted};
 use plan_model::Offers;
 
-/// How many orders are priced, the sum of the least prices of the slots that have been walked over, and early templates that
-/// need an order that isn't offered.
+/// How many orders are priced, the sum of the least prices of the slots that have been walked over, and the early
+/// templates that need one of these orders that isn't offered.
 #[derive(Clone, Copy)]
 pub(crate) struct Priced {
     pub count: usize,
@@ -23,10 +23,10 @@ pub(crate) struct Priced {
 }
 
 impl Cache {
-    /// Makes of the prices of N orders what they are above their slot's least, and adds the early templates that need one
-    /// that isn't offered.
+    /// Lowers the prices of N orders by their slot's least, and adds the early templates that need one of them that isn't
+    /// offered.
     #[inline(always)]
-    fn price_above<const N: usize>(
+    fn lower_by_least<const N: usize>(
         &self,
         prices: &mut [u64],
         from: usize,
@@ -44,11 +44,11 @@ impl Cache {
     {
         let mut unpriced = unpriced;
         for i in 0..N {
-            let order = from + i;
-            if prices[order] == UNOFFERED {
-                unpriced = unpriced.and(self.needing.as_slice()[order]);
+            let number = from + i;
+            if prices[number] == UNOFFERED {
+                unpriced = unpriced.union(self.needing.as_slice()[number]);
             } else {
-                prices[order] -= least;
+                prices[number] -= least;
             }
         }
         unpriced
@@ -85,7 +85,7 @@ impl Cache {
             unpriced,
         } = priced;
         let least = column_prices::<O, N>(offers, walk, &mut prices[count..count + N]);
-        let unpriced = self.price_above::<N>(prices, count, least, unpriced);
+        let unpriced = self.lower_by_least::<N>(prices, count, least, unpriced);
         Priced {
             count: count + N,
             base: base + least as u128,
@@ -136,27 +136,43 @@ impl Cache {
         above(least, best_price(offers, order.slot, own))
     }
 
-    /// Prices the orders that no walk over columns prices, from this place on.
+    /// Prices the orders that no walk over columns prices, behind those that are priced.
     #[inline(never)]
-    fn price_singly<O: Offers>(&self, offers: &O, prices: &mut [u64], from: usize)
-        requires room { from + length self.now.walks.singly ≤ length prices.old }
-        ensures prices { take (from + length self.now.walks.singly) prices.new ≡ take from prices.old ++ pricing.wanted_prices (O.table offers.now) self.now.choices.orders self.now.walks.singly }
+    fn price_singly<O: Offers>(&self, offers: &O, prices: &mut [u64], priced: Priced) -> Priced
+        requires room { priced.count + length self.now.walks.singly ≤ length prices.old }
+        requires counted { priced.count + length self.now.walks.singly ≤ self.now.count }
+        requires unpriced { early.AreUnpriced prices.old self.now.needing priced.count priced.unpriced }
+        ensures count { result.count ≡ priced.count + length self.now.walks.singly }
+        ensures prices { take result.count prices.new ≡ take priced.count prices.old ++ pricing.wanted_prices (O.table offers.now) self.now.choices.orders self.now.walks.singly }
         ensures sized { length prices.new ≡ length prices.old }
+        ensures base { result.base ≡ priced.base }
+        ensures unpriced { early.AreUnpriced prices.new self.now.needing result.count result.unpriced }
     {
         let singly = self.walks.singly.as_slice();
+        let mut unpriced = priced.unpriced;
         for k in 0..singly.len() {
-            prices[from + k] = self.price_single(offers, &singly[k]);
+            let number = priced.count + k;
+            prices[number] = self.price_single(offers, &singly[k]);
+            if prices[number] == UNOFFERED {
+                unpriced = unpriced.union(self.needing.as_slice()[number]);
+            }
+        }
+        Priced {
+            count: priced.count + singly.len(),
+            base: priced.base,
+            unpriced,
         }
     }
 
-    /// Prices the orders that templates need, and gives the sum of the slots' least prices and early templates that need an
-    /// order that isn't offered.
+    /// Prices the orders that templates need, and gives the sum of the slots' least prices and the early templates that
+    /// need an order that isn't offered.
     #[inline(always)]
     pub(crate) fn price_all<O: Offers>(&self, offers: &O, prices: &mut [u64]) -> Priced
         requires room { self.now.count ≤ length prices.old }
         requires fresh { All (λ price. price ≡ UNOFFERED) prices.old }
         requires limits { OfferTableLimits (O.table offers.now) }
         requires some { pricing.HaveOffers (O.table offers.now) (length self.now.choices.orders) }
+        ensures count { result.count ≡ self.now.count }
         ensures prices { take self.now.count prices.new ≡ pricing.wanted_prices (O.table offers.now) self.now.choices.orders (walks.wants self.now.walks) }
         ensures sized { length prices.new ≡ length prices.old }
         ensures base { result.base ≡ sum_below (λ slot. pricing.best_price (O.table offers.now) slot []) (length self.now.choices.orders) }
@@ -172,9 +188,10 @@ impl Cache {
         let ones = self.price_group::<O, 1>(offers, walks.by_one.as_slice(), prices, slots);
         let twos = self.price_group::<O, 2>(offers, walks.by_two.as_slice(), prices, ones);
         let threes = self.price_group::<O, 3>(offers, walks.by_three.as_slice(), prices, twos);
-        if !walks.singly.is_empty() {
-            self.price_singly(offers, prices, threes.count);
+        if walks.singly.is_empty() {
+            threes
+        } else {
+            self.price_singly(offers, prices, threes)
         }
-        threes
     }
 }

@@ -1,5 +1,5 @@
-use Rattle.inum_cache.proofs.EarlySets.{AreFound}
+use Rattle.inum_cache.proofs.EarlySets.{AreNeedingBelow}
 use Rattle.inum_cache.proofs.needing.needing.Given as goal
 
-abbrev pub invariant-loop-place : goal.invariant-loop-place
-invariant-loop-place l = AreFound l.list l.order l.place l.found
+abbrev pub invariant-loop-rank : goal.invariant-loop-rank
+invariant-loop-rank l = AreNeedingBelow l.list l.number l.rank l.found

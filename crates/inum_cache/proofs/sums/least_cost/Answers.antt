@@ -5,18 +5,18 @@ use Rattle.inum_cache.proofs.Ranked.{least-unpriced, least-head, least-more, lea
 use Rattle.inum_cache.proofs.sums.least_cost.Goals as goal
 use Rattle.inum_cache.proofs.sums.least_cost.Goals.{in-Some, in_default}
 
-pub returns-then-first-list : goal.returns-then-first-list
-returns-then-first-list c =
+pub returns-then-passed-list : goal.returns-then-passed-list
+returns-then-passed-list c =
     let list = c.args.list.now in
-    let all : c.args.first ≡ length list = omega arith in
-    least-unpriced c.args.prices.now list c.args.first c.requires.unpriced ∙ ap (least_cost c.args.prices.now list) all
+    let all : c.args.passed ≡ length list = omega arith in
+    least-unpriced c.args.prices.now list c.args.passed c.requires.unpriced ∙ ap (least_cost c.args.prices.now list) all
 
 pub loop-k-init : goal.loop-k-init
 loop-k-init c =
     let list = c.args.list.now in
-    let head = c.index-list-first.result in
-    least-head c.args.prices.now list c.args.first head c.cost_or_unpriced-least.result
-    (slice_get_read list (length list) c.args.first head refl c.if-first-list.false c.index-list-first.is)
+    let head = c.index-list-passed.result in
+    least-head c.args.prices.now list c.args.passed head c.cost_or_unpriced-least.result
+    (slice_get_read list (length list) c.args.passed head refl c.if-passed-list.false c.index-list-passed.is)
     c.cost_or_unpriced-least.ensures.cost c.cost_or_unpriced-least.ensures.most c.requires.unpriced
 
 pub returns-then-least-placed : goal.returns-then-least-placed

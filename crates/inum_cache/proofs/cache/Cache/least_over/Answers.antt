@@ -6,7 +6,7 @@ use Rattle.inum_cache.specs.inner.Pricing.{cost_at, least_cost}
 use Rattle.inum_cache.specs.inner.Walks.{wants}
 use Rattle.inum_cache.proofs.Pricing.{least_below-most}
 use Rattle.inum_cache.proofs.Cached.{base-most, PlacesWithin, places-within, cached-by}
-use Rattle.inum_cache.proofs.Passed.{passed-first, passed-cost}
+use Rattle.inum_cache.proofs.Passed.{passed-most, passed-cost}
 use Rattle.inum_cache.proofs.cache.Cache.least_over.Goals as goal
 
 pub least_cost-requires-clause-within : goal.least_cost-requires-clause-within
@@ -17,21 +17,21 @@ least_cost-requires-clause-within g c =
     (places-within cache.choices.orders (wants cache.walks) cache.templates cache.placed room cache.ranked
     (omega (arith, cache.counted, c.requires.room, c.price_all-priced.ensures.sized)))
 
-pub least_cost-requires-clause-first : goal.least_cost-requires-clause-first
-least_cost-requires-clause-first g c =
+pub least_cost-requires-clause-passed : goal.least_cost-requires-clause-passed
+least_cost-requires-clause-passed g c =
     let cache = c.args.self.now in
     let priced = c.price_all-priced in
-    let first = c.leading-first in
-    let most = passed-first priced.new.prices cache.placed cache.count cache.needing priced.result.unpriced first.result cache.early priced.ensures.unpriced first.ensures.most first.ensures.each in
+    let passed = c.leading-passed in
+    let most = passed-most priced.new.prices cache.placed cache.count cache.needing priced.result.unpriced passed.result cache.early priced.ensures.unpriced passed.ensures.most passed.ensures.each in
     omega (arith, most, ap length c.as_slice.ensures)
 
 pub least_cost-requires-clause-unpriced : goal.least_cost-requires-clause-unpriced
 least_cost-requires-clause-unpriced g c = λ k below.
     let cache = c.args.self.now in
     let priced = c.price_all-priced in
-    let first = c.leading-first in
+    let passed = c.leading-passed in
     ap (λ (list : List PlacedTemplate). cost_at priced.new.prices list k) c.as_slice.ensures
-    ∙ passed-cost priced.new.prices cache.placed cache.count cache.needing priced.result.unpriced k cache.early priced.ensures.unpriced (omega (arith, below, first.ensures.most)) (first.ensures.each k below)
+    ∙ passed-cost priced.new.prices cache.placed cache.count cache.needing priced.result.unpriced k cache.early priced.ensures.unpriced (omega (arith, below, passed.ensures.most)) (passed.ensures.each k below)
 
 pub overflow_add-result : goal.overflow_add-result
 overflow_add-result g c =

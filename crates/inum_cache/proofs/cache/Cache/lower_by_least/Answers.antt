@@ -1,14 +1,13 @@
 use Rattle.std.proofs.Common.{◌≡◌, ℕ, ◌+◌, ◌-◌, ◌<◌, ◌++◌, List, [], ◌∷◌, length, get_or, take, drop, map, refl, sym, ap, ◌∙◌, arith}
-use Rattle.std.specs.Prelude.{◌≢◌, ◌||◌, Bool, slice_set}
-use Rattle.std.proofs.lemmas.Bool.{eq-eqb, ne_eqb}
+use Rattle.std.specs.Prelude.{◌||◌, Bool, slice_set}
 use Rattle.std.proofs.lemmas.List.{append_assoc, length-drop, length-set, get_or-drop, get_or-set_other, get_or-set_same, drop-drop, drop-set-lt, take-set, take_more, map_more}
 use Rattle.inum_cache.specs.declared.early.EarlyTemplates.{EarlyTemplates}
-use Rattle.inum_cache.specs.declared.prices.TheConstants.{UNOFFERED}
 use Rattle.inum_cache.specs.inner.Early.{has, set_of}
 use Rattle.inum_cache.specs.inner.Pricing.{above}
+use Rattle.inum_cache.proofs.Pricing.{above-unoffered, above-offered}
 use Rattle.inum_cache.proofs.Unpriced.{unpriced-stays, unpriced-more}
-use Rattle.inum_cache.proofs.cache.Cache.price_above.Goals as goal
-use Rattle.inum_cache.proofs.cache.Cache.price_above.Goals.{then-prices-order, else-prices-order}
+use Rattle.inum_cache.proofs.cache.Cache.lower_by_least.Goals as goal
+use Rattle.inum_cache.proofs.cache.Cache.lower_by_least.Goals.{then-prices-number, else-prices-number}
 
 -- lists that are the same from n on have the same price there
 price-same : (xs ys : List ℕ) (n : ℕ) → drop n xs ≡ drop n ys → get_or xs n 0 ≡ get_or ys n 0
@@ -30,13 +29,6 @@ rest-same xs ys from i same =
     ∙ ap (λ (rest : List ℕ). drop 1 rest) same
     ∙ drop-drop 1 (from + i) ys
     ∙ ap (λ (n : ℕ). drop n ys) next
-
--- a price above the least, where it is none and where it is one
-above-unoffered : (least price : ℕ) → price ≡ UNOFFERED → above least price ≡ UNOFFERED
-above-unoffered least price e = rw (eq-eqb price UNOFFERED e) refl
-
-above-offered : (least price : ℕ) → price ≢ UNOFFERED → above least price ≡ price - least
-above-offered least price ne = rw (ne_eqb price UNOFFERED ne) refl
 
 -- one more price becomes what it is above the least
 above-more : (least from i : ℕ) (initial before after : List ℕ) →
@@ -76,9 +68,9 @@ loop-i-preserved g c =
     let within : c.args.from + c.loop-i.i < length c.loop-i.prices = omega arith in
     let further : c.args.from + c.loop-i.i < c.args.from + (c.loop-i.i + 1) = omega arith in
     let same = price-same before initial n c.loop-i.invariant.rest in
-    elim c.if-prices-order.branch [
-      | then-prices-order w ↦
-          let unoffered = w.if-prices-order.true in
+    elim c.if-prices-number.branch [
+      | then-prices-number w ↦
+          let unoffered = w.if-prices-number.true in
           let joined : List EarlyTemplates → ℕ → Bool = λ sets k. has set k || has (set_of sets n) k in
           rw (w.prices-is, w.unpriced-is)
           (record {
@@ -88,14 +80,14 @@ loop-i-preserved g c =
                 c.loop-i.invariant.prices;
             rest = rest-same before initial from i c.loop-i.invariant.rest;
             unpriced =
-                unpriced-more before needing n (from + (i + 1)) set w.and-unpriced.result further unoffered
-                (λ k. w.and-unpriced.ensures k ∙ ap (λ (sets : List EarlyTemplates). joined sets k) w.as_slice.ensures)
+                unpriced-more before needing n (from + (i + 1)) set w.union-unpriced.result further unoffered
+                (λ k. w.union-unpriced.ensures k ∙ ap (λ (sets : List EarlyTemplates). joined sets k) w.as_slice.ensures)
                 c.loop-i.invariant.unpriced;
           })
-      | else-prices-order w ↦
+      | else-prices-number w ↦
           let price = get_or c.loop-i.prices (c.args.from + c.loop-i.i) 0 - c.args.least in
           let after = slice_set before n price in
-          let offered = above-offered least (get_or initial n 0) (λ e. w.if-prices-order.false (same ∙ e)) in
+          let offered = above-offered least (get_or initial n 0) (λ e. w.if-prices-number.false (same ∙ e)) in
           rw (w.prices-is, w.unpriced-is)
           (record {
             prices =

@@ -1,7 +1,7 @@
 use Rattle.std.proofs.Common.{◌≡◌, ◌+◌, ◌++◌, take, drop, map}
 use Rattle.inum_cache.specs.inner.Early.{AreUnpriced}
 use Rattle.inum_cache.specs.inner.Pricing.{above}
-use Rattle.inum_cache.proofs.cache.Cache.price_above.Given as goal
+use Rattle.inum_cache.proofs.cache.Cache.lower_by_least.Given as goal
 
 abbrev pub invariant-loop-i : goal.invariant-loop-i
 invariant-loop-i g l =
