@@ -30,7 +30,7 @@ CHAIN_BUILD_US = 100_000
 
 
 def measured(program: str, graph: str, slots: int, indexes: int, calls: int) -> dict[str, int] | None:
-    """The program's numbers by name, or none where the task has too many combinations."""
+    """The program's numbers by name, times in picoseconds, or none where the task has too many combinations."""
     words = [program, graph, str(slots), str(indexes), str(calls)]
     done = subprocess.run(words, capture_output=True, text=True)
     return None if done.returncode else numbers(done.stdout)
@@ -41,7 +41,7 @@ def unmet(graph: str, slots: int, times: dict[str, int]) -> list[str]:
     found = []
     if slots >= RATIO_SLOTS and times["least"] < LEAST_RATIO * times["cost"]:
         found.append(f"a look-up is less than {LEAST_RATIO} times as fast as a search")
-    if graph == "chain" and times["build"] > 1000 * CHAIN_BUILD_US:
+    if graph == "chain" and times["build"] > 1_000_000 * CHAIN_BUILD_US:
         found.append(f"building takes more than {CHAIN_BUILD_US // 1000} ms")
     return found
 
@@ -49,10 +49,10 @@ def unmet(graph: str, slots: int, times: dict[str, int]) -> list[str]:
 def print_line(graph: str, slots: int, times: dict[str, int], beside: float | None) -> None:
     look_up = max(1, times["cost"])
     print_row((
-        graph, slots, times["combinations"], times["templates"], f"{times['build'] / 1000:.0f}", look_up,
-        1_000_000_000 // look_up,
-        f"{times['least'] / 1000:.1f}", "-" if beside is None else f"{beside:.0f}", f"{times['least'] / look_up:.1f}",
-        "-" if beside is None else f"{1000 * beside / look_up:.0f}",
+        graph, slots, times["combinations"], times["templates"], f"{times['build'] / 1_000_000:.0f}", f"{look_up / 1000:.1f}",
+        1_000_000_000_000 // look_up,
+        f"{times['least'] / 1_000_000:.2f}", "-" if beside is None else f"{beside:.0f}", f"{times['least'] / look_up:.1f}",
+        "-" if beside is None else f"{1_000_000 * beside / look_up:.0f}",
     ), WIDTHS)
 
 

@@ -33,7 +33,7 @@ impl Cache {
     }
 
     /// The same, with room of its own for so many prices.
-    #[inline(always)]
+    #[inline(never)]
     fn cost_in<O: Offers, const ROOM: usize>(&self, offers: &O) -> u128
         requires room { self.now.count ≤ ROOM }
         requires most { ROOM ≤ MOST_WANTED }
@@ -43,18 +43,6 @@ impl Cache {
     {
         let mut prices = [UNOFFERED; ROOM];
         self.least_over(offers, &mut prices)
-    }
-
-    /// The same, as a call of its own, so that the look-up of a small join makes no more room than it needs.
-    #[inline(never)]
-    fn cost_apart<O: Offers, const ROOM: usize>(&self, offers: &O) -> u128
-        requires room { self.now.count ≤ ROOM }
-        requires most { ROOM ≤ MOST_WANTED }
-        requires plain { HavePlain self.now (O.table offers.now) }
-        ensures cached { (task : Task) → IsCacheOf task self.now → CachedBy (IsIn task self.now.templates) task (O.table offers.now) result }
-        ensures least { (task : Task) → IsCacheOf task self.now → Least task (O.table offers.now) result }
-    {
-        self.cost_in::<O, ROOM>(offers)
     }
 
     /// What a least plan of the cache's task costs over these offers, in thousandths of a page read: the least over the
@@ -68,9 +56,9 @@ impl Cache {
         if self.count <= FEW {
             self.cost_in::<O, FEW>(offers)
         } else if self.count <= SOME {
-            self.cost_apart::<O, SOME>(offers)
+            self.cost_in::<O, SOME>(offers)
         } else {
-            self.cost_apart::<O, MOST_WANTED>(offers)
+            self.cost_in::<O, MOST_WANTED>(offers)
         }
     }
 }

@@ -136,32 +136,33 @@ impl Cache {
         above(least, best_price(offers, order.slot, own))
     }
 
-    /// Prices the orders that no walk over columns prices, behind those that are priced.
+    /// Prices the orders that no walk over columns prices, from this place on, and adds the early templates that need one
+    /// of them that isn't offered.
     #[inline(never)]
-    fn price_singly<O: Offers>(&self, offers: &O, prices: &mut [u64], priced: Priced) -> Priced
-        requires room { priced.count + length self.now.walks.singly ≤ length prices.old }
-        requires counted { priced.count + length self.now.walks.singly ≤ self.now.count }
-        requires unpriced { early.AreUnpriced prices.old self.now.needing priced.count priced.unpriced }
-        ensures count { result.count ≡ priced.count + length self.now.walks.singly }
-        ensures prices { take result.count prices.new ≡ take priced.count prices.old ++ pricing.wanted_prices (O.table offers.now) self.now.choices.orders self.now.walks.singly }
+    fn price_singly<O: Offers>(
+        &self,
+        offers: &O,
+        prices: &mut [u64],
+        from: usize,
+        unpriced: EarlyTemplates,
+    ) -> EarlyTemplates
+        requires room { from + length self.now.walks.singly ≤ length prices.old }
+        requires counted { from + length self.now.walks.singly ≤ self.now.count }
+        requires unpriced { early.AreUnpriced prices.old self.now.needing from unpriced }
+        ensures prices { take (from + length self.now.walks.singly) prices.new ≡ take from prices.old ++ pricing.wanted_prices (O.table offers.now) self.now.choices.orders self.now.walks.singly }
         ensures sized { length prices.new ≡ length prices.old }
-        ensures base { result.base ≡ priced.base }
-        ensures unpriced { early.AreUnpriced prices.new self.now.needing result.count result.unpriced }
+        ensures unpriced { early.AreUnpriced prices.new self.now.needing (from + length self.now.walks.singly) result }
     {
         let singly = self.walks.singly.as_slice();
-        let mut unpriced = priced.unpriced;
+        let mut unpriced = unpriced;
         for k in 0..singly.len() {
-            let number = priced.count + k;
+            let number = from + k;
             prices[number] = self.price_single(offers, &singly[k]);
             if prices[number] == UNOFFERED {
                 unpriced = unpriced.union(self.needing.as_slice()[number]);
             }
         }
-        Priced {
-            count: priced.count + singly.len(),
-            base: priced.base,
-            unpriced,
-        }
+        unpriced
     }
 
     /// Prices the orders that templates need, and gives the sum of the slots' least prices and the early templates that
@@ -191,7 +192,11 @@ impl Cache {
         if walks.singly.is_empty() {
             threes
         } else {
-            self.price_singly(offers, prices, threes)
+            Priced {
+                count: self.count,
+                base: threes.base,
+                unpriced: self.price_singly(offers, prices, threes.count, threes.unpriced),
+            }
         }
     }
 }

@@ -81,11 +81,6 @@ returns-then-is_empty-clause-count g c =
     let empty : length cache.walks.singly ≡ 0 = search rules in
     omega (arith, empty, all)
 
-pub returns-else-is_empty-clause-count : goal.returns-else-is_empty-clause-count
-returns-else-is_empty-clause-count g c =
-    let all = all-counted c.args.self.now c.as_slice-2.ensures c.as_slice-3.ensures c.as_slice-4.ensures in
-    omega (arith, all, c.price_singly.ensures.count)
-
 pub returns-then-is_empty-clause-prices : goal.returns-then-is_empty-clause-prices
 returns-then-is_empty-clause-prices g c =
     let cache = c.args.self.now in
@@ -122,7 +117,7 @@ returns-else-is_empty-clause-prices g c =
     let threes = c.price_group-threes in
     let singly = c.price_singly in
     let none : slots.result.count ≡ 0 = omega (arith, slots.ensures.count) in
-    let count : cache.count ≡ singly.result.count = omega (arith, all, singly.ensures.count) in
+    let count : cache.count ≡ threes.result.count + length cache.walks.singly = omega (arith, all) in
     all-priced (g.O.Offers.table c.args.offers.now) cache.choices.orders cache.walks
     c.as_slice-2.result.now c.as_slice-3.result.now c.as_slice-4.result.now
     slots.new.prices (take ones.result.count ones.new.prices) (take twos.result.count twos.new.prices)
@@ -145,6 +140,6 @@ returns-else-is_empty-clause-unpriced g c =
     let cache = c.args.self.now in
     let all = all-counted cache c.as_slice-2.ensures c.as_slice-3.ensures c.as_slice-4.ensures in
     let singly = c.price_singly in
-    let most : singly.result.count ≤ cache.count = omega (arith, all, singly.ensures.count) in
-    unpriced-stays singly.new.prices singly.new.prices cache.needing singly.result.count cache.count
-    singly.result.unpriced most (λ number below. refl) singly.ensures.unpriced
+    let n : ℕ = c.price_group-threes.result.count + length cache.walks.singly in
+    let most : n ≤ cache.count = omega (arith, all) in
+    unpriced-stays singly.new.prices singly.new.prices cache.needing n cache.count singly.result most (λ number below. refl) singly.ensures.unpriced

@@ -11,9 +11,9 @@ use Rattle.inum_cache.proofs.cache.Cache.price_singly.Goals.{then-prices-number,
 pub loop-k-preserved : goal.loop-k-preserved
 loop-k-preserved g c =
     let before = c.loop-k.prices in
-    let count = c.args.priced.count in
+    let from = c.args.from in
     let k = c.loop-k.k in
-    let n = c.args.priced.count + c.loop-k.k in
+    let n = c.args.from + c.loop-k.k in
     let price = c.price_single.result in
     let after = slice_set before n price in
     let needing = c.args.self.now.needing in
@@ -28,7 +28,7 @@ loop-k-preserved g c =
             | then-prices-number w ↦
                 let joined : List EarlyTemplates → ℕ → Bool = λ sets j. has set j || has (set_of sets n) j in
                 rw (w.unpriced-is)
-                (unpriced-more after needing n (count + (k + 1)) set w.union-unpriced.result (omega arith)
+                (unpriced-more after needing n (from + (k + 1)) set w.union-unpriced.result (omega arith)
                 w.if-prices-number.true
                 (λ j.
                 w.union-unpriced.ensures j
@@ -36,7 +36,7 @@ loop-k-preserved g c =
                 (unpriced-stays before after needing n n set (omega arith) same c.loop-k.invariant.unpriced))
             | else-prices-number w ↦
                 rw (w.unpriced-is)
-                (unpriced-stays before after needing n (count + (k + 1)) set (omega arith) same
+                (unpriced-stays before after needing n (from + (k + 1)) set (omega arith) same
                 c.loop-k.invariant.unpriced)
           ];
     }

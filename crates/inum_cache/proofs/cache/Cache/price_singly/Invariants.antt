@@ -7,8 +7,8 @@ abbrev pub invariant-loop-k : goal.invariant-loop-k
 invariant-loop-k g l =
     record {
       prices :
-          take (l.priced.count + l.k) l.prices
-          ≡ take l.priced.count l.initial.prices
+          take (l.from + l.k) l.prices
+          ≡ take l.from l.initial.prices
           ++ wanted_prices (g.O.Offers.table l.offers) l.self.choices.orders (take l.k l.singly);
-      unpriced : AreUnpriced l.prices l.self.needing (l.priced.count + l.k) l.unpriced;
+      unpriced : AreUnpriced l.prices l.self.needing (l.from + l.k) l.unpriced;
     }
