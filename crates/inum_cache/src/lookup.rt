@@ -45,6 +45,22 @@ impl Cache {
         self.least_over(offers, &mut prices)
     }
 
+    /// The same of a small join. Most have walks over one and two columns alone; where there are known to be no others, the
+    /// compiler leaves these out.
+    #[inline(never)]
+    fn cost_of_few<O: Offers>(&self, offers: &O) -> u128
+        requires room { self.now.count ≤ FEW }
+        requires plain { HavePlain self.now (O.table offers.now) }
+        ensures cached { (task : Task) → IsCacheOf task self.now → CachedBy (IsIn task self.now.templates) task (O.table offers.now) result }
+        ensures least { (task : Task) → IsCacheOf task self.now → Least task (O.table offers.now) result }
+    {
+        if self.walks.has_others() {
+            return self.cost_in::<O, FEW>(offers);
+        }
+        let mut prices = [UNOFFERED; FEW];
+        self.least_over(offers, &mut prices)
+    }
+
     /// What a least plan of the cache's task costs over these offers, in thousandths of a page read: the least over the
     /// templates of the internal cost and, for each slot, the least price of an offer that begins with the order that
     /// the template needs of it (INUM's cached cost). Each slot has an offer with no order. It takes no memory.
@@ -54,7 +70,7 @@ impl Cache {
         ensures least { (task : Task) → IsCacheOf task self.now → Least task (O.table offers.now) result }
     {
         if self.count <= FEW {
-            self.cost_in::<O, FEW>(offers)
+            self.cost_of_few(offers)
         } else if self.count <= SOME {
             self.cost_in::<O, SOME>(offers)
         } else {

@@ -1,5 +1,5 @@
 //! Walks over the offers of slots, which price the orders that templates need.
-ghost use Rattle.std.specs.Prelude.{◌≡◌, [], ◌++◌, ◌<◌, ◌≤◌, IfOk, OnOk, length};
+ghost use Rattle.std.specs.Prelude.{◌≡◌, [], ◌++◌, ◌<◌, ◌≤◌, nat_lt, ◌||◌, IfOk, OnOk, length};
 ghost use Rattle.inum_cache.specs.inner.Walks as walks;
 
 use crate::choices::Choices;
@@ -69,6 +69,14 @@ impl Walks {
             by_three: List::new(alloc),
             singly: List::new(alloc),
         }
+    }
+
+    /// Whether there are others than walks over one and two columns.
+    #[inline(always)]
+    pub(crate) fn has_others(&self) -> bool
+        ensures { result ≡ (nat_lt 0 (length self.now.by_none) || nat_lt 0 (length self.now.by_three) || nat_lt 0 (length self.now.singly)) }
+    {
+        !self.by_none.is_empty() || !self.by_three.is_empty() || !self.singly.is_empty()
     }
 
     /// The orders that are priced, in turn.
