@@ -1,10 +1,11 @@
 -- Laws of the least prices of orders, and of what templates cost.
-use Rattle.std.proofs.Common.{◌≡◌, ◌∙◌, inl, inr, ℕ, zero, suc, ◌+◌, ◌<◌, ◌≤◌, ◌==◌, Bool, true, false, List, [], ◌∷◌, length, fold, take, drop, drop-cons, get_or, min, refl, sym, ap, subst, arith}
+use Rattle.std.proofs.Common.{◌≡◌, ◌∙◌, inl, inr, ℕ, zero, suc, ◌+◌, ◌<◌, ◌≤◌, ◌==◌, Bool, true, false, List, [], ◌∷◌, length, fold, take, drop, drop-cons, get_or, min, All, refl, sym, ap, subst, arith}
 use Rattle.std.specs.Prelude.{Option, Some, None, if◌then◌else◌, slice_get, slice_index_or, slice_set, option_and_then, sum}
 use Rattle.std.specs.Option.{ForSome}
 use Rattle.std.proofs.lemmas.Bool.{cases_lt, ne_eqb}
 use Rattle.std.proofs.lemmas.Grind.{common_steps}
 use Rattle.std.proofs.lemmas.List.{drop_all}
+use Rattle.std.proofs.lemmas.List.Elements.{All-head, All-tail}
 use Rattle.std.proofs.lemmas.List.Sums.{fold_more}
 use Rattle.std.proofs.lemmas.Option.{slice_get_cases}
 use Rattle.adv_base.specs.Configs.{has_candidate, chosen}
@@ -14,11 +15,11 @@ use Rattle.plan_model.specs.declared.template.Template.{Template}
 use Rattle.bip_model.specs.declared.grant.Grant.{Grant}
 use Rattle.bip_model.specs.declared.part.Part.{Part}
 use Rattle.bip_model.specs.declared.slot_part.SlotPart.{SlotPart}
-use Rattle.bip_model.specs.declared.costs.TheConstants.{NO_PRICE}
+use Rattle.bip_model.specs.declared.rows.TheConstants.{NO_PRICE}
 use Rattle.bip_model.specs.Limits.Grants.{ArePrices}
 use Rattle.bip_model.specs.Limits.Parts.{TemplateLimits}
-use Rattle.bip_model.specs.Values.{lesser, plus, price_of, granted, slot_price, need, needed_price, cost_below, template_cost}
-use Rattle.bip_model.specs.Words.{word, told, IsRow, AreRows, row_cost}
+use Rattle.bip_model.specs.Values.{lesser, plus, price_of, granted, slot_price, need, needed_price, cost_below, template_cost, least_cost}
+use Rattle.bip_model.specs.Words.{word, told, IsRow, AreRows, row_cost, row_least}
 
 -- a price, if any, within its limit
 abbrev pub IsPrice : Option ℕ → Type 0
@@ -158,32 +159,21 @@ rows-step config slots rows s slot row within found are is = λ k other below th
           subst (IsRow config other) (sym put) (subst (λ (o : SlotPart). IsRow config o row) (sym same) is)
     ]
 
--- one template more
-template-step : (config : Config) (slots : List SlotPart) (templates : List Template) (i : ℕ) (template : Template) (old new : Option ℕ) →
-    i < length templates →
-    old ≡ fold (λ best template. lesser best (template_cost config slots template)) None (take i templates) →
-    new ≡ lesser old (template_cost config slots (get_or templates i template)) →
-    new ≡ fold (λ best template. lesser best (template_cost config slots template)) None (take (i + 1) templates)
-template-step config slots templates i template old new within before after =
-    let step : Option ℕ → Template → Option ℕ = λ best template. lesser best (template_cost config slots template) in
-    let more : fold step None (take (i + 1) templates) ≡ step (fold step None (take i templates)) (get_or templates i template) = fold_more step None templates i template within in
-    after ∙ ap (λ (o : Option ℕ). lesser o (template_cost config slots (get_or templates i template))) before ∙ sym more
+-- the rows tell the least cost of templates
+templates-least : (config : Config) (slots : List SlotPart) (rows : List (List ℕ)) (best : Option ℕ) (templates : List Template) → AreRows config slots (length slots) rows → All (TemplateLimits slots) templates →
+    fold (λ best template. lesser best (row_cost rows template (length slots))) best templates ≡ fold (λ best template. lesser best (template_cost config slots template)) best templates
+templates-least config slots rows best [] are limits = refl
+templates-least config slots rows best (template ∷ templates) are limits =
+    let own : row_cost rows template (length slots) ≡ template_cost config slots template =
+    row_cost-template config slots rows template (length slots) are (All-head (TemplateLimits slots) template templates limits) (omega arith) in
+    ap (λ (cost : Option ℕ). fold (λ best template. lesser best (row_cost rows template (length slots))) (lesser best cost) templates) own
+    ∙ templates-least config slots rows (lesser best (template_cost config slots template)) templates are (All-tail (TemplateLimits slots) template templates limits)
 
--- the same, where rows tell the cost of the template
-pub part-step : (part : Part) (config : Config) (slots : List SlotPart) (rows : List (List ℕ)) (templates : List Template) (i n : ℕ) (template : Template) (old cost new : Option ℕ) →
-    slots ≡ part.slots → templates ≡ part.templates → n ≡ length part.slots → AreRows config slots (length slots) rows → i < length templates →
-    old ≡ fold (λ best template. lesser best (template_cost config part.slots template)) None (take i part.templates) →
-    cost ≡ row_cost rows (get_or templates i template) n → new ≡ lesser old cost →
-    new ≡ fold (λ best template. lesser best (template_cost config part.slots template)) None (take (i + 1) part.templates)
-part-step part config slots rows templates i n template old cost new slots_are templates_are n_is are within before costs after =
-    let own : AreRows config part.slots (length part.slots) rows = subst (λ (ss : List SlotPart). AreRows config ss (length ss) rows) slots_are are in
-    let inside : i < length part.templates = subst (λ (ts : List Template). i < length ts) templates_are within in
-    let limits : TemplateLimits part.slots (get_or part.templates i template) = part.limits.templates_limits i template inside in
-    let told' : row_cost rows (get_or part.templates i template) (length part.slots) ≡ template_cost config part.slots (get_or part.templates i template) =
-    row_cost-template config part.slots rows (get_or part.templates i template) (length part.slots) own limits (omega arith) in
-    let same : cost ≡ row_cost rows (get_or part.templates i template) (length part.slots) =
-    costs ∙ ap (λ (ts : List Template). row_cost rows (get_or ts i template) n) templates_are ∙ ap (row_cost rows (get_or part.templates i template)) n_is in
-    template-step config part.slots part.templates i template old new inside before (after ∙ ap (lesser old) (same ∙ told'))
+-- and so a part's
+pub row_least-part : (config : Config) (part : Part) (slots : List SlotPart) (rows : List (List ℕ)) → slots ≡ part.slots → AreRows config slots (length slots) rows →
+    row_least rows part ≡ least_cost part config
+row_least-part config part slots rows same are =
+    templates-least config part.slots rows None part.templates (subst (λ (ss : List SlotPart). AreRows config ss (length ss) rows) same are) part.limits.templates_limits
 
 -- ## The upkeep of the chosen
 

@@ -1,39 +1,16 @@
 //! What a programme says a configuration costs.
 ghost use Rattle.std.specs.Prelude.{◌≡◌, if◌then◌else◌, ℕ, ◌*◌, ◌<◌, ◌≤◌, All, length, min, sum, sum_by, slice_index_or};
-ghost use Rattle.std.specs.Option.{ForSome};
 ghost use Rattle.adv_base.specs.Configs as configs;
 ghost use Rattle.adv_base.specs.declared.limits.TheConstants.{MOST_CANDIDATES, MOST_SLOTS, MOST_STATEMENTS, MOST_UPKEEP, MOST_WEIGHT};
-ghost use Rattle.plan_model.specs.declared.plan.TheConstants.{MOST_COST};
 ghost use Rattle.bip_model.specs.Values as values;
 ghost use Rattle.bip_model.specs.Words as words;
 
 use crate::grant::Grant;
 use crate::part::Part;
 use crate::programme::Programme;
+use crate::rows::{NO_ROWS, Row, Rows, cost_by_rows, word};
 use crate::slot_part::SlotPart;
 use adv_base::Config;
-use adv_base::limits::MOST_SLOTS;
-use plan_model::Template;
-
-/// The interesting orders of a slot that a byte can tell.
-const MOST_ORDERS: usize = 256;
-/// In place of a price where none is given: more than any.
-const NO_PRICE: u64 = u64::MAX;
-
-/// The least price of each order of a slot.
-type Row = [u64; MOST_ORDERS];
-/// A row for each slot.
-type Rows = [Row; MOST_SLOTS];
-
-/// A price as a word.
-fn word(price: Option<u64>) -> u64
-    ensures { result ≡ words.word price }
-{
-    match price {
-        Some(price) => price,
-        None => NO_PRICE,
-    }
-}
 
 /// Puts a slot's existing prices into the front of a row.
 fn write_base(base: &[Option<u64>], row: &mut Row)
@@ -85,58 +62,14 @@ fn write_rows(slots: &[SlotPart], config: &Config, rows: &mut Rows)
     }
 }
 
-/// What a template and so many slots cost, by the rows of their least prices, or None where a slot doesn't give what it needs.
-#[tactic(auto, unfolding(crate::specs::Words::row_cost))]
-fn template_cost(template: &Template, slots: usize, rows: &Rows) -> Option<u128>
-    requires few { slots ≤ MOST_SLOTS }
-    requires internal { template.now.internal < MOST_COST }
-    ensures exact { result ≡ words.row_cost rows.now template.now slots }
-    ensures most { ForSome result (λ cost. cost ≤ values.MOST_PLAN) }
-{
-    let mut cost = template.internal;
-    for s in 0..slots {
-        let price = rows[s][template.needs[s] as usize];
-        if price == NO_PRICE {
-            return None;
-        }
-        cost += price as u128;
-    }
-    Some(cost)
-}
-
-/// The lesser of two costs, of which either may be missing.
-fn lesser(a: Option<u128>, b: Option<u128>) -> Option<u128>
-    ensures exact { result ≡ values.lesser a b }
-    ensures most { ForSome a (λ cost. cost ≤ values.MOST_PLAN) → ForSome b (λ cost. cost ≤ values.MOST_PLAN) → ForSome result (λ cost. cost ≤ values.MOST_PLAN) }
-{
-    match (a, b) {
-        (Some(a), Some(b)) => Some(a.min(b)),
-        (None, b) => b,
-        (a, None) => a,
-    }
-}
-
-/// The least cost over a part's templates; `rows` is filled on the way.
-fn least_cost(part: &Part, config: &Config, rows: &mut Rows) -> Option<u128>
-    ensures exact { result ≡ values.least_cost part.now config.now }
-    ensures most { ForSome result (λ cost. cost ≤ values.MOST_PLAN) }
-{
-    write_rows(part.slots.as_slice(), config, rows);
-    let slots = part.slots.len();
-    let mut best = None;
-    for template in part.templates.as_slice() {
-        best = lesser(best, template_cost(template, slots, rows));
-    }
-    best
-}
-
 /// The plan cost of a part's statement; `rows` is filled on the way.
 #[tactic(auto, unfolding(crate::specs::Values::part_cost))]
 fn plan_cost(part: &Part, config: &Config, rows: &mut Rows) -> u128
     ensures exact { result ≡ values.part_cost part.now config.now }
     ensures most { result ≤ values.MOST_PLAN }
 {
-    least_cost(part, config, rows).unwrap_or(0)
+    write_rows(part.slots.as_slice(), config, rows);
+    cost_by_rows(part, rows)
 }
 
 /// What the plan of a part's statement costs under a configuration, in thousandths of a page read: the least over the
@@ -146,7 +79,8 @@ pub fn part_cost(part: &Part, config: &Config) -> u128
     ensures exact { result ≡ values.part_cost part.now config.now }
     ensures most { result ≤ values.MOST_PLAN }
 {
-    plan_cost(part, config, &mut [[NO_PRICE; MOST_ORDERS]; MOST_SLOTS])
+    let mut rows = NO_ROWS;
+    plan_cost(part, config, &mut rows)
 }
 
 /// The upkeep of a candidate that is chosen, and else 0.
@@ -176,7 +110,7 @@ fn weighted_plans(parts: &[Part], config: &Config) -> u128
     ensures exact { result ≡ sum_by (λ part. part.weight * values.part_cost part config.now) parts.now }
     ensures most { result ≤ MOST_STATEMENTS * (MOST_WEIGHT * values.MOST_PLAN) }
 {
-    let mut rows = [[NO_PRICE; MOST_ORDERS]; MOST_SLOTS];
+    let mut rows = NO_ROWS;
     let mut sum = 0;
     for part in parts {
         sum += part.weight as u128 * plan_cost(part, config, &mut rows);

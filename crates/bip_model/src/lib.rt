@@ -7,7 +7,8 @@
 //! sequential page read. Making a programme, bounding it and searching are left to others.
 //!
 //! A `Programme` has `Part`s, these have `SlotPart`s, and these `Grant`s. A `Fix` is a node of a search, `Multipliers`
-//! are one set of rents and a price of a page, and an `Answer` has the tree, as `Node`s.
+//! are one set of rents and a price of a page, and an `Answer` has the tree, as `Node`s. `Rows` hold the least price of
+//! each order of each slot of a part, by which `cost_by_rows` tells what its plan costs.
 //!
 //! ```rust
 //! // Two statements, of weights 10 and 11: each costs 80000, with its candidate 13000 and 14000.
@@ -26,6 +27,7 @@ mod laws;
 mod multipliers;
 mod part;
 mod programme;
+mod rows;
 mod slot_part;
 
 pub use answer::{Answer, Node};
@@ -39,4 +41,5 @@ pub use laws::{
 pub use multipliers::{Multipliers, grant_count};
 pub use part::Part;
 pub use programme::Programme;
+pub use rows::{NO_PRICE, NO_ROWS, Row, Rows, cost_by_rows, lesser, word};
 pub use slot_part::SlotPart;

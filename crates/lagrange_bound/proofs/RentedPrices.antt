@@ -15,11 +15,11 @@ use Rattle.bip_model.specs.declared.part.Part.{Part}
 use Rattle.bip_model.specs.declared.slot_part.SlotPart.{SlotPart}
 use Rattle.bip_model.specs.Limits.Parts.{TemplateLimits}
 use Rattle.bip_model.specs.Values.{lesser, plus, price_of, granted, need}
-use Rattle.lagrange_bound.specs.declared.pricing.TheConstants.{NO_PRICE}
-use Rattle.bip_model.specs.Words.{word, told, row_cost}
+use Rattle.bip_model.specs.declared.rows.TheConstants.{NO_PRICE}
+use Rattle.bip_model.specs.Words.{word, told, row_cost, row_least}
 use Rattle.bip_model.proofs.Pricing.{price_of-price, granted-price}
 use Rattle.lagrange_bound.specs.Rented.{asked, least_asked, rented_price, grants_before, needed_price, cost_below, template_cost, least_cost}
-use Rattle.lagrange_bound.specs.inner.Rows.{IsRow, IsRowBelow, AreRows, row_least}
+use Rattle.lagrange_bound.specs.inner.Rows.{IsRow, IsRowBelow, AreRows}
 
 -- a price with a rent, if any, within both limits
 abbrev pub IsPrice : Option ℕ → Type 0

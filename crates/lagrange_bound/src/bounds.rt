@@ -9,11 +9,10 @@ ghost use Rattle.lagrange_bound.specs.inner.Limits as limits;
 
 use crate::candidates::{available, earned_in_all, paid_in_all};
 use crate::earnings::Earned;
-use crate::pricing::NO_ROWS;
 use crate::walking::earned_cost;
 use adv_base::Config;
 use adv_base::limits::MOST_CANDIDATES;
-use bip_model::{Fix, Multipliers, Part, Programme};
+use bip_model::{Fix, Multipliers, NO_ROWS, Part, Programme};
 
 /// A difference of parts of 65536, in whole numbers, rounded up.
 fn rounded_up(more: u128, less: u128) -> i128

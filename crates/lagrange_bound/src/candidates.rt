@@ -1,6 +1,5 @@
 //! Which candidates may be used at a node, what they cost, and what a node pays and earns by them.
-ghost use Rattle.std.specs.Prelude.{◌≡◌, ℕ, suc, ◌+◌, ◌-◌, ◌*◌, ◌<◌, ◌≤◌, if◌then◌else◌, nat_le, All, length, map, sum, slice_index_or};
-ghost use Rattle.adv_base.specs.Configs.{chosen};
+ghost use Rattle.std.specs.Prelude.{◌≡◌, ℕ, suc, ◌+◌, ◌-◌, ◌*◌, ◌<◌, ◌≤◌, if◌then◌else◌, All, length, sum, slice_index_or};
 ghost use Rattle.adv_base.specs.declared.limits.TheConstants.{MOST_CANDIDATES, MOST_INDEX_PAGES, MOST_PAGE_PRICE};
 ghost use Rattle.bip_model.specs.Views as views;
 ghost use Rattle.lagrange_bound.specs.Bounds as bounds;

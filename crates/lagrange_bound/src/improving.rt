@@ -1,5 +1,5 @@
 //! Better multipliers.
-ghost use Rattle.std.specs.Prelude.{◌≡◌, ◌≤ℤ◌, ◌≤◌, ◌<◌, ◌*◌, ℕ, min};
+ghost use Rattle.std.specs.Prelude.{◌≡◌, ◌≤ℤ◌, ◌≤◌, ◌<◌, ℕ, min};
 ghost use Rattle.adv_base.specs.declared.limits.TheConstants.{MOST_ROWS};
 ghost use Rattle.bip_model.specs.Views.{AreMultipliers};
 ghost use Rattle.lagrange_bound.specs.Bounds as bounds;

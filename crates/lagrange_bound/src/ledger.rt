@@ -1,11 +1,9 @@
 //! Bounds under one set of multipliers, carried from node to node.
-ghost use Rattle.std.specs.Prelude.{◌≡◌, ◌+◌, ◌*◌, ◌<◌, ◌≤◌, ℕ, suc, All, IfOk, slice_index_or};
-ghost use Rattle.adv_base.specs.declared.limits.TheConstants.{MOST_CANDIDATES, MOST_ROWS, MOST_STATEMENTS, MOST_WEIGHT};
-ghost use Rattle.bip_model.specs.Values as values;
+ghost use Rattle.std.specs.Prelude.{◌≡◌, ◌*◌, ◌<◌, ◌≤◌, IfOk};
+ghost use Rattle.adv_base.specs.declared.limits.TheConstants.{MOST_CANDIDATES, MOST_ROWS};
 ghost use Rattle.bip_model.specs.Views.{AreMultipliers};
 ghost use Rattle.lagrange_bound.specs.Bounds as bounds;
 ghost use Rattle.lagrange_bound.specs.Ledgers as ledgers;
-ghost use Rattle.lagrange_bound.specs.inner.Limits as limits;
 
 use crate::bounds::value_of_plans;
 use crate::candidates::available;
@@ -15,12 +13,11 @@ use crate::earnings::Earned;
 use crate::listed::price_all;
 use crate::marked::Marked;
 use crate::marking::mark_changed;
-use crate::pricing::{NO_ROWS, Rows};
 use crate::repricing::price_marked;
 use crate::uses::used_rents;
 use adv_base::limits::MOST_CANDIDATES;
 use adv_base::{Config, NoMemory};
-use bip_model::{Fix, Multipliers, Programme};
+use bip_model::{Fix, Multipliers, NO_ROWS, Programme, Rows};
 use std::alloc::Global;
 
 /// What is kept of the bounds under one set of multipliers: the candidates that may be used at the node where it stands, what

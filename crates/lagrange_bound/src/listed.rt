@@ -1,20 +1,17 @@
 //! Plan costs where each use of a candidate pays a rent, by lists of the prices of all slots.
 ghost use Rattle.std.specs.Prelude.{◌≡◌, ℕ, ◌+◌, ◌<◌, ◌≤◌, ◌==◌, if◌then◌else◌, All, length, sum_by, slice_index_or};
 ghost use Rattle.std.specs.Option.{ForSome};
-ghost use Rattle.adv_base.specs.declared.limits.TheConstants.{MOST_RENT, MOST_SLOTS, MOST_STATEMENTS};
+ghost use Rattle.adv_base.specs.declared.limits.TheConstants.{MOST_RENT, MOST_SLOTS};
 ghost use Rattle.plan_model.specs.declared.plan.TheConstants.{MOST_COST};
 ghost use Rattle.bip_model.specs.Values as values;
 ghost use Rattle.bip_model.specs.Words as words;
-ghost use Rattle.bip_model.specs.declared.part.Part as the_part;
 ghost use Rattle.lagrange_bound.specs.ListedPrices as prices_spec;
 ghost use Rattle.lagrange_bound.specs.Rented as rented;
 ghost use Rattle.lagrange_bound.specs.inner.Listed as listed;
-ghost use Rattle.lagrange_bound.specs.inner.Rows as rows_spec;
 
 use crate::prices::{CheaperPrice, PriceLists};
-use crate::pricing::{NO_PRICE, lesser};
 use adv_base::Config;
-use bip_model::Part;
+use bip_model::{NO_PRICE, Part, lesser};
 use plan_model::Template;
 
 /// Lowers the price at a place by that of a grant with its rent, where the grant's candidate may be used.

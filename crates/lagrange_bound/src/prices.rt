@@ -6,9 +6,8 @@ ghost use Rattle.bip_model.specs.Words.{word};
 ghost use Rattle.lagrange_bound.specs.ListedPrices.{ArePrices, slots_of};
 ghost use Rattle.lagrange_bound.specs.inner.Lists as inner;
 
-use crate::pricing::word;
 use adv_base::NoMemory;
-use bip_model::{Part, Programme, SlotPart};
+use bip_model::{Part, Programme, SlotPart, word};
 use std::alloc::Global;
 
 /// A price at which a grant gives an order for less than what exists. Places of orders and numbers of grants count over

@@ -1,42 +1,15 @@
 //! What plans cost where each use of a candidate pays a rent.
-ghost use Rattle.std.specs.Prelude.{◌≡◌, ℕ, ◌+◌, ◌*◌, ◌<◌, ◌≤◌, All, drop, length, min, sum_by, unwrap_or};
+ghost use Rattle.std.specs.Prelude.{◌≡◌, ◌+◌, ◌*◌, ◌<◌, ◌≤◌, All, drop, length, min, sum_by};
 ghost use Rattle.std.specs.Option.{ForSome, option_map};
 ghost use Rattle.adv_base.specs.Configs.{has_candidate};
-ghost use Rattle.adv_base.specs.declared.limits.TheConstants.{MOST_CANDIDATES, MOST_PRICE, MOST_RENT, MOST_SLOTS, MOST_STATEMENTS, MOST_WEIGHT};
-ghost use Rattle.plan_model.specs.declared.plan.TheConstants.{MOST_COST};
-ghost use Rattle.bip_model.specs.Limits.Grants.{ArePrices};
+ghost use Rattle.adv_base.specs.declared.limits.TheConstants.{MOST_CANDIDATES, MOST_PRICE, MOST_RENT, MOST_SLOTS};
 ghost use Rattle.bip_model.specs.Values as values;
 ghost use Rattle.bip_model.specs.Words as words;
 ghost use Rattle.lagrange_bound.specs.Rented as rented;
 ghost use Rattle.lagrange_bound.specs.inner.Rows as rows_spec;
 
 use adv_base::Config;
-use adv_base::limits::MOST_SLOTS;
-use bip_model::{Grant, Part, SlotPart};
-use plan_model::Template;
-
-/// The interesting orders of a slot that a byte can tell.
-const MOST_ORDERS: usize = 256;
-/// In place of a price where none is given: more than any with a rent.
-pub(crate) const NO_PRICE: u64 = u64::MAX;
-
-/// The least price of each order of a slot.
-pub(crate) type Row = [u64; MOST_ORDERS];
-/// A row for each slot.
-pub(crate) type Rows = [Row; MOST_SLOTS];
-
-/// Rows to begin with.
-pub(crate) const NO_ROWS: Rows = [[NO_PRICE; MOST_ORDERS]; MOST_SLOTS];
-
-/// A price as a word.
-pub(crate) fn word(price: Option<u64>) -> u64
-    ensures { result ≡ words.word price }
-{
-    match price {
-        Some(price) => price,
-        None => NO_PRICE,
-    }
-}
+use bip_model::{Grant, Part, Row, Rows, SlotPart, cost_by_rows, word};
 
 /// Whether the candidate of a grant may be used. Its place is told by a byte.
 fn is_open(grant: &Grant, config: &Config) -> bool
@@ -173,58 +146,6 @@ fn write_rows(
         next = end;
     }
     next
-}
-
-/// What a template and so many slots cost, by the rows of their least prices, or None where a slot doesn't give what it needs.
-#[tactic(auto, unfolding(bip_model::specs::Words::row_cost))]
-fn template_cost(template: &Template, slots: usize, rows: &Rows) -> Option<u128>
-    requires few { slots ≤ MOST_SLOTS }
-    requires internal { template.now.internal < MOST_COST }
-    ensures exact { result ≡ words.row_cost rows.now template.now slots }
-    ensures most { ForSome result (λ cost. cost ≤ values.MOST_PLAN) }
-{
-    let mut cost = template.internal;
-    for s in 0..slots {
-        let price = rows[s][template.needs[s] as usize];
-        if price == NO_PRICE {
-            return None;
-        }
-        cost += price as u128;
-    }
-    Some(cost)
-}
-
-/// The lesser of two costs, of which either may be missing.
-pub(crate) fn lesser(a: Option<u128>, b: Option<u128>) -> Option<u128>
-    ensures exact { result ≡ values.lesser a b }
-    ensures most { ForSome a (λ cost. cost ≤ values.MOST_PLAN) → ForSome b (λ cost. cost ≤ values.MOST_PLAN) → ForSome result (λ cost. cost ≤ values.MOST_PLAN) }
-{
-    match (a, b) {
-        (Some(a), Some(b)) => Some(a.min(b)),
-        (None, b) => b,
-        (a, None) => a,
-    }
-}
-
-/// The least cost over a part's templates, by the rows of its slots.
-fn least_cost(part: &Part, rows: &Rows) -> Option<u128>
-    ensures exact { result ≡ rows_spec.row_least rows.now part.now }
-    ensures most { ForSome result (λ cost. cost ≤ values.MOST_PLAN) }
-{
-    let slots = part.slots.len();
-    let mut best = None;
-    for template in part.templates.as_slice() {
-        best = lesser(best, template_cost(template, slots, rows));
-    }
-    best
-}
-
-/// The plan cost of a part's statement, by the rows of its slots.
-pub(crate) fn cost_by_rows(part: &Part, rows: &Rows) -> u128
-    ensures exact { result ≡ unwrap_or (rows_spec.row_least rows.now part.now) 0 }
-    ensures most { result ≤ values.MOST_PLAN }
-{
-    least_cost(part, rows).unwrap_or(0)
 }
 
 /// The plan cost of a part's statement, and where the rents of the next part's grants begin.

@@ -4,7 +4,8 @@ ghost use Rattle.lagrange_bound.specs.Rented as rented;
 ghost use Rattle.lagrange_bound.specs.inner.Repricing as repriced;
 
 use crate::marked::Marked;
-use crate::pricing::{Rows, rented_cost};
+use crate::pricing::rented_cost;
+use bip_model::Rows;
 
 /// A weighted sum of costs, of which one changes.
 fn changed_sum(sum: u128, weight: u32, old: u128, new: u128) -> u128

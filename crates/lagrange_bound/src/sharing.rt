@@ -2,7 +2,6 @@
 ghost use Rattle.std.specs.Prelude.{◌≡◌, ℕ, suc, ◌+◌, ◌*◌, ◌<◌, ◌≤◌, ◌==◌, ◌++◌, All, count_by, length, map, sum_by, take, slice_index_or};
 ghost use Rattle.std.specs.List.{flat_map};
 ghost use Rattle.adv_base.specs.declared.limits.TheConstants.{MOST_CANDIDATES, MOST_PAGE_PRICE, MOST_RENT, MOST_STATEMENTS};
-ghost use Rattle.bip_model.specs.Limits.Programmes.{GrantsWithin};
 ghost use Rattle.bip_model.specs.Values as values;
 ghost use Rattle.bip_model.specs.Views.{AreMultipliers};
 ghost use Rattle.lagrange_bound.specs.Rents as rents_spec;

@@ -1,8 +1,7 @@
 //! The grants of each candidate over all slots of a programme, and what their rents bring in.
-ghost use Rattle.std.specs.Prelude.{◌≡◌, ℕ, suc, ◌+◌, ◌*◌, ◌^◌, ◌<◌, ◌≤◌, ◌==◌, [], if◌then◌else◌, All, IfOk, OnOk, drop, length, sum_by, slice_index_or, take};
-ghost use Rattle.adv_base.specs.declared.limits.TheConstants.{MOST_CANDIDATES, MOST_RENT, MOST_STATEMENTS};
+ghost use Rattle.std.specs.Prelude.{◌≡◌, ℕ, ◌+◌, ◌*◌, ◌^◌, ◌<◌, ◌≤◌, ◌==◌, [], if◌then◌else◌, All, IfOk, OnOk, drop, length, sum_by, slice_index_or, take};
+ghost use Rattle.adv_base.specs.declared.limits.TheConstants.{MOST_CANDIDATES};
 ghost use Rattle.bip_model.specs.Values as values;
-ghost use Rattle.lagrange_bound.specs.Bounds as bounds;
 ghost use Rattle.lagrange_bound.specs.CandidateUses as candidate_uses;
 ghost use Rattle.lagrange_bound.specs.ListedPrices as prices_spec;
 ghost use Rattle.lagrange_bound.specs.inner.Limits as limits;

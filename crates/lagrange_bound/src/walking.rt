@@ -9,9 +9,9 @@ ghost use Rattle.lagrange_bound.specs.inner.Limits as limits;
 ghost use Rattle.lagrange_bound.specs.inner.Rows as rows_spec;
 
 use crate::earnings::{Earned, earn, earn_grants};
-use crate::pricing::{Priced, Row, Rows, cost_by_rows, lower_one, lower_two, word, write_from};
+use crate::pricing::{Priced, lower_one, lower_two, write_from};
 use adv_base::Config;
-use bip_model::{Part, SlotPart};
+use bip_model::{Part, Row, Rows, SlotPart, cost_by_rows, word};
 
 /// The least price of the one order of a slot; the weighted rents of its grants are added.
 fn earn_one(

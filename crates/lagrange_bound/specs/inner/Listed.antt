@@ -4,10 +4,9 @@ use Rattle.adv_base.specs.declared.setting.Config.{Config}
 use Rattle.bip_model.specs.declared.grant.Grant.{Grant}
 use Rattle.bip_model.specs.declared.part.Part.{Part}
 use Rattle.bip_model.specs.declared.slot_part.SlotPart.{SlotPart}
-use Rattle.bip_model.specs.Words.{word}
+use Rattle.bip_model.specs.Words.{word, row_least}
 use Rattle.lagrange_bound.specs.Rented.{rented_price, grants_before}
 use Rattle.lagrange_bound.specs.declared.prices.CheaperPrice.{CheaperPrice}
-use Rattle.lagrange_bound.specs.inner.Rows.{row_least}
 
 -- the lesser of a price and a grant's with its rent, where the grant's candidate may be used
 abbrev pub lowered : Config → List ℕ → List ℕ → CheaperPrice → ℕ → ℕ

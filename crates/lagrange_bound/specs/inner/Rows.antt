@@ -1,10 +1,8 @@
 -- Rows of least prices where candidates pay rents, as words.
-use Rattle.std.specs.Prelude.{◌≡◌, ℕ, ◌<◌, List, [], length, fold, drop, Option, None, Some, slice_get, slice_index_or}
+use Rattle.std.specs.Prelude.{◌≡◌, ℕ, ◌<◌, List, [], length, drop, Some, slice_get, slice_index_or}
 use Rattle.adv_base.specs.declared.setting.Config.{Config}
-use Rattle.bip_model.specs.declared.part.Part.{Part}
 use Rattle.bip_model.specs.declared.slot_part.SlotPart.{SlotPart}
-use Rattle.bip_model.specs.Values.{lesser}
-use Rattle.bip_model.specs.Words.{word, row_cost}
+use Rattle.bip_model.specs.Words.{word}
 use Rattle.lagrange_bound.specs.Rented.{rented_price, grants_before}
 
 -- a row has the least price of each order of a slot
@@ -19,7 +17,3 @@ IsRowBelow config slot rents n row = (o : ℕ) → o < n → o < length slot.bas
 abbrev pub AreRows : Config → List SlotPart → List ℕ → ℕ → List (List ℕ) → Type 0
 AreRows config slots rents n rows =
     (s : ℕ) (slot : SlotPart) → s < n → slice_get slots s ≡ Some slot → IsRow config slot (drop (grants_before slots s) rents) (slice_index_or rows s [])
-
--- the least cost of a part's templates, by the rows of its slots
-abbrev pub row_least : List (List ℕ) → Part → Option ℕ
-row_least rows part = fold (λ best template. lesser best (row_cost rows template (length part.slots))) None part.templates

@@ -2,7 +2,7 @@ use Rattle.std.proofs.Common.{◌≡◌, ◌+◌, ◌*◌, ◌^◌, ◌≤◌}
 use Rattle.std.specs.Prelude.{Some}
 use Rattle.plan_model.specs.declared.plan.TheConstants.{MOST_COST}
 use Rattle.bip_model.specs.Words as words
-use Rattle.bip_model.proofs.costs.template_cost.Given as goal
+use Rattle.bip_model.proofs.rows.template_cost.Given as goal
 
 abbrev pub invariant-loop-s : goal.invariant-loop-s
 invariant-loop-s l =

@@ -3,7 +3,7 @@ use Rattle.std.specs.Prelude.{None}
 use Rattle.std.specs.Option.{ForSome}
 use Rattle.bip_model.specs.Values as values
 use Rattle.bip_model.specs.Words as words
-use Rattle.lagrange_bound.proofs.pricing.least_cost.Given as goal
+use Rattle.bip_model.proofs.rows.least_by_rows.Given as goal
 
 abbrev pub invariant-loop-template : goal.invariant-loop-template
 invariant-loop-template l =

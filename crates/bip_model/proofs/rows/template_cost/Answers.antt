@@ -2,7 +2,7 @@ use Rattle.std.proofs.Common.{◌≡◌, suc, sym, arith}
 use Rattle.std.specs.Prelude.{None}
 use Rattle.bip_model.specs.Words.{row_cost}
 use Rattle.bip_model.proofs.Pricing.{row_cost-none}
-use Rattle.lagrange_bound.proofs.pricing.template_cost.Goals as goal
+use Rattle.bip_model.proofs.rows.template_cost.Goals as goal
 
 pub returns-then-price-clause-exact : goal.returns-then-price-clause-exact
 unfolding row_cost
