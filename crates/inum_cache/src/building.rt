@@ -12,7 +12,7 @@ use crate::fault::CacheFault;
 use crate::internals::internal_costs;
 use crate::keep::Costs;
 use crate::needing::early_needing;
-use crate::placed::placed_templates;
+use crate::ranking::placed_templates;
 use adv_base::limits::MOST_COMBINATIONS;
 use adv_base::{Item, List, NoMemory};
 use interesting_orders::{combinations, slot_orders};

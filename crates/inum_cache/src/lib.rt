@@ -28,12 +28,12 @@ mod keep;
 mod lookup;
 mod needed;
 mod needing;
-mod placed;
+mod order_prices;
 mod placed_template;
 mod prices;
+mod ranking;
 mod slot_prices;
 mod sums;
-mod walk;
 mod walks;
 
 pub use building::build;
