@@ -1,5 +1,5 @@
 //! What an index matches of a slot's predicates.
-ghost use Rattle.std.specs.Prelude.{◌≡◌, ◌<◌, ◌≤◌, ◌==◌, length, Contains, map, fold, if◌then◌else◌, Bool};
+ghost use Rattle.std.specs.Prelude.{◌≡◌, ◌<◌, ◌≤◌, length, Contains, map, fold, if◌then◌else◌};
 ghost use Rattle.adv_base.specs.Access as access;
 ghost use Rattle.adv_base.specs.Named.{NamesBlock};
 ghost use Rattle.adv_base.specs.Parts as selectivity;

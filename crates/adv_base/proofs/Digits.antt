@@ -9,7 +9,7 @@ use Rattle.std.proofs.lemmas.Fmt.{first_decimal, decimal_digit, IsAscii-decimal,
 use Rattle.std.proofs.lemmas.Str.{IsUtf8-from_ascii}
 use Rattle.std.proofs.lemmas.Str.Parse.{numerals_by_value, tells_digits, without_leading_plus_none}
 
-plain-above : (text : List ℕ) → 48 < slice_index text 0 → is_plain text ≡ true
+pub plain-above : (text : List ℕ) → 48 < slice_index text 0 → is_plain text ≡ true
 plain-above text h = grind (arith, nat_tests)
 
 -- the digits of a number begin so
@@ -21,7 +21,7 @@ pub utf8-decimal : (text : List ℕ) (n : ℕ) → n < 2 ^ 64 → text ≡ decim
 utf8-decimal text n h e = subst IsUtf8 (sym e) (IsUtf8-from_ascii (decimal n) (IsAscii-decimal n h))
 
 -- bytes that begin so begin with no plus, and with a zero only where it stands alone
-plain-parts : (text : List ℕ) → is_plain text ≡ true → (get_or text 0 0 ≢ 43) × (get_or text 0 0 ≡ 48 → length text ≡ 1)
+pub plain-parts : (text : List ℕ) → is_plain text ≡ true → (get_or text 0 0 ≢ 43) × (get_or text 0 0 ≡ 48 → length text ≡ 1)
 plain-parts text h = grind (arith, nat_tests)
 
 -- the bytes that `parse` reads are the digits of what it reads

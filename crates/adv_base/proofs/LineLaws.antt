@@ -1,5 +1,6 @@
 -- The first line of bytes.
 use Rattle.std.proofs.Common.{◌≡◌, ◌≢◌, ◌∙◌, ◌⊎◌, inl, inr, ℕ, zero, suc, ◌+◌, ◌<◌, ◌≤◌, List, [], ◌∷◌, ◌++◌, length, get_or, take, drop, sym, ap, subst, refl, arith, length-append}
+use Rattle.std.proofs.lemmas.Grind.{get_or_default_zero}
 use Rattle.std.proofs.lemmas.List.{length-take}
 use Rattle.adv_base.specs.Numbers.{BeginsWithLine}
 
@@ -32,11 +33,6 @@ get-take [] (suc n) k d h = refl
 get-take (x ∷ xs) zero k d h = absurd (omega arith)
 get-take (x ∷ xs) (suc n) zero d h = refl
 get-take (x ∷ xs) (suc n) (suc k) d h = get-take xs n k d (omega arith)
-
-get-any : (xs : List ℕ) (k d : ℕ) → k < length xs → get_or xs k d ≡ get_or xs k 0
-get-any [] k d h = absurd (omega arith)
-get-any (x ∷ xs) zero d h = refl
-get-any (x ∷ xs) (suc k) d h = get-any xs k d (omega arith)
 
 -- a byte of a line
 line-byte : (bytes line rest : List ℕ) → BeginsWithLine bytes line rest → (k : ℕ) → k < length line → get_or bytes k 0 ≢ 10
@@ -78,7 +74,7 @@ line-is bytes len within before at =
     let next : suc len ≡ len + 1 = omega arith in
     record {
       parts = cut-at bytes len 10 within at ∙ ap (λ (n : ℕ). take len bytes ++ 10 ∷ drop n bytes) next;
-      whole = λ k d h e. before k (omega arith) (sym (get-any bytes k d (omega arith)) ∙ sym (get-take bytes len k d (omega arith)) ∙ e);
+      whole = λ k d h e. before k (omega arith) (sym (get_or_default_zero bytes k d (omega arith)) ∙ sym (get-take bytes len k d (omega arith)) ∙ e);
     }
 
 -- and no other bytes are the first line

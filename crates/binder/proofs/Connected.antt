@@ -3,7 +3,7 @@ use Rattle.std.proofs.Common.{◌≡◌, ℕ, zero, suc, ◌+◌, ◌^◌, ◌<�
 use Rattle.std.specs.Prelude.{bit_and, All}
 use Rattle.std.specs.List.{list_any, list_all, range_with_len}
 use Rattle.std.specs.Int.{bit_at}
-use Rattle.std.proofs.lemmas.Bool.{eqb-true}
+use Rattle.std.proofs.lemmas.Bool.{eqb-true, or_parts, and_parts}
 use Rattle.std.proofs.lemmas.Nat.{pow_pos}
 use Rattle.std.proofs.lemmas.Nat.Bits.{and_pow}
 use Rattle.std.proofs.lemmas.List.{get_or-map, length-map}
@@ -45,18 +45,10 @@ opposite_sides n a b s whole lt =
       | inr there ↦ has_slot-one b s there.1 ∙ sym (ap not (has_slot-zero a s there.0))
     ]
 
-or_false : (p q : Bool) → (p || q) ≡ false → (p ≡ false) × (q ≡ false)
-or_false true q e = absurd (true≢false e)
-or_false false q e = (refl, e)
-
-and_true : (p q : Bool) → (p && q) ≡ true → (p ≡ true) × (q ≡ true)
-and_true true q e = (refl, e)
-and_true false q e = absurd (true≢false (sym e))
-
 -- an edge that doesn't cross has both ends on one side
 same_side : (p q u v : Bool) → u ≡ not p → v ≡ not q → ((p && v) || (q && u)) ≡ false → p ≡ q
 same_side true true u v eu ev e = refl
-same_side true false u v eu ev e = absurd (true≢false (sym ev ∙ (or_false v false e).0))
+same_side true false u v eu ev e = absurd (true≢false (sym ev ∙ (or_parts v false e).0))
 same_side false true u v eu ev e = absurd (true≢false (sym eu ∙ e))
 same_side false false u v eu ev e = refl
 
@@ -109,15 +101,15 @@ Respects-all n a b whole [] lefts rights none labels so_far = so_far
 Respects-all n a b whole (e ∷ es) lefts rights none labels so_far =
     let left = All-head (λ (edge : Edge). edge.left < n) e es lefts in
     let right = All-head (λ (edge : Edge). edge.right < n) e es rights in
-    let parts = or_false (is_crossing a b (ends e)) (list_any (is_crossing a b) (map ends es)) none in
+    let parts = or_parts (is_crossing a b (ends e)) (list_any (is_crossing a b) (map ends es)) none in
     let side = same_side (has_slot a e.left) (has_slot a e.right) (has_slot b e.left) (has_slot b e.right) (opposite_sides n a b e.left whole left) (opposite_sides n a b e.right whole right) parts.0 in
     Respects-all n a b whole es (All-tail (λ (edge : Edge). edge.left < n) e es lefts) (All-tail (λ (edge : Edge). edge.right < n) e es rights) parts.1
     (relabelled labels (plain_edge e)) (Respects-more n (has_slot a) labels e.left e.right left right side so_far)
 
 list_all-at : (first : ℕ) (labels : List ℕ) (k : ℕ) → list_all (λ x. eqb x first) labels ≡ true → k < length labels → get_or labels k 0 ≡ first
 list_all-at first [] k all lt = absurd (omega arith)
-list_all-at first (x ∷ xs) zero all lt = eqb-true x first (and_true (eqb x first) (list_all (λ y. eqb y first) xs) all).0
-list_all-at first (x ∷ xs) (suc k) all lt = list_all-at first xs k (and_true (eqb x first) (list_all (λ y. eqb y first) xs) all).1 (omega arith)
+list_all-at first (x ∷ xs) zero all lt = eqb-true x first (and_parts (eqb x first) (list_all (λ y. eqb y first) xs) all).0
+list_all-at first (x ∷ xs) (suc k) all lt = list_all-at first xs k (and_parts (eqb x first) (list_all (λ y. eqb y first) xs) all).1 (omega arith)
 
 -- slots of which all have one label can't be cut in two without crossing an edge
 pub connected : (n : ℕ) (edges : List Edge) → All (λ (edge : Edge). edge.left < n) edges → All (λ (edge : Edge). edge.right < n) edges

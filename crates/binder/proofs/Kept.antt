@@ -1,5 +1,5 @@
 -- Lists without bound and repeated columns.
-use Rattle.std.proofs.Common.{◌≡◌, ℕ, zero, suc, ◌<◌, Bool, true, false, cond, ◌&&◌, ◌||◌, List, [], ◌∷◌, ◌++◌, length, get_or, map, fold, Option, Some, None, refl, sym, ap, subst, ◌∙◌, arith, true≢false}
+use Rattle.std.proofs.Common.{◌≡◌, ℕ, zero, suc, ◌<◌, Bool, true, false, cond, ◌&&◌, ◌||◌, List, [], ◌∷◌, ◌++◌, length, get_or, map, fold, Option, Some, None, refl, sym, ap, subst, ◌∙◌, arith}
 use Rattle.std.specs.Prelude.{All}
 use Rattle.std.specs.List.{list_any, list_all, filter_map}
 use Rattle.std.proofs.lemmas.List.Elements.{All-nil, All-push, All-cons, All-head, All-tail, All-map}
@@ -10,6 +10,7 @@ use Rattle.adv_base.specs.declared.workload.predicate.Pred.{Pred}
 use Rattle.adv_base.specs.Items.{is_same_column, is_upward, is_within_slots, AreApart}
 use Rattle.adv_base.specs.Predicates.{is_bound as binds_column, is_bound_item}
 use Rattle.adv_base.specs.Limits.Blocks.{AreFree, ListLimits, GroupLimits}
+use Rattle.std.proofs.lemmas.Bool.{or_parts}
 use Rattle.std.proofs.lemmas.Bool.Decides.{nat_tests}
 use Rattle.binder.specs.declared.gathered.SlotColumn.{SlotColumn}
 use Rattle.binder.specs.declared.gathered.BoundItem.{BoundItem}
@@ -19,10 +20,6 @@ use Rattle.binder.specs.Lists.{binds, is_bound, keep, kept_items, upward, kept_c
 use Rattle.binder.specs.Plain.{PlainPred, plain_pred, plain_preds}
 use Rattle.binder.specs.Scopes.{Names, slot_column}
 use Rattle.binder.proofs.Within.{IsColumn}
-
-or_parts : (p q : Bool) → (p || q) ≡ false → (p ≡ false) × (q ≡ false)
-or_parts true q e = absurd (true≢false e)
-or_parts false q e = (refl, e)
 
 module _ (preds : List PlainPred) where
   keep-All : (P : Item → Type 0) (kept : List Item) (item : Item) → All P kept → (is_bound preds item ≡ false → P item) → All P (keep preds kept item)

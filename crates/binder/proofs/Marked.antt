@@ -2,7 +2,7 @@
 use Rattle.std.proofs.Common.{◌≡◌, ℕ, ◌+◌, ◌<◌, Bool, true, false, cond, eqb, ◌&&◌, ◌||◌, List, [], ◌∷◌, ◌++◌, length, get_or, take, drop, fold, refl, sym, ap, ◌∙◌, arith, add-one, true≢false}
 use Rattle.std.specs.List.{list_any}
 use Rattle.std.proofs.Math.Seq.{drop-cons}
-use Rattle.std.proofs.lemmas.Bool.{eqb-true}
+use Rattle.std.proofs.lemmas.Bool.{eqb-true, and_parts}
 use Rattle.std.proofs.lemmas.Bool.Decides.{nat_tests}
 use Rattle.std.proofs.lemmas.List.{take_more, map_push}
 use Rattle.std.proofs.lemmas.List.Folds.{list_any-append}
@@ -78,13 +78,9 @@ pub Marks-item : (preds : List PlainPred) (item : Item) (kept kept_after : List 
 Marks-item preds item kept kept_after marked marked_after marks step =
     step.items ∙ ap (λ (t : Bool). cond t kept (kept ++ item ∷ [])) (marked_as preds kept marked item marks)
 
-both_true : (p q : Bool) → (p && q) ≡ true → (p ≡ true) × (q ≡ true)
-both_true true q e = (refl, e)
-both_true false q e = absurd (true≢false (sym e))
-
 same_column : (s k : ℕ) (c : SlotColumn) → (eqb s c.slot && eqb k c.column) ≡ true → slot_column s k ≡ c
 same_column s k c e =
-    let parts = both_true (eqb s c.slot) (eqb k c.column) e in
+    let parts = and_parts (eqb s c.slot) (eqb k c.column) e in
     let slots = eqb-true s c.slot parts.0 in
     let columns = eqb-true k c.column parts.1 in
     rw (slots, columns) refl

@@ -4,7 +4,7 @@ use Rattle.std.proofs.Common.{◌≡◌, ◌∙◌, ◌⊎◌, inl, inr, ℕ, ze
 use Rattle.std.specs.Prelude.{Some, count_by, nat_le, slice_get, slice_index_or, ◌≤ℤ◌, ◌<ℤ◌}
 use Rattle.std.proofs.Math.Nat.{pow-succ'}
 use Rattle.std.proofs.Math.Pow.{pow_mono}
-use Rattle.std.proofs.lemmas.Bool.{cases_Bool, false≢true}
+use Rattle.std.proofs.lemmas.Bool.{cases_Bool, false≢true, and_parts}
 use Rattle.std.proofs.lemmas.Int.{ints}
 use Rattle.std.proofs.lemmas.List.{length-append, length-set}
 use Rattle.adv_base.specs.declared.limits.TheConstants.{MOST_CANDIDATES}
@@ -17,14 +17,15 @@ use Rattle.plan_model.specs.Lagrangian.{TheMultipliers, IsLagrangian}
 use Rattle.plan_model.specs.Useful.{IsUseful, AreUseful}
 use Rattle.plan_model.proofs.Renting.{flag-of}
 use Rattle.plan_model.proofs.Sums.{total, sum-total, passing, passing-more, passing-one_more}
+use Rattle.plan_model.proofs.Duality.{flag-found}
 use Rattle.bip_model.specs.Best.{Subproblem, subproblems, AreWorthwhile, NoneCostsLess, HasTotal, IsTight}
 use Rattle.bip_model.specs.Laws.{NoneUseful}
 use Rattle.bip_model.specs.SearchLaws.{IsWhole}
 use Rattle.bip_model.specs.Trees.{Tree, Branches, Leaf, Full, with_candidate, in_side, out_side, zeros}
 use Rattle.bip_model.proofs.Descending.{AtBranches, IsUsefulBranch, useful-branches, fits-below, config-below}
-use Rattle.bip_model.proofs.Lists.{either-of, set-there, get-on}
+use Rattle.bip_model.proofs.Lists.{either-of, set-there}
 use Rattle.bip_model.proofs.Showing.{with_candidate-keeps}
-use Rattle.bip_model.proofs.Sides.{both-of, free-parts, parts-free}
+use Rattle.bip_model.proofs.Sides.{free-parts, parts-free}
 use Rattle.bip_model.proofs.Unrented.{useless-total}
 
 -- ## Nodes with a flag for each candidate that there may be
@@ -94,7 +95,7 @@ counted-one : (few many : ℕ → Bool) (flags : List Bool) (a : ℕ) → ((k : 
 unfolding counted
 counted-one few many flags a more some on out inside =
     let same : a ≡ 1 + (a - 1) = omega (arith, some) in
-    passing-one_more few many (λ k flag. cond flag 1 0) 1 (a - 1) true flags more (get-on flags (a - 1) on) (ap few (sym same) ∙ out) (ap many (sym same) ∙ inside)
+    passing-one_more few many (λ k flag. cond flag 1 0) 1 (a - 1) true flags more (flag-found flags (a - 1) on) (ap few (sym same) ∙ out) (ap many (sym same) ∙ inside)
 
 passing-all : (a : ℕ) (flags : List Bool) → passing (λ k. true) (λ k flag. cond flag 1 0) a flags ≡ total (λ flag. cond flag 1 0) flags
 passing-all a [] = refl
@@ -205,7 +206,7 @@ none-passes flags test a some on passes =
     omega (arith, one)
 
 open-free : (setting : TheSetting) (budget : ℕ) (node : nodes.Node) (k : ℕ) → nodes.is_open setting.cat setting.shapes budget node k ≡ true → is_free node k ≡ true
-open-free setting budget node k open' = (both-of (is_free node k) (nat_le (config_pages setting.cat setting.shapes node.inside + candidate_pages setting.cat setting.shapes k) budget) open').0
+open-free setting budget node k open' = (and_parts (is_free node k) (nat_le (config_pages setting.cat setting.shapes node.inside + candidate_pages setting.cat setting.shapes k) budget) open').0
 
 some-free : (setting : TheSetting) (budget : ℕ) (flags : List Bool) (node : nodes.Node) (value bound : ℤ) (cost : ℕ) → KeepsLimits setting → AreFlagsOf setting budget flags → IsConfigOf setting.shapes node.inside →
     IsLagrangian setting budget node zeros value → value ≤ℤ bound → bound <ℤ pos cost → HasTotal setting node.inside (λ total. cost ≤ total) → 1 ≤ free_count node flags

@@ -12,7 +12,7 @@ use Rattle.plan_model.specs.Totals.{block_of}
 use Rattle.plan_model.proofs.Sums.{sum-total}
 use Rattle.bip_model.specs.declared.programme.Programme.{Programme}
 use Rattle.bip_model.specs.Candidates as candidates
-use Rattle.bip_model.specs.Candidates.{size_of, pages_of, is_cheaper, has_cheaper, helps_slot, helps_part, is_useful}
+use Rattle.bip_model.specs.Candidates.{size_of, pages_of}
 use Rattle.bip_model.specs.StandsFor.{AreEach, Blocked, blocked_in, blocked_from, StandsFor}
 use Rattle.bip_model.proofs.Lists.{map-or}
 use Rattle.bip_model.proofs.Totalling.{chosen-sum}

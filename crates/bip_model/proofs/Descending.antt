@@ -2,8 +2,7 @@
 use Rattle.std.proofs.Common.{◌≡◌, ◌∙◌, inl, inr, ℕ, zero, suc, ◌+◌, ◌-◌, ◌≤◌, Bool, true, false, List, [], ◌∷◌, length, ℤ, refl, sym, subst, arith}
 use Rattle.std.specs.Prelude.{Some, nat_le, slice_get, slice_set, ◌≤ℤ◌}
 use Rattle.std.specs.Option.{option_map_or}
-use Rattle.std.proofs.lemmas.Bool.{cases_Bool, false≢true}
-use Rattle.std.proofs.lemmas.Bool.Decides.{nat_tests}
+use Rattle.std.proofs.lemmas.Bool.{cases_Bool, false≢true, and_parts, leb-true}
 use Rattle.std.proofs.lemmas.List.{length-append}
 use Rattle.std.proofs.lemmas.Option.{slice_get_within}
 use Rattle.adv_base.specs.declared.catalogue.Catalogue.{Catalogue}
@@ -19,12 +18,12 @@ use Rattle.plan_model.specs.Lagrangian.{TheMultipliers, IsLagrangian}
 use Rattle.plan_model.specs.Useful.{IsUseful}
 use Rattle.plan_model.proofs.Renting.{flag-of}
 use Rattle.plan_model.proofs.Sums.{total, sum-total}
+use Rattle.plan_model.proofs.Duality.{flag-found}
 use Rattle.bip_model.specs.Best.{Subproblem, subproblems, AreWorthwhile}
 use Rattle.bip_model.specs.Trees.{Tree, Branches, Leaf, Full, with_candidate, in_side, out_side, IsBranch, preorder}
 use Rattle.bip_model.proofs.Fixing.{IsNarrower, narrower-value, in-narrower, out-narrower}
-use Rattle.bip_model.proofs.Lists.{front-of, back-of, either-of, get-on, on-get}
+use Rattle.bip_model.proofs.Lists.{front-of, back-of, either-of, on-get}
 use Rattle.bip_model.proofs.Showing.{with_candidate-has}
-use Rattle.bip_model.proofs.Sides.{both-of}
 
 -- ## Narrower nodes
 
@@ -93,7 +92,7 @@ pub record IsUsefulBranch (setting : TheSetting) (budget : ℕ) (node : nodes.No
 pub useful-branch : (setting : TheSetting) (budget : ℕ) (node : nodes.Node) (a : ℕ) → nodes.is_open setting.cat setting.shapes budget node a ≡ true → IsUseful setting budget a → IsUsefulBranch setting budget node a
 useful-branch setting budget node a open' useful =
     let within = slice_get_within setting.shapes (a - 1) useful.shape useful.found in
-    let parts = both-of (is_free node a) (nat_le (config_pages setting.cat setting.shapes node.inside + candidate_pages setting.cat setting.shapes a) budget) open' in
+    let parts = and_parts (is_free node a) (nat_le (config_pages setting.cat setting.shapes node.inside + candidate_pages setting.cat setting.shapes a) budget) open' in
     record {
       branch = record { some = useful.some; within = omega (arith, within, useful.some); free = parts.0 };
       is_open = open';
@@ -139,14 +138,11 @@ pages-with cat shapes config a =
     let more = chosen-more (shape_pages cat) config.on shapes (a - 1) in
     omega (arith, before, after, more)
 
-test-le : (m n : ℕ) → nat_le m n ≡ true → m ≤ n
-test-le m n e = grind (arith, nat_tests)
-
 pub open-fits : (setting : TheSetting) (budget : ℕ) (node : nodes.Node) (a : ℕ) → nodes.is_open setting.cat setting.shapes budget node a ≡ true → Fits setting.cat setting.shapes (with_candidate node.inside a) budget
 open-fits setting budget node a open' =
     let pages : ℕ = config_pages setting.cat setting.shapes node.inside + candidate_pages setting.cat setting.shapes a in
-    let parts = both-of (is_free node a) (nat_le pages budget) open' in
-    let room : pages ≤ budget = test-le pages budget parts.1 in
+    let parts = and_parts (is_free node a) (nat_le pages budget) open' in
+    let room : pages ≤ budget = leb-true pages budget parts.1 in
     omega (arith, room, pages-with setting.cat setting.shapes node.inside a)
 
 pub fits-below : (setting : TheSetting) (budget : ℕ) (root : nodes.Node) (tree : Tree) → AtBranches (IsUsefulBranch setting budget) root tree → Fits setting.cat setting.shapes root.inside budget →
@@ -159,7 +155,7 @@ pub with-config : (shapes : List IndexShape) (config : Config) (a : ℕ) → 1 �
 with-config shapes config a some within is i on =
     let flag : has_candidate (with_candidate config a) (suc i) ≡ true = flag-of (with_candidate config a) i ∙ on-get (with_candidate config a).on i on in
     elim (with_candidate-has config a (suc i) some flag) [
-      | inl before ↦ is i (get-on config.on i (sym (flag-of config i) ∙ before))
+      | inl before ↦ is i (flag-found config.on i (sym (flag-of config i) ∙ before))
       | inr new ↦ omega (arith, new, within)
     ]
 

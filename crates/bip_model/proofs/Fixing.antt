@@ -1,9 +1,9 @@
 -- Fixing never lowers the Lagrangian value: a side of a branch has no more candidates to rent than its node.
-use Rattle.std.proofs.Common.{◌≡◌, ◌∙◌, ◌⊎◌, inl, inr, ℕ, zero, suc, ◌+◌, ◌-◌, ◌*◌, ◌≤◌, Bool, true, false, cond, not, ◌&&◌, ◌||◌, List, [], ◌∷◌, ◌++◌, map, ℤ, pos, negsuc, refl, sym, ap, subst, arith}
+use Rattle.std.proofs.Common.{◌≡◌, ◌∙◌, ◌⊎◌, inl, inr, ℕ, zero, suc, ◌+◌, ◌-◌, ◌*◌, ◌≤◌, Bool, true, false, cond, not, ◌||◌, List, [], ◌∷◌, ◌++◌, map, ℤ, pos, negsuc, refl, sym, ap, subst, arith}
 use Rattle.std.specs.Prelude.{Option, Some, None, if◌then◌else◌, filter, nat_le, slice_get, ◌≤ℤ◌}
 use Rattle.std.specs.Option.{option_map_or}
 use Rattle.std.proofs.Math.Nat.{mul-le-mul}
-use Rattle.std.proofs.lemmas.Bool.{cases_Bool, false≢true}
+use Rattle.std.proofs.lemmas.Bool.{cases_Bool, false≢true, or_cases, and_parts, and_from, not-true}
 use Rattle.std.proofs.lemmas.Bool.Decides.{nat_tests}
 use Rattle.std.proofs.lemmas.Option.{slice_get_cases, slice_get_within}
 use Rattle.adv_base.specs.declared.catalogue.Catalogue.{Catalogue}
@@ -179,21 +179,9 @@ pub record IsNarrower (setting : TheSetting) (budget : ℕ) (node other : nodes.
   pub added : (k : ℕ) → has_candidate other.inside k ≡ true → has_candidate node.inside k ≡ false → is_open setting.cat setting.shapes budget node k ≡ true
   pub opens : (k : ℕ) → is_open setting.cat setting.shapes budget other k ≡ true → is_open setting.cat setting.shapes budget node k ≡ true
 
-pub either : (a b : Bool) → (a || b) ≡ true → (a ≡ true) ⊎ (b ≡ true)
-either true b e = inl refl
-either false b e = inr e
-
-pub both : (a b : Bool) → (a && b) ≡ true → (a ≡ true) × (b ≡ true)
-both true b e = (refl, e)
-both false b e = absurd (false≢true e)
-
 from-either : (a b : Bool) → (a ≡ true) ⊎ (b ≡ true) → (a || b) ≡ true
 from-either true b h = refl
 from-either false b h = elim h [ inl a ↦ absurd (false≢true a) | inr is ↦ is ]
-
-from-both : (a b : Bool) → a ≡ true → b ≡ true → (a && b) ≡ true
-from-both true b x y = y
-from-both false b x y = absurd (false≢true x)
 
 narrower-available : (setting : TheSetting) (budget : ℕ) (node other : nodes.Node) → IsNarrower setting budget node other →
     IsWithin (available setting.cat setting.shapes budget other) (available setting.cat setting.shapes budget node)
@@ -201,7 +189,7 @@ narrower-available setting budget node other is k on =
     true-config_of (is_available setting.cat setting.shapes budget other) (is_available setting.cat setting.shapes budget node) k on
     (λ there.
     from-either (has_candidate node.inside k) (is_open setting.cat setting.shapes budget node k)
-    (elim (either (has_candidate other.inside k) (is_open setting.cat setting.shapes budget other k) there) [
+    (elim (or_cases (has_candidate other.inside k) (is_open setting.cat setting.shapes budget other k) there) [
       | inl inside ↦
           elim (cases_Bool (has_candidate node.inside k)) [
             | inl old ↦ inl old
@@ -251,10 +239,6 @@ narrower-value setting budget node other multipliers before after limit is a b =
 
 -- ## The sides of a branch
 
-not-false : (b : Bool) → not b ≡ true → b ≡ false
-not-false true e = absurd (false≢true e)
-not-false false e = refl
-
 less-test : (few many room : ℕ) → few ≤ many → nat_le many room ≡ true → nat_le few room ≡ true
 less-test few many room less fits = grind (arith, nat_tests)
 
@@ -264,12 +248,12 @@ out-narrower setting budget node a branch =
       keeps = λ k on. on;
       added = λ k on off. absurd (false≢true (sym off ∙ on));
       opens = λ k open'.
-          let parts = both (is_free (out_side node a) k) (nat_le (config_pages setting.cat setting.shapes node.inside + candidate_pages setting.cat setting.shapes k) budget) open' in
-          let free = both (not (has_candidate node.inside k)) (not (has_candidate (with_candidate node.outside a) k)) parts.0 in
-          from-both (is_free node k) (nat_le (config_pages setting.cat setting.shapes node.inside + candidate_pages setting.cat setting.shapes k) budget)
-          (from-both (not (has_candidate node.inside k)) (not (has_candidate node.outside k)) free.0
+          let parts = and_parts (is_free (out_side node a) k) (nat_le (config_pages setting.cat setting.shapes node.inside + candidate_pages setting.cat setting.shapes k) budget) open' in
+          let free = and_parts (not (has_candidate node.inside k)) (not (has_candidate (with_candidate node.outside a) k)) parts.0 in
+          and_from (is_free node k) (nat_le (config_pages setting.cat setting.shapes node.inside + candidate_pages setting.cat setting.shapes k) budget)
+          (and_from (not (has_candidate node.inside k)) (not (has_candidate node.outside k)) free.0
           (elim (cases_Bool (has_candidate node.outside k)) [
-            | inl out' ↦ absurd (false≢true (sym (not-false (has_candidate (with_candidate node.outside a) k) free.1) ∙ with_candidate-keeps node.outside a k out'))
+            | inl out' ↦ absurd (false≢true (sym (not-true (has_candidate (with_candidate node.outside a) k) free.1) ∙ with_candidate-keeps node.outside a k out'))
             | inr not_out ↦ ap not not_out
           ])) parts.1;
     }
@@ -285,12 +269,12 @@ in-narrower setting budget node a branch is_open' =
           ];
       opens = λ k open'.
           let more = pages-more setting.cat setting.shapes node.inside (with_candidate node.inside a) (with_candidate-keeps node.inside a) in
-          let parts = both (is_free (in_side node a) k) (nat_le (config_pages setting.cat setting.shapes (with_candidate node.inside a) + candidate_pages setting.cat setting.shapes k) budget) open' in
-          let free = both (not (has_candidate (with_candidate node.inside a) k)) (not (has_candidate node.outside k)) parts.0 in
-          from-both (is_free node k) (nat_le (config_pages setting.cat setting.shapes node.inside + candidate_pages setting.cat setting.shapes k) budget)
-          (from-both (not (has_candidate node.inside k)) (not (has_candidate node.outside k))
+          let parts = and_parts (is_free (in_side node a) k) (nat_le (config_pages setting.cat setting.shapes (with_candidate node.inside a) + candidate_pages setting.cat setting.shapes k) budget) open' in
+          let free = and_parts (not (has_candidate (with_candidate node.inside a) k)) (not (has_candidate node.outside k)) parts.0 in
+          and_from (is_free node k) (nat_le (config_pages setting.cat setting.shapes node.inside + candidate_pages setting.cat setting.shapes k) budget)
+          (and_from (not (has_candidate node.inside k)) (not (has_candidate node.outside k))
           (elim (cases_Bool (has_candidate node.inside k)) [
-            | inl in' ↦ absurd (false≢true (sym (not-false (has_candidate (with_candidate node.inside a) k) free.0) ∙ with_candidate-keeps node.inside a k in'))
+            | inl in' ↦ absurd (false≢true (sym (not-true (has_candidate (with_candidate node.inside a) k) free.0) ∙ with_candidate-keeps node.inside a k in'))
             | inr not_in ↦ ap not not_in
           ]) free.1)
           (less-test (config_pages setting.cat setting.shapes node.inside + candidate_pages setting.cat setting.shapes k) (config_pages setting.cat setting.shapes (with_candidate node.inside a) + candidate_pages setting.cat setting.shapes k) budget (omega (arith, more)) parts.1);

@@ -1,9 +1,11 @@
 -- Elements of lists, and lists with one element written.
-use Rattle.std.proofs.Common.{◌≡◌, ◌∙◌, ◌⊎◌, inl, inr, ℕ, zero, suc, ◌+◌, ◌<◌, Bool, true, false, ◌||◌, List, [], ◌∷◌, ◌++◌, length, map, refl, sym, ap, arith}
+use Rattle.std.proofs.Common.{◌≡◌, ◌∙◌, ◌⊎◌, inl, inr, ℕ, zero, suc, ◌+◌, ◌<◌, Bool, true, false, List, [], ◌∷◌, ◌++◌, length, map, All, refl, sym, ap, subst, arith}
 use Rattle.std.specs.Prelude.{Some, slice_get, slice_index_or, slice_set}
 use Rattle.std.specs.List.{list_any}
 use Rattle.std.specs.Option.{option_map_or}
-use Rattle.std.proofs.lemmas.Bool.{false≢true}
+use Rattle.std.proofs.lemmas.Bool.{false≢true, or_cases}
+use Rattle.std.proofs.lemmas.Option.{slice_get_cases}
+use Rattle.bip_model.specs.StandsFor.{AreEach}
 
 -- ## Two lists in one
 
@@ -56,11 +58,6 @@ set-there [] i within = absurd (omega (arith, within))
 set-there (flag ∷ flags) zero within = refl
 set-there (flag ∷ flags) (suc i) within = set-there flags i (omega (arith, within))
 
-pub get-on : (flags : List Bool) (i : ℕ) → slice_index_or flags i false ≡ true → slice_get flags i ≡ Some true
-get-on [] i on = absurd (false≢true on)
-get-on (flag ∷ flags) zero on = ap Some on
-get-on (flag ∷ flags) (suc i) on = get-on flags i on
-
 pub on-get : (flags : List Bool) (i : ℕ) → slice_get flags i ≡ Some true → slice_index_or flags i false ≡ true
 on-get [] i found = absurd (cc)
 on-get (flag ∷ flags) zero found = cc
@@ -80,29 +77,51 @@ pub record IsFound {X : Type 0} (test : X → Bool) (xs : List X) : Type 0 where
   pub found : slice_get xs number ≡ Some element
   pub passes : test element ≡ true
 
-pub or-parts : (a b : Bool) → (a || b) ≡ true → (a ≡ true) ⊎ (b ≡ true)
-or-parts true b e = inl refl
-or-parts false b e = inr e
-
-pub or-first : (a b : Bool) → a ≡ true → (a || b) ≡ true
-or-first true b e = refl
-or-first false b e = absurd (false≢true e)
-
-pub or-second : (a b : Bool) → b ≡ true → (a || b) ≡ true
-or-second true b e = refl
-or-second false b e = e
-
 pub any-found : {X : Type 0} (test : X → Bool) (xs : List X) → list_any test xs ≡ true → IsFound test xs
 any-found test [] e = absurd (false≢true e)
 any-found test (x ∷ xs) e =
-    elim (or-parts (test x) (list_any test xs) e) [
+    elim (or_cases (test x) (list_any test xs) e) [
       | inl here ↦ record { number = 0; element = x; found = refl; passes = here }
       | inr later ↦
           let rest = any-found test xs later in
           record { number = suc rest.number; element = rest.element; found = rest.found; passes = rest.passes }
     ]
 
-pub found-any : {X : Type 0} (test : X → Bool) (xs : List X) (i : ℕ) (x : X) → slice_get xs i ≡ Some x → test x ≡ true → list_any test xs ≡ true
-found-any test [] i x found passes = absurd (cc)
-found-any test (y ∷ ys) zero x found passes = let same : y ≡ x = cc in or-first (test y) (list_any test ys) (ap test same ∙ passes)
-found-any test (y ∷ ys) (suc i) x found passes = or-second (test y) (list_any test ys) (found-any test ys i x found passes)
+-- ## All elements
+
+pub map-same : {A B C : Type 0} (f : A → B) (g : B → C) (h : A → C) → ((x : A) → g (f x) ≡ h x) → (xs : List A) → map g (map f xs) ≡ map h xs
+map-same f g h same [] = refl
+map-same f g h same (x ∷ xs) = ap (λ (y : _). y ∷ map g (map f xs)) (same x) ∙ ap (λ (ys : List _). h x ∷ ys) (map-same f g h same xs)
+
+pub All-some : {X : Type 0} (P : X → Type 0) (xs : List X) (i : ℕ) (x : X) → All P xs → slice_get xs i ≡ Some x → P x
+All-some P xs i x all found =
+    elim (slice_get_cases xs i).1 [
+      | inl there ↦ let same : there.0 ≡ x = cc in subst P (there.3 ∙ same) (all i there.0 there.1)
+      | inr past ↦ absurd (cc)
+    ]
+
+pub append-none : {A : Type 0} (xs ys : List A) → ys ≡ [] → xs ++ ys ≡ xs
+append-none [] ys none = none
+append-none (x ∷ xs) ys none = ap (λ (zs : List _). x ∷ zs) (append-none xs ys none)
+
+-- ## Elements in pairs
+
+-- one pair more
+pub each-more : {A B : Type 0} (P : A → B → Type 0) (xs : List A) (ys : List B) (x : A) (y : B) → AreEach P xs ys → P x y → AreEach P (xs ++ x ∷ []) (ys ++ y ∷ [])
+each-more P [] [] x y are one = (one, tt)
+each-more P [] (b ∷ ys) x y are one = absurd are
+each-more P (a ∷ xs) [] x y are one = absurd are
+each-more P (a ∷ xs) (b ∷ ys) x y are one = (are.0, each-more P xs ys x y are.1 one)
+
+-- as many pairs as elements
+pub each-length : {A B : Type 0} (P : A → B → Type 0) (xs : List A) (ys : List B) → AreEach P xs ys → length ys ≡ length xs
+each-length P [] [] are = refl
+each-length P [] (b ∷ ys) are = absurd are
+each-length P (a ∷ xs) [] are = absurd are
+each-length P (a ∷ xs) (b ∷ ys) are = ap suc (each-length P xs ys are.1)
+
+pub each-map : {A B : Type 0} (P Q : A → B → Type 0) → ((x : A) (y : B) → P x y → Q x y) → (xs : List A) (ys : List B) → AreEach P xs ys → AreEach Q xs ys
+each-map P Q more [] [] are = tt
+each-map P Q more [] (y ∷ ys) are = absurd are
+each-map P Q more (x ∷ xs) [] are = absurd are
+each-map P Q more (x ∷ xs) (y ∷ ys) are = (more x y are.0, each-map P Q more xs ys are.1)

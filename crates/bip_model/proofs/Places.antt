@@ -2,7 +2,7 @@
 use Rattle.std.proofs.Common.{◌≡◌, ◌∙◌, inl, inr, ℕ, suc, ◌+◌, ◌-◌, ◌*◌, ◌<◌, ◌≤◌, ◌==◌, Bool, true, false, cond, not, ◌&&◌, List, [], ◌∷◌, length, map, All, refl, sym, ap, subst, arith}
 use Rattle.std.specs.Prelude.{Some, filter, if◌then◌else◌, count_by, slice_get}
 use Rattle.std.specs.List.{enumerate_from}
-use Rattle.std.proofs.lemmas.Bool.{cases_Bool, eqb-true}
+use Rattle.std.proofs.lemmas.Bool.{cases_Bool, eqb-true, and_parts}
 use Rattle.std.proofs.lemmas.List.{length-append, length-map}
 use Rattle.std.proofs.lemmas.List.Elements.{All-head, All-tail}
 use Rattle.adv_base.specs.declared.catalogue.index.IndexShape.{IndexShape}
@@ -24,7 +24,6 @@ use Rattle.bip_model.specs.Views.{Place, is_place, rent_at}
 use Rattle.bip_model.proofs.Deciding.{blocked-from}
 use Rattle.bip_model.proofs.Fixing.{Has, image-of}
 use Rattle.bip_model.proofs.Lists.{either-of}
-use Rattle.bip_model.proofs.Sides.{both-of}
 use Rattle.bip_model.proofs.Useless.{filter-test, numbered-is}
 
 -- ## A rent has its place
@@ -39,8 +38,8 @@ record IsPlaceOf (list : List Place) (q s a : ℕ) : Type 0 where
 
 place-parts : (place : Place) (q s a : ℕ) → is_place place q s a ≡ true → (place.statement ≡ q) × (place.slot ≡ s) × (place.candidate ≡ a)
 place-parts place q s a e =
-    let outer = both-of (place.statement == q) ((place.slot == s) && (place.candidate == a)) e in
-    let inner = both-of (place.slot == s) (place.candidate == a) outer.1 in
+    let outer = and_parts (place.statement == q) ((place.slot == s) && (place.candidate == a)) e in
+    let inner = and_parts (place.slot == s) (place.candidate == a) outer.1 in
     (eqb-true place.statement q outer.0, eqb-true place.slot s inner.0, eqb-true place.candidate a inner.1)
 
 rent-place : (list : List Place) (rents : List ℕ) (q s a : ℕ) → 0 < rent_at list rents q s a → IsPlaceOf list q s a
@@ -152,7 +151,7 @@ rents-use setting multipliers = λ q s a some. listed-use setting multipliers.la
 
 -- ## How many uses there may be
 
-filter-length : {X : Type 0} (test : X → Bool) (xs : List X) → length (filter test xs) ≤ length xs
+pub filter-length : {X : Type 0} (test : X → Bool) (xs : List X) → length (filter test xs) ≤ length xs
 filter-length test [] = omega arith
 filter-length {X} test (x ∷ xs) = one (test x) (filter-length test xs)
   where
@@ -160,7 +159,7 @@ filter-length {X} test (x ∷ xs) = one (test x) (filter-length test xs)
     one true rest = omega (arith, rest)
     one false rest = omega (arith, rest)
 
-enumerate-length : (k : ℕ) (xs : List IndexShape) → length (enumerate_from k xs) ≡ length xs
+pub enumerate-length : (k : ℕ) (xs : List IndexShape) → length (enumerate_from k xs) ≡ length xs
 enumerate-length k [] = refl
 enumerate-length k (x ∷ xs) = let rest = enumerate-length (k + 1) xs in omega (arith, rest)
 

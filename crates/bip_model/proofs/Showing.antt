@@ -16,13 +16,12 @@ use Rattle.adv_base.specs.Sizes.{shape_pages}
 use Rattle.adv_base.proofs.OfferBounds.{offers-limits}
 use Rattle.plan_model.specs.Lagrangian.{TheMultipliers, IsAtMost}
 use Rattle.plan_model.specs.Totals.{no_candidates, IsTotal, OffersKeepLimits}
-use Rattle.plan_model.proofs.Duality.{weak-duality}
+use Rattle.plan_model.proofs.Duality.{weak-duality, pages-passing}
 use Rattle.plan_model.proofs.Renting.{flag-of}
-use Rattle.plan_model.proofs.Sums.{sum-total, passing, chosen-passing, passing-more}
+use Rattle.plan_model.proofs.Sums.{passing-more}
 use Rattle.bip_model.specs.declared.answer.Node.{Node}
 use Rattle.bip_model.specs.Trees.{Tree, Branches, Leaf, Full, with_candidate, in_side, out_side, Shows}
 use Rattle.bip_model.specs.Proves.{free_node, Proves}
-use Rattle.bip_model.proofs.Standing.{flags-are}
 
 -- ## Sides of branches
 
@@ -100,10 +99,6 @@ below-out node config a some below off =
     }
 
 -- ## Pages
-
-pages-passing : (cat : Catalogue) (shapes : List IndexShape) (config : Config) → config_pages cat shapes config ≡ passing (has_candidate config) (λ k shape. shape_pages cat shape) 1 shapes
-pages-passing cat shapes config =
-    sum-total (shape_pages cat) _ ∙ chosen-passing (has_candidate config) (shape_pages cat) 1 config.on shapes (flags-are config)
 
 -- more candidates have no fewer pages
 pub pages-more : (cat : Catalogue) (shapes : List IndexShape) (few many : Config) → ((a : ℕ) → has_candidate few a ≡ true → has_candidate many a ≡ true) → config_pages cat shapes few ≤ config_pages cat shapes many

@@ -1,7 +1,7 @@
 -- A fix with one state written is a side of its node; with the state written back it is the node again.
 use Rattle.std.proofs.Common.{◌≡◌, ◌∙◌, ℕ, zero, suc, ◌-◌, ◌<◌, ◌≤◌, Bool, true, false, not, ◌&&◌, List, [], ◌∷◌, length, map, refl, sym, ap, arith}
 use Rattle.std.specs.Prelude.{Some, slice_get, slice_index_or, slice_set}
-use Rattle.std.proofs.lemmas.Bool.{false≢true}
+use Rattle.std.proofs.lemmas.Bool.{false≢true, not-true, and_parts}
 use Rattle.adv_base.specs.declared.setting.Config.{Config}
 use Rattle.adv_base.specs.Configs.{has_candidate}
 use Rattle.adv_base.specs.Nodes as nodes
@@ -14,19 +14,11 @@ use Rattle.bip_model.specs.Trees.{in_side, out_side}
 use Rattle.bip_model.specs.Views.{is_in, is_out, node_of}
 use Rattle.bip_model.proofs.Lists.{map-set, set-same, set-back}
 
-pub off-of : (b : Bool) → not b ≡ true → b ≡ false
-off-of true e = absurd (false≢true e)
-off-of false e = refl
-
-pub both-of : (a b : Bool) → (a && b) ≡ true → (a ≡ true) × (b ≡ true)
-both-of true b e = (refl, e)
-both-of false b e = absurd (false≢true e)
-
 -- what is free is neither in nor out
 pub free-parts : (node : nodes.Node) (a : ℕ) → is_free node a ≡ true → (has_candidate node.inside a ≡ false) × (has_candidate node.outside a ≡ false)
 free-parts node a free =
-    let parts = both-of (not (has_candidate node.inside a)) (not (has_candidate node.outside a)) free in
-    (off-of (has_candidate node.inside a) parts.0, off-of (has_candidate node.outside a) parts.1)
+    let parts = and_parts (not (has_candidate node.inside a)) (not (has_candidate node.outside a)) free in
+    (not-true (has_candidate node.inside a) parts.0, not-true (has_candidate node.outside a) parts.1)
 
 pub parts-free : (node : nodes.Node) (a : ℕ) → has_candidate node.inside a ≡ false → has_candidate node.outside a ≡ false → is_free node a ≡ true
 parts-free node a not_in not_out = ap (λ (b : Bool). not b && not (has_candidate node.outside a)) not_in ∙ ap not not_out

@@ -1,5 +1,5 @@
 -- In a programme that stands for a setting, the cost of a part is the cost of a least plan of its block.
-use Rattle.std.proofs.Common.{◌≡◌, ◌∙◌, inl, inr, ℕ, zero, suc, ◌+◌, ◌<◌, ◌≤◌, ◌==◌, Bool, true, false, List, [], ◌∷◌, ◌++◌, length, All, fold, map, take, refl, sym, ap, subst, arith}
+use Rattle.std.proofs.Common.{◌≡◌, ◌∙◌, inl, inr, ℕ, zero, suc, ◌+◌, ◌<◌, ◌≤◌, ◌==◌, Bool, true, false, List, [], ◌∷◌, ◌++◌, length, fold, map, take, refl, sym, ap, subst, arith}
 use Rattle.std.specs.Prelude.{Option, Some, None, if◌then◌else◌, filter, slice_get, slice_index_or, option_and_then, unwrap_or}
 use Rattle.std.specs.List.{enumerate_from}
 use Rattle.std.specs.Option.{option_map_or}
@@ -30,8 +30,8 @@ use Rattle.plan_model.specs.Exchange.{sum_below}
 use Rattle.plan_model.specs.Least.{Least}
 use Rattle.plan_model.specs.Orders.{interesting_orders}
 use Rattle.plan_model.specs.Totals.{no_candidates}
-use Rattle.plan_model.proofs.Renting.{flag-of}
 use Rattle.plan_model.proofs.Sums.{AreFlags}
+use Rattle.plan_model.proofs.Duality.{flags-are}
 use Rattle.bip_model.specs.declared.grant.Grant.{Grant}
 use Rattle.bip_model.specs.declared.slot_part.SlotPart.{SlotPart}
 use Rattle.bip_model.specs.declared.part.Part.{Part}
@@ -39,6 +39,7 @@ use Rattle.bip_model.specs.Limits.Parts.{TemplateLimits}
 use Rattle.bip_model.specs.Values.{lesser, plus, price_of, granted, slot_price, need, needed_price, cost_below, template_cost, least_cost, part_cost}
 use Rattle.bip_model.specs.StandsFor.{given, least_given, candidates_on, AreEach, IsGrant, IsSlotPart, Blocked, IsPart}
 use Rattle.bip_model.proofs.Least.{IsSome, least-made, least-most, least-filter, least-map}
+use Rattle.bip_model.proofs.Lists.{map-same, All-some, append-none}
 
 -- ## The candidates of a configuration on a table
 
@@ -72,23 +73,12 @@ picked has t a (false ∷ flags) (shape ∷ shapes) are =
       | inr off ↦ rw off rest
     ]
 
-pub flags-are : (config : Config) → AreFlags (has_candidate config) 1 config.on
-flags-are config = λ i. ap (has_candidate config) (omega arith) ∙ flag-of config i
-
 pub chosen-on : (shapes : List IndexShape) (config : Config) (t : ℕ) → filter (λ n. has_candidate config n.0) (candidates_on shapes t) ≡ numbered_on shapes config t
 chosen-on shapes config t = picked (has_candidate config) t 1 config.on shapes (flags-are config)
 
 -- ## Offers of a configuration: those of what exists, and those of its candidates
 
-map-same : {A B C : Type 0} (f : A → B) (g : B → C) (h : A → C) → ((x : A) → g (f x) ≡ h x) → (xs : List A) → map g (map f xs) ≡ map h xs
-map-same f g h same [] = refl
-map-same f g h same (x ∷ xs) = ap (λ (y : _). y ∷ map g (map f xs)) (same x) ∙ ap (λ (ys : List _). h x ∷ ys) (map-same f g h same xs)
-
-append-none : {A : Type 0} (xs ys : List A) → ys ≡ [] → xs ++ ys ≡ xs
-append-none [] ys none = none
-append-none (x ∷ xs) ys none = ap (λ (zs : List _). x ∷ zs) (append-none xs ys none)
-
-offers-on : (cat : Catalogue) (block : Block) (shapes : List IndexShape) (config : Config) (s : ℕ) (slot : Slot) (table : Table) → slice_get block.slots s ≡ Some slot → table_at cat slot.table ≡ Some table →
+pub offers-on : (cat : Catalogue) (block : Block) (shapes : List IndexShape) (config : Config) (s : ℕ) (slot : Slot) (table : Table) → slice_get block.slots s ≡ Some slot → table_at cat slot.table ≡ Some table →
     offers cat block shapes config s ≡ offers_on cat block shapes config s slot (Some table)
 unfolding offers
 offers-on cat block shapes config s slot table slot_found table_found =
@@ -106,7 +96,7 @@ offers-parted cat block shapes config s slot table =
     map-append offer (Heap ∷ map Existing table.indexes) (map candidate_path ns)
     ∙ ap (λ (back : List Offer). map offer (Heap ∷ map Existing table.indexes) ++ back) (map-same candidate_path offer (λ n. index_offer cat block s slot table n.1) (λ n. refl) ns)
 
-none-on : (shapes : List IndexShape) (t : ℕ) → numbered_on shapes no_candidates t ≡ []
+pub none-on : (shapes : List IndexShape) (t : ℕ) → numbered_on shapes no_candidates t ≡ []
 none-on shapes t = ap (filter (λ (n : ℕ × IndexShape). n.1.table == t)) (chosen-none MOST_CANDIDATES (enumerate_from 1 shapes))
 
 pub offers-split : (cat : Catalogue) (block : Block) (shapes : List IndexShape) (config : Config) (s : ℕ) (slot : Slot) (table : Table) → slice_get block.slots s ≡ Some slot → table_at cat slot.table ≡ Some table →
@@ -228,14 +218,14 @@ unfolding price_or
 price-is config slots template s p e = ap (λ (o : Option ℕ). unwrap_or o 0) e
 
 -- the two sides of a sum that is there
-record AreAdded (a b : Option ℕ) (c : ℕ) : Type 0 where
-  left : ℕ
-  left_is : a ≡ Some left
-  right : ℕ
-  right_is : b ≡ Some right
-  sum : c ≡ left + right
+pub record AreAdded (a b : Option ℕ) (c : ℕ) : Type 0 where
+  pub left : ℕ
+  pub left_is : a ≡ Some left
+  pub right : ℕ
+  pub right_is : b ≡ Some right
+  pub sum : c ≡ left + right
 
-plus-made : (a b : Option ℕ) (c : ℕ) → plus a b ≡ Some c → AreAdded a b c
+pub plus-made : (a b : Option ℕ) (c : ℕ) → plus a b ≡ Some c → AreAdded a b c
 plus-made None b c e = absurd (cc)
 plus-made (Some a) None c e = absurd (cc)
 plus-made (Some a) (Some b) c e = let same : a + b ≡ c = cc in record { left = a; left_is = refl; right = b; right_is = refl; sum = omega (arith, same) }
@@ -272,13 +262,6 @@ summed-cost config slots template prices (suc n) each =
     ap (λ (o : Option ℕ). plus o (needed_price config slots template n)) before
     ∙ ap (plus (Some (template.internal + sum_below prices n))) (each n (omega arith)) ∙ ap Some same
 
-All-some : {X : Type 0} (P : X → Type 0) (xs : List X) (i : ℕ) (x : X) → All P xs → slice_get xs i ≡ Some x → P x
-All-some P xs i x all found =
-    elim (slice_get_cases xs i).1 [
-      | inl there ↦ let same : there.0 ≡ x = cc in subst P (there.3 ∙ same) (all i there.0 there.1)
-      | inr past ↦ absurd (cc)
-    ]
-
 -- ## The least cost of a part
 
 -- a slot gives what a template needs at the least price of an offer
@@ -303,7 +286,7 @@ needed-given setting blocked part config is i template template_found s below =
       | inr past ↦ absurd (omega (arith, past.0, inside))
     ]
 
-slots-same : (setting : TheSetting) (blocked : Blocked) (part : Part) → (is : IsPart setting blocked part) → length part.slots ≡ is.task.slots
+pub slots-same : (setting : TheSetting) (blocked : Blocked) (part : Part) → (is : IsPart setting blocked part) → length part.slots ≡ is.task.slots
 slots-same setting blocked part is = is.slots_count ∙ sym is.task_is.slots_are
 
 part-cached : (setting : TheSetting) (blocked : Blocked) (part : Part) (config : Config) (is : IsPart setting blocked part) (cost : ℕ) → least_cost part config ≡ Some cost →
@@ -343,7 +326,7 @@ part-cached setting blocked part config is cost e =
           }
     ]
 
-first-order : (task : Task) (s : ℕ) → slice_index_or (interesting_orders task s) 0 [] ≡ []
+pub first-order : (task : Task) (s : ℕ) → slice_index_or (interesting_orders task s) 0 [] ≡ []
 unfolding interesting_orders
 first-order task s = refl
 

@@ -1,9 +1,9 @@
 -- At a node where no open candidate is useful, the Lagrangian value without rents is the total of what is in.
-use Rattle.std.proofs.Common.{◌≡◌, ◌∙◌, ℕ, zero, suc, ◌+◌, ◌-◌, ◌*◌, ◌<◌, ◌≤◌, Bool, true, false, cond, ◌||◌, ◌==◌, List, [], ◌∷◌, length, map, sum, All, ℤ, pos, negsuc, refl, sym, ap, subst, arith}
-use Rattle.std.specs.Prelude.{Option, Some, None, if◌then◌else◌, slice_get, slice_index_or}
+use Rattle.std.proofs.Common.{◌≡◌, ◌∙◌, ℕ, zero, suc, ◌+◌, ◌-◌, ◌*◌, ◌<◌, ◌≤◌, Bool, true, false, cond, ◌==◌, List, [], ◌∷◌, length, map, sum, All, ℤ, pos, negsuc, refl, sym, ap, subst, arith}
+use Rattle.std.specs.Prelude.{Option, Some, None, if◌then◌else◌, slice_get}
 use Rattle.std.specs.Option.{option_map_or}
 use Rattle.std.proofs.Math.Nat.{mul-add}
-use Rattle.std.proofs.lemmas.Bool.{false≢true}
+use Rattle.std.proofs.lemmas.Bool.{false≢true, or_left}
 use Rattle.std.proofs.lemmas.List.Elements.{All-head, All-tail}
 use Rattle.adv_base.specs.declared.catalogue.index.IndexShape.{IndexShape}
 use Rattle.adv_base.specs.declared.limits.TheConstants.{MOST_CANDIDATES}
@@ -31,31 +31,22 @@ use Rattle.plan_model.proofs.Comparing.{least-never-rises}
 use Rattle.plan_model.proofs.Renting.{flag-of}
 use Rattle.plan_model.proofs.Sums.{total, passing, chosen-passing}
 use Rattle.plan_model.proofs.Unique.{one-task, unrented-plain}
+use Rattle.plan_model.proofs.Duality.{flags-are, flag-found}
 use Rattle.bip_model.specs.Trees.{zeros}
 use Rattle.bip_model.specs.Laws.{NoneUseful}
 use Rattle.bip_model.proofs.Fixing.{rented-more}
-use Rattle.bip_model.proofs.Standing.{flags-are}
 use Rattle.bip_model.proofs.Totalling.{named-of, written, written-upkeep, chosen-sum}
 use Rattle.bip_model.proofs.Useless.{IsBlockOf, no-dearer}
 
 -- ## Plans cost the same
 
-on-some : (flags : List Bool) (i : ℕ) → slice_index_or flags i false ≡ true → slice_get flags i ≡ Some true
-on-some [] i on = absurd (false≢true on)
-on-some (flag ∷ flags) zero on = ap Some on
-on-some (flag ∷ flags) (suc i) on = on-some flags i on
-
-or-left : (a b : Bool) → a ≡ true → (a || b) ≡ true
-or-left true b e = refl
-or-left false b e = absurd (false≢true e)
-
 inside-available : (setting : TheSetting) (budget : ℕ) (node : nodes.Node) → KeepsLimits setting → IsConfigOf setting.shapes node.inside → IsWithin node.inside (available setting.cat setting.shapes budget node)
 inside-available setting budget node limits is zero on = absurd (false≢true on)
 inside-available setting budget node limits is (suc i) on =
-    let inside : i < length setting.shapes = is i (on-some node.inside.on i (sym (flag-of node.inside i) ∙ on)) in
+    let inside : i < length setting.shapes = is i (flag-found node.inside.on i (sym (flag-of node.inside i) ∙ on)) in
     let few : length setting.shapes ≤ MOST_CANDIDATES = limits.shapes_most in
     config_of-has (is_available setting.cat setting.shapes budget node) (suc i) (omega arith) (omega (arith, inside, few))
-    ∙ or-left (has_candidate node.inside (suc i)) (is_open setting.cat setting.shapes budget node (suc i)) on
+    ∙ or_left (has_candidate node.inside (suc i)) (is_open setting.cat setting.shapes budget node (suc i)) on
 
 no_rent : IsRent (λ s a. 0)
 no_rent = λ s a. omega arith

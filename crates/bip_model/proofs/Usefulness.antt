@@ -1,11 +1,11 @@
 -- A programme that stands for a setting tells which candidates are useful.
-use Rattle.std.proofs.Common.{◌≡◌, ◌∙◌, inl, inr, ℕ, zero, suc, ◌+◌, ◌-◌, ◌<◌, ◌≤◌, ◌==◌, Bool, true, false, cond, ◌&&◌, List, [], ◌∷◌, ◌++◌, length, map, All, refl, sym, ap, subst, arith}
-use Rattle.std.specs.Prelude.{Option, Some, None, nat_le, nat_lt, slice_get}
+use Rattle.std.proofs.Common.{◌≡◌, ◌∙◌, inl, inr, ℕ, zero, suc, ◌+◌, ◌-◌, ◌<◌, ◌≤◌, ◌==◌, Bool, true, cond, ◌&&◌, List, [], ◌∷◌, ◌++◌, length, map, All, refl, sym, ap, subst, arith}
+use Rattle.std.specs.Prelude.{Option, Some, None, nat_le, slice_get}
 use Rattle.std.specs.List.{enumerate_from, list_any}
 use Rattle.std.specs.Option.{option_map_or}
-use Rattle.std.proofs.lemmas.Bool.{cases_lt, eq-eqb, eqb-true, false≢true}
-use Rattle.std.proofs.lemmas.Bool.Decides.{nat_tests}
+use Rattle.std.proofs.lemmas.Bool.{cases_lt, eq-eqb, eqb-true, false≢true, or_cases, or_left, or_right, and_parts, and_from, leb-true, le-leb, ltb-true, lt-ltb}
 use Rattle.std.proofs.lemmas.List.{length-map, length-append}
+use Rattle.std.proofs.lemmas.Map.Keys.{any_passes_from_place}
 use Rattle.std.proofs.lemmas.Option.{slice_get_cases, slice_get_within, get_or_from_slice_get}
 use Rattle.adv_base.specs.declared.catalogue.index.IndexShape.{IndexShape}
 use Rattle.adv_base.specs.declared.catalogue.table.Table.{Table}
@@ -24,6 +24,7 @@ use Rattle.plan_model.specs.Totals.{no_candidates}
 use Rattle.plan_model.specs.Useful.{IsCheaper, IsUseful, AreUseful}
 use Rattle.plan_model.proofs.Sums.{total, sum-total}
 use Rattle.plan_model.proofs.Unique.{one-task}
+use Rattle.plan_model.proofs.Duality.{flag-found}
 use Rattle.bip_model.specs.declared.grant.Grant.{Grant}
 use Rattle.bip_model.specs.declared.slot_part.SlotPart.{SlotPart}
 use Rattle.bip_model.specs.declared.part.Part.{Part}
@@ -33,28 +34,9 @@ use Rattle.bip_model.specs.StandsFor.{given, least_given, candidates_on, IsGrant
 use Rattle.bip_model.proofs.Deciding.{size-same, blocked-from, from-blocked, each-right, each-left}
 use Rattle.bip_model.proofs.Fixing.{Has, mapped-at}
 use Rattle.bip_model.proofs.Least.{least-made, least-most}
-use Rattle.bip_model.proofs.Lists.{any-found, found-any, get-on, on-get, front-of, back-of, either-of, or-parts, or-first, or-second}
-use Rattle.bip_model.proofs.Sides.{both-of}
+use Rattle.bip_model.proofs.Lists.{any-found, on-get, front-of, back-of, either-of}
 use Rattle.bip_model.proofs.Standing.{given-gives, gives-given}
 use Rattle.bip_model.proofs.Useless.{filter-test, filter-has, numbered-is}
-
--- ## Tests
-
-le-of : (a b : ℕ) → nat_le a b ≡ true → a ≤ b
-le-of a b e = grind (arith, nat_tests)
-
-of-le : (a b : ℕ) → a ≤ b → nat_le a b ≡ true
-of-le a b le = grind (arith, nat_tests)
-
-lt-of : (a b : ℕ) → nat_lt a b ≡ true → a < b
-lt-of a b e = grind (arith, nat_tests)
-
-of-lt : (a b : ℕ) → a < b → nat_lt a b ≡ true
-of-lt a b lt = grind (arith, nat_tests)
-
-both-from : (a b : Bool) → a ≡ true → b ≡ true → (a && b) ≡ true
-both-from true b x y = y
-both-from false b x y = absurd (false≢true x)
 
 -- ## A cheaper price
 
@@ -74,7 +56,7 @@ pub cheaper-found : (prices base : List (Option ℕ)) → has_cheaper prices bas
 cheaper-found [] base e = absurd (false≢true e)
 cheaper-found (price ∷ prices) [] e = absurd (false≢true e)
 cheaper-found (price ∷ prices) (other ∷ others) e =
-    elim (or-parts (is_cheaper price other) (has_cheaper prices others) e) [
+    elim (or_cases (is_cheaper price other) (has_cheaper prices others) e) [
       | inl here ↦ cheaper-first price other prices others here
       | inr later ↦
           let rest = cheaper-found prices others later in
@@ -87,9 +69,9 @@ found-cheaper (price ∷ prices) [] o p other found there cheaper = absurd (cc)
 found-cheaper (price ∷ prices) (first ∷ base) zero p other found there cheaper =
     let own : price ≡ Some p = cc in
     let same : first ≡ other = cc in
-    or-first (is_cheaper price first) (has_cheaper prices base) (ap (λ (q : Option ℕ). is_cheaper q first) own ∙ ap (is_cheaper (Some p)) same ∙ cheaper)
+    or_left (is_cheaper price first) (has_cheaper prices base) (ap (λ (q : Option ℕ). is_cheaper q first) own ∙ ap (is_cheaper (Some p)) same ∙ cheaper)
 found-cheaper (price ∷ prices) (first ∷ base) (suc o) p other found there cheaper =
-    or-second (is_cheaper price first) (has_cheaper prices base) (found-cheaper prices base o p other found there cheaper)
+    or_right (is_cheaper price first) (has_cheaper prices base) (found-cheaper prices base o p other found there cheaper)
 
 -- an element of a mapped list, at its own place
 record IsMappedAt {X Y : Type 0} (f : X → Y) (xs : List X) (i : ℕ) (y : Y) : Type 0 where
@@ -116,7 +98,7 @@ dearer-all plain order p price other least cheaper same = λ k d within.
           (λ begins.
           let most = least-most (given order) None plain k offer offer.1 there.2 (gives-given order offer begins) in
           let is : other ≡ Some most.number = sym least ∙ most.is in
-          let less : p < most.number = lt-of p most.number (sym (ap (is_cheaper (Some p)) is) ∙ cheaper) in
+          let less : p < most.number = ltb-true p most.number (sym (ap (is_cheaper (Some p)) is) ∙ cheaper) in
           omega (arith, less, most.holds, same))
     ]
 
@@ -142,21 +124,21 @@ slot-cheaper setting block task task_is s slot own n grant slot_found is grant_i
       task = task;
       task_is = task_is;
       order = order;
-      interesting = found-any (is_same_order order) orders at'.order order price.found (order_same order);
+      interesting = any_passes_from_place (is_same_order order) orders at'.order order price.found (order_same order);
       gives = gives.0;
       below = dearer-all plain order at'.price offer.1 at'.other (ap (λ (o : Order). least_given o plain) (sym same) ∙ base.is) at'.cheaper gives.1;
     }
 
 pub useful-from : (setting : TheSetting) (programme : Programme) (budget a : ℕ) → StandsFor setting programme → is_useful programme budget a ≡ true → IsUseful setting budget a
 useful-from setting programme budget a stands e =
-    let parts = both-of (nat_le (size_of programme a) budget) (list_any (helps_part a) programme.parts) e in
+    let parts = and_parts (nat_le (size_of programme a) budget) (list_any (helps_part a) programme.parts) e in
     let in_part = any-found (helps_part a) programme.parts parts.1 in
     let part : Part = in_part.element in
     let in_slot = any-found (helps_slot a) part.slots in_part.passes in
     let own : SlotPart = in_slot.element in
     let in_grant = any-found (λ (grant : Grant). (grant.candidate == a) && has_cheaper grant.prices own.base) own.grants in_slot.passes in
     let grant : Grant = in_grant.element in
-    let tests = both-of (grant.candidate == a) (has_cheaper grant.prices own.base) in_grant.passes in
+    let tests = and_parts (grant.candidate == a) (has_cheaper grant.prices own.base) in_grant.passes in
     let paired = each-right (IsPart setting) (blocked_from 1 setting.statements) programme.parts in_part.number part stands.parts_are in_part.found in
     let blocked : Blocked = paired.element in
     let is : IsPart setting blocked part = paired.holds in
@@ -173,7 +155,7 @@ useful-from setting programme budget a stands e =
           let same : n.0 ≡ a = sym granted.holds.candidate_is ∙ eqb-true grant.candidate a tests.0 in
           let found : slice_get setting.shapes (a - 1) ≡ Some n.1 = ap (λ (k : ℕ). slice_get setting.shapes (k - 1)) (sym same) ∙ numbered.found in
           let pages : candidate_pages setting.cat setting.shapes a ≡ shape_pages setting.cat n.1 = ap (λ (o : Option IndexShape). option_map_or (shape_pages setting.cat) o 0) found in
-          let fits : size_of programme a ≤ budget = le-of (size_of programme a) budget parts.0 in
+          let fits : size_of programme a ≤ budget = leb-true (size_of programme a) budget parts.0 in
           record {
             some = omega (arith, numbered.least, same);
             shape = n.1;
@@ -214,7 +196,7 @@ least-cheaper plain order price below = one (least_given order plain) refl
               let within = slice_get_within plain made.number made.element made.found in
               let less : price < made.element.1 =
               subst (λ (x : Offer). BeginsWith x.0 order → price < x.1) (get_or_from_slice_get plain made.number made.element made.element made.found) (below made.number made.element within) gives.0 in
-              of-lt price q (omega (arith, less, gives.1))
+              lt-ltb price q (omega (arith, less, gives.1))
         ]
 
 helps : (setting : TheSetting) (block : Block) (task : Task) (task_is : IsTaskOf setting.cat block task) (s a : ℕ) (shape : IndexShape) (own : SlotPart) (cheap : IsCheaper setting block s shape) →
@@ -246,8 +228,8 @@ helps setting block task task_is s a shape own cheap is some found =
     ∙ mapped-at (λ (o : Order). given o offer) orders at'.number order at'.found ∙ ap Some (gives-given order offer gives) in
     let base : slice_get own.base at'.number ≡ Some (least_given order plain) =
     ap (λ (ps : List (Option ℕ)). slice_get ps at'.number) is.base_is ∙ mapped-at (λ (o : Order). least_given o plain) orders at'.number order at'.found in
-    found-any (λ (g : Grant). (g.candidate == a) && has_cheaper g.prices own.base) own.grants on.number grant paired.found
-    (both-from (grant.candidate == a) (has_cheaper grant.prices own.base) (eq-eqb grant.candidate a paired.holds.candidate_is)
+    any_passes_from_place (λ (g : Grant). (g.candidate == a) && has_cheaper g.prices own.base) own.grants on.number grant paired.found
+    (and_from (grant.candidate == a) (has_cheaper grant.prices own.base) (eq-eqb grant.candidate a paired.holds.candidate_is)
     (found-cheaper grant.prices own.base at'.number offer.1 (least_given order plain) price base (least-cheaper plain order offer.1 below)))
 
 pub useful-to : (setting : TheSetting) (programme : Programme) (budget a : ℕ) → StandsFor setting programme → IsUseful setting budget a → is_useful programme budget a ≡ true
@@ -264,9 +246,9 @@ useful-to setting programme budget a stands u =
       | inr past ↦ absurd (omega (arith, past.0, slice_get_within blocked.block.slots u.slot cheap.slot cheap.slot_found, is.slots_count))
       | inl own ↦
           let slot_is : IsSlotPart setting blocked.block is.task u.slot cheap.slot own.0 = is.slots_are u.slot cheap.slot own.0 cheap.slot_found own.2 in
-          both-from (nat_le (size_of programme a) budget) (list_any (helps_part a) programme.parts) (of-le (size_of programme a) budget fits)
-          (found-any (helps_part a) programme.parts at'.place part paired.found
-          (found-any (helps_slot a) part.slots u.slot own.0 own.2 (helps setting blocked.block is.task is.task_is u.slot a u.shape own.0 cheap slot_is u.some u.found)))
+          and_from (nat_le (size_of programme a) budget) (list_any (helps_part a) programme.parts) (le-leb (size_of programme a) budget fits)
+          (any_passes_from_place (helps_part a) programme.parts at'.place part paired.found
+          (any_passes_from_place (helps_slot a) part.slots u.slot own.0 own.2 (helps setting blocked.block is.task is.task_is u.slot a u.shape own.0 cheap slot_is u.some u.found)))
     ]
 
 -- ## How many are useful
@@ -336,7 +318,7 @@ useful-counted setting programme budget stands =
           let number : suc (a - 1) ≡ a = omega (arith, some) in (
             λ on.
                 useful-from setting programme budget a stands
-                (ap (is_useful programme budget) (sym number) ∙ flags_to-passes (is_useful programme budget) count (a - 1) (get-on flags (a - 1) on)),
+                (ap (is_useful programme budget) (sym number) ∙ flags_to-passes (is_useful programme budget) count (a - 1) (flag-found flags (a - 1) on)),
             λ useful.
                 on-get flags (a - 1)
                 (flags_to-found (is_useful programme budget) count (a - 1)

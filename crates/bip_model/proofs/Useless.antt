@@ -3,7 +3,7 @@ use Rattle.std.proofs.Common.{◌≡◌, ◌∙◌, ◌⊎◌, inl, inr, ℕ, ze
 use Rattle.std.specs.Prelude.{Option, Some, filter, nat_le, slice_get, slice_index_or, option_and_then}
 use Rattle.std.specs.List.{enumerate_from, list_any}
 use Rattle.std.specs.Option.{option_map_or}
-use Rattle.std.proofs.lemmas.Bool.{cases_Bool, cases_lt, eqb-true, false≢true}
+use Rattle.std.proofs.lemmas.Bool.{cases_Bool, cases_lt, eqb-true, false≢true, or_cases, and_parts}
 use Rattle.std.proofs.lemmas.Bool.Decides.{nat_tests}
 use Rattle.std.proofs.lemmas.Option.{slice_get_cases, slice_get_within}
 use Rattle.adv_base.specs.declared.catalogue.index.IndexShape.{IndexShape}
@@ -36,8 +36,9 @@ use Rattle.plan_model.proofs.Decomposing.{core}
 use Rattle.plan_model.proofs.Renting.{flag-of}
 use Rattle.bip_model.specs.Laws.{NoneUseful}
 use Rattle.bip_model.specs.StandsFor.{candidates_on}
-use Rattle.bip_model.proofs.Fixing.{Has, image-of, mapped-at, either, both}
+use Rattle.bip_model.proofs.Fixing.{Has, image-of, mapped-at}
 use Rattle.bip_model.proofs.Standing.{chosen-on, offers-split}
+use Rattle.bip_model.proofs.Lists.{front-of, back-of}
 
 -- ## What passes a test
 
@@ -53,15 +54,6 @@ config_of-true has zero on = absurd (false≢true on)
 config_of-true has (suc i) on = ap has (omega arith) ∙ flags-true has 1 MOST_CANDIDATES i (sym (flag-of (record { on = flags_from has 1 MOST_CANDIDATES }) i) ∙ on)
 
 -- ## Two lists in one
-
-in-front : {X : Type 0} (xs ys : List X) (i : ℕ) (x : X) → slice_get xs i ≡ Some x → slice_get (xs ++ ys) i ≡ Some x
-in-front [] ys i x found = absurd (cc)
-in-front (z ∷ xs) ys zero x found = found
-in-front (z ∷ xs) ys (suc i) x found = in-front xs ys i x found
-
-in-back : {X : Type 0} (xs ys : List X) (i : ℕ) (x : X) → slice_get ys i ≡ Some x → slice_get (xs ++ ys) (length xs + i) ≡ Some x
-in-back [] ys i x found = ap (slice_get ys) (omega arith) ∙ found
-in-back (z ∷ xs) ys i x found = let next : suc (length xs) + i ≡ suc (length xs + i) = omega arith in ap (slice_get (z ∷ xs ++ ys)) next ∙ in-back xs ys i x found
 
 front-or-back : {X : Type 0} (xs ys : List X) (i : ℕ) (x : X) → slice_get (xs ++ ys) i ≡ Some x → (slice_get xs i ≡ Some x) ⊎ Has ys x
 front-or-back [] ys i x found = inr (record { number = i; found = found })
@@ -178,7 +170,7 @@ cheaper-useful : (setting : TheSetting) (budget : ℕ) (node : nodes.Node) (bloc
     AllDearer (offers setting.cat block setting.shapes no_candidates s) best (index_offer setting.cat block s slot table n.1).1 → IsUseful setting budget n.0
 cheaper-useful setting budget node block task s slot table n i best of' task_is slot_found table_found found on_table open' among gives dearer =
     let numbered = numbered-is 1 setting.shapes i n found in
-    let fits = both (is_free node n.0) (nat_le (config_pages setting.cat setting.shapes node.inside + candidate_pages setting.cat setting.shapes n.0) budget) open' in
+    let fits = and_parts (is_free node n.0) (nat_le (config_pages setting.cat setting.shapes node.inside + candidate_pages setting.cat setting.shapes n.0) budget) open' in
     let pages : candidate_pages setting.cat setting.shapes n.0 ≡ shape_pages setting.cat n.1 = ap (λ (o : Option IndexShape). option_map_or (shape_pages setting.cat) o 0) numbered.found in
     let room : config_pages setting.cat setting.shapes node.inside + candidate_pages setting.cat setting.shapes n.0 ≤ budget = le-of (config_pages setting.cat setting.shapes node.inside + candidate_pages setting.cat setting.shapes n.0) budget fits.1 in
     record {
@@ -240,7 +232,7 @@ no-dearer setting budget node block task named of' task_is none s number below w
                   | inl front ↦ (
                     number,
                     better-of task old new s number number offer offer at'.2
-                        (subst (λ (os : List Offer). slice_get os number ≡ Some offer) (sym new_is) (in-front plain (map read (numbered_on shapes node.inside slot.table)) number offer front))
+                        (subst (λ (os : List Offer). slice_get os number ≡ Some offer) (sym new_is) (front-of plain (map read (numbered_on shapes node.inside slot.table)) number offer front))
                         (λ k d w begins. begins) (omega arith),
                   )
                   | inr back ↦
@@ -256,13 +248,13 @@ no-dearer setting budget node block task named of' task_is none s number below w
                             let placed : slice_get (map read (numbered_on shapes node.inside slot.table)) own.number ≡ Some offer = mapped-at read (numbered_on shapes node.inside slot.table) own.number n own.found ∙ ap Some image.is in (
                               length plain + own.number,
                               better-of task old new s number (length plain + own.number) offer offer at'.2
-                                  (subst (λ (os : List Offer). slice_get os (length plain + own.number) ≡ Some offer) (sym new_is) (in-back plain (map read (numbered_on shapes node.inside slot.table)) own.number offer placed))
+                                  (subst (λ (os : List Offer). slice_get os (length plain + own.number) ≡ Some offer) (sym new_is) (back-of plain (map read (numbered_on shapes node.inside slot.table)) own.number offer placed))
                                   (λ k d w begins. begins) (omega arith),
                             )
                         | inr lacks ↦
                             let best = core task s offer.0 in
                             let is_there = config_of-true (is_available cat shapes budget node) n.0 picked.1 in
-                            let open' : is_open cat shapes budget node n.0 ≡ true = elim (either (has_candidate node.inside n.0) (is_open cat shapes budget node n.0) is_there) [
+                            let open' : is_open cat shapes budget node n.0 ≡ true = elim (or_cases (has_candidate node.inside n.0) (is_open cat shapes budget node n.0) is_there) [
                               | inl in' ↦ absurd (false≢true (sym lacks ∙ in'))
                               | inr is_so ↦ is_so
                             ] in
@@ -270,7 +262,7 @@ no-dearer setting budget node block task named of' task_is none s number below w
                               | inl gives ↦ (
                                 gives.number,
                                 better-of task old new s number gives.number offer gives.offer at'.2
-                                    (subst (λ (os : List Offer). slice_get os gives.number ≡ Some gives.offer) (sym new_is) (in-front plain (map read (numbered_on shapes node.inside slot.table)) gives.number gives.offer gives.found))
+                                    (subst (λ (os : List Offer). slice_get os gives.number ≡ Some gives.offer) (sym new_is) (front-of plain (map read (numbered_on shapes node.inside slot.table)) gives.number gives.offer gives.found))
                                     (λ k d w begins. begins_trans gives.offer.0 best.0 (get_or (interesting_orders task s) k d) gives.begins (best.1.serves k d w begins)) gives.less,
                               )
                               | inr dearer ↦

@@ -3,7 +3,7 @@ use Rattle.std.proofs.Common.{◌≡◌, ◌∙◌, ◌≢◌, ◌⊎◌, inl, i
 use Rattle.std.specs.Prelude.{Option, Some, None, nat_lt, count_by}
 use Rattle.std.proofs.Math.ListN.{set}
 use Rattle.std.proofs.Math.Seq.{take-set-lt}
-use Rattle.std.proofs.lemmas.Bool.{cases_lt, false≢true}
+use Rattle.std.proofs.lemmas.Bool.{cases_lt, false≢true, not-true, and_parts}
 use Rattle.std.proofs.lemmas.Bool.Decides.{nat_tests}
 use Rattle.std.proofs.lemmas.List.{length-take, get_or_past}
 use Rattle.std.proofs.lemmas.List.Sums.{count_by-le-length, sum_by-cons}
@@ -14,7 +14,6 @@ use Rattle.bip_model.specs.declared.fix.State.{State}
 use Rattle.bip_model.specs.declared.fix.State.TheVariants.{Free, In, Out}
 use Rattle.bip_model.specs.declared.programme.Programme.{Programme}
 use Rattle.bip_model.specs.Values.{value}
-use Rattle.bip_model.proofs.Sides.{both-of, off-of}
 use Rattle.lagrange_bound.specs.Bounds.{state_at}
 use Rattle.branch_bound.specs.declared.climb.Costed.{Costed}
 use Rattle.branch_bound.specs.Sides.{is_free_state, pages}
@@ -104,8 +103,8 @@ front-most flags n = omega (arith, count_by-le-length (λ (flag : Bool). flag) (
 
 -- past the candidates nothing is on
 known-of : (state : State) (on known : Bool) → agrees state on known ≡ true → known ≡ false → on ≡ false
-known-of In on known is not_known = absurd (false≢true (sym not_known ∙ (both-of on known is).1))
-known-of Out on known is not_known = off-of on is
+known-of In on known is not_known = absurd (false≢true (sym not_known ∙ (and_parts on known is).1))
+known-of Out on known is not_known = not-true on is
 known-of Free true known is not_known = absurd (false≢true (sym not_known ∙ is))
 known-of Free false known is not_known = refl
 
@@ -116,11 +115,11 @@ sound-tested programme budget root config cost long wide obeys room cost_is =
       cost_is = cost_is;
       fits = room;
       holds = λ i at. elim (cases_lt i 256) [
-        | inl less ↦ (both-of (flag_at config i) (nat_lt i (length programme.sizes)) (sym (ap (λ (state : State). agrees state (flag_at config i) (nat_lt i (length programme.sizes))) at) ∙ obeys i less)).0
+        | inl less ↦ (and_parts (flag_at config i) (nat_lt i (length programme.sizes)) (sym (ap (λ (state : State). agrees state (flag_at config i) (nat_lt i (length programme.sizes))) at) ∙ obeys i less)).0
         | inr more ↦ let beyond : Free ≡ In = sym (get_or_past root.state i Free (omega (arith, long, more))) ∙ at in cc
       ];
       lacks = λ i at. elim (cases_lt i 256) [
-        | inl less ↦ off-of (flag_at config i) (sym (ap (λ (state : State). agrees state (flag_at config i) (nat_lt i (length programme.sizes))) at) ∙ obeys i less)
+        | inl less ↦ not-true (flag_at config i) (sym (ap (λ (state : State). agrees state (flag_at config i) (nat_lt i (length programme.sizes))) at) ∙ obeys i less)
         | inr more ↦ get_or_past config.on i false (omega (arith, wide, more))
       ];
       past = λ i beyond. elim (cases_lt i 256) [

@@ -1,8 +1,8 @@
 -- A run from the root, a climb after it, and the bound of both: the best answer of each setting for which the programme stands.
 use Rattle.std.proofs.Common.{◌≡◌, ◌∙◌, ◌⊎◌, inl, inr, ℕ, zero, suc, ◌+◌, ◌-◌, ◌*◌, ◌^◌, ◌<◌, ◌≤◌, Bool, true, false, cond, List, [], ◌∷◌, length, map, get_or, All, ℤ, pos, negsuc, refl, sym, ap, subst, arith}
-use Rattle.std.specs.Prelude.{Some, slice_get, slice_index_or, nat_lt, not, ◌==◌, count_by, ◌≤ℤ◌, ◌<ℤ◌}
+use Rattle.std.specs.Prelude.{nat_lt, not, ◌==◌, count_by, ◌≤ℤ◌, ◌<ℤ◌}
 use Rattle.std.proofs.Math.ListN.{get_or-map, get_or-eq_default}
-use Rattle.std.proofs.lemmas.Bool.{cases_lt, false≢true}
+use Rattle.std.proofs.lemmas.Bool.{cases_lt, false≢true, ltb-true}
 use Rattle.std.proofs.lemmas.Int.{ints}
 use Rattle.std.proofs.lemmas.List.{length-map}
 use Rattle.std.proofs.lemmas.List.Sums.{count_by-le-length, sum_by-cons}
@@ -44,6 +44,7 @@ use Rattle.adv_base.proofs.OfferBounds.{offers-limits}
 use Rattle.bip_model.proofs.Totalling.{value-total}
 use Rattle.bip_model.proofs.Usefulness.{useful-counted}
 use Rattle.bip_model.proofs.Using.{multipliers-used, multipliers-kept}
+use Rattle.bip_model.proofs.Lists.{on-get}
 use Rattle.lagrange_bound.specs.Bounds.{state_at, lagrangian}
 use Rattle.branch_bound.specs.declared.climb.Costed.{Costed}
 use Rattle.branch_bound.specs.declared.found.Found.{Found}
@@ -51,7 +52,7 @@ use Rattle.branch_bound.specs.Sides.{inside, total, IsRoot}
 use Rattle.branch_bound.specs.inner.Climbs.{flag_at, IsSound, IsTop}
 use Rattle.branch_bound.specs.inner.Runs.{Rules, lag, MOST_LOW, started, Runs, least_bound}
 use Rattle.branch_bound.proofs.Climbing.{free-is}
-use Rattle.branch_bound.proofs.Running.{AreRulesFor, own_sets, first_set, first-fits, first-value, first-found, runs-explored, runs-shows, less-of, not-less-of}
+use Rattle.branch_bound.proofs.Running.{AreRulesFor, own_sets, first_set, first-fits, first-value, first-found, runs-explored, runs-shows, not-less-of}
 use Rattle.branch_bound.proofs.Sound.{under-root, sound-inside}
 use Rattle.branch_bound.proofs.Tight.{free-of, IsLowest, runs-lowest}
 
@@ -61,7 +62,7 @@ pub bound-cost : (cost : ℕ) (low : ℤ) → least_bound cost low ≤ℤ pos co
 bound-cost cost (pos n) = to (nat_lt n cost) refl
   where
     to : (b : Bool) → nat_lt n cost ≡ b → cond b (pos n) (pos cost) ≤ℤ pos cost
-    to true is = let less = less-of n cost is in omega (arith, ints, less)
+    to true is = let less = ltb-true n cost is in omega (arith, ints, less)
     to false is = omega (arith, ints)
 bound-cost cost (negsuc n) = omega (arith, ints)
 
@@ -86,16 +87,11 @@ bound-cases cost (negsuc n) = inr refl
 sizes-shapes : (setting : TheSetting) (rules : Rules) → AreRulesFor setting rules → length rules.programme.sizes ≡ length setting.shapes
 sizes-shapes setting rules are = ap length are.stands.sizes_are ∙ length-map setting.shapes (shape_pages setting.cat)
 
-flag-found : (flags : List Bool) (i : ℕ) → slice_get flags i ≡ Some true → slice_index_or flags i false ≡ true
-flag-found [] i found = absurd (cc)
-flag-found (flag ∷ flags) zero found = cc
-flag-found (flag ∷ flags) (suc i) found = flag-found flags i found
-
 pub sound-config : (setting : TheSetting) (rules : Rules) (root : Fix) (config : Config) (cost : ℕ) → AreRulesFor setting rules → IsSound rules.programme rules.budget root config cost → IsConfigOf setting.shapes config
 sound-config setting rules root config cost are sound a found =
     elim (cases_lt a (length setting.shapes)) [
       | inl within ↦ within
-      | inr past ↦ absurd (false≢true (sym (sound.past a (omega (arith, past, sizes-shapes setting rules are))) ∙ flag-found config.on a found))
+      | inr past ↦ absurd (false≢true (sym (sound.past a (omega (arith, past, sizes-shapes setting rules are))) ∙ on-get config.on a found))
     ]
 
 -- the state of a candidate that is in, or out, at a node

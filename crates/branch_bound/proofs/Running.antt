@@ -3,7 +3,7 @@ use Rattle.std.proofs.Common.{◌≡◌, ◌∙◌, ◌⊎◌, inl, inr, ℕ, ze
 use Rattle.std.specs.Prelude.{Some, slice_get, slice_index_or, slice_set, nat_le, nat_lt, ◌≤ℤ◌, ◌<ℤ◌}
 use Rattle.std.specs.Int.{int_min}
 use Rattle.std.proofs.Math.ListN.{get_or-map}
-use Rattle.std.proofs.lemmas.Bool.{false≢true}
+use Rattle.std.proofs.lemmas.Bool.{false≢true, and_parts, and_from, leb-true, ltb-true}
 use Rattle.std.proofs.lemmas.Bool.Decides.{nat_tests}
 use Rattle.std.proofs.lemmas.Int.{ints, int_min_is}
 use Rattle.std.proofs.lemmas.List.{length-append, length-map}
@@ -28,7 +28,7 @@ use Rattle.bip_model.specs.Values.{value, grant_count}
 use Rattle.bip_model.specs.Views.{is_in, is_out, node_of, multipliers_of, AreMultipliers}
 use Rattle.bip_model.proofs.Deciding.{open-same}
 use Rattle.bip_model.proofs.Exploring.{AreExplored, leaf-explored, branch-explored, both-explored}
-use Rattle.bip_model.proofs.Sides.{parts-free, written-in, written-out, both-of}
+use Rattle.bip_model.proofs.Sides.{parts-free, written-in, written-out}
 use Rattle.bip_model.proofs.Totalling.{value-total}
 use Rattle.bip_model.proofs.Usefulness.{useful-from}
 use Rattle.lagrange_bound.specs.Bounds.{state_at, fits_beside, lagrangian}
@@ -106,20 +106,11 @@ inside-total setting rules fix level are less =
 
 -- ## Visits
 
-pub less-of : (a b : ℕ) → nat_lt a b ≡ true → a < b
-less-of a b e = grind (arith, nat_tests)
-
 pub not-less-of : (a b : ℕ) → nat_lt a b ≡ false → b ≤ a
 not-less-of a b e = grind (arith, nat_tests)
 
-pub at-most-of : (a b : ℕ) → nat_le a b ≡ true → a ≤ b
-at-most-of a b e = grind (arith, nat_tests)
-
 above-of : (a b : ℕ) → nat_le a b ≡ false → b < a
 above-of a b e = grind (arith, nat_tests)
-
-pub test-of : (a b : ℕ) → a ≤ b → nat_le a b ≡ true
-test-of a b h = grind (arith, nat_tests)
 
 pub record IsVisit (rules : Rules) (fix : Fix) (before after : Found) : Type 0 where
   pub falls : after.cost ≤ before.cost
@@ -132,7 +123,7 @@ visit rules fix before = to (nat_lt (total rules.programme fix) before.cost) ref
   where
     to : (b : Bool) → nat_lt (total rules.programme fix) before.cost ≡ b →
         IsVisit rules fix before (cond b (record { config = inside fix; cost = total rules.programme fix; low = before.low; made = before.made }) before)
-    to true is = let less = less-of (total rules.programme fix) before.cost is in record { falls = omega (arith, less); most = omega arith; low = refl; made = refl }
+    to true is = let less = ltb-true (total rules.programme fix) before.cost is in record { falls = omega (arith, less); most = omega arith; low = refl; made = refl }
     to false is = let more = not-less-of (total rules.programme fix) before.cost is in record { falls = omega arith; most = more; low = refl; made = refl }
 
 -- ## Sides
@@ -157,10 +148,6 @@ out-is fix a i is free =
 
 -- ## Choices
 
-pub from-both : (a b : Bool) → a ≡ true → b ≡ true → (a && b) ≡ true
-from-both true b x y = y
-from-both false b x y = absurd (false≢true x)
-
 pub record IsGoodChoice (setting : TheSetting) (rules : Rules) (fix : Fix) (a i : ℕ) : Type 0 where
   pub free : state_at fix i ≡ Free
   pub is_open' : nodes.is_open setting.cat setting.shapes rules.budget (node_of fix) a ≡ true
@@ -168,11 +155,11 @@ pub record IsGoodChoice (setting : TheSetting) (rules : Rules) (fix : Fix) (a i 
 
 pub good-choice : (setting : TheSetting) (rules : Rules) (fix : Fix) (a i : ℕ) → AreRulesFor setting rules → a ≡ i + 1 → IsChoice rules fix i → IsGoodChoice setting rules fix a i
 good-choice setting rules fix a i are is choice =
-    let first = both-of (is_free_state (state_at fix i)) (fits_beside rules.programme rules.budget fix i && slice_index_or rules.useful i false) choice.chosen in
-    let second = both-of (fits_beside rules.programme rules.budget fix i) (slice_index_or rules.useful i false) first.1 in
+    let first = and_parts (is_free_state (state_at fix i)) (fits_beside rules.programme rules.budget fix i && slice_index_or rules.useful i false) choice.chosen in
+    let second = and_parts (fits_beside rules.programme rules.budget fix i) (slice_index_or rules.useful i false) first.1 in
     let free : state_at fix i ≡ Free = free-is (state_at fix i) first.0 in
     let open_is : is_open rules.programme rules.budget (node_of fix) (i + 1) ≡ true =
-    from-both (is_free (node_of fix) (i + 1)) (nat_le (pages_of rules.programme (inside fix) + size_of rules.programme (i + 1)) rules.budget) (free-node fix i free)
+    and_from (is_free (node_of fix) (i + 1)) (nat_le (pages_of rules.programme (inside fix) + size_of rules.programme (i + 1)) rules.budget) (free-node fix i free)
     (ap (λ (k : ℕ). nat_le (pages_of rules.programme (inside fix) + slice_index_or rules.programme.sizes k 0) rules.budget) (back-one (i + 1) i refl) ∙ second.0) in
     record {
       free = free;
@@ -189,7 +176,7 @@ reach-not (pos n) cost e = let less : n < cost = above-of cost n e in omega (ari
 reach-not (negsuc n) cost e = omega (arith, ints)
 
 reach-is : (value : ℤ) (cost : ℕ) → reaches value cost ≡ true → pos cost ≤ℤ value
-reach-is (pos n) cost e = let less : cost ≤ n = at-most-of cost n e in omega (arith, ints, less)
+reach-is (pos n) cost e = let less : cost ≤ n = leb-true cost n e in omega (arith, ints, less)
 reach-is (negsuc n) cost e = absurd (false≢true e)
 
 leaf-run : (setting : TheSetting) (rules : Rules) (fix : Fix) (before : Found) (k cost : ℕ) → AreRulesFor setting rules → cost ≡ (visited rules fix before).cost →

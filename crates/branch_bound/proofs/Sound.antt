@@ -2,6 +2,7 @@
 use Rattle.std.proofs.Common.{◌≡◌, ◌∙◌, ◌≢◌, inl, inr, ℕ, ◌+◌, ◌<◌, ◌≤◌, Bool, true, false, cond, ◌&&◌, List, length, map, sum, refl, sym, ap, subst, arith, get_or-set_other}
 use Rattle.std.specs.Prelude.{slice_index_or, nat_lt}
 use Rattle.std.proofs.Math.ListN.{get_or-map}
+use Rattle.std.proofs.lemmas.Bool.{and_parts, leb-true}
 use Rattle.adv_base.specs.Configs.{chosen}
 use Rattle.adv_base.specs.declared.setting.Config.{Config}
 use Rattle.bip_model.specs.declared.answer.Node.{Node}
@@ -13,7 +14,6 @@ use Rattle.bip_model.specs.Trees.{Tree, Branches, Leaf, Full}
 use Rattle.bip_model.specs.Values.{value}
 use Rattle.bip_model.specs.Views.{is_in}
 use Rattle.bip_model.proofs.Lists.{map-set}
-use Rattle.bip_model.proofs.Sides.{both-of}
 use Rattle.lagrange_bound.specs.Bounds.{state_at, fits_beside}
 use Rattle.branch_bound.specs.declared.climb.Costed.{Costed}
 use Rattle.branch_bound.specs.declared.found.Found.{Found}
@@ -21,7 +21,6 @@ use Rattle.branch_bound.specs.Sides.{is_free_state, fixed, inside, pages, total,
 use Rattle.branch_bound.specs.inner.Climbs.{IsSound, IsSoundHere}
 use Rattle.branch_bound.specs.inner.Runs.{Rules, visited, started, IsChoice, IsExplored, branched, Runs}
 use Rattle.branch_bound.proofs.Climbing.{free-is, pages-off, pages-on}
-use Rattle.branch_bound.proofs.Running.{at-most-of}
 
 -- what a node fixes beyond its root; what is in fits
 pub record IsUnder (programme : Programme) (budget : ℕ) (root fix : Fix) : Type 0 where
@@ -49,16 +48,16 @@ under-side programme budget root fix i new under free within room =
 
 under-in : (rules : Rules) (root fix : Fix) (i : ℕ) → IsUnder rules.programme rules.budget root fix → IsChoice rules fix i → IsUnder rules.programme rules.budget root (fixed fix i In)
 under-in rules root fix i under choice =
-    let first = both-of (is_free_state (state_at fix i)) (fits_beside rules.programme rules.budget fix i && slice_index_or rules.useful i false) choice.chosen in
-    let second = both-of (fits_beside rules.programme rules.budget fix i) (slice_index_or rules.useful i false) first.1 in
-    let room : pages rules.programme (inside fix) + slice_index_or rules.programme.sizes i 0 ≤ rules.budget = at-most-of (pages rules.programme (inside fix) + slice_index_or rules.programme.sizes i 0) rules.budget second.0 in
+    let first = and_parts (is_free_state (state_at fix i)) (fits_beside rules.programme rules.budget fix i && slice_index_or rules.useful i false) choice.chosen in
+    let second = and_parts (fits_beside rules.programme rules.budget fix i) (slice_index_or rules.useful i false) first.1 in
+    let room : pages rules.programme (inside fix) + slice_index_or rules.programme.sizes i 0 ≤ rules.budget = leb-true (pages rules.programme (inside fix) + slice_index_or rules.programme.sizes i 0) rules.budget second.0 in
     let is = ap (λ (flags : List Bool). sum (chosen flags rules.programme.sizes)) (map-set is_in fix.state i In) in
     let more = pages-on (map is_in fix.state) rules.programme.sizes i in
     under-side rules.programme rules.budget root fix i In under (free-is (state_at fix i) first.0) choice.within (omega (arith, is, more, room))
 
 under-out : (rules : Rules) (root fix : Fix) (i : ℕ) → IsUnder rules.programme rules.budget root fix → IsChoice rules fix i → IsUnder rules.programme rules.budget root (fixed fix i Out)
 under-out rules root fix i under choice =
-    let first = both-of (is_free_state (state_at fix i)) (fits_beside rules.programme rules.budget fix i && slice_index_or rules.useful i false) choice.chosen in
+    let first = and_parts (is_free_state (state_at fix i)) (fits_beside rules.programme rules.budget fix i && slice_index_or rules.useful i false) choice.chosen in
     let is = ap (λ (flags : List Bool). sum (chosen flags rules.programme.sizes)) (map-set is_in fix.state i Out) in
     let fewer = pages-off (map is_in fix.state) rules.programme.sizes i in
     under-side rules.programme rules.budget root fix i Out under (free-is (state_at fix i) first.0) choice.within (omega (arith, is, fewer, under.fits))

@@ -3,7 +3,7 @@ use Rattle.std.proofs.Common.{◌≡◌, ◌∙◌, ◌⊎◌, inl, inr, ℕ, ze
 use Rattle.std.specs.Prelude.{Some, slice_get, slice_index_or, nat_le, ◌≤ℤ◌, int_lt}
 use Rattle.std.specs.Int.{int_min}
 use Rattle.std.proofs.Math.ListN.{get_or-map}
-use Rattle.std.proofs.lemmas.Bool.{false≢true}
+use Rattle.std.proofs.lemmas.Bool.{false≢true, and_parts, and_from, le-leb}
 use Rattle.std.proofs.lemmas.Int.{ints}
 use Rattle.std.proofs.lemmas.List.{length-map}
 use Rattle.std.proofs.lemmas.Option.{slice_get_within}
@@ -25,7 +25,7 @@ use Rattle.bip_model.specs.Views.{is_in, is_out, node_of}
 use Rattle.bip_model.proofs.Deciding.{open-same}
 use Rattle.bip_model.proofs.Descending.{with-config}
 use Rattle.bip_model.proofs.Lists.{front-of, back-of}
-use Rattle.bip_model.proofs.Sides.{free-parts, both-of}
+use Rattle.bip_model.proofs.Sides.{free-parts}
 use Rattle.bip_model.proofs.Totalling.{value-total}
 use Rattle.bip_model.proofs.Unrented.{useless-total}
 use Rattle.bip_model.proofs.Usefulness.{useful-to}
@@ -33,7 +33,7 @@ use Rattle.lagrange_bound.specs.Bounds.{state_at, fits_beside}
 use Rattle.branch_bound.specs.declared.found.Found.{Found}
 use Rattle.branch_bound.specs.Sides.{is_free_state, fixed, inside, total}
 use Rattle.branch_bound.specs.inner.Runs.{Rules, lag, reaches, visited, NoChoice, IsHighest, IsForced, branched, Runs}
-use Rattle.branch_bound.proofs.Running.{AreRulesFor, own_sets, zeros-value, set-within, leaf-set, visit, test-of, from-both, in-is, out-is, good-choice, runs-later}
+use Rattle.branch_bound.proofs.Running.{AreRulesFor, own_sets, zeros-value, set-within, leaf-set, visit, in-is, out-is, good-choice, runs-later}
 
 -- ## A leaf without a choice is closed
 
@@ -53,16 +53,16 @@ no-choice-useless setting rules fix are none zero open' useful = absurd (omega (
 no-choice-useless setting rules fix are none (suc i) open' useful =
     let within_shapes = slice_get_within setting.shapes (suc i - 1) useful.shape useful.found in
     let within : i < length rules.programme.sizes = omega (arith, within_shapes, ap length are.stands.sizes_are, length-map setting.shapes (shape_pages setting.cat)) in
-    let own = both-of (is_free (node_of fix) (suc i)) (nat_le (pages_of rules.programme (inside fix) + size_of rules.programme (suc i)) rules.budget) (sym (open-same setting rules.programme rules.budget (node_of fix) (suc i) are.stands) ∙ open') in
+    let own = and_parts (is_free (node_of fix) (suc i)) (nat_le (pages_of rules.programme (inside fix) + size_of rules.programme (suc i)) rules.budget) (sym (open-same setting rules.programme rules.budget (node_of fix) (suc i) are.stands) ∙ open') in
     let place : suc i - 1 ≡ i = omega arith in
     let next : suc i ≡ i + 1 = omega arith in
     let room : fits_beside rules.programme rules.budget fix i ≡ true = ap (λ (k : ℕ). nat_le (pages_of rules.programme (inside fix) + slice_index_or rules.programme.sizes k 0) rules.budget) (sym place) ∙ own.1 in
     let helps : slice_index_or rules.useful i false ≡ true = are.useful_are i within ∙ ap (is_useful rules.programme rules.budget) (sym next) ∙ useful-to setting rules.programme rules.budget (suc i) are.stands useful in
-    absurd (false≢true (sym (none i within) ∙ from-both (is_free_state (state_at fix i)) (fits_beside rules.programme rules.budget fix i && slice_index_or rules.useful i false) (free-of fix i own.0)
-    (from-both (fits_beside rules.programme rules.budget fix i) (slice_index_or rules.useful i false) room helps)))
+    absurd (false≢true (sym (none i within) ∙ and_from (is_free_state (state_at fix i)) (fits_beside rules.programme rules.budget fix i && slice_index_or rules.useful i false) (free-of fix i own.0)
+    (and_from (fits_beside rules.programme rules.budget fix i) (slice_index_or rules.useful i false) room helps)))
 
 reached-total : (value : ℤ) (sum cost : ℕ) → value ≡ pos sum → cost ≤ sum → reaches value cost ≡ true
-reached-total value sum cost is less = ap (λ (v : ℤ). reaches v cost) is ∙ test-of cost sum less
+reached-total value sum cost is less = ap (λ (v : ℤ). reaches v cost) is ∙ le-leb cost sum less
 
 closed-without : (setting : TheSetting) (rules : Rules) (fix : Fix) (before : Found) → AreRulesFor setting rules → IsConfigOf setting.shapes (inside fix) → NoChoice rules fix → reaches (lag rules fix 0) (visited rules fix before).cost ≡ false → ⊥
 closed-without setting rules fix before are config none promising =

@@ -1,6 +1,5 @@
 //! The memory of a search.
-ghost use Rattle.std.specs.Prelude.{◌≡◌, ◌<◌, ◌≤◌, ◌*◌, ◌⊎◌, ℕ, All, IfOk, length};
-ghost use Rattle.std.specs.Vec.{vec_capacity};
+ghost use Rattle.std.specs.Prelude.{◌≡◌, ◌<◌, All, IfOk, length};
 ghost use Rattle.adv_base.specs.declared.limits.TheConstants.{MOST_ENTRIES, MOST_SETS};
 ghost use Rattle.bip_model.specs.Values.{grant_count};
 ghost use Rattle.bip_model.specs.Views.{AreMultipliers};

@@ -1,9 +1,10 @@
 -- Lists that are known behind those of the indexes that exist are the fresh ones.
-use Rattle.std.proofs.Common.{◌≡◌, ◌<◌, ◌≤◌, ◌==◌, Bool, true, false, ◌&&◌, ◌||◌, List, [], ◌∷◌, ◌++◌, length, map, get_or, refl, sym, ap, subst, ◌∙◌, arith}
+use Rattle.std.proofs.Common.{◌≡◌, ◌<◌, ◌≤◌, ◌==◌, Bool, true, false, ◌||◌, List, [], ◌∷◌, ◌++◌, length, map, get_or, refl, sym, ap, subst, ◌∙◌, arith}
 use Rattle.std.specs.Prelude.{nat_eq, nat_lt, fold, All}
 use Rattle.std.specs.List.{list_any, flat_map}
 use Rattle.std.specs.Cmp.{IsEquivalence}
 use Rattle.std.specs.Cmp.Lexicographic.{pointwise}
+use Rattle.std.proofs.lemmas.Bool.{and_parts, or_parts}
 use Rattle.std.proofs.lemmas.Bool.Decides.{nat_tests}
 use Rattle.std.proofs.lemmas.Cmp.{nat_eq_equiv, nat_list_eq_equiv}
 use Rattle.std.proofs.lemmas.List.{append_assoc, append-nil}
@@ -17,14 +18,6 @@ use Rattle.adv_base.specs.declared.workload.Statement.{Statement}
 use Rattle.candidates.specs.Proposals.{KeyList, proposals}
 use Rattle.candidates.specs.Candidates.{is_same_list, is_left_out, with_proposal, key_list, existing_lists, fresh_lists}
 use Rattle.candidates.proofs.KnownLemmas.{left_out-short, with_proposal-left, with_proposal-added}
-
-pub both_true : (a b : Bool) → (a && b) ≡ true → (a ≡ true) × (b ≡ true)
-both_true true b h = (refl, h)
-both_true false b h = absurd (cc)
-
-both_false : (a b : Bool) → (a || b) ≡ false → (a ≡ false) × (b ≡ false)
-both_false true b h = absurd (cc)
-both_false false b h = (refl, h)
 
 or_false : (a : Bool) → (a || false) ≡ a
 or_false true = refl
@@ -42,7 +35,7 @@ same_symm p q = let e = nat_eq_equiv.symm p.0 q.0 in let f = nat_list_eq_equiv.s
 
 same_congr : (p q r : KeyList) → is_same_list p q ≡ true → is_same_list p r ≡ is_same_list q r
 same_congr p q r h =
-    let parts = both_true (p.0 == q.0) (pointwise nat_eq p.1 q.1) h in
+    let parts = and_parts (p.0 == q.0) (pointwise nat_eq p.1 q.1) h in
     let e = nat_eq_equiv.congr p.0 q.0 r.0 parts.0 in
     let f = nat_list_eq_equiv.congr p.1 q.1 r.1 parts.1 in
     rw (e, f)
@@ -58,9 +51,9 @@ pub record Fits (p : KeyList) : Type 0 where
 -- what isn't left out has 1 to 8 columns
 pub left_out-fits : (existing before : List KeyList) (p : KeyList) → is_left_out existing before p ≡ false → Fits p
 left_out-fits existing before p h =
-    let a = both_false ((length p.1 == 0 || nat_lt MOST_KEYS (length p.1)) || list_any (is_same_list p) before) (list_any (is_same_list p) existing) h in
-    let b = both_false (length p.1 == 0 || nat_lt MOST_KEYS (length p.1)) (list_any (is_same_list p) before) a.0 in
-    let c = both_false (length p.1 == 0) (nat_lt MOST_KEYS (length p.1)) b.0 in
+    let a = or_parts ((length p.1 == 0 || nat_lt MOST_KEYS (length p.1)) || list_any (is_same_list p) before) (list_any (is_same_list p) existing) h in
+    let b = or_parts (length p.1 == 0 || nat_lt MOST_KEYS (length p.1)) (list_any (is_same_list p) before) a.0 in
+    let c = or_parts (length p.1 == 0) (nat_lt MOST_KEYS (length p.1)) b.0 in
     let none = c.0 in
     let many = c.1 in
     record { some = grind (arith, nat_tests); few = grind (arith, nat_tests) }

@@ -3,6 +3,7 @@ use Rattle.std.proofs.Common.{◌≡◌, ℕ, zero, suc, ◌+◌, ◌<◌, ◌�
 use Rattle.std.specs.Prelude.{nat_eq, filter, take, All, Option, Some, None, slice_get, option_and_then}
 use Rattle.std.specs.List.{list_all, flat_map, filter_map, cons_option, range_with_len, enumerate_from, IsDistinct}
 use Rattle.std.specs.Option.{option_map_or}
+use Rattle.std.proofs.lemmas.Bool.{and_parts}
 use Rattle.std.proofs.lemmas.Bool.Decides.{Decides-eqb, Decides-ltb}
 use Rattle.std.proofs.lemmas.Cmp.{nat_eq_equiv}
 use Rattle.std.proofs.lemmas.List.Elements.{All-nil, All-cons, All-head, All-tail, All-push, All-append, All-map, All-weaker, All-filter, All-take, filter_passes}
@@ -27,7 +28,7 @@ use Rattle.adv_base.specs.Predicates.{is_point, is_range}
 use Rattle.candidates.specs.Columns.{has_column, with_column, joined, is_slot_pred, tested_columns, point_columns, range_columns, edge_column, join_columns, up_column, own_columns, group_columns, order_columns, needed_columns}
 use Rattle.candidates.specs.Proposals.{KeyList, single_lists, lists_behind, column_lists, sorted_lists, covering_list, slot_lists, block_lists, work_lists, proposals}
 use Rattle.candidates.specs.Candidates.{key_list, existing_lists, fresh_lists}
-use Rattle.candidates.proofs.FreshLaws.{both_true, Fits, All-flat_map, All-fresh}
+use Rattle.candidates.proofs.FreshLaws.{Fits, All-flat_map, All-fresh}
 
 -- columns below a number, none twice
 pub record Sound (n : ℕ) (keys : List ℕ) : Type 0 where
@@ -69,7 +70,7 @@ All-unmap P f (x ∷ xs) each = All-cons (λ y. P (f y)) x xs (All-head P (f x) 
 
 pred-below : (cat : Catalogue) (block : Block) (s : ℕ) (kind : Test → Bool) (pred : Pred) → NamesPred cat block pred → is_slot_pred kind s pred ≡ true → pred.column < slot_columns cat block s
 pred-below cat block s kind pred named h =
-    let parts = both_true (pred.slot == s) (kind pred.test) h in
+    let parts = and_parts (pred.slot == s) (kind pred.test) h in
     subst (λ (t : ℕ). pred.column < slot_columns cat block t) ((Decides-eqb pred.slot s).0 parts.0) named.column
 
 tested-below : (cat : Catalogue) (block : Block) (s : ℕ) (kind : Test → Bool) → NamesBlock cat block → All (λ c. c < slot_columns cat block s) (tested_columns kind block s)
@@ -106,7 +107,7 @@ ups-below : (cat : Catalogue) (block : Block) (s : ℕ) (items : List Item) → 
     → All (λ c. c < slot_columns cat block s) (filter_map up_column items)
 ups-below cat block s [] named up = All-nil (λ c. c < slot_columns cat block s)
 ups-below cat block s (Up t d ∷ items) named up =
-    let parts = both_true (t == s) (list_all (is_up_of s) items) up in
+    let parts = and_parts (t == s) (list_all (is_up_of s) items) up in
     let is = (Decides-ltb d (slot_columns cat block t)).0 (All-head (λ item. names_item cat block item ≡ true) (Up t d) items named) in
     All-cons (λ c. c < slot_columns cat block s) d (filter_map up_column items)
     (subst (λ (k : ℕ). d < slot_columns cat block k) ((Decides-eqb t s).0 parts.0) is)

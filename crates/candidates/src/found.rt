@@ -1,5 +1,5 @@
 //! The candidates of a workload.
-ghost use Rattle.std.specs.Prelude.{◌≡◌, ◌<◌, ◌≤◌, ◌-◌, ◌+◌, [], ◌++◌, ◌∷◌, IfOk, OnOk, fold, map, take, drop, length, All, slice_get, Some};
+ghost use Rattle.std.specs.Prelude.{◌≡◌, ◌<◌, ◌≤◌, ◌-◌, ◌+◌, [], IfOk, OnOk, fold, map, take, drop, length, All};
 ghost use Rattle.std.specs.List.{flat_map};
 ghost use Rattle.adv_base.specs.declared.limits.TheConstants.{MOST_CANDIDATES};
 ghost use Rattle.adv_base.specs.Limits.Numbers.{KeyLimits};

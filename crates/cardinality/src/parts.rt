@@ -1,5 +1,5 @@
 //! Selectivities, as parts of 10^9.
-ghost use Rattle.std.specs.Prelude.{◌≡◌, ℕ, ◌<◌, ◌≤◌, ◌*◌, length, Contains, slice_get, Some, MatchOption};
+ghost use Rattle.std.specs.Prelude.{◌≡◌, ℕ, ◌<◌, ◌≤◌, ◌*◌, length, Contains, Some};
 ghost use Rattle.std.specs.Option.{ForSome};
 ghost use Rattle.adv_base.specs.declared.workload.predicate.Test.TheVariants.{Same, OneOf};
 ghost use Rattle.adv_base.specs.Named.{NamesBlock};

@@ -1,5 +1,5 @@
 //! Numbers of rows, from 1 to 10^12.
-ghost use Rattle.std.specs.Prelude.{◌≡◌, ℕ, ◌==◌, ◌+◌, ◌<◌, ◌≤◌, ◌^◌, length, Contains, map, fold, filter, take, if◌then◌else◌, MatchResult, OnOk, IfOk, List, All};
+ghost use Rattle.std.specs.Prelude.{◌≡◌, ◌==◌, ◌<◌, ◌≤◌, length, Contains, if◌then◌else◌};
 ghost use Rattle.adv_base.specs.Named.{NamesBlock};
 ghost use Rattle.adv_base.specs.Parts as part;
 ghost use Rattle.adv_base.specs.Rows as row;

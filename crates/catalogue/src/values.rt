@@ -1,5 +1,5 @@
 //! The kinds of values that keys hold, and their ranges. A TOML float is no integer, and a native date no text.
-ghost use Rattle.std.specs.Prelude.{◌≡◌, ◌≤◌, ◌^◌, ◌<◌, length, IfOk};
+ghost use Rattle.std.specs.Prelude.{◌≡◌, ◌≤◌, ◌<◌, length, IfOk};
 ghost use Rattle.std.specs.List.{list_all};
 ghost use Rattle.toml.specs.View.{view, items_view, table_view};
 ghost use Rattle.adv_base.specs.Limits.Numbers.{EndLimits};

@@ -17,7 +17,7 @@ use Rattle.certificate.specs.declared.draft.TheConstants.{FIRST_PLACE, LAST_PLAC
 use Rattle.certificate.specs.inner.Steps.{start, trees_after, closed, with_set, with_entry, StepAt, BodyStep, NodeStep}
 use Rattle.certificate.specs.inner.Runs.{Run}
 
-run-append : (xs ys : List (List ℕ)) (d e f : Draft) → Run d xs e → Run e ys f → Run d (xs ++ ys) f
+pub run-append : (xs ys : List (List ℕ)) (d e f : Draft) → Run d xs e → Run e ys f → Run d (xs ++ ys) f
 run-append [] ys d e f h g = subst (λ (x : Draft). Run x ys f) (sym h) g
 run-append (x ∷ xs) ys d e f h g = (h.0, h.1, run-append xs ys h.0 e f h.2 g)
 

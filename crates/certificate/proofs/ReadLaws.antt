@@ -1,5 +1,5 @@
 -- What the lines that were read say of the bytes.
-use Rattle.std.proofs.Common.{◌≡◌, ◌∙◌, ℕ, ◌+◌, ◌≤◌, List, [], ◌∷◌, ◌++◌, length, sym, ap, subst, refl, arith}
+use Rattle.std.proofs.Common.{◌≡◌, ◌∙◌, ℕ, ◌+◌, ◌≤◌, List, [], ◌∷◌, ◌++◌, length, sym, ap, refl, arith}
 use Rattle.std.specs.List.{AllByRecursion}
 use Rattle.std.proofs.lemmas.List.{append-nil, append_assoc}
 use Rattle.adv_base.specs.Numbers.{BeginsWithLine}
@@ -13,6 +13,7 @@ use Rattle.certificate.specs.inner.Runs.{lines_at, Run}
 use Rattle.certificate.specs.inner.Steps.{start}
 use Rattle.certificate.proofs.Keeps.{run-lines, done-cert}
 use Rattle.certificate.proofs.Viable.{ends}
+use Rattle.certificate.proofs.Complete.{run-append}
 
 -- nothing that was read fits
 pub start-fits : DraftFits start
@@ -48,10 +49,6 @@ whole-cert lines d run done =
     let read = run-lines lines start d start-fits run in
     let cert = done-cert d done read.0 in
     (cert.0, sym cert.1 ∙ read.1 ∙ ap (λ (xs : List (List ℕ)). xs ++ lines) start-lines)
-
-run-append : (xs ys : List (List ℕ)) (d e f : Draft) → Run d xs e → Run e ys f → Run d (xs ++ ys) f
-run-append [] ys d e f h g = subst (λ (x : Draft). Run x ys f) (sym h) g
-run-append (x ∷ xs) ys d e f h g = (h.0, h.1, run-append xs ys h.0 e f h.2 g)
 
 -- a draft that was reached goes on to some certificate
 pub draft-goes_on : (bytes rest : List ℕ) (lines : List (List ℕ)) (d : Draft) → bytes ≡ text_of lines ++ rest → AllByRecursion IsLine lines → Run start lines d → DraftFits d → GoesOn bytes (length lines)

@@ -16,9 +16,6 @@ use Rattle.certificate.proofs.ReadLaws.{text-append}
 
 -- ## Words and lines
 
-digits-most : (k n : ℕ) → 0 < k → n < 10 ^ k → n < 10 ^ 64 → length (decimal n) ≤ k
-digits-most = length-decimal-le_wide
-
 -- a line in front of lines
 line-front : (line : List ℕ) (lines : List (List ℕ)) → length (text_of (line ∷ lines)) ≡ length line + 1 + length (text_of lines)
 line-front line lines = let both = length-append line (10 ∷ text_of lines) in omega (arith, both)
@@ -34,7 +31,7 @@ title-size = refl
 
 budget-size : (pages : ℕ) → pages ≤ 1000000000000 → length (budget_line pages) ≤ 20
 unfolding budget_line
-budget-size pages most = let digits = digits-most 13 pages (omega arith) (omega (arith, most)) (omega (arith, most)) in omega (arith, digits)
+budget-size pages most = let digits = length-decimal-le_wide 13 pages (omega arith) (omega (arith, most)) (omega (arith, most)) in omega (arith, digits)
 
 -- numbers that rise are few
 rise-count : (least : ℕ) (numbers : List ℕ) → least ≤ 257 → Rise least numbers → least + length numbers ≤ 257
@@ -46,7 +43,7 @@ rise-count least (n ∷ ns) low rise =
 words-size : (least : ℕ) (numbers : List ℕ) → Rise least numbers → length (words numbers) ≤ 4 * length numbers
 words-size least [] rise = omega arith
 words-size least (n ∷ ns) rise =
-    let digits = digits-most 3 n (omega arith) (omega (arith, rise.1)) (omega (arith, rise.1)) in
+    let digits = length-decimal-le_wide 3 n (omega arith) (omega (arith, rise.1)) (omega (arith, rise.1)) in
     let both = length-append (word n) (words ns) in
     omega (arith, digits, both, words-size (n + 1) ns rise.2)
 
@@ -56,16 +53,16 @@ config-size numbers rise = omega (arith, words-size 1 numbers rise, rise-count 1
 
 cost-size : (cost : ℕ) → cost < 2 ^ 127 → length (cost_line cost) ≤ 44
 unfolding cost_line
-cost-size cost small = let digits = digits-most 39 cost (omega arith) (omega (arith, small)) (omega (arith, small)) in omega (arith, digits)
+cost-size cost small = let digits = length-decimal-le_wide 39 cost (omega arith) (omega (arith, small)) (omega (arith, small)) in omega (arith, digits)
 
 bound-size : (bound : ℤ) → IsSmall bound → length (bound_line bound) ≤ 46
 unfolding bound_line
-bound-size (pos n) small = let digits = digits-most 39 n (omega arith) (omega (arith, small)) (omega (arith, small)) in omega (arith, digits)
-bound-size (negsuc n) small = let digits = digits-most 39 (suc n) (omega arith) (omega (arith, small)) (omega (arith, small)) in omega (arith, digits)
+bound-size (pos n) small = let digits = length-decimal-le_wide 39 n (omega arith) (omega (arith, small)) (omega (arith, small)) in omega (arith, digits)
+bound-size (negsuc n) small = let digits = length-decimal-le_wide 39 (suc n) (omega arith) (omega (arith, small)) (omega (arith, small)) in omega (arith, digits)
 
 sets-size : (count : ℕ) → count ≤ 16 → length (sets_line count) ≤ 7
 unfolding sets_line
-sets-size count few = let digits = digits-most 2 count (omega arith) (omega (arith, few)) (omega (arith, few)) in omega (arith, digits)
+sets-size count few = let digits = length-decimal-le_wide 2 count (omega arith) (omega (arith, few)) (omega (arith, few)) in omega (arith, digits)
 
 head-size : (budget : ℕ) (config : List ℕ) (cost : ℕ) (bound : ℤ) (count : ℕ) → budget ≤ 1000000000000 → Rise 1 config → cost < 2 ^ 127 → IsSmall bound → count ≤ 16 →
     length (text_of (head_lines budget config cost bound count)) ≤ 1172
@@ -83,10 +80,10 @@ head-size budget config cost bound count pages rise small within few =
 entry-size : (entry : Entry) → EntryLimits entry → length (entry_line entry) ≤ 30
 unfolding entry_line
 entry-size entry h =
-    let statement = digits-most 4 entry.statement (omega arith) (omega (arith, h.statement_most)) (omega (arith, h.statement_most)) in
-    let slot = digits-most 1 entry.slot (omega arith) (omega (arith, h.slot_most)) (omega (arith, h.slot_most)) in
-    let candidate = digits-most 3 entry.candidate (omega arith) (omega (arith, h.candidate_most)) (omega (arith, h.candidate_most)) in
-    let lambda = digits-most 19 entry.lambda (omega arith) (omega (arith, h.lambda_most)) (omega (arith, h.lambda_most)) in
+    let statement = length-decimal-le_wide 4 entry.statement (omega arith) (omega (arith, h.statement_most)) (omega (arith, h.statement_most)) in
+    let slot = length-decimal-le_wide 1 entry.slot (omega arith) (omega (arith, h.slot_most)) (omega (arith, h.slot_most)) in
+    let candidate = length-decimal-le_wide 3 entry.candidate (omega arith) (omega (arith, h.candidate_most)) (omega (arith, h.candidate_most)) in
+    let lambda = length-decimal-le_wide 19 entry.lambda (omega arith) (omega (arith, h.lambda_most)) (omega (arith, h.lambda_most)) in
     let last = length-append (word entry.candidate) (word entry.lambda) in
     let middle = length-append (word entry.slot) (word entry.candidate ++ word entry.lambda) in
     let first = length-append (decimal entry.statement) (word entry.slot ++ (word entry.candidate ++ word entry.lambda)) in
@@ -101,8 +98,8 @@ entries-size least (entry ∷ entries) rise =
 set-size : (mu count : ℕ) → mu ≤ 10 ^ 20 → count ≤ 1500000 → length (set_line mu count) ≤ 33
 unfolding set_line
 set-size mu count price few =
-    let first = digits-most 21 mu (omega arith) (omega (arith, price)) (omega (arith, price)) in
-    let second = digits-most 7 count (omega arith) (omega (arith, few)) (omega (arith, few)) in
+    let first = length-decimal-le_wide 21 mu (omega arith) (omega (arith, price)) (omega (arith, price)) in
+    let second = length-decimal-le_wide 7 count (omega arith) (omega (arith, few)) (omega (arith, few)) in
     let both = length-append (word mu) (word count) in
     omega (arith, first, second, both)
 
@@ -124,8 +121,8 @@ all-sets-size (set ∷ sets) limits few =
 
 node-size : (sets : ℕ) (node : Node) → sets ≤ 16 → NodeLimits sets node → length (node_line node) ≤ 5
 unfolding node_line
-node-size sets (Branch candidate) few limits = let digits = digits-most 3 candidate (omega arith) (omega (arith, limits.1)) (omega (arith, limits.1)) in omega (arith, digits)
-node-size sets (Bounded set) few limits = let digits = digits-most 2 set (omega arith) (omega (arith, limits, few)) (omega (arith, limits, few)) in omega (arith, digits)
+node-size sets (Branch candidate) few limits = let digits = length-decimal-le_wide 3 candidate (omega arith) (omega (arith, limits.1)) (omega (arith, limits.1)) in omega (arith, digits)
+node-size sets (Bounded set) few limits = let digits = length-decimal-le_wide 2 set (omega arith) (omega (arith, limits, few)) (omega (arith, limits, few)) in omega (arith, digits)
 node-size sets Overfull few limits = omega arith
 
 nodes-size : (sets : ℕ) (nodes : List Node) → sets ≤ 16 → AllByRecursion (NodeLimits sets) nodes → length (text_of (map node_line nodes)) ≤ length nodes * 6
@@ -136,7 +133,7 @@ nodes-size sets (node ∷ nodes) few limits =
 
 tree-size : (count : ℕ) → count ≤ 1000000 → length (tree_line count) ≤ 12
 unfolding tree_line
-tree-size count few = let digits = digits-most 7 count (omega arith) (omega (arith, few)) (omega (arith, few)) in omega (arith, digits)
+tree-size count few = let digits = length-decimal-le_wide 7 count (omega arith) (omega (arith, few)) (omega (arith, few)) in omega (arith, digits)
 
 end-size : length end_line ≡ 3
 unfolding end_line

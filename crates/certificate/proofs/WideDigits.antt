@@ -1,16 +1,16 @@
 -- Decimal digits of numbers of 128 bits, and the bytes that are some.
-use Rattle.std.proofs.Common.{◌≡◌, ◌≢◌, ◌∙◌, ℕ, zero, suc, ◌+◌, ◌*◌, ◌/◌, ◌%◌, ◌<◌, ◌≤◌, ◌^◌, true, List, [], ◌∷◌, ◌++◌, length, get_or, Ok, Err, sym, ap, subst, arith, append_assoc, length-append}
-use Rattle.std.specs.Prelude.{slice_index, decimal}
+use Rattle.std.proofs.Common.{◌≡◌, ◌∙◌, ℕ, zero, suc, ◌+◌, ◌*◌, ◌/◌, ◌%◌, ◌<◌, ◌≤◌, ◌^◌, true, List, [], ◌∷◌, ◌++◌, length, get_or, Ok, Err, sym, ap, subst, arith, append_assoc, length-append}
+use Rattle.std.specs.Prelude.{decimal}
 use Rattle.std.specs.Char.{digit_value}
 use Rattle.std.specs.Str.{IsUtf8}
 use Rattle.std.specs.Str.Parse.{AllDigits, IsNumeral, digits_value, digits_value_after, ParsesUnsigned, without_leading_plus}
-use Rattle.std.proofs.lemmas.Bool.Decides.{nat_tests}
 use Rattle.std.proofs.lemmas.Fmt.{decimal_digit, decimal_step_wide, decimal_is_IsNumeral_wide, decimal_by_steps_wide, IsAscii-decimal_wide, parse-decimal_wide}
 use Rattle.std.proofs.lemmas.List.{append-nil}
 use Rattle.std.proofs.Math.ListN.{get_or-append}
 use Rattle.std.proofs.lemmas.Str.{IsUtf8-from_ascii, digit_value_digit}
 use Rattle.std.proofs.lemmas.Str.Parse.{digit_from_value, without_leading_plus_none}
 use Rattle.adv_base.specs.Numbers.{is_plain}
+use Rattle.adv_base.proofs.Digits.{plain-parts, plain-above}
 
 le_value_after : (n : ℕ) (ds : List ℕ) → n ≤ digits_value_after 10 n ds
 le_value_after n [] = omega arith
@@ -52,9 +52,6 @@ wide-some n h = (decimal_is_IsNumeral_wide n (omega arith)).0.0
 pub utf8-wide : (text : List ℕ) (n : ℕ) → n < 2 ^ 128 → text ≡ decimal n → IsUtf8 text
 utf8-wide text n h e = subst IsUtf8 (sym e) (IsUtf8-from_ascii (decimal n) (IsAscii-decimal_wide n (omega arith)))
 
-plain-above : (text : List ℕ) → 48 < slice_index text 0 → is_plain text ≡ true
-plain-above text h = grind (arith, nat_tests)
-
 -- the first digit of a number other than 0 is above 0
 first-above : (n : ℕ) → n < 10 ^ 64 → 0 < n → 48 < get_or (decimal n) 0 0
 first-above n h some = (decimal_by_steps_wide (λ m ds. (0 < length ds) × (0 < m → 48 < get_or ds 0 0)) (λ m l. (omega arith, λ a. omega arith))
@@ -64,9 +61,6 @@ first-above n h some = (decimal_by_steps_wide (λ m ds. (0 < length ds) × (0 < 
 pub plain-wide : (n : ℕ) → n < 2 ^ 128 → is_plain (decimal n) ≡ true
 plain-wide zero h = ap is_plain (decimal_digit 0 (omega arith))
 plain-wide (suc n) h = plain-above (decimal (suc n)) (first-above (suc n) (omega arith) (omega arith))
-
-plain-parts : (text : List ℕ) → is_plain text ≡ true → (get_or text 0 0 ≢ 43) × (get_or text 0 0 ≡ 48 → length text ≡ 1)
-plain-parts text h = grind (arith, nat_tests)
 
 -- the bytes that `parse` reads are the digits of what it reads
 pub wide-parsed : (text digits : List ℕ) (v : ℕ) → digits ≡ text → is_plain text ≡ true → IsNumeral 10 (without_leading_plus digits) × (digits_value 10 (without_leading_plus digits) < 2 ^ 128) →

@@ -13,6 +13,7 @@ use Rattle.bip_model.specs.declared.programme.Programme.{Programme}
 use Rattle.bip_model.specs.declared.slot_part.SlotPart.{SlotPart}
 use Rattle.bip_model.specs.Values.{part_grants, grant_count}
 use Rattle.bip_model.specs.Views.{Place, slot_places, part_places, places, AreMultipliers}
+use Rattle.bip_model.proofs.Using.{places-counted}
 use Rattle.certificate.specs.Answers.{entry_of, entries_of, sparse_set, numbers_from, answer_cert, rent_count}
 use Rattle.certificate.specs.Texts.{text_of, word, words, title_line, budget_line, config_line, cost_line, bound_line, sets_line, set_line, entry_line, tree_line, node_line, end_line, head_lines, set_lines, sets_lines, cert_text}
 use Rattle.certificate.specs.declared.cert.Entry.{Entry}
@@ -143,10 +144,6 @@ length-part_places (part ∷ parts) =
     ∙ (λ i. length-slot_places part.statement 0 part.slots i + length-part_places parts i)
     ∙ sym (sum_by-cons part_grants part parts)
 
-pub length-places_of : (programme : Programme) → length (places programme) ≡ grant_count programme
-unfolding grant_count
-length-places_of programme = length-part_places programme.parts
-
 -- sets
 
 count-entry : (place : Place) (rent : ℕ) → length (entry_of place rent) ≡ cond (not (rent == 0)) 1 0
@@ -168,7 +165,7 @@ unfolding grant_count
 grant-count-is programme = refl
 
 pub set-count : (programme : Programme) (set : Multipliers) → AreMultipliers programme set → rent_count set.lambda ≡ length (entries_of (places programme) set.lambda)
-set-count programme set h = sym (count-entries (places programme) set.lambda (h.one_each ∙ sym (length-places_of programme)))
+set-count programme set h = sym (count-entries (places programme) set.lambda (h.one_each ∙ sym (places-counted programme)))
 
 pub set-text : (programme : Programme) (set : Multipliers) → AreMultipliers programme set →
     text_of (set_lines (sparse_set programme set)) ≡ (set_line set.mu (rent_count set.lambda) ++ 10 ∷ []) ++ entries_text (entries_of (part_places programme.parts) set.lambda)

@@ -1,5 +1,5 @@
 //! The lines of a certificate that say more than one number.
-ghost use Rattle.std.specs.Prelude.{◌≡◌, ◌≢◌, ◌≤◌, ◌<◌, ◌+◌, ◌^◌, ◌∷◌, ℕ, ℤ, negsuc, List, IfOk, MatchOption, length};
+ghost use Rattle.std.specs.Prelude.{◌≡◌, ◌≢◌, ◌≤◌, ◌<◌, ◌+◌, ◌^◌, ◌∷◌, ℕ, ℤ, negsuc, List, IfOk, MatchOption};
 ghost use Rattle.std.specs.Fmt.{signed_decimal};
 ghost use Rattle.bip_model.specs.declared.answer.Node as nodes;
 ghost use Rattle.certificate.specs.Limits as limits;

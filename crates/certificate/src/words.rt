@@ -1,5 +1,5 @@
 //! Numbers and words of lines.
-ghost use Rattle.std.specs.Prelude.{◌≡◌, ◌≢◌, ◌↔◌, ◌<◌, ◌≤◌, ◌^◌, ◌++◌, ◌∷◌, ℕ, List, Some, IsTrue, IfSome, MatchOption, length, slice_index, decimal};
+ghost use Rattle.std.specs.Prelude.{◌≡◌, ◌≢◌, ◌↔◌, ◌<◌, ◌≤◌, ◌^◌, ◌++◌, ℕ, List, Some, IsTrue, MatchOption, length, slice_index, decimal};
 ghost use Rattle.adv_base.specs.Numbers as numbers;
 ghost use Rattle.certificate.specs.inner.Words as inner;
 

@@ -4,8 +4,8 @@ use Rattle.std.proofs.lemmas.Bool.{cases_lt}
 use Rattle.adv_base.specs.declared.workload.Statement.{Statement}
 use Rattle.adv_base.specs.declared.workload.block.Block.{Block}
 use Rattle.adv_base.specs.Settings.{TheSetting}
-use Rattle.gap_checker.proofs.Lists.{all-at}
 use Rattle.plan_model.specs.Totals.{block_of}
+use Rattle.bip_model.proofs.Lists.{All-some}
 use Rattle.tuning.specs.Refusals.{HasCombinations, IsFew, AreFew, IsFirstBeyond}
 use Rattle.tuning.proofs.Counting.{one-count}
 
@@ -19,7 +19,7 @@ in_front (y ∷ ys) (suc k) (suc i) x low found = in_front ys k i x (omega (arit
 -- where all have few, none has too many
 none_too_many : (setting : TheSetting) (xs : List Statement) (n count : ℕ) (h : IsFirstBeyond setting n count) → AreFew setting.cat xs → slice_get xs (n - 1) ≡ Some h.statement → ⊥
 none_too_many setting xs n count h few found =
-    let within = all-at (λ (s : Statement). (block : Block) → block_of s.work ≡ Some block → IsFew setting.cat block) xs (n - 1) h.statement few found h.block h.block_is count h.has in
+    let within = All-some (λ (s : Statement). (block : Block) → block_of s.work ≡ Some block → IsFew setting.cat block) xs (n - 1) h.statement few found h.block h.block_is count h.has in
     let beyond = h.beyond in
     absurd (omega (arith, within, beyond))
 

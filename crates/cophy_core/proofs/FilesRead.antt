@@ -1,7 +1,7 @@
 -- Files read in a row.
 use Rattle.std.proofs.Common.{◌≡◌, inl, inr, ℕ, ◌<◌, ◌≤◌, List, [], ◌∷◌, ◌++◌, length, Option, Some, refl, subst, arith}
 use Rattle.std.specs.FinMap.{get}
-use Rattle.adv_shelf.proofs.CallerLemmas.{told_fact}
+use Rattle.adv_shelf.proofs.CallerLemmas.{told_fact, rose_later}
 use Rattle.adv_shelf.specs.Faults.{Rose}
 use Rattle.adv_shelf.specs.Shelf.{Files, HasFile}
 use Rattle.report.specs.declared.done.Refusal.TheVariants.{TooLong}
@@ -67,10 +67,6 @@ one_long files (f ∷ front) (g ∷ ahead) rest more file other (x ∷ xs) (y �
     let behind : front ++ file ∷ rest ≡ ahead ++ other ∷ more = cc in
     one_long files front ahead rest more file other xs ys behind a.1 b.1 long far
 
--- a count that rose after it didn't fall, rose
-pub rose_since : (a b c : ℕ) → a ≤ b → Rose b c → Rose a c
-rose_since a b c stays rose = elim rose [ inl above ↦ inl (omega arith) | inr end ↦ inr end ]
-
 -- the file behind a front of readable ones stops the reading
 pub first_stops : (files : Option Files) (uses front rest : List InputFile) (file : InputFile) (inputs : List (List ℕ)) (start before after : ReadCounts) (stop : Stop) → uses ≡ front ++ file ∷ rest → AreInputs files front inputs → start.all ≤ before.all → ((n : List ℕ) → start.at n ≤ before.at n) → IsUnreadFile files before after file stop → StopsReading files uses start after stop
 first_stops files uses front rest file inputs start before after Memory e are all at h = tt
@@ -85,8 +81,8 @@ first_stops files uses front rest file inputs start before after (Failed role) e
       bad = record {
         role_is = h.role_is;
         failed = record {
-          rose = rose_since start.all before.all after.all all h.failed.rose;
-          rose_at = rose_since (start.at file.name) (before.at file.name) (after.at file.name) (at file.name) h.failed.rose_at;
+          rose = rose_later start.all before.all after.all all h.failed.rose;
+          rose_at = rose_later (start.at file.name) (before.at file.name) (after.at file.name) (at file.name) h.failed.rose_at;
         };
       };
     }

@@ -9,7 +9,7 @@ use Rattle.report.specs.declared.done.Done.TheVariants.{WriteFault, Memory, Advi
 use Rattle.report.specs.declared.done.WordFault.{WordFault}
 use Rattle.cophy_core.specs.commands.Advise.{IsAdvice}
 use Rattle.cophy_core.specs.Answers.{Answers}
-use Rattle.cophy_core.specs.Causes.{advice_status_of, gap_status, HasGivenUp, GapIsTrue}
+use Rattle.cophy_core.specs.Causes.{advice_status_of, HasGivenUp, GapIsTrue}
 use Rattle.cophy_core.specs.Endings.{Put, Outside, Ends}
 use Rattle.cophy_core.specs.Files.{ReadCounts}
 use Rattle.cophy_core.specs.CommandLine.{PlainCommand, Advise, Bench, command_of}

@@ -3,19 +3,11 @@ use Rattle.std.proofs.Common.{◌≡◌, ◌∙◌, ◌↔◌, ℕ, ◌<◌, ◌
 use Rattle.std.specs.Prelude.{decimal}
 use Rattle.std.specs.Str.{bytes_eq}
 use Rattle.std.specs.Str.Parse.{digits_value}
-use Rattle.std.proofs.lemmas.Bool.{leb-true, le-leb}
+use Rattle.std.proofs.lemmas.Bool.{leb-true, le-leb, and_parts, and_from}
 use Rattle.std.proofs.lemmas.Fmt.{decimal_is_IsNumeral}
 use Rattle.std.proofs.lemmas.Slice.Eq.{bytes_eq-Decides}
 use Rattle.adv_base.specs.Numbers.{IsNumber}
 use Rattle.cophy_core.specs.Numbers.{number_within}
-
-both : (p q : Bool) → (p && q) ≡ true → (p ≡ true) × (q ≡ true)
-both true q e = (refl, e)
-both false q e = absurd (let h : false ≡ true = e in cc)
-
-joined : (p q : Bool) → p ≡ true → q ≡ true → (p && q) ≡ true
-joined true q e f = f
-joined false q e f = absurd (let h : false ≡ true = e in cc)
 
 picked : (b : Bool) (v n : ℕ) → cond b (Some v) None ≡ Some n → (b ≡ true) × (v ≡ n)
 picked true v n e = (refl, cc)
@@ -27,8 +19,8 @@ unfolding number_within
 number_is least most word n e =
     let v = digits_value 10 word in
     let found = picked (bytes_eq word (decimal v) && (nat_le least v && nat_le v most)) v n e in
-    let tests = both (bytes_eq word (decimal v)) (nat_le least v && nat_le v most) found.0 in
-    let range = both (nat_le least v) (nat_le v most) tests.1 in
+    let tests = and_parts (bytes_eq word (decimal v)) (nat_le least v && nat_le v most) found.0 in
+    let range = and_parts (nat_le least v) (nat_le v most) tests.1 in
     record {
       digits = (bytes_eq-Decides word (decimal v)).0 tests.0 ∙ ap decimal found.1;
       low = omega (arith, leb-true least v range.0, found.1);
@@ -45,7 +37,7 @@ number_found least most word n small is =
     let spelled : bytes_eq word (decimal v) ≡ true = (bytes_eq-Decides word (decimal v)).1 (is.digits ∙ ap decimal (sym same)) in
     let low : nat_le least v ≡ true = le-leb least v (omega (arith, is.low, same)) in
     let high : nat_le v most ≡ true = le-leb v most (omega (arith, is.high, same)) in
-    let all = joined (bytes_eq word (decimal v)) (nat_le least v && nat_le v most) spelled (joined (nat_le least v) (nat_le v most) low high) in
+    let all = and_from (bytes_eq word (decimal v)) (nat_le least v && nat_le v most) spelled (and_from (nat_le least v) (nat_le v most) low high) in
     ap (λ (b : Bool). cond b (Some v) None) all ∙ ap Some same
 
 none_found : (o : Option ℕ) → ((n : ℕ) → o ≡ Some n → None ≡ Some n) → None ≡ o

@@ -1,24 +1,11 @@
 -- Costs and weighted sums, one statement more at a time.
-use Rattle.std.proofs.Common.{◌≡◌, ℕ, ◌+◌, ◌*◌, ◌<◌, List, [], ◌∷◌, ◌++◌, length, take, get_or, refl, ap, sym, ◌∙◌, add_assoc, suc, arith}
+use Rattle.std.proofs.Common.{◌≡◌, ℕ, ◌+◌, ◌<◌, List, [], ◌∷◌, ◌++◌, length, take, get_or, refl, ap, sym, ◌∙◌, suc}
 use Rattle.std.proofs.lemmas.List.{take_more}
 use Rattle.adv_base.specs.declared.catalogue.Catalogue.{Catalogue}
 use Rattle.adv_base.specs.declared.catalogue.index.IndexShape.{IndexShape}
 use Rattle.adv_base.specs.declared.setting.Config.{Config}
 use Rattle.adv_base.specs.declared.workload.Statement.{Statement}
-use Rattle.plan_model.specs.Totals.{AreCosts, IsCost, weighted_sum}
-
-pub AreCosts-more : (cat : Catalogue) (shapes : List IndexShape) (config : Config) (statements : List Statement) (costs : List ℕ) (statement : Statement) (cost : ℕ) → AreCosts cat shapes config statements costs → IsCost cat shapes config statement.work cost → AreCosts cat shapes config (statements ++ statement ∷ []) (costs ++ cost ∷ [])
-AreCosts-more cat shapes config [] [] statement cost all one = (one, tt)
-AreCosts-more cat shapes config [] (c ∷ cs) statement cost all one = absurd all
-AreCosts-more cat shapes config (s ∷ ss) [] statement cost all one = absurd all
-AreCosts-more cat shapes config (s ∷ ss) (c ∷ cs) statement cost all one = (all.0, AreCosts-more cat shapes config ss cs statement cost all.1 one)
-
-pub weighted_sum-more : (cat : Catalogue) (shapes : List IndexShape) (config : Config) (statements : List Statement) (costs : List ℕ) (statement : Statement) (cost : ℕ) → AreCosts cat shapes config statements costs → weighted_sum (statements ++ statement ∷ []) (costs ++ cost ∷ []) ≡ weighted_sum statements costs + statement.weight * cost
-weighted_sum-more cat shapes config [] [] statement cost all = omega arith
-weighted_sum-more cat shapes config [] (c ∷ cs) statement cost all = absurd all
-weighted_sum-more cat shapes config (s ∷ ss) [] statement cost all = absurd all
-weighted_sum-more cat shapes config (s ∷ ss) (c ∷ cs) statement cost all =
-    ap (λ n. s.weight * c + n) (weighted_sum-more cat shapes config ss cs statement cost all.1) ∙ sym (add_assoc (s.weight * c) (weighted_sum ss cs) (statement.weight * cost))
+use Rattle.plan_model.specs.Totals.{AreCosts}
 
 pub AreCosts-length : (cat : Catalogue) (shapes : List IndexShape) (config : Config) (statements : List Statement) (costs : List ℕ) → AreCosts cat shapes config statements costs → length costs ≡ length statements
 AreCosts-length cat shapes config [] [] all = refl

@@ -4,7 +4,7 @@ use Rattle.adv_shelf.specs.Faults.{Rose}
 use Rattle.adv_shelf.specs.declared.shelf.PutFault.{PutFault}
 use Rattle.adv_shelf.specs.declared.shelf.PutFault.TheVariants.{Memory, Failed}
 use Rattle.adv_shelf.specs.Shelf.{Files, IsPutInPart, put_file}
-use Rattle.cophy_core.proofs.FilesRead.{rose_since}
+use Rattle.adv_shelf.proofs.CallerLemmas.{rose_later}
 use Rattle.cophy_core.specs.Endings.{Put, put_all, IsPutFault}
 
 -- one file more
@@ -15,4 +15,4 @@ put_all-more files (p ∷ ps) put = put_all-more (put_file files p.name p.bytes)
 -- a put that did not go through
 pub put_faulted : {A : Type 0} (result : Result A PutFault) (fault : PutFault) (before after : Option Files) (start a b : ℕ) (put : Put) → start ≤ a → result ≡ Err fault → (result ≡ Err Memory → after ≡ before) → (result ≡ Err Failed → Rose a b) → (result ≡ Err Failed → IsPutInPart before after put.name put.bytes) → IsPutFault fault before after start b put
 put_faulted result Memory before after start a b put stays is wanted rose part = wanted is
-put_faulted result Failed before after start a b put stays is wanted rose part = (part is, rose_since start a b stays (rose is))
+put_faulted result Failed before after start a b put stays is wanted rose part = (part is, rose_later start a b stays (rose is))

@@ -1,5 +1,5 @@
 //! Answers with their texts, and how they are given.
-ghost use Rattle.std.specs.Prelude.{◌≡◌, ◌<◌, ◌≤◌, ◌⊎◌, ◌++◌, ◌∷◌, ℕ, List, [], None, IfErr, OnOk, OnErr, length};
+ghost use Rattle.std.specs.Prelude.{◌≡◌, ◌<◌, ◌≤◌, ◌⊎◌, ℕ, List, [], None, IfErr, OnOk, OnErr, length};
 ghost use Rattle.adv_shelf.specs.Faults.{Rose};
 ghost use Rattle.adv_shelf.specs.Sink.{append_to, AppendsPrefix};
 ghost use Rattle.report.specs.Texts.{done_text, FitsSetting};

@@ -1,5 +1,5 @@
 //! Why no answer was worked out.
-ghost use Rattle.std.specs.Prelude.{◌≡◌, ◌≢◌, None};
+ghost use Rattle.std.specs.Prelude.{◌≡◌, None};
 ghost use Rattle.report.specs.Texts.{FitsSetting};
 ghost use Rattle.binder.specs.declared.fault.BindFault.TheVariants as bind;
 ghost use Rattle.catalogue.specs.declared.fault.CatFault.TheVariants as cat;

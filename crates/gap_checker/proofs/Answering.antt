@@ -2,7 +2,7 @@
 use Rattle.std.proofs.Common.{◌≡◌, ◌∙◌, inl, inr, ℕ, zero, suc, ◌+◌, ◌-◌, ◌≤◌, Bool, true, false, List, [], ◌∷◌, ◌++◌, length, map, replicate, refl, sym, ap, subst, arith}
 use Rattle.std.specs.Prelude.{All, slice_set, fold, if◌then◌else◌, ◌==◌, ◌&&◌}
 use Rattle.std.specs.List.{AllByRecursion}
-use Rattle.std.proofs.lemmas.Bool.{cases_Bool, eqb-true, eq-eqb, false≢true}
+use Rattle.std.proofs.lemmas.Bool.{cases_Bool, eqb-true, eq-eqb, false≢true, and_parts}
 use Rattle.std.proofs.lemmas.List.{append_assoc}
 use Rattle.std.proofs.lemmas.List.Elements.{All-head, All-tail}
 use Rattle.adv_base.specs.declared.limits.TheConstants.{MOST_CANDIDATES, MOST_RENT}
@@ -18,7 +18,6 @@ use Rattle.bip_model.specs.StandsFor.{StandsFor}
 use Rattle.bip_model.specs.Trees.{with_candidate}
 use Rattle.bip_model.specs.Uses.{uses, multipliers_in, AreMultipliersIn}
 use Rattle.bip_model.specs.Views.{Place, places, is_place, rent_at}
-use Rattle.bip_model.proofs.Fixing.{both}
 use Rattle.bip_model.proofs.Using.{places-used}
 use Rattle.certificate.specs.Answers.{entries_of, sparse_set, numbers_from, answer_cert}
 use Rattle.certificate.proofs.InOrder.{standing-in-order}
@@ -64,8 +63,8 @@ config-same config count =
 
 place-of : (place : Place) (q s a : ℕ) → is_place place q s a ≡ true → number_of place ≡ use_place q s a
 place-of place q s a is =
-    let outer = both (place.statement == q) ((place.slot == s) && (place.candidate == a)) is in
-    let inner = both (place.slot == s) (place.candidate == a) outer.1 in
+    let outer = and_parts (place.statement == q) ((place.slot == s) && (place.candidate == a)) is in
+    let inner = and_parts (place.slot == s) (place.candidate == a) outer.1 in
     let statement = eqb-true place.statement q outer.0 in
     let slot = eqb-true place.slot s inner.0 in
     let candidate = eqb-true place.candidate a inner.1 in

@@ -1,16 +1,14 @@
 -- Tables that are marked, one after the other.
-use Rattle.std.proofs.Common.{◌≡◌, ◌∙◌, inl, inr, ℕ, suc, ◌+◌, ◌<◌, ◌≤◌, Bool, true, false, List, length, get_or, set, refl, sym, ap, subst, arith}
-use Rattle.std.specs.Prelude.{◌≢◌, Some, slice_get, slice_index_or}
-use Rattle.std.proofs.lemmas.Bool.{cases_lt, cases_eq, cases_Bool, false≢true}
+use Rattle.std.proofs.Common.{◌≡◌, ◌∙◌, inl, inr, ℕ, suc, ◌+◌, ◌<◌, Bool, true, false, List, length, set, sym, ap, arith}
+use Rattle.std.specs.Prelude.{Some, slice_get}
+use Rattle.std.proofs.lemmas.Bool.{cases_lt, cases_eq, false≢true}
 use Rattle.std.proofs.lemmas.List.{get_or-set_same, get_or-set_other}
+use Rattle.std.proofs.lemmas.Option.{same_Some}
 use Rattle.adv_base.specs.declared.catalogue.index.IndexShape.{IndexShape}
 use Rattle.adv_base.specs.declared.setting.Config.{Config}
 use Rattle.adv_base.specs.declared.workload.parts.Slot.{Slot}
 use Rattle.adv_base.specs.Configs.{has_candidate}
-use Rattle.gap_checker.specs.inner.Changes.{is_marked, AgreeApart, NoneMarked}
-
-some-is : {X : Type 0} (x y : X) → Some x ≡ Some y → x ≡ y
-some-is x y e = cc
+use Rattle.gap_checker.specs.inner.Changes.{is_marked}
 
 -- ## One table
 
@@ -37,7 +35,7 @@ agree-more old new from to shapes a shape there agree own others = λ k other be
       | inl less ↦ agree k other less found (others other.table apart)
       | inr past ↦
           let same : a ≡ k = omega (arith, below, past) in
-          let here : shape ≡ other = some-is shape other (sym there ∙ ap (slice_get shapes) same ∙ found) in
+          let here : shape ≡ other = same_Some shape other (sym there ∙ ap (slice_get shapes) same ∙ found) in
           let number : a + 1 ≡ suc k = omega (arith, same) in
           sym (ap (has_candidate from) number) ∙ own (ap (λ (x : IndexShape). is_marked new x.table) here ∙ apart) ∙ ap (has_candidate to) number
     ]
@@ -53,6 +51,6 @@ none-more tables slots s slot there none one = λ k other below found.
       | inl less ↦ none k other less found
       | inr past ↦
           let same : s ≡ k = omega (arith, below, past) in
-          let here : slot ≡ other = some-is slot other (sym there ∙ ap (slice_get slots) same ∙ found) in
+          let here : slot ≡ other = same_Some slot other (sym there ∙ ap (slice_get slots) same ∙ found) in
           ap (λ (x : Slot). is_marked tables x.table) (sym here) ∙ one
     ]

@@ -1,19 +1,15 @@
 -- Desks of statements.
-use Rattle.std.proofs.Common.{◌≡◌, ◌∙◌, ℕ, zero, suc, List, [], ◌∷◌, length, get_or, set, refl, sym, ap, subst, arith}
-use Rattle.std.specs.Prelude.{Option, Some, None, slice_get, ◌<◌}
+use Rattle.std.proofs.Common.{◌≡◌, ℕ, zero, suc, List, [], ◌∷◌, length, set, sym, subst}
+use Rattle.std.specs.Prelude.{Option, Some, None, slice_get}
+use Rattle.std.proofs.lemmas.Option.{same_Some, none-some}
 use Rattle.adv_base.specs.declared.workload.Statement.{Statement}
 use Rattle.adv_base.specs.Settings.{TheSetting}
 use Rattle.bip_model.specs.StandsFor.{AreEach}
+use Rattle.bip_model.proofs.Lists.{each-length}
 use Rattle.gap_checker.specs.declared.part.Part.{Part}
 use Rattle.gap_checker.specs.declared.desk.Desk.{Desk}
 use Rattle.gap_checker.specs.inner.Parts.{IsPlanned, HasPart, IsDeskOf, HasDesk, AreDesks}
-use Rattle.gap_checker.proofs.Lists.{each-length, each-at}
-
-some-is : {X : Type 0} (x y : X) → Some x ≡ Some y → x ≡ y
-some-is x y e = cc
-
-none-is : {X : Type 0} (x : X) → None ≡ Some x → ⊥
-none-is x e = cc
+use Rattle.gap_checker.proofs.Lists.{each-at}
 
 one-made : (setting : TheSetting) (statement : Statement) (part : Option Part) (desk : Option Desk) → HasPart setting statement part → IsDeskOf part desk → HasDesk setting statement desk
 one-made setting statement None None has is = has
@@ -41,9 +37,9 @@ pub desk-at : (setting : TheSetting) (desks : List (Option Desk)) (i : ℕ) (sta
 desk-at setting desks i statement desk are there here = each-at (HasDesk setting) setting.statements desks i statement desk are there here
 
 pub each-set : {A B : Type 0} (P : A → B → Type 0) (xs : List A) (ys : List B) (i : ℕ) (x : A) (y : B) → AreEach P xs ys → slice_get xs i ≡ Some x → P x y → AreEach P xs (set ys i y)
-each-set P [] ys i x y are there one = absurd (none-is x there)
+each-set P [] ys i x y are there one = absurd (none-some x there)
 each-set P (a ∷ xs) [] i x y are there one = absurd are
-each-set P (a ∷ xs) (b ∷ ys) zero x y are there one = (subst (λ z. P z y) (sym (some-is a x there)) one, are.1)
+each-set P (a ∷ xs) (b ∷ ys) zero x y are there one = (subst (λ z. P z y) (sym (same_Some a x there)) one, are.1)
 each-set P (a ∷ xs) (b ∷ ys) (suc i) x y are there one = (are.0, each-set P xs ys i x y are.1 there one)
 
 -- and another in its place

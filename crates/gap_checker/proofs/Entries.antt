@@ -1,12 +1,11 @@
 -- Entries in order, and the rents that they give.
-use Rattle.std.proofs.Common.{◌≡◌, ◌∙◌, ◌⊎◌, inl, inr, ℕ, zero, suc, ◌+◌, ◌*◌, ◌<◌, ◌≤◌, Bool, true, false, List, [], ◌∷◌, length, get_or, refl, sym, ap, rules, arith}
-use Rattle.std.specs.Prelude.{Option, Some, None, slice_get, if◌then◌else◌, ◌==◌, ◌&&◌}
+use Rattle.std.proofs.Common.{◌≡◌, ◌∙◌, inl, inr, ℕ, zero, suc, ◌+◌, ◌*◌, ◌<◌, ◌≤◌, true, List, [], ◌∷◌, length, get_or, refl, ap, arith}
+use Rattle.std.specs.Prelude.{Some, slice_get, ◌==◌, ◌&&◌}
 use Rattle.std.proofs.lemmas.Option.{get_or_from_slice_get, slice_get_within}
-use Rattle.std.proofs.lemmas.Bool.{cases_Bool, eqb-true, false≢true}
+use Rattle.std.proofs.lemmas.Bool.{cases_Bool, eqb-true, and_parts}
 use Rattle.adv_base.specs.declared.limits.TheConstants.{MOST_RENT}
-use Rattle.bip_model.proofs.Fixing.{both}
 use Rattle.certificate.specs.declared.cert.Entry.{Entry}
-use Rattle.certificate.specs.Limits.{EntryLimits, EntriesFrom, entry_place}
+use Rattle.certificate.specs.Limits.{EntriesFrom, entry_place}
 use Rattle.gap_checker.specs.Views.{is_entry_of, rent_in}
 use Rattle.gap_checker.specs.inner.Searches.{IsCut, rent_of}
 
@@ -16,8 +15,8 @@ use_place q s a = q * 2048 + suc s * 256 + a
 
 pub entry-of : (entry : Entry) (q s a : ℕ) → is_entry_of entry q s a ≡ true → (entry.statement ≡ q) × (entry.slot ≡ suc s) × (entry.candidate ≡ a)
 entry-of entry q s a is =
-    let parts = both (entry.statement == q) ((entry.slot == suc s) && (entry.candidate == a)) is in
-    let rest = both (entry.slot == suc s) (entry.candidate == a) parts.1 in
+    let parts = and_parts (entry.statement == q) ((entry.slot == suc s) && (entry.candidate == a)) is in
+    let rest = and_parts (entry.slot == suc s) (entry.candidate == a) parts.1 in
     (eqb-true entry.statement q parts.0, eqb-true entry.slot (suc s) rest.0, eqb-true entry.candidate a rest.1)
 
 pub entry-place : (entry : Entry) (q s a : ℕ) → is_entry_of entry q s a ≡ true → entry_place entry ≡ use_place q s a

@@ -1,11 +1,10 @@
 -- A fault and a proof exclude each other.
-use Rattle.std.proofs.Common.{◌≡◌, ◌∙◌, ℕ, zero, suc, ◌+◌, ◌-◌, ◌<◌, ◌≤◌, ℤ, Bool, true, false, List, [], ◌∷◌, ◌++◌, length, get_or, map, refl, sym, ap, subst, arith}
+use Rattle.std.proofs.Common.{◌≡◌, ◌∙◌, ℕ, zero, suc, ◌-◌, ℤ, true, List, [], ◌∷◌, ◌++◌, get_or, refl, sym, ap, subst, arith}
 use Rattle.std.specs.Prelude.{All, Some, None, slice_get, option_map, ◌≤ℤ◌, ◌<ℤ◌}
 use Rattle.std.specs.List.{AllByRecursion}
-use Rattle.std.proofs.lemmas.Option.{slice_get-map, slice_get-get_or, get_or_from_slice_get, slice_get_within}
+use Rattle.std.proofs.lemmas.Option.{slice_get-map, get_or_from_slice_get, slice_get_within, same_Some}
 use Rattle.std.proofs.lemmas.Int.{ints}
 use Rattle.std.proofs.lemmas.List.Elements.{All-head}
-use Rattle.adv_base.specs.declared.setting.Config.{Config}
 use Rattle.adv_base.specs.Configs.{IsConfigOf, Fits, has_candidate}
 use Rattle.adv_base.specs.Nodes as nodes
 use Rattle.adv_base.specs.Settings.{TheSetting, KeepsLimits}
@@ -14,7 +13,7 @@ use Rattle.bip_model.specs.declared.answer.Node.{Node}
 use Rattle.bip_model.specs.declared.answer.Node.TheVariants.{Branch, Bounded, Overfull}
 use Rattle.bip_model.specs.Laws.{BoundsAll}
 use Rattle.bip_model.specs.Proves.{free_node, RentsUses}
-use Rattle.bip_model.specs.Trees.{with_candidate, preorder, set_at}
+use Rattle.bip_model.specs.Trees.{preorder}
 use Rattle.bip_model.proofs.Showing.{proved-bound, below-free}
 use Rattle.certificate.specs.declared.cert.Cert.{Cert}
 use Rattle.certificate.specs.declared.cert.SparseSet.{SparseSet}
@@ -24,7 +23,7 @@ use Rattle.plan_model.specs.Totals.{IsTotal}
 use Rattle.gap_checker.specs.declared.fault.CheckFault.{CheckFault}
 use Rattle.gap_checker.specs.declared.fault.CheckFault.TheVariants as faults
 use Rattle.gap_checker.specs.Faults.{IsFault, IsNodeAt, IsBadConfig, IsOverBudget, IsOtherCost, IsBadPair, IsLeafBelow, IsNotOverfull}
-use Rattle.gap_checker.specs.Views.{config_with, config_of, sets_of, multipliers_of, rent_in, IsProof}
+use Rattle.gap_checker.specs.Views.{config_of, sets_of, multipliers_of, IsProof}
 use Rattle.gap_checker.specs.Visits.{Visit, visits, IsRight, IsRightAt}
 use Rattle.gap_checker.proofs.Naming.{entry-rent}
 use Rattle.gap_checker.proofs.Numbers.{has-flag, number-has, config-count}
@@ -48,16 +47,13 @@ right-there setting cert number at node proof is =
     let moved : All P (visits (free_node ∷ []) cert.tree) = subst (λ (list : List Node). All P (visits (free_node ∷ []) list)) (sym (behind-nothing (preorder proof.shown.tree)) ∙ sym proof.shown.list_is) all in
     some-there P is.before (record { at = at; node = node }) is.rest (subst (All P) is.parts moved)
 
-pub same-some : {X : Type 0} (x y : X) → Some x ≡ Some y → x ≡ y
-same-some x y e = cc
-
 not-below : (bound value : ℤ) → bound ≤ℤ value → value <ℤ bound → ⊥
 not-below bound value least below = omega (arith, ints, least, below)
 
 -- a leaf below the bound isn't right
 pub leaf-wrong : (setting : TheSetting) (cert : Cert) (n : ℕ) (computed claimed : ℤ) (is : IsLeafBelow setting cert n computed claimed) → IsRightAt setting cert.budget cert.bound (sets_of cert) is.at (Bounded is.set) → ⊥
 leaf-wrong setting cert n computed claimed is right =
-    let same : right.multipliers ≡ is.multipliers = same-some right.multipliers is.multipliers (sym right.found ∙ is.found) in
+    let same : right.multipliers ≡ is.multipliers = same_Some right.multipliers is.multipliers (sym right.found ∙ is.found) in
     let value : right.value ≡ computed = one-lagrangian setting cert.budget is.at is.multipliers right.value computed (subst (λ (m : TheMultipliers). IsLagrangian setting cert.budget is.at m right.value) same right.value_is) is.value_is in
     not-below claimed computed (subst (λ (v : ℤ). claimed ≤ℤ v) value (subst (λ (b : ℤ). b ≤ℤ right.value) (sym is.claimed_is) right.at_least)) is.below
 
@@ -112,7 +108,7 @@ sets-rise [] limits j set there = absurd (none j there)
   where
     none : (j : ℕ) → None ≡ Some set → ⊥
     none j e = cc
-sets-rise (first ∷ sets) limits zero set there = subst (λ (s : SparseSet). EntriesFrom 0 s.entries) (same-some first set there) limits.0.entries
+sets-rise (first ∷ sets) limits zero set there = subst (λ (s : SparseSet). EntriesFrom 0 s.entries) (same_Some first set there) limits.0.entries
 sets-rise (first ∷ sets) limits (suc j) set there = sets-rise sets limits.1 j set there
 
 -- a proof bounds every fitting configuration

@@ -1,8 +1,8 @@
 -- Sets of multipliers as they are kept.
-use Rattle.std.proofs.Common.{◌≡◌, ◌∙◌, ℕ, zero, suc, ◌+◌, ◌<◌, ◌≤◌, ℤ, true, false, List, [], ◌∷◌, length, map, refl, sym, ap, subst, arith}
+use Rattle.std.proofs.Common.{◌≡◌, ◌∙◌, ℕ, zero, suc, ◌<◌, ◌≤◌, ℤ, true, false, List, length, sym, ap, subst, arith}
 use lib.Signed.{lt_z}
 use Rattle.std.proofs.lemmas.Int.{ints}
-use Rattle.std.specs.Prelude.{◌≤ℤ◌, ◌<ℤ◌, Option, Some, None, slice_get, option_map}
+use Rattle.std.specs.Prelude.{◌≤ℤ◌, ◌<ℤ◌, Some, slice_get, option_map}
 use Rattle.std.proofs.lemmas.Option.{slice_get-map, slice_get_within}
 use Rattle.adv_base.specs.declared.limits.TheConstants.{MOST_PAGE_PRICE}
 use Rattle.adv_base.specs.Settings.{TheSetting}
@@ -11,13 +11,13 @@ use Rattle.bip_model.specs.Trees.{set_at}
 use Rattle.certificate.specs.declared.cert.Cert.{Cert}
 use Rattle.certificate.specs.declared.cert.SparseSet.{SparseSet}
 use Rattle.certificate.specs.Limits.{EntriesFrom}
-use Rattle.plan_model.specs.Lagrangian.{TheMultipliers}
+use Rattle.bip_model.proofs.Lists.{each-length}
 use Rattle.gap_checker.specs.declared.multipliers.Multipliers.{Multipliers}
 use Rattle.gap_checker.specs.Views.{multipliers_of, sets_of}
 use Rattle.gap_checker.specs.inner.Earnings.{AreEarned}
-use Rattle.gap_checker.specs.inner.Judges.{IsKept, zero_set, all_sets}
+use Rattle.gap_checker.specs.inner.Judges.{IsKept, all_sets}
 use Rattle.gap_checker.specs.inner.Sums.{the_multipliers}
-use Rattle.gap_checker.proofs.Lists.{each-at, each-length, some-at}
+use Rattle.gap_checker.proofs.Lists.{each-at, some-at}
 
 kept-same : (setting : TheSetting) (sparse : SparseSet) (set : Multipliers) → IsKept setting sparse set → the_multipliers set.rents ≡ multipliers_of sparse
 kept-same setting sparse set kept =

@@ -1,11 +1,11 @@
 -- Costs that are kept where other candidates become available.
 use Rattle.std.proofs.Common.{◌≡◌, ◌∙◌, inl, inr, ℕ, zero, suc, ◌+◌, ◌*◌, ◌<◌, ◌≤◌, Bool, true, false, List, [], ◌∷◌, ◌++◌, length, set, map, filter, take, drop, refl, sym, ap, subst, arith}
-use Rattle.std.specs.Prelude.{◌≢◌, All, Option, Some, None, slice_get, slice_index_or, if◌then◌else◌, ◌==◌}
+use Rattle.std.specs.Prelude.{◌≢◌, Option, Some, None, slice_get, slice_index_or, if◌then◌else◌, ◌==◌}
 use Rattle.std.specs.List.{enumerate_from}
 use Rattle.std.specs.Option.{ForSome}
 use Rattle.std.proofs.lemmas.Bool.{cases_lt, eqb-true, false≢true}
 use Rattle.std.proofs.lemmas.List.{get_or-set_same, get_or-set_other, append-nil, drop_all, take_all}
-use Rattle.std.proofs.lemmas.Option.{slice_get_within}
+use Rattle.std.proofs.lemmas.Option.{slice_get_within, same_Some, none-some}
 use Rattle.std.proofs.Math.Path.{fun_ext}
 use Rattle.adv_base.specs.declared.catalogue.Catalogue.{Catalogue}
 use Rattle.adv_base.specs.declared.catalogue.index.IndexShape.{IndexShape}
@@ -18,9 +18,8 @@ use Rattle.adv_base.specs.declared.workload.block.Block.{Block}
 use Rattle.adv_base.specs.declared.workload.parts.Slot.{Slot}
 use Rattle.adv_base.specs.Configs.{has_candidate}
 use Rattle.adv_base.specs.Lookups.{table_at}
-use Rattle.adv_base.specs.Offers.{OfferTable, Path, Heap, Existing, candidate_path, numbered_on, charged_path_offer, charged_offers, charged_offers_of, charged_offers_on}
+use Rattle.adv_base.specs.Offers.{OfferTable, Heap, Existing, candidate_path, numbered_on, charged_path_offer, charged_offers, charged_offers_of, charged_offers_on}
 use Rattle.adv_base.specs.Settings.{TheSetting}
-use Rattle.bip_model.specs.StandsFor.{candidates_on}
 use Rattle.bip_model.proofs.Standing.{chosen-on}
 use Rattle.plan_model.specs.Lagrangian.{IsRentedCost, IsRentedPlan, AreRentedPlans}
 use Rattle.plan_model.specs.Least.{Least}
@@ -114,12 +113,6 @@ all-rented setting config rent costs count are =
 
 -- ## Costs that are renewed
 
-some-is : {X : Type 0} (x y : X) → Some x ≡ Some y → x ≡ y
-some-is x y e = cc
-
-none-is : {X : Type 0} (x : X) → None ≡ Some x → ⊥
-none-is x e = cc
-
 -- the costs that are kept are right where nothing changed
 pub renewed-start : (setting : TheSetting) (rent : ℕ → ℕ → ℕ → ℕ) (last : Last) (changes : Changes) (to : Config) → IsLast setting rent last →
     ForSome last.config (λ config. AgreeApart changes.tables config to setting.shapes) → (last.config ≡ None → changes.all ≡ true) → AreRenewed setting to rent changes 0 last.costs.items
@@ -145,7 +138,7 @@ renewed-skip setting config rent changes i costs statement there untouched are =
             | inl less ↦ are.done k other less found
             | inr past ↦
                 let same : i ≡ k = omega (arith, below, past) in
-                let here : statement ≡ other = some-is statement other (sym there ∙ ap (slice_get setting.statements) same ∙ found) in
+                let here : statement ≡ other = same_Some statement other (sym there ∙ ap (slice_get setting.statements) same ∙ found) in
                 are.left k other (omega (arith, past)) found (subst (λ (s : Statement). IsUntouched changes s.work) here untouched)
           ];
       left = λ k other from found apart. are.left k other (omega (arith, from)) found apart;
@@ -161,7 +154,7 @@ renewed-set setting config rent changes i cost costs statement there within one 
             | inl less ↦ subst (IsRentedPlan setting config (rent (suc k)) other.work) (sym (kept k (λ same. omega (arith, same, less)))) (are.done k other less found)
             | inr past ↦
                 let same : i ≡ k = omega (arith, below, past) in
-                let here : statement ≡ other = some-is statement other (sym there ∙ ap (slice_get setting.statements) same ∙ found) in
+                let here : statement ≡ other = same_Some statement other (sym there ∙ ap (slice_get setting.statements) same ∙ found) in
                 let number : i + 1 ≡ suc k = omega (arith, same) in
                 let value : cost ≡ slice_index_or (set costs i cost) k 0 = sym (get_or-set_same costs i cost 0 within) ∙ ap (λ (n : ℕ). slice_index_or (set costs i cost) n 0) same in
                 subst (IsRentedPlan setting config (rent (suc k)) other.work) value
@@ -185,10 +178,10 @@ moved-right a b c = omega arith
 
 sum-suc : (statements : List Statement) (costs : List ℕ) (i : ℕ) (statement : Statement) (cost : ℕ) → slice_get statements i ≡ Some statement → slice_get costs i ≡ Some cost →
     weighted_sum (take (suc i) statements) (take (suc i) costs) ≡ weighted_sum (take i statements) (take i costs) + statement.weight * cost
-sum-suc [] costs i statement cost there here = absurd (none-is statement there)
-sum-suc (s ∷ statements) [] i statement cost there here = absurd (none-is cost here)
+sum-suc [] costs i statement cost there here = absurd (none-some statement there)
+sum-suc (s ∷ statements) [] i statement cost there here = absurd (none-some cost here)
 sum-suc (s ∷ statements) (c ∷ costs) zero statement cost there here =
-    nothing-more (s.weight * c) ∙ ap (λ (x : Statement). 0 + x.weight * c) (some-is s statement there) ∙ ap (λ (n : ℕ). 0 + statement.weight * n) (some-is c cost here)
+    nothing-more (s.weight * c) ∙ ap (λ (x : Statement). 0 + x.weight * c) (same_Some s statement there) ∙ ap (λ (n : ℕ). 0 + statement.weight * n) (same_Some c cost here)
 sum-suc (s ∷ statements) (c ∷ costs) (suc i) statement cost there here =
     ap (λ (n : ℕ). s.weight * c + n) (sum-suc statements costs i statement cost there here)
     ∙ moved-right (s.weight * c) (weighted_sum (take i statements) (take i costs)) (statement.weight * cost)

@@ -1,10 +1,10 @@
 -- Uses that entries name.
-use Rattle.std.proofs.Common.{◌≡◌, ◌∙◌, ◌⊎◌, inl, inr, ℕ, zero, suc, ◌+◌, ◌-◌, ◌<◌, ◌≤◌, Bool, true, false, List, [], ◌∷◌, length, get_or, refl, sym, ap, subst, arith}
+use Rattle.std.proofs.Common.{◌≡◌, ◌∙◌, inl, inr, ℕ, zero, suc, ◌+◌, ◌-◌, ◌<◌, ◌≤◌, Bool, true, false, List, [], ◌∷◌, length, get_or, refl, sym, ap, subst, arith}
 use Rattle.std.specs.Prelude.{All, Option, Some, None, slice_get, option_and_then, not, ◌==◌}
 use Rattle.std.specs.List.{AllByRecursion}
 use Rattle.std.specs.Option.{option_map_or}
-use Rattle.std.proofs.lemmas.Bool.{cases_Bool, cases_lt, not-true, eqb-true, eq-eqb, false≢true}
-use Rattle.std.proofs.lemmas.Option.{slice_get-get_or}
+use Rattle.std.proofs.lemmas.Bool.{cases_Bool, cases_lt, not-true, eqb-true, eq-eqb, false≢true, not-false}
+use Rattle.std.proofs.lemmas.Option.{slice_get-get_or, none-some}
 use Rattle.std.proofs.lemmas.List.Elements.{All-head, All-tail, All-map}
 use Rattle.adv_base.specs.declared.catalogue.index.IndexShape.{IndexShape}
 use Rattle.adv_base.specs.declared.workload.Statement.{Statement}
@@ -22,9 +22,6 @@ use Rattle.gap_checker.specs.Faults.{NamesPair}
 use Rattle.gap_checker.specs.Views.{is_entry_of, rent_in, multipliers_of, sets_of}
 use Rattle.gap_checker.specs.inner.Uses.{slot_of, is_on, names_use, IsBadAt, IsNamedAt, IsBadEntry, IsFirstBad}
 use Rattle.gap_checker.proofs.Entries.{entry-of}
-
-none-some : {X : Type 0} (x : X) → None ≡ Some x → ⊥
-none-some x e = cc
 
 false-true : false ≡ true → ⊥
 false-true e = false≢true e
@@ -172,10 +169,6 @@ sets-more setting sets j set here named before k earlier below there =
           let is : set ≡ earlier = same-set set earlier (sym here ∙ ap (slice_get sets) (sym same) ∙ there) in
           subst (λ (s : SparseSet). All (NamesPair setting) s.entries) is named
     ]
-
-not-false : (b : Bool) → not b ≡ false → b ≡ true
-not-false true e = refl
-not-false false e = sym e
 
 pub limits-at : (entries : List Entry) (least k : ℕ) (entry : Entry) → EntriesFrom least entries → slice_get entries k ≡ Some entry → EntryLimits entry
 limits-at [] least k entry rise there = absurd (none-some entry there)

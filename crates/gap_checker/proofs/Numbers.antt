@@ -1,9 +1,9 @@
 -- Numbers of a configuration.
-use Rattle.std.proofs.Common.{◌≡◌, ◌∙◌, ◌⊎◌, inl, inr, ℕ, zero, suc, ◌+◌, ◌-◌, ◌<◌, ◌≤◌, Bool, true, false, List, [], ◌∷◌, length, get_or, refl, sym, ap, subst, arith}
+use Rattle.std.proofs.Common.{◌≡◌, ◌∙◌, inl, inr, ℕ, zero, suc, ◌+◌, ◌-◌, ◌<◌, ◌≤◌, Bool, true, false, List, [], ◌∷◌, length, get_or, refl, sym, ap, subst, arith}
 use Rattle.std.specs.Prelude.{All, Some, None, slice_get, slice_set, fold}
 use Rattle.std.proofs.lemmas.Bool.{cases_lt, false≢true}
 use Rattle.std.proofs.lemmas.List.{length-replicate}
-use Rattle.std.proofs.lemmas.Option.{slice_get-get_or, get_or_from_slice_get}
+use Rattle.std.proofs.lemmas.Option.{slice_get-get_or, get_or_from_slice_get, same_Some}
 use Rattle.adv_base.specs.declared.catalogue.index.IndexShape.{IndexShape}
 use Rattle.adv_base.specs.declared.limits.TheConstants.{MOST_CANDIDATES}
 use Rattle.adv_base.specs.declared.setting.Config.{Config}
@@ -13,6 +13,7 @@ use Rattle.bip_model.proofs.Showing.{with_candidate-has, with_candidate-keeps, n
 use Rattle.plan_model.specs.Totals.{no_candidates}
 use Rattle.plan_model.proofs.Renting.{flag-of}
 use Rattle.adv_base.specs.Settings.{TheSetting}
+use Rattle.bip_model.proofs.Counting.{with_candidate-on}
 use Rattle.certificate.specs.declared.cert.Cert.{Cert}
 use Rattle.certificate.specs.Limits.{Rise}
 use Rattle.gap_checker.specs.Faults.{IsBadConfig}
@@ -83,17 +84,6 @@ set-count (flag ∷ flags) (suc i) = ap suc (set-count flags i)
 length-none : length no_candidates.on ≡ MOST_CANDIDATES
 length-none = length-replicate MOST_CANDIDATES false
 
-set-on : (flags : List Bool) (i : ℕ) → i < length flags → get_or (slice_set flags i true) i false ≡ true
-set-on [] i within = absurd (omega (arith, within))
-set-on (flag ∷ flags) zero within = refl
-set-on (flag ∷ flags) (suc i) within = set-on flags i (omega (arith, within))
-
-adds : (config : Config) (a : ℕ) → 1 ≤ a → a ≤ length config.on → has_candidate (with_candidate config a) a ≡ true
-adds config zero some within = absurd (omega (arith, some))
-adds config (suc i) some within =
-    let place : suc i - 1 ≡ i = omega arith in
-    flag-of (with_candidate config (suc i)) i ∙ ap (λ (k : ℕ). get_or (slice_set config.on k true) i false) place ∙ set-on config.on i (omega (arith, within))
-
 count-from : (config : Config) (numbers : List ℕ) → length (fold with_candidate config numbers).on ≡ length config.on
 count-from config [] = refl
 count-from config (n ∷ ns) = count-from (with_candidate config n) ns ∙ set-count config.on (n - 1)
@@ -106,8 +96,8 @@ pub number-has : (least : ℕ) (numbers : List ℕ) (place number : ℕ) → 1 �
     (has_candidate (config_with numbers) number ≡ true) × (number ≤ MOST_CANDIDATES)
 number-has least numbers place number some rise there = from least no_candidates numbers place length-none some rise there
   where
-    number-is : (x y : ℕ) → Some x ≡ Some y → x ≡ y
-    number-is x y e = cc
+    same_Some : (x y : ℕ) → Some x ≡ Some y → x ≡ y
+    same_Some x y e = cc
 
     no-number : (x : ℕ) → None ≡ Some x → ⊥
     no-number x e = cc
@@ -116,19 +106,16 @@ number-has least numbers place number some rise there = from least no_candidates
         (has_candidate (fold with_candidate config numbers) number ≡ true) × (number ≤ MOST_CANDIDATES)
     from least config [] place count some rise there = absurd (no-number number there)
     from least config (n ∷ ns) zero count some rise there =
-        let same : n ≡ number = number-is n number there in
+        let same : n ≡ number = same_Some n number there in
         let most : number ≤ MOST_CANDIDATES = omega (arith, rise.1, same) in
-        (keeps-from (with_candidate config n) ns number (ap (λ (k : ℕ). has_candidate (with_candidate config k) number) same ∙ adds config number (omega (arith, some, rise.0, same)) (omega (arith, count, most))), most)
+        (keeps-from (with_candidate config n) ns number (ap (λ (k : ℕ). has_candidate (with_candidate config k) number) same ∙ with_candidate-on config number (omega (arith, some, rise.0, same)) (omega (arith, count, most))), most)
     from least config (n ∷ ns) (suc place) count some rise there =
         from (n + 1) (with_candidate config n) ns place (set-count config.on (n - 1) ∙ count) (omega arith) rise.2 there
-
-number-is : (x y : ℕ) → Some x ≡ Some y → x ≡ y
-number-is x y e = cc
 
 pub first-past : (numbers : List ℕ) (count i number : ℕ) → i < length numbers → count < get_or numbers i 0 →
     ((k n : ℕ) → k < i → slice_get numbers k ≡ Some n → n ≤ count) → Some (get_or numbers i 0) ≡ Some number → IsFirstPast numbers count number
 first-past numbers count i number within past before is =
-    record { place = i; found = slice_get-get_or numbers i 0 within ∙ is; past = omega (arith, past, number-is (get_or numbers i 0) number is); before = before }
+    record { place = i; found = slice_get-get_or numbers i 0 within ∙ is; past = omega (arith, past, same_Some (get_or numbers i 0) number is); before = before }
 
 pub past-bad : (setting : TheSetting) (cert : Cert) (numbers : List ℕ) (number : ℕ) → numbers ≡ cert.config → IsFirstPast numbers (length setting.shapes) number → IsBadConfig setting cert number
 past-bad setting cert numbers number same first =

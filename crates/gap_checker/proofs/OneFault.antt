@@ -1,8 +1,8 @@
 -- For a setting a certificate has one fault, and one answer.
-use Rattle.std.proofs.Common.{◌≡◌, ◌≢◌, ◌∙◌, inl, inr, ℕ, suc, ◌+◌, ◌-◌, ◌<◌, ◌≤◌, ℤ, List, [], ◌∷◌, ◌++◌, length, refl, sym, ap, subst, arith}
+use Rattle.std.proofs.Common.{◌≡◌, ◌≢◌, ◌∙◌, inl, inr, ℕ, suc, ◌-◌, ◌<◌, ℤ, List, [], ◌∷◌, ◌++◌, length, refl, sym, ap, subst, arith}
 use Rattle.std.specs.Prelude.{All, Some, Result, Ok, Err, slice_get}
 use Rattle.std.proofs.lemmas.Bool.{cases_order}
-use Rattle.std.proofs.lemmas.Option.{get_or_from_slice_get, slice_get_within}
+use Rattle.std.proofs.lemmas.Option.{get_or_from_slice_get, slice_get_within, same_Some}
 use Rattle.std.proofs.lemmas.List.Elements.{All-head}
 use Rattle.adv_base.specs.Configs.{config_pages}
 use Rattle.adv_base.specs.Nodes as nodes
@@ -24,7 +24,7 @@ use Rattle.gap_checker.specs.Faults.{IsChecked, IsFault, NamesPair, IsNodeAt, Is
 use Rattle.gap_checker.specs.Laws.{IsAnswer}
 use Rattle.gap_checker.specs.Views.{config_of, sets_of}
 use Rattle.gap_checker.specs.Visits.{Visit, IsRight, IsRightAt}
-use Rattle.gap_checker.proofs.Excluding.{excluded, sets-rise, bad-number, bad-pair, not-over, not-other, leaf-wrong, full-wrong, same-some}
+use Rattle.gap_checker.proofs.Excluding.{excluded, sets-rise, bad-number, bad-pair, not-over, not-other, leaf-wrong, full-wrong}
 
 -- ## Parts before the tree
 
@@ -46,7 +46,7 @@ same-number setting cert m n p q =
     let place : p.place ≡ q.place =
     one-first Past p.place q.place (m, p.found, p.past) (n, q.found, q.past)
     (λ k less past. omega (arith, p.before k past.0 less past.1, past.2)) (λ k less past. omega (arith, q.before k past.0 less past.1, past.2)) in
-    same-some m n (sym p.found ∙ ap (slice_get cert.config) place ∙ q.found)
+    same_Some m n (sym p.found ∙ ap (slice_get cert.config) place ∙ q.found)
 
 entry-named : (setting : TheSetting) (set : SparseSet) (k : ℕ) (entry : Entry) → slice_get set.entries k ≡ Some entry → All (NamesPair setting) set.entries → NamesPair setting entry
 entry-named setting set k entry found all =
@@ -70,7 +70,7 @@ same-pair setting cert m a n b p q =
     (p.set, p.set_found, λ all. p.none (entry-named setting p.set (a - 1) p.entry p.entry_found all)) (q.set, q.set_found, λ all. q.none (entry-named setting q.set (b - 1) q.entry q.entry_found all))
     (λ j less bad. bad.2 (p.sets_before j bad.0 less bad.1)) (λ j less bad. bad.2 (q.sets_before j bad.0 less bad.1)) in
     let number : m ≡ n = omega (arith, same, p.some_set, q.some_set) in
-    let set : p.set ≡ q.set = same-some p.set q.set (sym p.set_found ∙ ap (slice_get cert.sets) same ∙ q.set_found) in
+    let set : p.set ≡ q.set = same_Some p.set q.set (sym p.set_found ∙ ap (slice_get cert.sets) same ∙ q.set_found) in
     let place : a ≡ b = same-place setting cert m a n b p q set in
     cc
 
@@ -123,7 +123,7 @@ same-leaf setting cert m n v w c d p q =
     let one = one-node setting cert m n p.at q.at (Bounded p.set) (Bounded q.set) p.node_is q.node_is (leaf-wrong setting cert m v c p) (leaf-wrong setting cert n w d q) in
     let number : m ≡ n = one.number in
     let set : p.set ≡ q.set = let same = one.same in cc in
-    let multipliers : p.multipliers ≡ q.multipliers = same-some p.multipliers q.multipliers (sym p.found ∙ ap (set_at (sets_of cert)) set ∙ q.found) in
+    let multipliers : p.multipliers ≡ q.multipliers = same_Some p.multipliers q.multipliers (sym p.found ∙ ap (set_at (sets_of cert)) set ∙ q.found) in
     let moved : IsLagrangian setting cert.budget p.at p.multipliers w = subst (λ (m : TheMultipliers). IsLagrangian setting cert.budget p.at m w) (sym multipliers) (subst (λ (at : nodes.Node). IsLagrangian setting cert.budget at q.multipliers w) (sym one.place) q.value_is) in
     let value : v ≡ w = one-lagrangian setting cert.budget p.at p.multipliers v w p.value_is moved in
     let claim : c ≡ d = p.claimed_is ∙ sym q.claimed_is in

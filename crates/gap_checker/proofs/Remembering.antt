@@ -1,16 +1,16 @@
 -- The last costs of sets.
-use Rattle.std.proofs.Common.{◌≡◌, ◌∙◌, ℕ, zero, suc, ◌+◌, ◌<◌, ◌≤◌, List, [], ◌∷◌, length, set, replicate, refl, sym, ap, subst, arith}
+use Rattle.std.proofs.Common.{◌≡◌, ◌∙◌, ℕ, suc, ◌+◌, ◌<◌, ◌≤◌, List, [], ◌∷◌, length, set, sym, ap, subst, arith}
 use Rattle.std.specs.Prelude.{All, Option, Some, None, slice_get}
 use Rattle.std.proofs.lemmas.List.{length-replicate}
 use Rattle.std.proofs.lemmas.List.Elements.{All-replicate, All-head, All-tail}
 use Rattle.std.proofs.lemmas.Option.{slice_get_within}
-use Rattle.adv_base.specs.declared.setting.Config.{Config}
 use Rattle.adv_base.specs.Settings.{TheSetting}
 use Rattle.bip_model.specs.StandsFor.{AreEach}
 use Rattle.certificate.specs.declared.cert.Cert.{Cert}
 use Rattle.certificate.specs.declared.cert.Entry.{Entry}
 use Rattle.certificate.specs.declared.cert.SparseSet.{SparseSet}
 use Rattle.plan_model.specs.declared.plan.TheConstants.{MOST_COST}
+use Rattle.bip_model.proofs.Lists.{each-length}
 use Rattle.gap_checker.specs.declared.memo.Last.{Last}
 use Rattle.gap_checker.specs.declared.multipliers.Multipliers.{Multipliers}
 use Rattle.gap_checker.specs.Views.{rent_in}
@@ -18,7 +18,7 @@ use Rattle.gap_checker.specs.inner.Earnings.{rent_of}
 use Rattle.gap_checker.specs.inner.Judges.{IsKept, all_sets}
 use Rattle.gap_checker.specs.inner.Memos.{IsLast, IsLastOf, IsBlank}
 use Rattle.gap_checker.proofs.Desks.{each-set}
-use Rattle.gap_checker.proofs.Lists.{each-at, each-length, some-at}
+use Rattle.gap_checker.proofs.Lists.{each-at, some-at}
 
 -- ## Before the first leaf
 

@@ -1,9 +1,9 @@
 -- What is shown of the offers under all candidates are the offers of what is available, with rents.
-use Rattle.std.proofs.Common.{◌≡◌, ◌∙◌, ◌⊎◌, inl, inr, ℕ, zero, suc, ◌+◌, ◌<◌, ◌≤◌, Bool, true, false, List, [], ◌∷◌, ◌++◌, length, get_or, drop, drop-cons, append_assoc, length-append, map, filter, replicate, refl, sym, ap, arith}
+use Rattle.std.proofs.Common.{◌≡◌, ◌∙◌, inl, inr, ℕ, zero, suc, ◌+◌, ◌<◌, ◌≤◌, Bool, true, false, List, [], ◌∷◌, ◌++◌, length, get_or, drop, drop-cons, append_assoc, length-append, map, filter, replicate, refl, sym, ap, arith}
 use Rattle.std.specs.Prelude.{Option, Some, None, slice_get, option_and_then, if◌then◌else◌, ◌==◌}
 use Rattle.std.specs.Option.{option_map_or}
 use Rattle.std.specs.List.{enumerate_from}
-use Rattle.std.proofs.lemmas.Bool.{cases_Bool, cases_lt}
+use Rattle.std.proofs.lemmas.Bool.{cases_lt}
 use Rattle.std.proofs.lemmas.Option.{slice_get_past, slice_get-get_or}
 use Rattle.std.proofs.lemmas.List.{length-map}
 use Rattle.std.proofs.Math.Path.{fun_ext}
@@ -21,9 +21,10 @@ use Rattle.adv_base.specs.declared.workload.block.Block.{Block}
 use Rattle.adv_base.specs.declared.workload.parts.Slot.{Slot}
 use Rattle.adv_base.specs.Configs.{has_candidate, chosen}
 use Rattle.adv_base.specs.Lookups.{table_at}
-use Rattle.adv_base.specs.Offers.{Offer, OfferTable, Path, Heap, Existing, Candidate, candidate_path, numbered_in, numbered_on, paths_on, paths_in, paths_of, paths, path_candidate, path_offer, charged_path_offer, offers, offers_of, offers_on, charged_offers, charged_offers_of, charged_offers_on}
+use Rattle.adv_base.specs.Offers.{Offer, OfferTable, Path, Heap, Existing, Candidate, candidate_path, numbered_on, paths_on, paths_in, paths_of, paths, path_candidate, path_offer, charged_path_offer, offers, offers_of, offers_on, charged_offers, charged_offers_of, charged_offers_on}
 use Rattle.bip_model.specs.StandsFor.{candidates_on}
 use Rattle.bip_model.proofs.Standing.{chosen-on}
+use Rattle.bip_model.proofs.Places.{enumerate-length}
 use Rattle.gap_checker.specs.declared.row.Row.{Row}
 use Rattle.gap_checker.specs.inner.Parts.{every_candidate}
 use Rattle.gap_checker.specs.inner.Rows.{table_of, IsRowsOf, offers_of as row_offers, shown_of, shown_from}
@@ -40,13 +41,9 @@ all-chosen zero (x ∷ xs) few = absurd (omega (arith, few))
 all-chosen (suc n) [] few = refl
 all-chosen (suc n) (x ∷ xs) few = ap (λ (ys : List _). x ∷ ys) (all-chosen n xs (omega (arith, few)))
 
-length-numbered : (a : ℕ) (shapes : List IndexShape) → length (enumerate_from a shapes) ≡ length shapes
-length-numbered a [] = refl
-length-numbered a (shape ∷ shapes) = ap suc (length-numbered (a + 1) shapes)
-
 every-on : (shapes : List IndexShape) (t : ℕ) → length shapes ≤ MOST_CANDIDATES → numbered_on shapes every_candidate t ≡ candidates_on shapes t
 every-on shapes t few =
-    ap (filter (λ (n : ℕ × IndexShape). n.1.table == t)) (all-chosen MOST_CANDIDATES (enumerate_from 1 shapes) (omega (arith, length-numbered 1 shapes, few)))
+    ap (filter (λ (n : ℕ × IndexShape). n.1.table == t)) (all-chosen MOST_CANDIDATES (enumerate_from 1 shapes) (omega (arith, enumerate-length 1 shapes, few)))
 
 -- ## Paths
 

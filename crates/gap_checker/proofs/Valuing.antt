@@ -1,5 +1,5 @@
 -- Sums and values, as the checker works them out.
-use Rattle.std.proofs.Common.{◌≡◌, ◌∙◌, ◌⊎◌, inl, inr, ℕ, zero, suc, ◌+◌, ◌-◌, ◌*◌, ◌<◌, ◌≤◌, ℤ, Bool, true, false, List, [], ◌∷◌, ◌++◌, length, get_or, map, take, refl, sym, ap, subst, arith}
+use Rattle.std.proofs.Common.{◌≡◌, ◌∙◌, ℕ, zero, suc, ◌+◌, ◌-◌, ◌*◌, ◌<◌, ◌≤◌, ℤ, Bool, true, false, List, [], ◌∷◌, length, get_or, map, take, refl, ap, subst, arith}
 use Rattle.std.specs.Prelude.{if◌then◌else◌, ◌||◌, Option, Some, None, slice_get, option_map, unwrap_or}
 use Rattle.std.specs.Option.{option_map_or}
 use Rattle.std.proofs.lemmas.List.{length-map}
@@ -17,10 +17,10 @@ use Rattle.plan_model.specs.Lagrangian.{TheMultipliers, AreRentedPlans, weighted
 use Rattle.plan_model.specs.Totals.{weighted_sum}
 use Rattle.gap_checker.specs.declared.figures.Figures.{Figures}
 use Rattle.gap_checker.specs.declared.multipliers.Multipliers.{Multipliers}
-use Rattle.gap_checker.specs.inner.Earnings.{AreEarned, rent_of, earned_from}
+use Rattle.gap_checker.specs.inner.Earnings.{AreEarned, rent_of}
 use Rattle.gap_checker.specs.inner.Figures.{AreFigures, setting_of}
 use Rattle.gap_checker.specs.inner.Sums.{the_multipliers, IsRentedSum, cost_at, rents_at}
-use Rattle.gap_checker.proofs.Adding.{cost_of, earning_of, costs_inside-more, earnings-more, earned-at, earned-length}
+use Rattle.gap_checker.proofs.Adding.{cost_of, earning_of, costs_inside-more, earnings-more, earned-at}
 use Rattle.gap_checker.proofs.Lists.{some-at, take-at, length-front, map-at}
 
 -- ## Pages

@@ -1,17 +1,16 @@
 -- The walk over a tree, from node to node.
-use Rattle.std.proofs.Common.{◌≡◌, ◌∙◌, ◌⊎◌, inl, inr, ℕ, zero, suc, ◌+◌, ◌-◌, ◌<◌, ◌≤◌, List, [], ◌∷◌, ◌++◌, length, length-append, append_assoc, get_or, map, drop, drop-cons, refl, sym, ap, subst, arith}
-use Rattle.std.specs.Prelude.{All, Option, Some, None, slice_get, reverse}
+use Rattle.std.proofs.Common.{◌≡◌, ◌∙◌, ℕ, suc, ◌+◌, ◌<◌, ◌≤◌, List, [], ◌∷◌, ◌++◌, length, length-append, append_assoc, map, drop, drop-cons, refl, sym, ap, subst, arith}
+use Rattle.std.specs.Prelude.{All, Some, slice_get, reverse}
 use Rattle.std.proofs.lemmas.List.{reverse-append, map-append, drop_all}
-use Rattle.std.proofs.lemmas.List.Elements.{All-append, All-cons, All-nil, All-map}
-use Rattle.std.proofs.lemmas.Option.{slice_get-get_or, slice_get_within, get_or_from_slice_get}
+use Rattle.std.proofs.lemmas.List.Elements.{All-append, All-cons, All-nil}
+use Rattle.std.proofs.lemmas.Option.{slice_get_within, get_or_from_slice_get}
 use Rattle.adv_base.specs.Nodes as nodes
 use Rattle.adv_base.specs.Settings.{TheSetting}
 use Rattle.bip_model.specs.declared.answer.Node.{Node}
 use Rattle.bip_model.specs.declared.answer.Node.TheVariants.{Branch, Bounded, Overfull}
-use Rattle.bip_model.specs.Proves.{free_node, IsShownBy}
-use Rattle.bip_model.specs.Trees.{Shows}
+use Rattle.bip_model.specs.Proves.{free_node}
 use Rattle.certificate.specs.declared.cert.Cert.{Cert}
-use Rattle.certificate.specs.Limits.{AreTrees, CertLimits}
+use Rattle.certificate.specs.Limits.{AreTrees}
 use Rattle.gap_checker.specs.declared.fault.CheckFault.{CheckFault}
 use Rattle.gap_checker.specs.declared.fault.CheckFault.TheVariants as faults
 use Rattle.gap_checker.specs.declared.subproblem.Subproblem.{Subproblem}

@@ -2,7 +2,7 @@
 ghost use Rattle.std.specs.Prelude.{◌≡◌, ◌+◌, ◌≤◌, ◌*◌};
 ghost use Rattle.adv_base.specs.Configs.{config_pages};
 ghost use Rattle.adv_base.specs.Nodes as nodes;
-ghost use Rattle.adv_base.specs.declared.limits.TheConstants.{MOST_CANDIDATES, MOST_INDEX_PAGES, MOST_ROWS};
+ghost use Rattle.adv_base.specs.declared.limits.TheConstants.{MOST_CANDIDATES, MOST_INDEX_PAGES};
 ghost use Rattle.gap_checker.specs.inner.Figures.{AreFigures};
 ghost use Rattle.gap_checker.specs.inner.Nodes.{node_of};
 

@@ -1,5 +1,5 @@
 //! Which statements a change of the available candidates touches.
-ghost use Rattle.std.specs.Prelude.{◌≡◌, ℕ, ◌≤◌, if◌then◌else◌, not, false, true, length, None, slice_get, slice_index_or};
+ghost use Rattle.std.specs.Prelude.{◌≡◌, ℕ, ◌≤◌, if◌then◌else◌, not, false, true, length, None};
 ghost use Rattle.std.specs.Option.{ForSome};
 ghost use Rattle.adv_base.specs.Configs.{has_candidate};
 ghost use Rattle.adv_base.specs.declared.limits.TheConstants.{MOST_CANDIDATES};

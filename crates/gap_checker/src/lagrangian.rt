@@ -1,11 +1,10 @@
 //! The Lagrangian value of a node.
-ghost use Rattle.std.specs.Prelude.{◌≡◌, ◌+◌, ◌-◌, ◌*◌, ◌<◌, ◌≤◌, ◌^◌, IfOk, OnOk, if◌then◌else◌, length, slice_index_or, suc};
+ghost use Rattle.std.specs.Prelude.{◌≡◌, ◌+◌, ◌-◌, ◌*◌, ◌<◌, ◌≤◌, ◌^◌, IfOk, OnOk, if◌then◌else◌, length, slice_index_or};
 ghost use Rattle.adv_base.specs.Configs.{has_candidate};
 ghost use Rattle.adv_base.specs.Nodes as nodes;
-ghost use Rattle.adv_base.specs.declared.limits.TheConstants.{MOST_CANDIDATES, MOST_INDEX_PAGES, MOST_PAGE_PRICE, MOST_RENT, MOST_ROWS, MOST_SLOTS, MOST_STATEMENTS, MOST_UPKEEP, MOST_WEIGHT};
+ghost use Rattle.adv_base.specs.declared.limits.TheConstants.{MOST_CANDIDATES, MOST_PAGE_PRICE, MOST_RENT, MOST_ROWS, MOST_SLOTS, MOST_STATEMENTS, MOST_WEIGHT};
 ghost use Rattle.certificate.specs.Limits.{EntriesFrom};
 ghost use Rattle.plan_model.specs.Lagrangian as lagrangian;
-ghost use Rattle.plan_model.specs.declared.plan.TheConstants.{MOST_COST};
 ghost use Rattle.gap_checker.specs.inner.Earnings.{AreEarned, rent_of};
 ghost use Rattle.gap_checker.specs.inner.Figures.{AreFigures, setting_of};
 ghost use Rattle.gap_checker.specs.inner.Memos as memos;

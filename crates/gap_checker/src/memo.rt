@@ -1,5 +1,5 @@
 //! What is kept from leaf to leaf.
-ghost use Rattle.std.specs.Prelude.{◌≡◌, ◌+◌, All, IfOk, None, length, replicate};
+ghost use Rattle.std.specs.Prelude.{◌≡◌, ◌+◌, All, IfOk, None, length};
 ghost use Rattle.bip_model.specs.StandsFor.{AreEach};
 ghost use Rattle.certificate.specs.Limits as limits;
 ghost use Rattle.gap_checker.specs.inner.Figures.{AreFigures, setting_of};

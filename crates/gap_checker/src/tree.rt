@@ -1,6 +1,5 @@
 //! Walking over the tree.
-ghost use Rattle.std.specs.Prelude.{◌≡◌, ◌+◌, ◌<◌, ◌≤◌, ◌++◌, ◌∷◌, [], List, ℕ, IfOk, IfErr, OnOk, Some, None, length, slice_get};
-ghost use Rattle.adv_base.specs.declared.limits.TheConstants.{MOST_NODES};
+ghost use Rattle.std.specs.Prelude.{◌≡◌, ◌+◌, ◌<◌, ◌++◌, ◌∷◌, [], IfErr, OnOk, Some, None, length, slice_get};
 ghost use Rattle.bip_model.specs.declared.answer.Node.{Node};
 ghost use Rattle.certificate.specs.Limits as limits;
 ghost use Rattle.gap_checker.specs.Faults as faults;

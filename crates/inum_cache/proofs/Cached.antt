@@ -15,6 +15,7 @@ use Rattle.plan_model.specs.Exchange.{sum_below}
 use Rattle.plan_model.specs.Combinations.{Orders, IsOffered, IsLeastPrice, IsPriced, CachedBy, needed, IsIn}
 use Rattle.plan_model.proofs.Bounds.{price_at-most}
 use Rattle.plan_model.proofs.SetLaws.{sum_below-le, sum_below-same, sum_below-add}
+use Rattle.plan_model.proofs.Decomposing.{sum_below-none}
 use Rattle.inum_cache.specs.declared.placed_template.PlacedTemplate.{PlacedTemplate}
 use Rattle.inum_cache.specs.declared.walks.Wanted.{Wanted}
 use Rattle.inum_cache.specs.Numbering.{order_in, AreOrders}
@@ -48,13 +49,6 @@ abbrev missing : OfferTable → List (List Order) → ℕ → ℕ → ℕ
 missing table orders slot place = if price_above table orders slot place == 18446744073709551615 then 1 else 0
 
 -- ## Sums of nothing
-
-sum-none : (f : ℕ → ℕ) (n : ℕ) → ((k : ℕ) → k < n → f k ≡ 0) → sum_below f n ≡ 0
-sum-none f zero h = refl
-sum-none f (suc n) h =
-    let before : sum_below f n ≡ 0 = sum-none f n (λ k below. h k (omega (arith, below))) in
-    let here : f n ≡ 0 = h n (omega arith) in
-    omega (arith, before, here)
 
 sum-from : (f : ℕ → ℕ) (n k : ℕ) → k < n → f k ≤ sum_below f n
 sum-from f zero k below = absurd (omega (arith, below))
@@ -137,7 +131,7 @@ all-offered table orders wanted prices t p known stands none slot below =
       | inl so ↦ absurd (both_ways (any_below (is_unoffered prices p) p.count) none (any_below-at (is_unoffered prices p) p.count k inside so))
       | inr not_so ↦ rw not_so refl
     ]) in
-    let whole = sum-none (missing_at prices p) p.count each in
+    let whole = sum_below-none (missing_at prices p) p.count each in
     let same = sum-missing table orders wanted prices t p known stands in
     let here = sum-from (needed_value (missing table orders) t) (length orders) slot below in
     above-none (best_price table slot []) (own_price table orders t slot) (best-most table slot (order_in orders slot (get_or t.needs slot 0)))
@@ -158,7 +152,7 @@ offered-all table orders wanted prices t p known stands offered =
           (let own = offered slot below in
           let is = above-offered (best_price table slot []) (own_price table orders t slot) (λ e. absurd (omega (arith, e, own))) in
           rw (ne_eqb (price_above table orders slot (get_or t.needs slot 0)) 18446744073709551615 (λ e. absurd (omega (arith, e, is, own)))) refl) in
-          let whole = sum-none (needed_value (missing table orders) t) (length orders) each in
+          let whole = sum_below-none (needed_value (missing table orders) t) (length orders) each in
           absurd (omega (arith, one, here, same, whole))
       | inr none ↦ none
     ]

@@ -1,5 +1,5 @@
 -- Internal costs by number, and the limits of free offers.
-use Rattle.std.proofs.Common.{◌≡◌, inl, inr, ℕ, ◌+◌, List, [], ◌∷◌, ◌++◌, get_or, refl, sym, ap, ◌∙◌, subst, arith}
+use Rattle.std.proofs.Common.{◌≡◌, inl, inr, ℕ, ◌+◌, List, [], ◌∷◌, ◌++◌, get_or, sym, ap, ◌∙◌, subst, arith}
 use Rattle.std.proofs.lemmas.Bool.{cases_lt}
 use Rattle.std.proofs.lemmas.List.{length_push, get_or_push, get_or_append_left}
 use Rattle.std.proofs.lemmas.List.Elements.{All-cons, All-nil}
@@ -14,10 +14,6 @@ use Rattle.inum_cache.proofs.Testing.{same-places}
 pub free-limited : (orders : List (List Order)) (places : ℕ → ℕ) → ((slot place : ℕ) → OfferLimits slot (order_in orders slot place, 0)) → OfferTableLimits (free (needs_in orders places))
 free-limited orders places own slot =
     All-cons (OfferLimits slot) (needs_in orders places slot, 0) [] (own slot (places slot)) (All-nil (OfferLimits slot))
-
--- no combination has a cost as yet
-pub costs-none : (task : Task) (orders : List (List Order)) → AreInternal task orders [] 0
-costs-none task orders = record { count = refl; each = λ number below. absurd (omega (arith, below)) }
 
 -- the cost of one combination more
 pub costs-more : (task : Task) (orders : List (List Order)) (costs places : List ℕ) (n cost : ℕ) → AreInternal task orders costs n → ((slot : ℕ) → get_or places slot 0 ≡ place_of orders n slot) → IsInternal task (needs_in orders (λ s. get_or places s 0)) cost → AreInternal task orders (costs ++ cost ∷ []) (n + 1)

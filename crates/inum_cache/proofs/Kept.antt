@@ -1,11 +1,11 @@
 -- The templates that are kept are those of the combinations that no weaker one replaces.
-use Rattle.std.proofs.Common.{◌≡◌, inl, inr, ℕ, zero, suc, ◌<◌, ◌≤◌, true, List, [], ◌∷◌, length, get_or, take, refl, sym, ap, ◌∙◌, subst, arith}
+use Rattle.std.proofs.Common.{◌≡◌, inl, inr, ℕ, zero, suc, ◌<◌, ◌≤◌, true, List, [], ◌∷◌, length, get_or, refl, sym, ap, ◌∙◌, subst, arith}
 use Rattle.std.specs.Prelude.{nat_lt, nat_le}
 use Rattle.std.specs.List.{list_any}
 use Rattle.std.proofs.lemmas.Bool.{cases_Bool, cases_lt, cases_eq, false≢true, and_parts, and_from, ltb-true, lt-ltb, leb-true, le-leb, eq-eqb, ne_eqb, not-true}
 use Rattle.std.proofs.lemmas.List.{get_or_past}
 use Rattle.adv_base.specs.Items.{Order, BeginsWith, is_same_order}
-use Rattle.adv_base.proofs.Begins.{begins_self, begins_trans, begins_length, begins_decides}
+use Rattle.adv_base.proofs.Begins.{begins_self, begins_trans, begins_decides}
 use Rattle.plan_model.specs.declared.task.Task.{Task}
 use Rattle.plan_model.specs.declared.template.Template.{Template}
 use Rattle.plan_model.specs.Orders.{interesting_orders}
@@ -15,6 +15,7 @@ use Rattle.plan_model.proofs.OrderLaws.{interesting_orders-past, past-none}
 use Rattle.plan_model.proofs.Decomposing.{free-limits}
 use Rattle.plan_model.proofs.Listing.{numbers-combination, combination-number}
 use Rattle.plan_model.proofs.Comparing.{least-one, least-never-rises}
+use Rattle.plan_model.proofs.Caching.{front-whole}
 use Rattle.inum_cache.specs.Numbering.{size_in, order_in, count_of, number_in, place_of, needs_of, AreOrders}
 use Rattle.inum_cache.specs.inner.Costing.{AreInternal}
 use Rattle.inum_cache.specs.inner.Keeping.{begins, is_front, numbers_below, replaced, replaced_number, is_replaced_by, is_weakened_at, is_weakened, is_kept, IsTemplateOf, AreTemplatesOf}
@@ -171,12 +172,6 @@ replaced-dropped task orders costs n slot place is below within test kept =
     }) (each-of task orders costs r is as'.below) in
     omega (arith, dearer, cheap)
 
--- a front of the same length is the order itself
-same-front : (o r : Order) → BeginsWith o r → length o ≤ length r → r ≡ o
-same-front o r h long =
-    let same : length r ≡ length o = omega (arith, begins_length o r h, long) in
-    sym h ∙ ap (λ n. take n o) same ∙ begins_self o
-
 -- where one that weakens it costs at most as much, some front of a slot's order replaces it
 pub weaker-replaces : (task : Task) (orders : List (List Order)) (costs : List ℕ) (n : ℕ) (weaker : Orders) (other : ℕ) → IsCosted task orders costs → n < count_of orders → Weakens task weaker (needs_of orders n) → IsEach task weaker other → other ≤ get_or costs n 0 → is_weakened orders costs (place_of orders n) (get_or costs n 0) ≡ true
 weaker-replaces task orders costs n weaker other is below weakens each cheap =
@@ -194,7 +189,7 @@ weaker-replaces task orders costs n weaker other is below weakens each cheap =
     let shorter : length front < length own =
     elim (cases_lt (length front) (length own)) [
       | inl less ↦ less
-      | inr long ↦ absurd (weakens.differs (sym front_is ∙ same-front own front begin long))
+      | inr long ↦ absurd (weakens.differs (sym front_is ∙ front-whole own front begin long))
     ] in
     let cost : get_or costs r 0 ≤ other =
     stronger-cost task weaker (needs_of orders r) other (get_or costs r 0) each.combination

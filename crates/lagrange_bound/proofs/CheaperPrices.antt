@@ -3,11 +3,13 @@ use Rattle.std.proofs.Common.{◌≡◌, ◌∙◌, ◌⊎◌, inl, inr, ℕ, ze
 use Rattle.std.specs.Prelude.{Option, Some, None, if◌then◌else◌}
 use Rattle.std.specs.Option.{option_map}
 use Rattle.std.proofs.lemmas.Bool.{false≢true}
+use Rattle.std.proofs.lemmas.Option.{same_Some}
 use Rattle.adv_base.specs.declared.setting.Config.{Config}
 use Rattle.adv_base.specs.Configs.{has_candidate}
 use Rattle.bip_model.specs.declared.grant.Grant.{Grant}
 use Rattle.bip_model.specs.Candidates.{is_cheaper, has_cheaper}
 use Rattle.bip_model.specs.Values.{lesser, price_of}
+use Rattle.bip_model.proofs.Least.{lesser-none}
 use Rattle.lagrange_bound.specs.Rented.{asked}
 
 pub cheaper-past : (prices others : List (Option ℕ)) (n : ℕ) → (length prices ≤ n) ⊎ (length others ≤ n) → has_cheaper (drop n prices) (drop n others) ≡ false
@@ -65,13 +67,6 @@ pub lesser-self : (a : Option ℕ) → lesser a a ≡ a
 lesser-self None = refl
 lesser-self (Some a) = ap Some (omega arith)
 
-pub lesser-none : (a : Option ℕ) → lesser a None ≡ a
-lesser-none None = refl
-lesser-none (Some a) = refl
-
-some-is : (a b : ℕ) → Some a ≡ Some b → a ≡ b
-some-is a b same = cc
-
 -- what is at most something stays so where it is lowered
 pub lesser-below : (best base price : Option ℕ) → lesser best base ≡ best → lesser (lesser best price) base ≡ lesser best price
 lesser-below None None None is = refl
@@ -80,7 +75,7 @@ lesser-below None (Some b) price is = absurd (cc)
 lesser-below (Some a) None None is = refl
 lesser-below (Some a) None (Some p) is = refl
 lesser-below (Some a) (Some b) None is = is
-lesser-below (Some a) (Some b) (Some p) is = let low : min a b ≡ a = some-is (min a b) a is in ap Some (omega (arith, low))
+lesser-below (Some a) (Some b) (Some p) is = let low : min a b ≡ a = same_Some (min a b) a is in ap Some (omega (arith, low))
 
 -- a price that isn't cheaper lowers nothing that is at most what exists, with any rent
 pub raised-idle : (best base price : Option ℕ) (rent : ℕ) → lesser best base ≡ best → is_cheaper price base ≡ false → lesser best (option_map (λ p. p + rent) price) ≡ best
@@ -88,7 +83,7 @@ raised-idle best base None rent is none = lesser-none best
 raised-idle best None (Some p) rent is none = absurd (false≢true (sym none))
 raised-idle None (Some b) (Some p) rent is none = absurd (cc)
 raised-idle (Some a) (Some b) (Some p) rent is none =
-    let low : min a b ≡ a = some-is (min a b) a is in
+    let low : min a b ≡ a = same_Some (min a b) a is in
     let high : b ≤ p = grind (arith, none) in
     ap Some (omega (arith, low, high))
 

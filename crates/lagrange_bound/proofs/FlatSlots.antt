@@ -19,15 +19,6 @@ use Rattle.lagrange_bound.specs.inner.Listed.{AreOwners, owned_rents}
 
 -- ## Two lists, one after the other
 
-pub found-left : {X : Type 0} (xs ys : List X) (k : ℕ) (x : X) → slice_get xs k ≡ Some x → slice_get (xs ++ ys) k ≡ Some x
-found-left [] ys k x found = absurd (cc)
-found-left (y ∷ xs) ys zero x found = found
-found-left (y ∷ xs) ys (suc k) x found = found-left xs ys k x found
-
-pub found-right : {X : Type 0} (xs ys : List X) (k : ℕ) (x : X) → slice_get ys k ≡ Some x → slice_get (xs ++ ys) (length xs + k) ≡ Some x
-found-right [] ys k x found = let e : 0 + k ≡ k = omega arith in rw e found
-found-right (y ∷ xs) ys k x found = let e : suc (length xs) + k ≡ suc (length xs + k) = omega arith in rw e (found-right xs ys k x found)
-
 pub sum-left : {X : Type 0} (f : X → ℕ) (xs ys : List X) (n : ℕ) → n ≤ length xs → sum_by f (take n (xs ++ ys)) ≡ sum_by f (take n xs)
 sum-left f xs ys n most = ap (sum_by f) (take-append-le n xs ys most)
 

@@ -12,13 +12,14 @@ use Rattle.bip_model.specs.Limits.Parts.{TemplateLimits}
 use Rattle.bip_model.specs.Values.{need, part_grants}
 use Rattle.bip_model.specs.Words.{word}
 use Rattle.bip_model.proofs.Pricing.{get-some}
+use Rattle.bip_model.proofs.Lists.{front-of, back-of}
 use Rattle.lagrange_bound.specs.ListedPrices.{slots_of, orders_before, ArePrices}
 use Rattle.lagrange_bound.specs.Rented.{rented_price, grants_before, rented_cost, plan_costs}
 use Rattle.lagrange_bound.specs.declared.prices.CheaperPrice.{CheaperPrice}
 use Rattle.lagrange_bound.specs.declared.prices.PriceLists.{PriceLists}
 use Rattle.lagrange_bound.specs.inner.Listed.{lowered, least_at, tails, AreLeast, HavePlaces, listed_cost, listed_costs}
 use Rattle.lagrange_bound.specs.inner.Rows.{AreRows}
-use Rattle.lagrange_bound.proofs.FlatSlots.{all-grants, found-left, found-right, sum-left, sum-right}
+use Rattle.lagrange_bound.proofs.FlatSlots.{all-grants, sum-left, sum-right}
 use Rattle.lagrange_bound.proofs.RentedPrices.{AreRents, drop-rents, row_least-part}
 
 -- ## Least prices
@@ -58,12 +59,12 @@ listed_costs-are config (part ∷ parts) rents starts least are enough is =
     let same : grants_before (part.slots ++ slots_of parts) s ≡ grants_before part.slots s = sum-left (λ (slot : SlotPart). length slot.grants) part.slots (slots_of parts) s (omega (arith, below)) in
     tails_at least (take n starts) s o (omega (arith, long, below))
     ∙ ap (λ (at : ℕ). get_or least (at + o) 0) (get_or-take n starts s 0 below)
-    ∙ is s o slot (found-left part.slots (slots_of parts) s slot found) inside
+    ∙ is s o slot (front-of part.slots (slots_of parts) s slot found) inside
     ∙ ap (λ (k : ℕ). word (rented_price config slot (drop k rents) o)) same in
     let own = ap (λ (cost : Option ℕ). unwrap_or cost 0) (row_least-part config part part.slots rents (tails least (take n starts)) refl are rows) in
     let later : AreLeast config (slots_of parts) (drop (part_grants part) rents) (drop n starts) least = λ k o slot found inside.
     ap (λ (at : ℕ). get_or least (at + o) 0) (get_or-drop n starts k 0)
-    ∙ is (n + k) o slot (found-right part.slots (slots_of parts) k slot found) inside
+    ∙ is (n + k) o slot (back-of part.slots (slots_of parts) k slot found) inside
     ∙ ap (λ (j : ℕ). word (rented_price config slot (drop j rents) o)) (grants k)
     ∙ ap (λ (rs : List ℕ). word (rented_price config slot rs o)) (sym (drop-drop (grants_before (slots_of parts) k) (part_grants part) rents)) in
     let left : length (drop n starts) ≡ length starts - n = length-drop n starts in
@@ -89,12 +90,12 @@ slot-found (p ∷ parts) zero k part slot found there =
     let same : p ≡ part = cc in
     let none : 0 + k ≡ k = omega arith in
     let own : slice_get p.slots k ≡ Some slot = ap (λ (q : Part). slice_get q.slots k) same ∙ there in
-    rw none (found-left p.slots (slots_of parts) k slot own)
+    rw none (front-of p.slots (slots_of parts) k slot own)
 slot-found (p ∷ parts) (suc i) k part slot found there =
     let before : ℕ = sum_by (λ part. length part.slots) (take i parts) in
     let whole : sum_by (λ part. length part.slots) (p ∷ take i parts) ≡ length p.slots + before = sum_by-cons (λ (q : Part). length q.slots) p (take i parts) in
     let at : sum_by (λ part. length part.slots) (p ∷ take i parts) + k ≡ length p.slots + (before + k) = omega (arith, whole) in
-    rw at (found-right p.slots (slots_of parts) (before + k) slot (slot-found parts i k part slot found there))
+    rw at (back-of p.slots (slots_of parts) (before + k) slot (slot-found parts i k part slot found there))
 
 -- the orders of a part's slots have places
 pub part-places : (parts : List Part) (starts least : List ℕ) (i first n : ℕ) (part : Part) → i < length parts → part ≡ get_or parts i part → first ≡ sum_by (λ part. length part.slots) (take i parts) → n ≡ length part.slots →

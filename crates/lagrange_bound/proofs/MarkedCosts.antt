@@ -1,8 +1,8 @@
 -- Laws of plan costs of which some are priced anew.
-use Rattle.std.proofs.Common.{◌≡◌, ◌∙◌, ◌≢◌, ◌⊎◌, inl, inr, ℕ, zero, suc, ◌+◌, ◌-◌, ◌*◌, ◌<◌, ◌≤◌, Bool, true, false, List, [], ◌∷◌, All, length, get_or, take, drop, refl, sym, ap, subst, arith, get_or-set_other}
+use Rattle.std.proofs.Common.{◌≡◌, ◌∙◌, ◌≢◌, inl, inr, ℕ, zero, suc, ◌+◌, ◌-◌, ◌*◌, ◌<◌, ◌≤◌, Bool, true, false, List, [], ◌∷◌, All, length, get_or, take, drop, refl, sym, ap, subst, arith, get_or-set_other}
 use Rattle.std.specs.Prelude.{Option, Some, slice_get, slice_set, sum_by}
 use Rattle.std.proofs.Math.Nat.{mul-le-mul}
-use Rattle.std.proofs.lemmas.Bool.{cases_eq}
+use Rattle.std.proofs.lemmas.Bool.{cases_eq, cases_Bool}
 use Rattle.std.proofs.lemmas.List.{drop-drop, ext_get_or, get_or-set_same, take_all}
 use Rattle.std.proofs.lemmas.List.Elements.{All-head, All-tail}
 use Rattle.std.proofs.lemmas.List.Sums.{sum_by-cons}
@@ -51,10 +51,6 @@ noted-all {X} P xs list k same past before = subst (All P) (take_all k xs (subst
 
 -- ## The parts without a mark
 
-bool-cases : (b : Bool) → (b ≡ true) ⊎ (b ≡ false)
-bool-cases true = inl refl
-bool-cases false = inr refl
-
 has-flag : (config : Config) (a : ℕ) → 1 ≤ a → has_candidate config a ≡ get_or config.on (a - 1) false
 has-flag config zero some = absurd (omega (arith, some))
 has-flag config (suc a) some = let back : a ≡ suc a - 1 = omega arith in flag-of config a ∙ ap (λ (k : ℕ). get_or config.on k false) back
@@ -62,7 +58,7 @@ has-flag config (suc a) some = let back : a ≡ suc a - 1 = omega arith in flag-
 settled-here : (flags marks : List Bool) (from to : Config) (count i : ℕ) (base : List (Option ℕ)) (grant : Grant) → AreMarked flags from to marks count 256 → i < count → get_or marks i false ≡ false →
     IsNoted flags i base grant → IsSettled from to base grant
 settled-here flags marks from to count i base grant marked within unmarked noted =
-    elim (bool-cases (has_cheaper grant.prices base)) [
+    elim (cases_Bool (has_cheaper grant.prices base)) [
       | inl cheaper ↦
           let some : 1 ≤ grant.candidate = grant.limits.least in
           let few : grant.candidate ≤ 256 = grant.limits.most in

@@ -1,8 +1,7 @@
 -- In a programme that stands for a setting, the cost of a part where candidates pay rents is that of a least plan of its
 -- block with these rents.
-use Rattle.std.proofs.Common.{◌≡◌, ◌∙◌, inl, inr, ℕ, zero, suc, ◌+◌, ◌<◌, ◌≤◌, ◌==◌, Bool, true, false, List, [], ◌∷◌, ◌++◌, length, All, fold, map, take, drop, refl, sym, ap, subst, arith}
+use Rattle.std.proofs.Common.{◌≡◌, ◌∙◌, inl, inr, ℕ, zero, suc, ◌+◌, ◌<◌, ◌≤◌, Bool, true, false, List, [], ◌∷◌, ◌++◌, length, fold, map, take, drop, refl, sym, ap, subst, arith}
 use Rattle.std.specs.Prelude.{Option, Some, None, if◌then◌else◌, filter, slice_get, slice_index_or, option_and_then, unwrap_or}
-use Rattle.std.specs.List.{enumerate_from}
 use Rattle.std.specs.Option.{option_map}
 use Rattle.std.proofs.lemmas.Bool.{cases_lt}
 use Rattle.std.proofs.lemmas.List.{drop-drop, get_or-map, length-map, map-append}
@@ -12,7 +11,6 @@ use Rattle.adv_base.specs.declared.catalogue.Catalogue.{Catalogue}
 use Rattle.adv_base.specs.declared.catalogue.index.Index.{Index}
 use Rattle.adv_base.specs.declared.catalogue.index.IndexShape.{IndexShape}
 use Rattle.adv_base.specs.declared.catalogue.table.Table.{Table}
-use Rattle.adv_base.specs.declared.limits.TheConstants.{MOST_CANDIDATES}
 use Rattle.adv_base.specs.declared.setting.Config.{Config}
 use Rattle.adv_base.specs.declared.workload.block.Block.{Block}
 use Rattle.adv_base.specs.declared.workload.parts.Slot.{Slot}
@@ -21,10 +19,9 @@ use Rattle.adv_base.specs.Items.{Order, is_same_order}
 use Rattle.adv_base.specs.Laws.{IsRent}
 use Rattle.adv_base.specs.Lookups.{table_at}
 use Rattle.adv_base.specs.Named.{NamesBlock}
-use Rattle.adv_base.specs.Offers.{Offer, OfferTable, Path, Heap, Existing, candidate_path, numbered_on, path_offer, charged_path_offer, index_offer, offers_on, offers_of, offers, charged_offers_on, charged_offers_of, charged_offers}
+use Rattle.adv_base.specs.Offers.{Offer, OfferTable, Path, Heap, Existing, candidate_path, numbered_on, path_offer, charged_path_offer, index_offer, offers, charged_offers_on, charged_offers_of, charged_offers}
 use Rattle.adv_base.specs.Settings.{TheSetting}
 use Rattle.adv_base.proofs.Begins.{begins_nil}
-use Rattle.adv_base.proofs.ConfigLaws.{chosen-none}
 use Rattle.adv_base.proofs.OfferBounds.{charged-limits, tables-charged}
 use Rattle.plan_model.specs.declared.task.Task.{Task}
 use Rattle.plan_model.specs.declared.template.Template.{Template}
@@ -40,7 +37,8 @@ use Rattle.bip_model.specs.Limits.Parts.{TemplateLimits}
 use Rattle.bip_model.specs.Values.{lesser, plus, price_of, need}
 use Rattle.bip_model.specs.StandsFor.{given, least_given, candidates_on, AreEach, IsGrant, IsSlotPart, Blocked, IsPart}
 use Rattle.bip_model.proofs.Least.{IsSome, least-made, least-most, least-filter, least-map}
-use Rattle.bip_model.proofs.Standing.{chosen-on, gives-given, given-least, least-given}
+use Rattle.bip_model.proofs.Standing.{chosen-on, gives-given, given-least, least-given, offers-on, slots-same, none-on, first-order, plus-made}
+use Rattle.bip_model.proofs.Lists.{map-same, append-none, All-some}
 use Rattle.lagrange_bound.specs.Rented.{asked, least_asked, rented_price, grants_before, needed_price, cost_below, template_cost, least_cost, rented_cost}
 use Rattle.lagrange_bound.proofs.RentPlaces.{RentsAre, SlotsAre}
 
@@ -50,28 +48,11 @@ use Rattle.lagrange_bound.proofs.RentPlaces.{RentsAre, SlotsAre}
 charged_index : (ℕ → ℕ → ℕ) → Catalogue → Block → ℕ → Slot → Table → ℕ × IndexShape → Offer
 charged_index rent cat block s slot table numbered = charged_path_offer rent cat block s slot table (candidate_path numbered)
 
-map-same : {A B C : Type 0} (f : A → B) (g : B → C) (h : A → C) → ((x : A) → g (f x) ≡ h x) → (xs : List A) → map g (map f xs) ≡ map h xs
-map-same f g h same [] = refl
-map-same f g h same (x ∷ xs) = ap (λ (y : _). y ∷ map g (map f xs)) (same x) ∙ ap (λ (ys : List _). h x ∷ ys) (map-same f g h same xs)
-
-append-none : {A : Type 0} (xs ys : List A) → ys ≡ [] → xs ++ ys ≡ xs
-append-none [] ys none = none
-append-none (x ∷ xs) ys none = ap (λ (zs : List _). x ∷ zs) (append-none xs ys none)
-
-offers-on : (cat : Catalogue) (block : Block) (shapes : List IndexShape) (config : Config) (s : ℕ) (slot : Slot) (table : Table) → slice_get block.slots s ≡ Some slot → table_at cat slot.table ≡ Some table →
-    offers cat block shapes config s ≡ offers_on cat block shapes config s slot (Some table)
-unfolding offers
-offers-on cat block shapes config s slot table slot_found table_found =
-    ap (offers_of cat block shapes config s) slot_found ∙ ap (offers_on cat block shapes config s slot) table_found
-
 charged-on : (rent : ℕ → ℕ → ℕ) (cat : Catalogue) (block : Block) (shapes : List IndexShape) (config : Config) (s : ℕ) (slot : Slot) (table : Table) → slice_get block.slots s ≡ Some slot → table_at cat slot.table ≡ Some table →
     charged_offers rent cat block shapes config s ≡ charged_offers_on rent cat block shapes config s slot (Some table)
 unfolding charged_offers
 charged-on rent cat block shapes config s slot table slot_found table_found =
     ap (charged_offers_of rent cat block shapes config s) slot_found ∙ ap (charged_offers_on rent cat block shapes config s slot) table_found
-
-none-on : (shapes : List IndexShape) (t : ℕ) → numbered_on shapes no_candidates t ≡ []
-none-on shapes t = ap (filter (λ (n : ℕ × IndexShape). n.1.table == t)) (chosen-none MOST_CANDIDATES (enumerate_from 1 shapes))
 
 -- what exists has no rent
 existing-plain : (rent : ℕ → ℕ → ℕ) (cat : Catalogue) (block : Block) (s : ℕ) (slot : Slot) (table : Table) (indexes : List Index) →
@@ -192,19 +173,6 @@ slot-rents-at rent k (slot ∷ slots) rents (suc s) own are found =
 price_or : Config → List SlotPart → List ℕ → Template → ℕ → ℕ
 price_or config slots rents template s = unwrap_or (needed_price config slots rents template s) 0
 
--- the two sides of a sum that is there
-record AreAdded (a b : Option ℕ) (c : ℕ) : Type 0 where
-  left : ℕ
-  left_is : a ≡ Some left
-  right : ℕ
-  right_is : b ≡ Some right
-  sum : c ≡ left + right
-
-plus-made : (a b : Option ℕ) (c : ℕ) → plus a b ≡ Some c → AreAdded a b c
-plus-made None b c e = absurd (cc)
-plus-made (Some a) None c e = absurd (cc)
-plus-made (Some a) (Some b) c e = let same : a + b ≡ c = cc in record { left = a; left_is = refl; right = b; right_is = refl; sum = omega (arith, same) }
-
 -- each slot gives what the template needs, and the cost is the sum
 record IsSummed (config : Config) (slots : List SlotPart) (rents : List ℕ) (template : Template) (n c : ℕ) : Type 0 where
   each : (s : ℕ) → s < n → needed_price config slots rents template s ≡ Some (price_or config slots rents template s)
@@ -237,13 +205,6 @@ summed-cost config slots rents template prices (suc n) each =
     ap (λ (o : Option ℕ). plus o (needed_price config slots rents template n)) before
     ∙ ap (plus (Some (template.internal + sum_below prices n))) (each n (omega arith)) ∙ ap Some same
 
-All-some : {X : Type 0} (P : X → Type 0) (xs : List X) (i : ℕ) (x : X) → All P xs → slice_get xs i ≡ Some x → P x
-All-some P xs i x all found =
-    elim (slice_get_cases xs i).1 [
-      | inl there ↦ let same : there.0 ≡ x = cc in subst P (there.3 ∙ same) (all i there.0 there.1)
-      | inr past ↦ absurd (cc)
-    ]
-
 -- ## The least cost of a part
 
 -- a slot gives what a template needs at the least price of an offer
@@ -271,9 +232,6 @@ needed-given rent setting blocked part config rents is rented i template templat
           ]
       | inr past ↦ absurd (omega (arith, past.0, inside))
     ]
-
-slots-same : (setting : TheSetting) (blocked : Blocked) (part : Part) → (is : IsPart setting blocked part) → length part.slots ≡ is.task.slots
-slots-same setting blocked part is = is.slots_count ∙ sym is.task_is.slots_are
 
 part-cached : (rent : ℕ → ℕ → ℕ) (setting : TheSetting) (blocked : Blocked) (part : Part) (config : Config) (rents : List ℕ) (is : IsPart setting blocked part) → SlotsAre rent 0 part.slots rents → (cost : ℕ) → least_cost config part rents ≡ Some cost →
     CachedBy (IsIn is.task part.templates) is.task (charged_offers rent setting.cat blocked.block setting.shapes config) cost
@@ -311,10 +269,6 @@ part-cached rent setting blocked part config rents is rented cost e =
                 omega (arith, least.holds, same, priced.sum, in_list.internal_is);
           }
     ]
-
-first-order : (task : Task) (s : ℕ) → slice_index_or (interesting_orders task s) 0 [] ≡ []
-unfolding interesting_orders
-first-order task s = refl
 
 -- there is some plan, and so a least cost
 part-costs : (rent : ℕ → ℕ → ℕ) (setting : TheSetting) (blocked : Blocked) (part : Part) (config : Config) (rents : List ℕ) → NamesBlock setting.cat blocked.block → (is : IsPart setting blocked part) → SlotsAre rent 0 part.slots rents →

@@ -40,9 +40,10 @@ use Rattle.bip_model.specs.declared.programme.Programme.{Programme}
 use Rattle.bip_model.specs.declared.multipliers.Multipliers.{Multipliers}
 use Rattle.bip_model.specs.Values.{part_grants, grant_count}
 use Rattle.bip_model.specs.StandsFor.{candidates_on, AreEach, IsGrant, IsSlotPart, Blocked, IsPart, blocked_in, blocked_from, StandsFor}
-use Rattle.bip_model.specs.Views.{is_in, is_out, node_of, part_places, rent_at, multipliers_of, AreMultipliers}
+use Rattle.bip_model.specs.Views.{is_in, is_out, node_of, rent_at, multipliers_of, AreMultipliers}
 use Rattle.bip_model.specs.Views as views
 use Rattle.bip_model.proofs.Totalling.{named-of, chosen-sum}
+use Rattle.bip_model.proofs.Lists.{map-or, each-map}
 use Rattle.lagrange_bound.specs.Bounds.{state_at, pages_inside, fits_beside, may_use, available, grant_rents, slot_rents, part_rents, candidate_cost, candidate_rents, paid, earned, paid_in_all, earned_in_all, rounded_up, value_of_plans, costs_at, lagrangian}
 use Rattle.lagrange_bound.specs.Laws.{AreLeastPlans}
 use Rattle.lagrange_bound.specs.Rented.{rented_cost, plan_costs, weighted_costs}
@@ -64,12 +65,6 @@ rounded more less (negsuc a) is =
 -- a grant is of the candidate of a number
 abbrev IsOf : ℕ × IndexShape → Grant → Type 0
 IsOf numbered grant = grant.candidate ≡ numbered.0
-
-each-map : {A B : Type 0} (P Q : A → B → Type 0) → ((x : A) (y : B) → P x y → Q x y) → (xs : List A) (ys : List B) → AreEach P xs ys → AreEach Q xs ys
-each-map P Q more [] [] are = tt
-each-map P Q more [] (y ∷ ys) are = absurd are
-each-map P Q more (x ∷ xs) [] are = absurd are
-each-map P Q more (x ∷ xs) (y ∷ ys) are = (more x y are.0, each-map P Q more xs ys are.1)
 
 each-from : {A B : Type 0} (P : A → B → Type 0) (xs : List A) (ys : List B) → length ys ≡ length xs → ((k : ℕ) (x : A) (y : B) → slice_get xs k ≡ Some x → slice_get ys k ≡ Some y → P x y) → AreEach P xs ys
 each-from P [] [] same at = tt
@@ -238,11 +233,6 @@ map-default : {X Y : Type 0} (f : X → Y) (xs : List X) (i : ℕ) (d : X) → s
 map-default f [] i d = refl
 map-default f (x ∷ xs) zero d = refl
 map-default f (x ∷ xs) (suc i) d = map-default f xs i d
-
-map-or : {X : Type 0} (f : X → ℕ) (xs : List X) (i : ℕ) → option_map_or f (slice_get xs i) 0 ≡ slice_index_or (map f xs) i 0
-map-or f [] i = refl
-map-or f (x ∷ xs) zero = refl
-map-or f (x ∷ xs) (suc i) = map-or f xs i
 
 inside-is : (fix : Fix) (i : ℕ) → has_candidate (node_of fix).inside (suc i) ≡ is_in (state_at fix i)
 inside-is fix i = flag-of (node_of fix).inside i ∙ map-default is_in fix.state i Free

@@ -1,8 +1,8 @@
 -- What a valid plan covers, and what each of its operators costs at most.
-use Rattle.std.proofs.Common.{◌≡◌, inl, inr, ℕ, zero, suc, ◌+◌, ◌*◌, ◌^◌, ◌<◌, ◌≤◌, Bool, true, false, [], length, bit_and, bit_or, arith}
+use Rattle.std.proofs.Common.{◌≡◌, inl, inr, ℕ, zero, suc, ◌+◌, ◌*◌, ◌^◌, ◌<◌, ◌≤◌, Bool, true, false, [], length, bit_and, arith}
 use Rattle.std.proofs.Math.Nat.{one-le-pow, mul-le-mul}
 use Rattle.std.proofs.Math.Pow.{pow-lt, pow_mono}
-use Rattle.std.proofs.lemmas.Bool.{cases_lt, false≢true}
+use Rattle.std.proofs.lemmas.Bool.{cases_lt}
 use Rattle.std.proofs.lemmas.Bool.Decides.{nat_tests}
 use Rattle.std.proofs.lemmas.List.{get_or_past}
 use Rattle.std.proofs.lemmas.Nat.{or_disjoint, or_lt}
@@ -32,7 +32,7 @@ valid-covers sorts task table (Hash' p left q right) v =
 
 -- ## What each operator costs at most
 
-digits_within-most : (k n : ℕ) → digits_within k n ≤ k
+pub digits_within-most : (k n : ℕ) → digits_within k n ≤ k
 unfolding digits_within
 digits_within-most zero n = omega arith
 digits_within-most (suc k) n = let less = digits_within-most k n in grind (arith, nat_tests)

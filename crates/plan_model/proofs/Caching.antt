@@ -1,5 +1,5 @@
 -- The least cost over all combinations, or over those that are kept, is that of a least plan.
-use Rattle.std.proofs.Common.{◌≡◌, ◌≢◌, ◌↔◌, inl, inr, ℕ, zero, suc, ◌+◌, ◌<◌, ◌≤◌, List, length, take, refl, sym, ap, ◌∙◌, subst, arith}
+use Rattle.std.proofs.Common.{◌≡◌, ◌↔◌, inl, inr, ℕ, zero, suc, ◌+◌, ◌<◌, ◌≤◌, length, take, refl, sym, ap, ◌∙◌, subst, arith}
 use Rattle.std.proofs.Math.Seq.{take-length}
 use Rattle.std.proofs.lemmas.Bool.{cases_lt}
 use Rattle.adv_base.specs.Items.{Order, BeginsWith}
@@ -7,12 +7,12 @@ use Rattle.adv_base.specs.Offers.{OfferTable}
 use Rattle.adv_base.proofs.Begins.{begins_length, begins_self, begins_trans}
 use Rattle.plan_model.specs.declared.plan.Whole.{Whole}
 use Rattle.plan_model.specs.declared.task.Task.{Task}
-use Rattle.adv_base.specs.OfferTables.{order_at, OfferTableLimits}
+use Rattle.adv_base.specs.OfferTables.{OfferTableLimits}
 use Rattle.plan_model.specs.Plans.{IsWhole}
 use Rattle.plan_model.specs.Costs.{whole_cost}
 use Rattle.plan_model.specs.Least.{IsCostOfPlan, Least}
 use Rattle.plan_model.specs.Exchange.{whole_internal, choice, leaf_price, leaf_order, sum_below, exchange_whole, ServesLike}
-use Rattle.plan_model.specs.Combinations.{Orders, IsCombination, free, IsInternal, CachedBy, IsEach, Cached, Weakens, IsKept, Templates, Covers}
+use Rattle.plan_model.specs.Combinations.{Orders, free, CachedBy, IsEach, Cached, Weakens, IsKept, Templates, Covers}
 use Rattle.plan_model.proofs.SetLaws.{sum_below-le}
 use Rattle.plan_model.proofs.Exchanging.{whole-cost-splits}
 use Rattle.plan_model.proofs.Decomposing.{free-limits, free-cost, free-begins, exchange-cost, choice-within, AreSound, sound-plan, least-cached, matched, core-needs, core-is, core-combination, core-plan}
@@ -119,7 +119,7 @@ sum-less f g (suc n) k each below less =
     ]
 
 -- a front of the same length is the order itself
-front-whole : (o r : Order) → BeginsWith o r → length o ≤ length r → r ≡ o
+pub front-whole : (o r : Order) → BeginsWith o r → length o ≤ length r → r ≡ o
 front-whole o r begins long =
     let same : length r ≡ length o = omega (arith, begins_length o r begins, long) in
     sym begins ∙ (ap (λ n. take n o) same ∙ take-length o)

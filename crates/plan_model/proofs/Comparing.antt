@@ -1,8 +1,7 @@
 -- Least costs over tables of offers that differ.
-use Rattle.std.proofs.Common.{◌≡◌, ◌↔◌, inl, inr, ℕ, ◌+◌, ◌<◌, ◌≤◌, true, length, refl, sym, ap, ◌∙◌, subst, arith}
-use Rattle.std.specs.List.{list_any}
+use Rattle.std.proofs.Common.{◌≡◌, ◌↔◌, inl, inr, ℕ, ◌+◌, ◌<◌, ◌≤◌, length, refl, sym, subst, arith}
 use Rattle.std.proofs.lemmas.Bool.{cases_lt}
-use Rattle.adv_base.specs.Items.{Order, BeginsWith}
+use Rattle.adv_base.specs.Items.{Order}
 use Rattle.adv_base.specs.Offers.{OfferTable}
 use Rattle.adv_base.proofs.Begins.{begins_trans}
 use Rattle.plan_model.specs.declared.plan.Whole.{Whole}
@@ -12,8 +11,7 @@ use Rattle.plan_model.specs.Plans.{IsWhole}
 use Rattle.plan_model.specs.Costs.{whole_cost}
 use Rattle.plan_model.specs.Least.{IsCostOfPlan, Least}
 use Rattle.plan_model.specs.Exchange.{whole_internal, choice, leaf_price, sum_below, ServesLike}
-use Rattle.plan_model.specs.Combinations.{IsOffered, IsLeastPrice}
-use Rattle.plan_model.specs.Comparisons.{IsBetter, NoDearer, HasOffer, HasOffersOf, IsRaised, charges, IsBest}
+use Rattle.plan_model.specs.Comparisons.{IsBetter, NoDearer, HasOffersOf, IsRaised, charges, IsBest}
 use Rattle.plan_model.proofs.SetLaws.{sum_below-le, sum_below-add}
 use Rattle.plan_model.proofs.Exchanging.{whole-cost-splits}
 use Rattle.plan_model.proofs.Decomposing.{choice-within, exchange-cost, core, least-price}

@@ -15,7 +15,7 @@ use Rattle.plan_model.specs.declared.plan.Whole.{Whole}
 use Rattle.plan_model.specs.declared.task.Task.{Task}
 use Rattle.adv_base.specs.OfferTables.{OfferTableLimits}
 use Rattle.plan_model.specs.Plans.{covers, IsValid, IsWhole, body_sorts}
-use Rattle.plan_model.specs.Costs.{rows_in, sort_cost, merge_of, hash_of, plan_cost, group_cost, final_rows, whole_cost}
+use Rattle.plan_model.specs.Costs.{rows_in, sort_cost, plan_cost, group_cost, final_rows, whole_cost}
 use Rattle.plan_model.specs.inner.Judging.{plan_judged, IsKept}
 use Rattle.plan_model.proofs.Bounds.{valid-covers, rows_in-most, price_at-most, sort_cost-most, merge_cost-most, hash_cost-most}
 use Rattle.plan_model.proofs.SetLaws.{bit-sum}

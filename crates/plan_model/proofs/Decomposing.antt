@@ -1,11 +1,11 @@
 -- What enough templates give is the cost of a least plan.
-use Rattle.std.proofs.Common.{◌≡◌, ◌≢◌, ◌⊎◌, ◌↔◌, inl, inr, ℕ, zero, suc, ◌+◌, ◌<◌, ◌≤◌, bit_and, Bool, true, false, cond, List, [], ◌∷◌, length, take, All, Option, Some, None, Decides, refl, sym, ap, ◌∙◌, subst, arith}
+use Rattle.std.proofs.Common.{◌≡◌, ◌⊎◌, ◌↔◌, inl, inr, ℕ, zero, suc, ◌+◌, ◌<◌, ◌≤◌, bit_and, Bool, true, false, cond, List, [], ◌∷◌, length, take, All, refl, sym, ap, ◌∙◌, subst, arith}
 use Rattle.std.specs.List.{list_any}
 use Rattle.std.proofs.lemmas.Bool.{cases_Bool, cases_lt, false≢true, or_left, or_right}
-use Rattle.std.proofs.lemmas.List.Elements.{All-head, All-tail, All-cons, All-nil}
+use Rattle.std.proofs.lemmas.List.Elements.{All-cons, All-nil}
 use Rattle.adv_base.specs.Items.{Order, BeginsWith, is_same_order}
-use Rattle.adv_base.specs.Offers.{Offer, OfferTable}
-use Rattle.adv_base.specs.Sets.{all_slots, has_slot}
+use Rattle.adv_base.specs.Offers.{OfferTable}
+use Rattle.adv_base.specs.Sets.{has_slot}
 use Rattle.adv_base.proofs.Begins.{begins_decides, begins_longer, begins_nil, begins_trans}
 use Rattle.adv_base.proofs.ItemLaws.{is_same_order-decides}
 use Rattle.plan_model.specs.declared.plan.Plan.{Plan}
@@ -17,8 +17,8 @@ use Rattle.plan_model.specs.Orders.{interesting_orders}
 use Rattle.plan_model.specs.Plans.{covers, IsValid, IsWhole, body_sorts}
 use Rattle.plan_model.specs.Costs.{whole_cost}
 use Rattle.plan_model.specs.Least.{IsCostOfPlan, Least}
-use Rattle.plan_model.specs.Exchange.{whole_internal, choice, leaf_price, leaf_order, sum_below, exchange, exchange_whole, Replaces, AreReplaced, ServesLike, IsWholeExchanged}
-use Rattle.plan_model.specs.Combinations.{Orders, IsCombination, free, IsInternal, IsOffered, IsLeastPrice, IsPriced, Templates, CachedBy, IsEach, Cached, Covers, AreEnough}
+use Rattle.plan_model.specs.Exchange.{whole_internal, choice, leaf_price, leaf_order, sum_below, exchange, exchange_whole, AreReplaced, ServesLike, IsWholeExchanged}
+use Rattle.plan_model.specs.Combinations.{Orders, IsCombination, free, IsOffered, IsLeastPrice, IsPriced, Templates, CachedBy, Covers, AreEnough}
 use Rattle.plan_model.proofs.Bounds.{valid-covers}
 use Rattle.plan_model.proofs.OrderLaws.{All-among, none-among, IsOfSlot, interesting_orders-of-slot}
 use Rattle.plan_model.proofs.SetLaws.{has-all, has-below, has-right-where, sum_below-same, sum_below-le}
@@ -35,7 +35,7 @@ free-price : (needs : Orders) (slot offer : ℕ) → price_at (free needs) slot 
 free-price needs slot zero = refl
 free-price needs slot (suc offer) = refl
 
-sum_below-none : (f : ℕ → ℕ) (n : ℕ) → ((slot : ℕ) → slot < n → f slot ≡ 0) → sum_below f n ≡ 0
+pub sum_below-none : (f : ℕ → ℕ) (n : ℕ) → ((slot : ℕ) → slot < n → f slot ≡ 0) → sum_below f n ≡ 0
 sum_below-none f zero h = refl
 sum_below-none f (suc n) h =
     let before : sum_below f n ≡ 0 = sum_below-none f n (λ slot below. h slot (omega (arith, below))) in

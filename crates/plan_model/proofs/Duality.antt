@@ -1,12 +1,11 @@
 -- Weak duality: a fitting configuration below a node costs at least the node's Lagrangian value.
-use Rattle.std.proofs.Common.{◌≡◌, inl, inr, ℕ, zero, suc, ◌+◌, ◌-◌, ◌*◌, ◌<◌, ◌≤◌, ◌==◌, Bool, true, false, cond, not, ◌&&◌, ◌||◌, List, [], ◌∷◌, length, All, Option, Some, None, ℤ, pos, negsuc, refl, sym, ap, ◌∙◌, subst, arith}
+use Rattle.std.proofs.Common.{◌≡◌, inl, inr, ℕ, zero, suc, ◌+◌, ◌-◌, ◌*◌, ◌<◌, ◌≤◌, ◌==◌, Bool, true, false, cond, not, List, [], ◌∷◌, length, Option, Some, None, ℤ, pos, negsuc, refl, sym, ap, ◌∙◌, arith}
 use Rattle.std.specs.Prelude.{slice_get, slice_index_or, sum_by, nat_le, filter}
 use Rattle.std.specs.List.{enumerate_from}
 use Rattle.std.specs.Option.{option_map_or}
 use Rattle.std.proofs.Math.Nat.{mul-add, mul-le-mul}
 use Rattle.std.proofs.lemmas.Bool.{cases_Bool, cases_eq, eqb-true, eq-eqb, le-leb, and_from, or_left, or_right, false≢true}
 use Rattle.std.proofs.lemmas.List.Elements.{All-head, All-tail}
-use Rattle.std.proofs.lemmas.Option.{slice_get_within}
 use Rattle.adv_base.specs.declared.catalogue.Catalogue.{Catalogue}
 use Rattle.adv_base.specs.declared.catalogue.index.IndexShape.{IndexShape}
 use Rattle.adv_base.specs.declared.limits.TheConstants.{MOST_CANDIDATES}
@@ -25,12 +24,11 @@ use Rattle.adv_base.specs.Sizes.{shape_pages}
 use Rattle.adv_base.specs.Upkeep.{upkeep, kept_upkeep, config_upkeep}
 use Rattle.adv_base.proofs.ConfigLaws.{config_of-has}
 use Rattle.plan_model.specs.Exchange.{sum_below}
-use Rattle.plan_model.specs.Totals.{block_of, IsPlanCost, IsCost, AreCosts, weighted_sum, IsTotal, OffersKeepLimits}
-use Rattle.plan_model.specs.Lagrangian
+use Rattle.plan_model.specs.Totals.{block_of, IsPlanCost, AreCosts, weighted_sum, IsTotal, OffersKeepLimits}
 use Rattle.plan_model.specs.Lagrangian.{TheMultipliers, IsRentedPlan, AreRentedPlans, weighted_upkeep, weighted_kept, slot_rents, weighted_rents, sum_rents, rents_at, IsWithin, candidate_cost, candidate_rents, costs_inside, earnings, IsRoundedUp, IsLagrangian, IsAtMost}
 use Rattle.plan_model.proofs.SetLaws.{sum_below-same}
 use Rattle.plan_model.proofs.Renting.{rents-bound, flag-of}
-use Rattle.plan_model.proofs.Sums.{total, sum-total, total-none, total-same, total-add, total-scale, total-swap, total-filter, places, sum_below-places, passing, AreFlags, chosen-passing, passing-numbered, passing-add, passing-scale, passing-more, passing-one_more}
+use Rattle.plan_model.proofs.Sums.{total, sum-total, total-none, total-same, total-add, total-scale, total-swap, total-filter, places, sum_below-places, passing, AreFlags, chosen-passing, passing-numbered, passing-add, passing-scale, passing-one_more}
 
 -- ## The rents of a configuration's candidates, by statement and by candidate
 
@@ -159,15 +157,15 @@ plans-most setting smaller larger rent q (statement ∷ statements) (x ∷ xs) (
 
 -- ## What candidates cost and earn
 
-flags-are : (config : Config) → AreFlags (has_candidate config) 1 config.on
+pub flags-are : (config : Config) → AreFlags (has_candidate config) 1 config.on
 flags-are config i = ap (has_candidate config) (omega arith) ∙ flag-of config i
 
-pages-passing : (cat : Catalogue) (shapes : List IndexShape) (config : Config) → config_pages cat shapes config ≡ passing (has_candidate config) (λ k shape. shape_pages cat shape) 1 shapes
+pub pages-passing : (cat : Catalogue) (shapes : List IndexShape) (config : Config) → config_pages cat shapes config ≡ passing (has_candidate config) (λ k shape. shape_pages cat shape) 1 shapes
 pages-passing cat shapes config =
     sum-total (shape_pages cat) (chosen config.on shapes)
     ∙ chosen-passing (has_candidate config) (shape_pages cat) 1 config.on shapes (flags-are config)
 
-flag-found : (flags : List Bool) (i : ℕ) → slice_index_or flags i false ≡ true → slice_get flags i ≡ Some true
+pub flag-found : (flags : List Bool) (i : ℕ) → slice_index_or flags i false ≡ true → slice_get flags i ≡ Some true
 flag-found [] i on = absurd (false≢true on)
 flag-found (flag ∷ flags) zero on = ap Some on
 flag-found (flag ∷ flags) (suc i) on = flag-found flags i on

@@ -1,13 +1,12 @@
 -- A valid plan's cost splits into its internal cost and its leaves' prices, and its leaves can be exchanged.
-use Rattle.std.proofs.Common.{◌≡◌, inl, inr, ℕ, ◌+◌, ◌^◌, ◌<◌, ◌≤◌, bit_and, Bool, true, false, cond, [], length, All, Option, Some, None, refl, sym, ap, ◌∙◌, subst, arith}
-use Rattle.std.specs.Prelude.{IsTrue}
-use Rattle.std.specs.List.{list_any, list_all}
+use Rattle.std.proofs.Common.{◌≡◌, inl, inr, ℕ, ◌+◌, ◌^◌, bit_and, Bool, true, false, cond, [], length, All, Option, Some, None, refl, sym, ap, ◌∙◌, subst, arith}
+use Rattle.std.specs.List.{list_all}
 use Rattle.std.proofs.lemmas.Bool.{cases_Bool, cases_eq, cases_lt, false≢true}
 use Rattle.std.proofs.lemmas.List.Sums.{list_all-from_AllPass}
 use Rattle.std.proofs.lemmas.Option.{slice_get-get_or, slice_get_past}
 use Rattle.adv_base.specs.Items.{Order, BeginsWith, is_up_of}
 use Rattle.adv_base.specs.Offers.{Offer, OfferTable}
-use Rattle.adv_base.specs.Sets.{all_slots, has_slot}
+use Rattle.adv_base.specs.Sets.{has_slot}
 use Rattle.plan_model.specs.declared.plan.GroupStep.{GroupStep}
 use Rattle.plan_model.specs.declared.plan.GroupStep.TheVariants.{Nothing, Sorted, Hashed}
 use Rattle.plan_model.specs.declared.plan.Plan.{Plan}
@@ -16,11 +15,9 @@ use Rattle.plan_model.specs.declared.plan.Whole.{Whole}
 use Rattle.plan_model.specs.declared.task.Task.{Task}
 use Rattle.adv_base.specs.OfferTables.{price_at, order_at, OfferTableLimits}
 use Rattle.plan_model.specs.Orders.{wanted_list}
-use Rattle.plan_model.specs.Plans.{covers, delivers, side_need, is_column_of, crosses, Merges, IsValid, FitsGroup, group_order, IsWhole, body_sorts}
-use Rattle.plan_model.specs.Costs.{rows_in, sort_cost, group_cost, final_rows, plan_cost, whole_cost}
-use Rattle.plan_model.specs.Exchange
-use Rattle.plan_model.specs.Exchange.{internal, whole_internal, choice, leaf_price, leaf_order, sum_over, sum_below, exchange, exchange_whole, Replaces, AreReplaced, IsNeed, IsFront, IsExchanged, IsWholeExchanged}
-use Rattle.plan_model.proofs.Bounds.{valid-covers}
+use Rattle.plan_model.specs.Plans.{covers, delivers, side_need, is_column_of, Merges, IsValid, FitsGroup, group_order, IsWhole, body_sorts}
+use Rattle.plan_model.specs.Costs.{plan_cost, whole_cost}
+use Rattle.plan_model.specs.Exchange.{internal, whole_internal, choice, leaf_price, sum_over, sum_below, exchange, exchange_whole, Replaces, AreReplaced, IsFront, IsExchanged, IsWholeExchanged}
 use Rattle.plan_model.proofs.OrderLaws.{front-served}
 use Rattle.plan_model.proofs.SetLaws.{has-left, has-right, has-right-where, has-other, has-apart_right, has-single, has-all, sum_over-joined, sum_over-single, sum_over-all}
 

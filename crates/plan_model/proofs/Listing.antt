@@ -1,22 +1,19 @@
 -- Lists of templates that decompose their task.
-use Rattle.std.proofs.Common.{◌≡◌, ◌⊎◌, ◌↔◌, inl, inr, ℕ, zero, suc, ◌<◌, ◌≤◌, true, List, [], ◌∷◌, length, get_or, take, Option, Some, None, refl, sym, ap, ◌∙◌, subst, arith}
+use Rattle.std.proofs.Common.{◌≡◌, ◌⊎◌, inl, inr, ℕ, zero, suc, ◌<◌, ◌≤◌, true, List, [], ◌∷◌, length, get_or, take, Option, Some, None, refl, sym, ◌∙◌, subst, arith}
 use Rattle.std.specs.Prelude.{slice_get}
 use Rattle.std.proofs.lemmas.Bool.{cases_Bool, cases_lt, or_cases, false≢true}
 use Rattle.std.specs.List.{list_any}
 use Rattle.std.proofs.lemmas.List.Folds.{list_any_at}
 use Rattle.std.proofs.lemmas.Option.{slice_get_within}
 use Rattle.adv_base.specs.Items.{Order, BeginsWith, is_same_order}
-use Rattle.adv_base.specs.Offers.{OfferTable}
 use Rattle.adv_base.proofs.ItemLaws.{is_same_order-decides, order_same}
 use Rattle.plan_model.specs.declared.task.Task.{Task}
 use Rattle.plan_model.specs.declared.template.Template.{Template}
-use Rattle.adv_base.specs.OfferTables.{OfferTableLimits}
 use Rattle.plan_model.specs.Orders.{interesting_orders}
-use Rattle.plan_model.specs.Least.{Least}
 use Rattle.plan_model.specs.Exchange.{whole_internal}
-use Rattle.plan_model.specs.Combinations.{Orders, IsCombination, CachedBy, IsEach, IsKept, Templates, Covers, needed, IsIn, Decompose, AreEach, AreKept}
+use Rattle.plan_model.specs.Combinations.{Orders, IsCombination, IsEach, IsKept, Templates, Covers, needed, IsIn, Decompose, AreEach, AreKept}
 use Rattle.plan_model.proofs.OrderLaws.{past-none}
-use Rattle.plan_model.proofs.Decomposing.{AreSound, core-needs, core-combination, least-cached}
+use Rattle.plan_model.proofs.Decomposing.{AreSound, core-needs, least-cached}
 use Rattle.plan_model.proofs.Caching.{least-core, covered-least, each-covers, weakly-kept, size}
 
 -- ## Whether some template of a list covers a combination

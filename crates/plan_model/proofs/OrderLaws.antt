@@ -1,20 +1,18 @@
 -- Laws of the interesting orders of a slot, and of what orders begin with.
-use Rattle.std.proofs.Common.{◌≡◌, ◌≢◌, ◌⊎◌, inl, inr, ℕ, ◌+◌, ◌<◌, ◌≤◌, ◌==◌, Bool, true, false, cond, ◌&&◌, ◌||◌, List, [], ◌∷◌, ◌++◌, length, take, All, Option, Some, None, Decides, refl, sym, ap, ◌∙◌, subst, arith}
+use Rattle.std.proofs.Common.{◌≡◌, ◌⊎◌, inl, inr, ℕ, ◌<◌, ◌≤◌, ◌==◌, Bool, true, false, cond, ◌||◌, List, [], ◌∷◌, ◌++◌, All, Option, Some, None, refl, sym, ap, ◌∙◌, subst, arith}
 use Rattle.std.specs.Prelude.{slice_get}
 use Rattle.std.specs.Option.{ForSome}
 use Rattle.std.specs.List.{list_any, list_all, flat_map}
-use Rattle.std.proofs.Math.Seq.{take-length}
-use Rattle.std.proofs.lemmas.List.{take-take, length-take}
 use Rattle.std.proofs.lemmas.Option.{get_or_from_slice_get, slice_get_within}
 use Rattle.std.proofs.lemmas.Map.Keys.{any_passes_from_place}
 use Rattle.std.proofs.lemmas.Bool.{cases_Bool, false≢true, eqb-true, ltb-true, and_parts, or_cases, or_left, or_right}
-use Rattle.std.proofs.lemmas.Bool.Decides.{Decides-and, Decides-eqb, Decides-like}
+use Rattle.std.proofs.lemmas.Bool.Decides.{Decides-eqb}
 use Rattle.std.proofs.lemmas.List.Elements.{All-head, All-tail, All-cons, All-nil, All-append}
 use Rattle.std.proofs.lemmas.List.Folds.{list_any-append}
 use Rattle.std.proofs.lemmas.List.Sums.{AllPass-from_list_all, list_all-from_AllPass}
 use Rattle.adv_base.specs.declared.workload.parts.Item.{Item}
 use Rattle.adv_base.specs.declared.workload.parts.Item.TheVariants.{Up, Down, Made}
-use Rattle.adv_base.specs.Items.{Order, AreApart, AreWithinSlots, is_within_slots, BeginsWith, is_up_of, is_same_item, is_same_order, is_own_list}
+use Rattle.adv_base.specs.Items.{Order, AreApart, AreWithinSlots, is_within_slots, BeginsWith, is_up_of, is_same_order, is_own_list}
 use Rattle.adv_base.specs.Sets.{has_slot}
 use Rattle.adv_base.proofs.Begins.{begins_all}
 use Rattle.adv_base.proofs.ItemLaws.{is_same_order-decides, order_same}
@@ -23,7 +21,6 @@ use Rattle.plan_model.specs.declared.task.Task.{Task}
 use Rattle.plan_model.specs.Limits.Tasks.{EdgeLimits}
 use Rattle.adv_base.specs.OfferTables.{OfferLimits}
 use Rattle.plan_model.specs.Orders.{need_order, needs_at, edge_orders, own_list, wanted_list, without_repeats, interesting_orders}
-use Rattle.plan_model.specs.Plans.{side_need}
 use Rattle.plan_model.specs.Exchange.{IsNeed, IsFront, ServesLike}
 
 -- what holds of each of some orders holds of one among them

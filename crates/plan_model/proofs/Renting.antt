@@ -6,15 +6,12 @@ use Rattle.std.specs.Option.{option_map_or}
 use Rattle.std.proofs.lemmas.Bool.{cases_Bool, cases_lt, eqb-true, false≢true}
 use Rattle.std.proofs.lemmas.Option.{slice_get-get_or, slice_get_within}
 use Rattle.adv_base.specs.declared.catalogue.Catalogue.{Catalogue}
-use Rattle.adv_base.specs.declared.catalogue.index.Index.{Index}
 use Rattle.adv_base.specs.declared.catalogue.index.IndexShape.{IndexShape}
 use Rattle.adv_base.specs.declared.catalogue.table.Table.{Table}
 use Rattle.adv_base.specs.declared.setting.Config.{Config}
 use Rattle.adv_base.specs.declared.workload.block.Block.{Block}
 use Rattle.adv_base.specs.declared.workload.parts.Slot.{Slot}
-use Rattle.adv_base.specs.Access.{index_price}
 use Rattle.adv_base.specs.Configs.{chosen, has_candidate}
-use Rattle.adv_base.specs.Items.{Order}
 use Rattle.adv_base.specs.Lookups.{table_at}
 use Rattle.adv_base.specs.Offers.{Offer, OfferTable, Path, Heap, Existing, Candidate, candidate_path, numbered_in, numbered_on, paths_on, path_offer, charged_path_offer, offers_on, offers_of, offers, charged_offers_on, charged_offers_of, charged_offers}
 use Rattle.adv_base.specs.OfferTables.{price_at, order_at, OfferTableLimits}
@@ -22,7 +19,6 @@ use Rattle.adv_base.specs.Settings.{TheSetting}
 use Rattle.plan_model.specs.declared.plan.Whole.{Whole}
 use Rattle.plan_model.specs.declared.task.Task.{Task}
 use Rattle.plan_model.specs.Plans.{IsWhole}
-use Rattle.plan_model.specs.Costs.{whole_cost}
 use Rattle.plan_model.specs.Least.{IsCostOfPlan, Least}
 use Rattle.plan_model.specs.Exchange.{whole_internal, choice, leaf_price, sum_below}
 use Rattle.plan_model.specs.Totals.{IsBlockCost}

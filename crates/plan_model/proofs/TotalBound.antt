@@ -1,5 +1,5 @@
 -- A workload's total is less than 10^31.
-use Rattle.std.proofs.Common.{◌≡◌, ℕ, ◌+◌, ◌*◌, ◌<◌, ◌≤◌, List, [], ◌∷◌, length, All, Some, refl, sym, ap, ◌∙◌, arith}
+use Rattle.std.proofs.Common.{◌≡◌, ℕ, ◌*◌, ◌<◌, ◌≤◌, List, [], ◌∷◌, length, Some, refl, arith}
 use Rattle.std.proofs.Math.Nat.{mul-le-mul}
 use Rattle.std.proofs.lemmas.List.Elements.{All-head, All-tail}
 use Rattle.adv_base.specs.declared.catalogue.Catalogue.{Catalogue}
@@ -12,7 +12,6 @@ use Rattle.adv_base.specs.declared.workload.Work.TheVariants.{Select, Update, De
 use Rattle.adv_base.specs.declared.workload.block.Block.{Block}
 use Rattle.adv_base.specs.Offers.{offers}
 use Rattle.adv_base.specs.OfferTables.{OfferTableLimits}
-use Rattle.adv_base.specs.Upkeep.{kept_upkeep, config_upkeep}
 use Rattle.adv_base.proofs.UpkeepBounds.{kept_upkeep-most, config_upkeep-most}
 use Rattle.plan_model.specs.declared.plan.TheConstants.{MOST_COST, MOST_TOTAL}
 use Rattle.plan_model.specs.Totals.{block_of, IsBlockCost, IsPlanCost, IsCost, AreCosts, weighted_sum, IsTotal, OffersKeepLimits}

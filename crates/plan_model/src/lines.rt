@@ -2,7 +2,7 @@
 ghost use Rattle.std.specs.Prelude.{◌≡◌, ◌++◌, ◌+◌, ◌*◌, ◌<◌, ◌≤◌, IfOk, decimal, codes, if◌then◌else◌, slice_get};
 ghost use Rattle.std.specs.Result.{OnOk};
 ghost use Rattle.adv_base.specs.OfferTables.{OfferTableLimits};
-ghost use Rattle.plan_model.specs.Plans.{covers, IsValid, IsWhole, body_sorts};
+ghost use Rattle.plan_model.specs.Plans.{covers, IsValid, IsWhole};
 ghost use Rattle.plan_model.specs.Costs as costs;
 ghost use Rattle.plan_model.specs.inner.Judging.{plan_judged, IsKept};
 ghost use Rattle.plan_model.specs.PlanTexts.{line, items_words, merge_words, plan_words, plan_lines, group_lines, group_depth, grouped_lines, whole_lines};

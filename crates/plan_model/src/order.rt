@@ -1,5 +1,5 @@
 //! Orders, the edges between sets of slots, and what plans deliver.
-ghost use Rattle.std.specs.Prelude.{◌≡◌, ◌↔◌, ◌<◌, ◌≤◌, IsTrue, if◌then◌else◌};
+ghost use Rattle.std.specs.Prelude.{◌≡◌, ◌↔◌, ◌<◌, IsTrue};
 ghost use Rattle.std.specs.List.{list_any};
 ghost use Rattle.adv_base.specs.Items.{BeginsWith};
 ghost use Rattle.plan_model.specs.Limits.Tasks.{AreNumbered};

@@ -1,5 +1,5 @@
 //! The words of lines, pushed to a text.
-ghost use Rattle.std.specs.Prelude.{◌≡◌, ◌++◌, ◌*◌, ◌<◌, ◌≤◌, [], decimal, codes, replicate, slice_index_or};
+ghost use Rattle.std.specs.Prelude.{◌≡◌, ◌++◌, ◌*◌, ◌<◌, ◌≤◌, [], decimal, replicate, slice_index_or};
 ghost use Rattle.std.specs.Result.{OnOk};
 ghost use Rattle.plan_model.specs.PlanTexts as texts;
 

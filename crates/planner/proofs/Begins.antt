@@ -1,40 +1,10 @@
 -- Laws of what orders begin with, and of fronts.
-use Rattle.std.proofs.Common.{◌≡◌, ℕ, ◌<◌, ◌≤◌, Bool, true, false, cond, [], ◌∷◌, length, take, Option, Some, None, refl, sym, ap, ◌∙◌, subst, arith}
-use Rattle.std.proofs.lemmas.List.{take-take, length-take}
-use Rattle.std.proofs.lemmas.Bool.{and_parts, eqb-true, eq-eqb, false≢true}
-use Rattle.std.proofs.lemmas.Bool.Decides.{nat_tests}
+use Rattle.std.proofs.Common.{◌≡◌, ℕ, ◌<◌, Bool, true, false, cond, [], ◌∷◌, Option, Some, None, refl, sym, ap, subst, arith}
 use Rattle.adv_base.specs.declared.workload.parts.Item.{Item}
-use Rattle.adv_base.specs.declared.workload.parts.Item.TheVariants.{Up, Down, Made}
 use Rattle.adv_base.specs.Items.{Order, BeginsWith, is_same_item}
 use Rattle.adv_base.proofs.Begins.{begins_nil, begins_self, begins_trans}
+use Rattle.adv_base.proofs.ItemLaws.{same_item, same_from}
 use Rattle.planner.specs.Fronts.{first_item, longer_front}
-
-pub same_item : (x y : Item) → is_same_item x y ≡ true → x ≡ y
-same_item (Up s c) (Up t d) h =
-    let p = and_parts _ _ h in
-    let e : s ≡ t = eqb-true s t p.0 in
-    let f : c ≡ d = eqb-true c d p.1 in
-    cc
-same_item (Up s c) (Down t d) h = absurd (false≢true h)
-same_item (Up s c) (Made n) h = absurd (false≢true h)
-same_item (Down s c) (Up t d) h = absurd (false≢true h)
-same_item (Down s c) (Down t d) h =
-    let p = and_parts _ _ h in
-    let e : s ≡ t = eqb-true s t p.0 in
-    let f : c ≡ d = eqb-true c d p.1 in
-    cc
-same_item (Down s c) (Made n) h = absurd (false≢true h)
-same_item (Made m) (Up t d) h = absurd (false≢true h)
-same_item (Made m) (Down t d) h = absurd (false≢true h)
-same_item (Made m) (Made n) h = ap Made (eqb-true m n h)
-
-pub item_same : (x : Item) → is_same_item x x ≡ true
-item_same (Up s c) = grind (arith, nat_tests)
-item_same (Down s c) = grind (arith, nat_tests)
-item_same (Made n) = eq-eqb n n refl
-
-pub same_from : (x y : Item) → x ≡ y → is_same_item x y ≡ true
-same_from x y e = subst (λ z. is_same_item x z ≡ true) e (item_same x)
 
 -- what begins with one item has it in front
 pub begins_one : (o : Order) (y : Item) → BeginsWith o (y ∷ []) → first_item o ≡ Some y

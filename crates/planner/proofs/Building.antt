@@ -22,8 +22,8 @@ use Rattle.planner.specs.Cuts.{IsCut}
 use Rattle.planner.specs.Choices.{IsRead, IsMerge, IsHash, IsSorting}
 use Rattle.planner.specs.inner.Built.{IsPlanFor, IsSortOf, IsMergeOf, IsHashOf, is_sorted, front_cost}
 use Rattle.planner.specs.Rows.{NoneLess}
-use Rattle.planner.proofs.Begins.{same_item}
 use Rattle.adv_base.proofs.Begins.{begins_self, begins_trans}
+use Rattle.adv_base.proofs.ItemLaws.{same_item}
 
 pub read_built : (sorts : Bool) (task : Task) (table : OfferTable) (order : Order) (set cost slot offer : ℕ) → IsRead task table order set cost slot offer → IsPlanFor sorts task table order set cost (Leaf slot offer)
 read_built sorts task table order set cost slot offer h =

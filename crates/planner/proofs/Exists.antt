@@ -1,13 +1,13 @@
 -- Some plan joins all slots.
-use Rattle.std.proofs.Common.{◌≡◌, ℕ, zero, suc, ◌+◌, ◌-◌, ◌*◌, ◌^◌, ◌<◌, ◌≤◌, inl, inr, true, false, not, ◌&&◌, ◌==◌, List, [], ◌∷◌, length, map, bit_and, min, All, slice_get, slice_index, sym, ap, ◌∙◌, subst, arith}
+use Rattle.std.proofs.Common.{◌≡◌, ℕ, zero, suc, ◌+◌, ◌-◌, ◌*◌, ◌^◌, ◌<◌, ◌≤◌, inl, inr, true, false, ◌&&◌, List, [], ◌∷◌, length, map, bit_and, min, All, slice_get, slice_index, sym, ap, ◌∙◌, subst, arith}
 use denote.RawPtr.{null_ptr}
 use Rattle.std.proofs.Common.{Box, Global}
 use Rattle.std.specs.List.{list_any}
 use Rattle.std.proofs.Math.Nat.{one-le-pow, mul-le-mul}
 use Rattle.std.proofs.Math.Pow.{pow_mono}
-use Rattle.std.proofs.lemmas.Bool.{false≢true, cases_lt, or_cases, or_left, or_right, and_parts, and_from, eqb-false, ne_eqb, not-true, cases_eq}
+use Rattle.std.proofs.lemmas.Bool.{false≢true, cases_lt, or_cases, or_left, or_right, and_parts, and_from}
 use Rattle.std.proofs.lemmas.Nat.{and-not, and_comm, and_le_l}
-use Rattle.std.proofs.lemmas.Nat.Bits.{and_pow, bit_at_and, bit_at-zero, bit_at-lt}
+use Rattle.std.proofs.lemmas.Nat.Bits.{and_pow, bit_at_and, bit_at-zero}
 use Rattle.std.proofs.lemmas.List.Elements.{All-head, All-tail, All-get_or}
 use Rattle.std.specs.Int.{bit_at}
 use Rattle.std.specs.Int.Bits.{and_self}
@@ -23,7 +23,8 @@ use Rattle.plan_model.specs.Limits.Tasks.{ends, EdgeLimits, RowLimits}
 use Rattle.adv_base.specs.OfferTables.{price_at, OfferLimits, OfferTableLimits, HasOffers}
 use Rattle.plan_model.specs.Plans.{IsValid, covers, crosses}
 use Rattle.plan_model.specs.Costs.{plan_cost, rows_in, hash_cost, merge_cost}
-use Rattle.planner.proofs.Lower.{covers_some}
+use Rattle.plan_model.proofs.Bounds.{covers_some}
+use Rattle.plan_model.proofs.SetLaws.{has-bit, has-single}
 
 -- a set below 2 ^ n and the rest of all slots are apart
 rest_apart : (n a : ℕ) → a ≤ all_slots n → bit_and a (all_slots n - a) ≡ 0
@@ -33,32 +34,17 @@ rest_apart n a h =
     let self : bit_and a a ≡ a = and_self a in
     and_comm a (all_slots n - a) ∙ omega arith
 
-bit_one : (b j : ℕ) → has_slot b j ≡ true → bit_at b j ≡ 1
-bit_one b j h =
-    let differ : (bit_and b (2 ^ j) == 0) ≡ false = not-true (bit_and b (2 ^ j) == 0) h in
-    let few = bit_at-lt b j in
-    elim (cases_eq (bit_at b j) 0) [
-      | inl none ↦ absurd (eqb-false (bit_and b (2 ^ j)) 0 differ (and_pow b j ∙ ap (λ t. t * 2 ^ j) none ∙ omega arith))
-      | inr some ↦ omega arith
-    ]
-
 slot_fits : (b j : ℕ) → has_slot b j ≡ true → 2 ^ j ≤ b
 slot_fits b j h =
-    let is : bit_and b (2 ^ j) ≡ 1 * 2 ^ j = and_pow b j ∙ ap (λ t. t * 2 ^ j) (bit_one b j h) in
+    let is : bit_and b (2 ^ j) ≡ 1 * 2 ^ j = and_pow b j ∙ ap (λ t. t * 2 ^ j) (has-bit b j h) in
     omega (arith, is, and_le_l b (2 ^ j))
 
 slot_apart : (a b j : ℕ) → bit_and a b ≡ 0 → has_slot b j ≡ true → bit_and a (2 ^ j) ≡ 0
 slot_apart a b j apart h =
-    let one = bit_one b j h in
+    let one = has-bit b j h in
     let none : min (bit_at a j) (bit_at b j) ≡ 0 = sym (bit_at_and a b j) ∙ ap (λ t. bit_at t j) apart ∙ bit_at-zero j in
     let zero' : bit_at a j ≡ 0 = omega arith in
     and_pow a j ∙ ap (λ t. t * 2 ^ j) zero' ∙ omega arith
-
-self_slot : (j : ℕ) → has_slot (2 ^ j) j ≡ true
-self_slot j =
-    let some : 1 ≤ 2 ^ j = one-le-pow j 2 (omega arith) in
-    let is : bit_and (2 ^ j) (2 ^ j) ≡ 2 ^ j = and_self (2 ^ j) in
-    ap not (ne_eqb (bit_and (2 ^ j) (2 ^ j)) 0 (λ e. absurd (omega arith)))
 
 -- a slot of b that an edge joins to a
 record Joining (slots a b : ℕ) (edges : List TaskEdge) : Type 0 where
@@ -80,7 +66,7 @@ joining slots a b (x ∷ xs) limits h =
                   slot = x.right;
                   slot_in = here.right_slot;
                   in_rest = q.1;
-                  joined = or_left (crosses a (2 ^ x.right) x) (list_any (crosses a (2 ^ x.right)) xs) (or_left (has_slot a x.left && has_slot (2 ^ x.right) x.right) (has_slot a x.right && has_slot (2 ^ x.right) x.left) (and_from (has_slot a x.left) (has_slot (2 ^ x.right) x.right) q.0 (self_slot x.right)));
+                  joined = or_left (crosses a (2 ^ x.right) x) (list_any (crosses a (2 ^ x.right)) xs) (or_left (has_slot a x.left && has_slot (2 ^ x.right) x.right) (has_slot a x.right && has_slot (2 ^ x.right) x.left) (and_from (has_slot a x.left) (has_slot (2 ^ x.right) x.right) q.0 (has-single x.right)));
                 }
             | inr p ↦
                 let q = and_parts (has_slot a x.right) (has_slot b x.left) p in
@@ -88,7 +74,7 @@ joining slots a b (x ∷ xs) limits h =
                   slot = x.left;
                   slot_in = here.left_slot;
                   in_rest = q.1;
-                  joined = or_left (crosses a (2 ^ x.left) x) (list_any (crosses a (2 ^ x.left)) xs) (or_right (has_slot a x.left && has_slot (2 ^ x.left) x.right) (has_slot a x.right && has_slot (2 ^ x.left) x.left) (and_from (has_slot a x.right) (has_slot (2 ^ x.left) x.left) q.0 (self_slot x.left)));
+                  joined = or_left (crosses a (2 ^ x.left) x) (list_any (crosses a (2 ^ x.left)) xs) (or_right (has_slot a x.left && has_slot (2 ^ x.left) x.right) (has_slot a x.right && has_slot (2 ^ x.left) x.left) (and_from (has_slot a x.right) (has_slot (2 ^ x.left) x.left) q.0 (has-single x.left)));
                 }
           ]
       | inr later ↦

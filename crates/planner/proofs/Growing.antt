@@ -8,6 +8,7 @@ use Rattle.std.proofs.lemmas.List.Elements.{All-get_or}
 use Rattle.std.proofs.lemmas.Option.{slice_get_within, same_Some, slice_get-get_or}
 use Rattle.adv_base.specs.Items.{Order, is_same_item}
 use Rattle.adv_base.specs.declared.workload.parts.Item.{Item}
+use Rattle.adv_base.proofs.ItemLaws.{same_item, item_same}
 use Rattle.plan_model.specs.declared.edge.TaskEdge.{TaskEdge}
 use Rattle.plan_model.specs.declared.task.Task.{Task}
 use Rattle.plan_model.specs.Limits.Tasks.{EdgeLimits}
@@ -17,7 +18,6 @@ use Rattle.planner.specs.declared.front.Front.TheVariants.{Any, Listed, Need}
 use Rattle.planner.specs.declared.front.Link.{Link}
 use Rattle.planner.specs.Fronts.{asked, front_order, first_item, longer_front, is_need, needs_item, no_link, link_at, turned, listed, Ties, Joins, IsLink, AreHeadsApart, AreHeads, AreLinks, AreNeeded, AreNeeds}
 use Rattle.planner.specs.inner.Growing.{need_front, is_alike, is_same_link, turned_link, IsGrowing, AreFronts, IsAdded, IsKeeping}
-use Rattle.planner.proofs.Begins.{same_item, item_same}
 
 pub growing_none : (fronts : List Front) → IsGrowing fronts fronts
 growing_none fronts = record { longer = omega arith; keeps = λ k h. refl }

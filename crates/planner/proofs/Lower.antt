@@ -3,7 +3,6 @@ use Rattle.std.proofs.Common.{◌≡◌, ℕ, zero, suc, ◌+◌, ◌-◌, ◌<�
 use Rattle.std.specs.List.{list_any}
 use Rattle.std.specs.Coded.{le_prop}
 use Rattle.std.proofs.Math.Logic.{∥∥₁_elim}
-use Rattle.std.proofs.Math.Nat.{one-le-pow}
 use Rattle.std.proofs.lemmas.Bool.{false≢true, cases_Bool, and_from, eq-eqb}
 use Rattle.std.proofs.lemmas.List.Elements.{All-take, All-same}
 use Rattle.adv_base.specs.Items.{Order, BeginsWith}
@@ -13,6 +12,7 @@ use Rattle.plan_model.specs.declared.plan.Plan.TheVariants.{Leaf, Sort', Merge',
 use Rattle.plan_model.specs.declared.task.Task.{Task}
 use Rattle.plan_model.specs.Plans.{IsValid, Merges, covers, crosses, delivers, is_column_of}
 use Rattle.plan_model.specs.Costs.{plan_cost, rows_in, sort_cost, merge_of, hash_of}
+use Rattle.plan_model.proofs.Bounds.{covers_some}
 use Rattle.planner.specs.declared.front.Front.{Front}
 use Rattle.planner.specs.declared.cell.Cell.{Cell}
 use Rattle.planner.specs.declared.cell.TheConstants.{IMPOSSIBLE}
@@ -28,12 +28,6 @@ use Rattle.planner.proofs.Fronting.{nothing_asked}
 pub begun_nil : (f : Order) → BeginsWith [] f → f ≡ []
 begun_nil [] h = refl
 begun_nil (x ∷ xs) h = cc
-
-pub covers_some : (p : Plan) → 0 < covers p
-covers_some (Leaf slot offer) = one-le-pow slot 2 (omega arith)
-covers_some (Sort' order p input) = covers_some input
-covers_some (Merge' edge p left q right) = omega (arith, covers_some left, covers_some right)
-covers_some (Hash' p left q right) = omega (arith, covers_some left, covers_some right)
 
 -- the costs of a row bound plans
 pub record IsLow (task : Task) (table : OfferTable) (list : Order) (fronts : List Front) (set : ℕ) (row : List Cell) : Type 0 where

@@ -1,16 +1,16 @@
 -- What offering the offers of a slot to the cells of a row gives.
-use Rattle.std.proofs.Common.{◌≡◌, ℕ, ◌+◌, ◌^◌, ◌<◌, ◌≤◌, inl, inr, Bool, true, false, ◌&&◌, List, [], ◌∷◌, length, take, IsTrue, ◌↔◌, refl, sym, ap, ◌∙◌, subst, arith}
+use Rattle.std.proofs.Common.{◌≡◌, ℕ, ◌^◌, ◌<◌, ◌≤◌, inl, inr, Bool, true, false, List, [], ◌∷◌, length, take, IsTrue, ◌↔◌, refl, sym, ap, ◌∙◌, subst, arith}
 use Rattle.std.proofs.lemmas.Bool.{false≢true, and_parts, and_from, cases_Bool}
 use Rattle.adv_base.specs.Items.{Order, BeginsWith, is_same_item}
 use Rattle.adv_base.specs.Offers.{OfferTable}
 use Rattle.plan_model.specs.declared.task.Task.{Task}
 use Rattle.adv_base.specs.OfferTables.{price_at, order_at}
+use Rattle.adv_base.proofs.ItemLaws.{same_item, same_from}
 use Rattle.planner.specs.declared.front.Front.{Front}
 use Rattle.planner.specs.declared.cell.Cell.{Cell}
 use Rattle.planner.specs.Fronts.{asked, begins_test}
 use Rattle.planner.specs.Cells.{cell_at, cost_at}
 use Rattle.planner.specs.inner.Steps.{offered, better, AreOffers, OfferMade, SlotBound}
-use Rattle.planner.proofs.Begins.{same_item, same_from}
 use Rattle.planner.proofs.Steps.{better_cases, better_lower}
 
 pub begins_from_test : (o f : Order) → begins_test o f ≡ true → BeginsWith o f

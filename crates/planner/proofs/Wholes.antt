@@ -1,7 +1,7 @@
 -- The shape of a least whole plan.
-use Rattle.std.proofs.Common.{◌≡◌, ◌≢◌, ℕ, zero, suc, ◌+◌, ◌*◌, ◌^◌, ◌<◌, ◌≤◌, ◌⊎◌, inl, inr, Bool, true, false, cond, not, IsTrue, nat_lt, List, [], ◌∷◌, length, Option, Some, None, refl, sym, ap, ◌∙◌, subst, arith}
+use Rattle.std.proofs.Common.{◌≡◌, ◌≢◌, ℕ, ◌+◌, ◌*◌, ◌<◌, ◌≤◌, ◌⊎◌, inl, inr, Bool, true, false, cond, not, IsTrue, nat_lt, List, [], ◌∷◌, length, Option, Some, None, refl, sym, ap, ◌∙◌, subst, arith}
 use Rattle.std.proofs.Math.Nat.{mul-le-mul}
-use Rattle.std.proofs.lemmas.Bool.{false≢true, cases_Bool}
+use Rattle.std.proofs.lemmas.Bool.{false≢true}
 use Rattle.std.proofs.lemmas.Bool.Decides.{nat_tests}
 use Rattle.adv_base.specs.Items.{Order, BeginsWith}
 use Rattle.adv_base.specs.Offers.{OfferTable}
@@ -24,6 +24,7 @@ use Rattle.planner.specs.Cells.{cost_at}
 use Rattle.planner.specs.inner.Built.{front_cost}
 use Rattle.planner.specs.inner.Shapes.{is_nil, cheaper, final_cost, ungrouped_shape, sorted_shape, hashed_shape, least_shape}
 use Rattle.adv_base.proofs.Begins.{begins_nil, begins_self}
+use Rattle.plan_model.proofs.Bounds.{digits_within-most}
 use Rattle.planner.proofs.Reading.{begins_from_test, test_from_begins}
 use Rattle.planner.proofs.Lower.{IsLow, begun_nil}
 
@@ -179,20 +180,11 @@ pub record IsLeastShape (task : Task) (table : OfferTable) (list : Order) (front
   pub possible : shape.cost < IMPOSSIBLE
   pub least : (whole : Whole) → IsWhole task table whole → shape.cost ≤ whole_cost task table whole
 
-digits_most : (k n : ℕ) → digits_within k n ≤ k
-unfolding digits_within
-digits_most zero n = omega arith
-digits_most (suc k) n =
-    elim (cases_Bool (nat_lt n (2 ^ k))) [
-      | inl less ↦ let e : digits_within (suc k) n ≡ digits_within k n = ap (λ t. cond t (digits_within k n) (suc k)) less in omega (arith, digits_most k n)
-      | inr more ↦ let e : digits_within (suc k) n ≡ suc k = ap (λ t. cond t (digits_within k n) (suc k)) more in omega arith
-    ]
-
 sort_most : (task : Task) (rows : ℕ) → rows ≤ 1000000000000 → sort_cost task.rates rows ≤ 64000000000000000000
 unfolding sort_cost binary_digits
 sort_most task rows few =
     let rate : task.rates.sort_cpu ≤ 1000000 = task.rates.limits.sort_cpu_most in
-    let digits : digits_within 64 rows ≤ 64 = digits_most 64 rows in
+    let digits : digits_within 64 rows ≤ 64 = digits_within-most 64 rows in
     let whole : rows * digits_within 64 rows ≤ 1000000000000 * 64 = mul-le-mul few digits in
     let all : task.rates.sort_cpu * (rows * digits_within 64 rows) ≤ 1000000 * (1000000000000 * 64) = mul-le-mul rate whole in
     omega arith

@@ -1,6 +1,5 @@
 -- Rows of cells: one row for each set of slots, in it one cell for each front.
-use Rattle.std.specs.Prelude.{ℕ, ◌+◌, ◌*◌, nat_lt, Bool, ◌&&◌, Option, Some, None, if◌then◌else◌, List, take, drop, slice_index_or}
-use Rattle.adv_base.specs.declared.workload.parts.Item.{Item}
+use Rattle.std.specs.Prelude.{ℕ, ◌*◌, List, take, drop, slice_index_or}
 use Rattle.planner.specs.declared.cell.Cell.{Cell}
 use Rattle.planner.specs.declared.cell.TheConstants.{IMPOSSIBLE}
 

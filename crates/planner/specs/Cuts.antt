@@ -1,5 +1,5 @@
 -- The cuts of sets in two parts, by which plans may join them.
-use Rattle.std.specs.Prelude.{◌≡◌, ℕ, ◌+◌, ◌-◌, ◌^◌, ◌<◌, ◌≤◌, bit_and, Bool, true, false, ◌==◌, ◌&&◌, if◌then◌else◌, List, [], ◌∷◌, ◌++◌, length, Option, slice_index, slice_index_or}
+use Rattle.std.specs.Prelude.{◌≡◌, ℕ, ◌+◌, ◌-◌, ◌^◌, ◌<◌, ◌≤◌, bit_and, Bool, true, false, ◌==◌, ◌&&◌, if◌then◌else◌, List, [], ◌∷◌, length, Option, slice_index, slice_index_or}
 use Rattle.std.specs.List.{slice_range}
 use Rattle.adv_base.specs.declared.workload.parts.Item.{Item}
 use Rattle.plan_model.specs.declared.task.Task.{Task}

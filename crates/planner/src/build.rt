@@ -1,5 +1,5 @@
 //! Plans of what made the costs of the table.
-ghost use Rattle.std.specs.Prelude.{◌≡◌, ℕ, ◌+◌, ◌*◌, ◌<◌, ◌≤◌, Bool, IfOk, length, slice_index_or};
+ghost use Rattle.std.specs.Prelude.{◌≡◌, ◌*◌, ◌<◌, IfOk, length, slice_index_or};
 ghost use Rattle.planner.specs.declared.cell.TheConstants as constant;
 ghost use Rattle.planner.specs.declared.front.Front.TheVariants as variant;
 ghost use Rattle.planner.specs.Fronts.{front_order};

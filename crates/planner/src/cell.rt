@@ -1,5 +1,5 @@
 //! What the search keeps for a set of slots and a front.
-ghost use Rattle.std.specs.Prelude.{◌≡◌, ◌+◌, ◌<◌, ◌≤◌, ◌^◌, length};
+ghost use Rattle.std.specs.Prelude.{◌≡◌, ◌+◌, ◌<◌, ◌^◌, length};
 ghost use Rattle.std.specs.Option.{ForSome};
 ghost use Rattle.planner.specs.Cells as row_cells;
 ghost use Rattle.planner.specs.inner.Steps as steps;

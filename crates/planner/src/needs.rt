@@ -1,8 +1,7 @@
 //! The fronts that matter to a task.
-ghost use Rattle.std.specs.Prelude.{◌≡◌, ◌↔◌, ℕ, ◌+◌, ◌^◌, ◌<◌, ◌≤◌, IfOk, IsTrue, length, slice_index_or};
+ghost use Rattle.std.specs.Prelude.{◌≡◌, ◌↔◌, ℕ, ◌+◌, ◌^◌, ◌<◌, IfOk, IsTrue, length, slice_index_or};
 ghost use Rattle.std.specs.List.{list_any};
 ghost use Rattle.std.specs.Option.{ForSome};
-ghost use Rattle.adv_base.specs.Items.{Order};
 ghost use Rattle.planner.specs.declared.front.Front.TheVariants as variant;
 ghost use Rattle.planner.specs.Fronts as order_fronts;
 ghost use Rattle.planner.specs.inner.Growing.{need_front, is_alike, is_same_link, AreFronts, IsAdded, IsGrowing, IsKeeping};

@@ -1,6 +1,5 @@
 //! Offers of a slot, in the row of the set that has that slot alone.
-ghost use Rattle.std.specs.Prelude.{◌≡◌, ℕ, ◌+◌, ◌<◌, ◌≤◌, ◌^◌, length};
-ghost use Rattle.adv_base.specs.Items.{BeginsWith};
+ghost use Rattle.std.specs.Prelude.{◌≡◌, ℕ, ◌<◌, ◌≤◌, ◌^◌, length};
 ghost use Rattle.adv_base.specs.OfferTables.{price_at, order_at};
 ghost use Rattle.planner.specs.Fronts as order_fronts;
 ghost use Rattle.planner.specs.Cells.{cell_at, cost_at};

@@ -3,7 +3,7 @@ ghost use Rattle.std.specs.Prelude.{◌≡◌, ◌+◌, ◌*◌, ◌<◌, ◌≤
 ghost use Rattle.plan_model.specs.Plans.{body_sorts};
 ghost use Rattle.adv_base.specs.Sets.{all_slots};
 ghost use Rattle.plan_model.specs.Costs.{rows_in};
-ghost use Rattle.planner.specs.Cells.{cost_at, any_at, row_of};
+ghost use Rattle.planner.specs.Cells.{row_of};
 ghost use Rattle.planner.specs.Rows.{IsCapped, width, sets_of};
 ghost use Rattle.planner.specs.inner.Shapes as shapes;
 

@@ -1,5 +1,5 @@
 -- The lines of statements, one more at a time.
-use Rattle.std.proofs.Common.{◌≡◌, ℕ, suc, ◌+◌, ◌<◌, ◌≤◌, List, [], ◌∷◌, ◌++◌, length, get_or, drop, refl, sym, ap, ◌∙◌, append_assoc, append-nil, add-one, drop-cons, arith}
+use Rattle.std.proofs.Common.{◌≡◌, ℕ, suc, ◌+◌, ◌<◌, ◌≤◌, List, [], ◌∷◌, ◌++◌, length, get_or, drop, refl, sym, ap, add-one, drop-cons}
 use Rattle.std.proofs.lemmas.List.{at_drop_all}
 use Rattle.adv_base.specs.declared.workload.Statement.{Statement}
 use Rattle.report.specs.Texts.{cost_line, cost_lines}

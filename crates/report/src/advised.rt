@@ -1,5 +1,5 @@
 //! The text of advice.
-ghost use Rattle.std.specs.Prelude.{◌≡◌, ◌++◌, ◌≤◌, ◌==◌, OnOk, codes, length, if◌then◌else◌, All, option_map};
+ghost use Rattle.std.specs.Prelude.{◌≡◌, ◌++◌, ◌≤◌, ◌==◌, OnOk, length, All, option_map};
 ghost use Rattle.adv_base.specs.declared.limits.TheConstants.{MOST_CANDIDATES};
 ghost use Rattle.adv_base.specs.Named.{NamesShape};
 ghost use Rattle.report.specs.Listings as lists;

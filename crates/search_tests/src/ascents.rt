@@ -1,5 +1,4 @@
 //! Ascents of the multipliers of small programmes.
-ghost use Rattle.std.specs.Prelude.{◌≤◌};
 
 use crate::bounds::{free, numbered_node, zero};
 use crate::made::{knapsack, mixed};

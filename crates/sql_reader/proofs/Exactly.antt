@@ -1,11 +1,11 @@
 -- Readings by good rules are exact.
 use Rattle.std.proofs.Common.{◌≡◌, ℕ, zero, suc, true, not, List, [], ◌∷◌, ◌++◌, sym, refl, ap, ◌∙◌, subst, inl, inr, append-nil}
-use Rattle.std.proofs.lemmas.Bool.{and_parts}
+use Rattle.std.proofs.lemmas.Bool.{and_parts, not-true}
 use Rattle.sql_reader.specs.declared.terminal.Terminal.{Terminal}
 use Rattle.sql_reader.specs.Kinds.{within}
 use Rattle.sql_reader.specs.Rule.{Nesting, State, Rule, Meaning, IsOver, Grammar, IsNested, Reading, Read, Stuck, Reader, read_over, read_nested, Borders, may_be_empty, first_of_rule, more_of_rule, closes, good}
 use Rattle.sql_reader.specs.Exact.{GoesOn, NoneGoesOn, IsExact, IsGood, IsRead, reads}
-use Rattle.sql_reader.proofs.KindSets.{not_true, not_both, in_wider, begins_narrower, no_front}
+use Rattle.sql_reader.proofs.KindSets.{not_both, in_wider, begins_narrower, no_front}
 use Rattle.sql_reader.proofs.Theory.{Sensible, left_of, moved, Viable, Explains, empty_only, first_in, right, complete, local, closing}
 
 no_level : (borders : Borders) (grammar : Grammar) → Sensible borders (IsNested grammar zero) (read_nested grammar zero)
@@ -29,7 +29,7 @@ one_level borders grammar g n s =
     let others = λ (x : Nesting). and_parts (not (may_be_empty (grammar x))) _ (and_parts (good borders (grammar x)) _ (g x)).1 in
     let wide = λ (x : Nesting). and_parts (within (first_of_rule borders (grammar x)) (borders.first x)) (within (more_of_rule borders (grammar x)) (borders.more x)) (others x).1 in
     record {
-      something = λ x a b h. not_both (may_be_empty (grammar x)) (empty_only borders (IsNested grammar n) (read_nested grammar n) s (grammar x) a b h) (not_true (may_be_empty (grammar x)) (others x).0);
+      something = λ x a b h. not_both (may_be_empty (grammar x)) (empty_only borders (IsNested grammar n) (read_nested grammar n) s (grammar x) a b h) (not-true (may_be_empty (grammar x)) (others x).0);
       begun = λ x a p ps b h. in_wider (first_of_rule borders (grammar x)) (borders.first x) p.kind (wide x).0 (first_in borders (IsNested grammar n) (read_nested grammar n) s (grammar x) a b p ps h);
       right = λ x a ps. right borders (IsNested grammar n) (read_nested grammar n) s (grammar x) (is_good x) a ps;
       complete = λ x a front b rest h stop. complete borders (IsNested grammar n) (read_nested grammar n) s (grammar x) (is_good x) a b front rest h (begins_narrower (more_of_rule borders (grammar x)) (borders.more x) rest (wide x).1 stop);

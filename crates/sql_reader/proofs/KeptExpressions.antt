@@ -2,7 +2,7 @@
 use Rattle.std.proofs.Common.{◌≡◌, ℕ, ◌+◌, ◌^◌, ◌<◌, ◌≤◌, Bool, true, false, ◌&&◌, List, [], ◌∷◌, ◌++◌, length, Option, Some, None, nat_le, nat_lt, nat_abs, ℤ, refl, ◌∙◌, arith, rules, tests, length-append, if◌then◌else◌}
 use Rattle.std.specs.List.{list_all}
 use Rattle.std.proofs.lemmas.List.Folds.{list_all-append}
-use Rattle.std.proofs.lemmas.Bool.{le-leb}
+use Rattle.std.proofs.lemmas.Bool.{le-leb, and_from, lt-ltb}
 use Rattle.sql_reader.specs.declared.kind.TerminalKind.{TerminalKind}
 use Rattle.sql_reader.specs.declared.kind.TerminalKind.TheVariants as kinds
 use Rattle.sql_reader.specs.declared.terminal.Terminal.{Terminal}
@@ -37,9 +37,6 @@ Few f k xs = (length xs ≤ k) × (list_all f xs ≡ true)
 abbrev pub Passes : {X : Type 0} → (X → Bool) → ℕ → X → Type 0
 Passes f k x = (1 ≤ k) × (f x ≡ true)
 
-pub both : (a b : Bool) → a ≡ true → b ≡ true → (a && b) ≡ true
-both a b e f = rw (e, f) refl
-
 pub some : (k : ℕ) → 1 ≤ k + 1
 some k = omega arith
 
@@ -48,16 +45,13 @@ few_none f k = (omega arith, refl)
 
 pub few_more : {X : Type 0} (f : X → Bool) (k j : ℕ) (xs : List X) (x : X) → k + 1 ≤ j → Few f k xs → f x ≡ true → Few f j (xs ++ x ∷ [])
 few_more f k j xs x room (short, all) h =
-    (omega (arith, room, short, length-append xs (x ∷ [])), list_all-append f xs (x ∷ []) ∙ both (list_all f xs) (list_all f (x ∷ [])) all (both (f x) true h refl))
+    (omega (arith, room, short, length-append xs (x ∷ [])), list_all-append f xs (x ∷ []) ∙ and_from (list_all f xs) (list_all f (x ∷ [])) all (and_from (f x) true h refl))
 
 pub few_later : {X : Type 0} (f : X → Bool) (k j : ℕ) (xs : List X) → k ≤ j → Few f k xs → Few f j xs
 few_later f k j xs room (short, all) = (omega (arith, room, short), all)
 
-pub nat_lt_true : (a b : ℕ) → a < b → nat_lt a b ≡ true
-nat_lt_true a b h = search (tests, rules)
-
 pub few_in : {X : Type 0} (f : X → Bool) (k : ℕ) (xs : List X) → k < 2 ^ 32 → Few f k xs → (are_few (length xs) && list_all f xs) ≡ true
-few_in f k xs room (short, all) = both (are_few (length xs)) (list_all f xs) (nat_lt_true (length xs) (2 ^ 32) (omega (arith, room, short))) all
+few_in f k xs room (short, all) = and_from (are_few (length xs)) (list_all f xs) (lt-ltb (length xs) (2 ^ 32) (omega (arith, room, short))) all
 
 -- the columns of an expression
 abbrev pub Loose : ℕ → ℕ → Seen → Type 0
@@ -93,7 +87,7 @@ plain_one false count h = refl
 -- an expression that stands alone
 pub expr_known : (n k : ℕ) (found : Seen) → k < 2 ^ 32 → Alone n 0 k found → expr_in n (expr_of found) ≡ true
 expr_known n k found room known =
-    both (are_few (length found.uses) && list_all (name_in n) found.uses) (one_if_plain (is_column found.form) (length found.uses)) (few_in (name_in n) k found.uses room known.loose)
+    and_from (are_few (length found.uses) && list_all (name_in n) found.uses) (one_if_plain (is_column found.form) (length found.uses)) (few_in (name_in n) k found.uses room known.loose)
     (plain_one (is_column found.form) (length found.uses) known.one)
 
 literal_known_kind : (n : ℕ) (kind : TerminalKind) (p : Terminal) → span_in n p.span ≡ true → literal_in n (literal_of_kind kind p) ≡ true
@@ -138,7 +132,7 @@ module _ (n : ℕ) (d : (x : Nesting) → Meaning (State x) (State x)) where
   after_name_keeps =
       either_keeps c
       (then_keeps c (Passes (span_in n)) (take_keeps c (λ k s p room among good known. (some k, known.1)))
-      (take_keeps c (λ k s p room among good known. (some k, both (span_in n s) (span_in n p.span) known.1 good.0))))
+      (take_keeps c (λ k s p room among good known. (some k, and_from (span_in n s) (span_in n p.span) known.1 good.0))))
       (give_keeps c (λ k s room known. known))
 
   -- column = name [ "." name ]
@@ -157,7 +151,7 @@ module _ (n : ℕ) (d : (x : Nesting) → Meaning (State x) (State x)) where
   source_keeps =
       then_keeps c (Passes (span_in n)) (take_keeps c (λ k u p room among good known. (some k, good.0)))
       (use_keeps c Free (λ k o. option_in n o ≡ true) alias_keeps (λ k s known. tt)
-      (λ k i s o room known other. (omega (arith, known.0), both (span_in n s) (option_in n o) known.1 other)))
+      (λ k i s o room known other. (omega (arith, known.0), and_from (span_in n s) (option_in n o) known.1 other)))
 
   literal_keeps : Keeps c Free printed.literal (λ k l. literal_in n l ≡ true)
   unfolding printed.literal
@@ -291,21 +285,21 @@ module _ (n : ℕ) (d : (x : Nesting) → Meaning (State x) (State x)) where
   compared_keeps =
       then_keeps c (λ k s. Passes (name_in n) k s.0) (take_keeps c (λ k u p room among good known. (some k, known.1)))
       (use_keeps c Free (λ k l. literal_in n l ≡ true) value_keeps (λ k s known. tt)
-      (λ k i s l room known new. (omega (arith, known.0), both (name_in n s.0) (literal_in n l) known.1 new)))
+      (λ k i s l room known new. (omega (arith, known.0), and_from (name_in n s.0) (literal_in n l) known.1 new)))
 
   turned_keeps : Keeps c (λ k l. literal_in n l ≡ true) printed.compared_turned (Passes (condition_in n))
   unfolding printed.compared_turned
   turned_keeps =
       then_keeps c (λ k s. literal_in n s.0 ≡ true) (take_keeps c (λ k l p room among good known. known))
       (use_keeps c Free (Passes (name_in n)) column_keeps (λ k s known. tt)
-      (λ k i s u room known new. (omega (arith, new.0), both (name_in n u) (literal_in n s.0) new.1 known)))
+      (λ k i s u room known new. (omega (arith, new.0), and_from (name_in n u) (literal_in n s.0) new.1 known)))
 
   tied_keeps : Keeps c (Passes (name_in n)) printed.tied (Passes (condition_in n))
   unfolding printed.tied
   tied_keeps =
       then_keeps c (Passes (name_in n)) (take_keeps c (λ k u p room among good known. (some k, known.1)))
       (use_keeps c Free (Passes (name_in n)) column_keeps (λ k s known. tt)
-      (λ k i s u room known new. (omega (arith, known.0), both (name_in n s) (name_in n u) known.1 new.1)))
+      (λ k i s u room known new. (omega (arith, known.0), and_from (name_in n s) (name_in n u) known.1 new.1)))
 
   between_keeps : Keeps c (Passes (name_in n)) printed.between (Passes (condition_in n))
   unfolding printed.between
@@ -315,7 +309,7 @@ module _ (n : ℕ) (d : (x : Nesting) → Meaning (State x) (State x)) where
       (use_keeps c Free (λ k l. literal_in n l ≡ true) value_keeps (λ k s known. tt) (λ k i s l room known new. ((omega (arith, known.0), known.1), new)))
       (then_keeps c (λ k s. Passes (name_in n) k s.0 × (literal_in n s.1 ≡ true)) (take_keeps c (λ k s p room among good known. ((some k, known.0.1), known.1)))
       (use_keeps c Free (λ k l. literal_in n l ≡ true) value_keeps (λ k s known. tt)
-      (λ k i s l room known new. (omega (arith, known.0.0), both (name_in n s.0) (literal_in n s.1 && literal_in n l) known.0.1 (both (literal_in n s.1) (literal_in n l) known.1 new))))))
+      (λ k i s l room known new. (omega (arith, known.0.0), and_from (name_in n s.0) (literal_in n s.1 && literal_in n l) known.0.1 (and_from (literal_in n s.1) (literal_in n l) known.1 new))))))
 
   nat_le_more : (m : ℕ) → nat_le 1 (m + 1) ≡ true
   nat_le_more m = le-leb 1 (m + 1) (omega arith)
@@ -333,7 +327,7 @@ module _ (n : ℕ) (d : (x : Nesting) → Meaning (State x) (State x)) where
       (then_keeps c (Passes (name_in n)) (take_keeps c (λ k u p room among good known. (some k, known.1)))
       (then_keeps c (λ k s. (name_in n s.0 ≡ true) × (nat_le 1 s.1 ≡ true))
       (use_keeps c Free (λ k m. nat_le 1 m ≡ true) values_keeps (λ k s known. tt) (λ k i u m room known new. (known.1, new)))
-      (take_keeps c (λ k s p room among good known. (some k, both (name_in n s.0) (nat_le 1 s.1) known.0 known.1)))))
+      (take_keeps c (λ k s p room among good known. (some k, and_from (name_in n s.0) (nat_le 1 s.1) known.0 known.1)))))
 
   like_keeps : Keeps c (Passes (name_in n)) printed.like (Passes (condition_in n))
   unfolding printed.like

@@ -2,7 +2,7 @@
 use Rattle.std.proofs.Common.{◌≡◌, ℕ, zero, suc, ◌+◌, ◌^◌, ◌<◌, ◌≤◌, Bool, true, false, ◌&&◌, List, [], ◌∷◌, ◌++◌, length, nat_le, nat_lt, refl, ◌∙◌, arith, length-append, if◌then◌else◌}
 use Rattle.std.specs.List.{list_all}
 use Rattle.std.proofs.lemmas.List.Folds.{list_all-append}
-use Rattle.std.proofs.lemmas.Bool.{le-leb}
+use Rattle.std.proofs.lemmas.Bool.{le-leb, and_from, lt-ltb}
 use Rattle.sql_reader.specs.declared.terminal.Terminal.{Terminal}
 use Rattle.sql_reader.specs.declared.seen.Seen.{Seen}
 use Rattle.sql_reader.specs.declared.parsed.NameUse.{NameUse}
@@ -23,7 +23,7 @@ use Rattle.sql_reader.specs.Words.{is_good_weight}
 use Rattle.sql_reader.specs.Grammar.{quantifier, group_part, column_list, one_column, more_columns, another_column, direction, insert_table, insert_columns, name_list, name_as_column, more_names, another_name, set_column}
 use Rattle.sql_reader.specs.Printed as printed
 use Rattle.sql_reader.proofs.Keeps.{Free, Scale, Keeps, give_keeps, take_keeps, then_keeps, use_keeps, part_keeps, either_keeps, many_keeps, known_keeps, free_keeps}
-use Rattle.sql_reader.proofs.KeptExpressions.{text_scale, Few, Passes, both, some, few_none, few_more, few_later, few_in, nat_lt_true, Loose, At, Alone, expr_known, NestedKeep, column_keeps, alias_keeps, source_keeps, word_keeps, maybe_keeps, commas_keeps, behind_keeps, expr_keeps, loose_expr, loose_later, exprs_keeps, call_keeps, parenthesis_keeps, signed_keeps, conds_keeps, nested_conds_keeps, where_keeps}
+use Rattle.sql_reader.proofs.KeptExpressions.{text_scale, Few, Passes, some, few_none, few_more, few_later, few_in, Loose, At, Alone, expr_known, NestedKeep, column_keeps, alias_keeps, source_keeps, word_keeps, maybe_keeps, commas_keeps, behind_keeps, expr_keeps, loose_expr, loose_later, exprs_keeps, call_keeps, parenthesis_keeps, signed_keeps, conds_keeps, nested_conds_keeps, where_keeps}
 
 -- a SELECT so far
 pub record SelectSoFar (n k : ℕ) (s : ParsedSelect) : Type 0 where
@@ -95,30 +95,30 @@ more_is_some : {X : Type 0} (xs : List X) (x : X) → nat_le 1 (length (xs ++ x 
 more_is_some xs x = le-leb 1 (length (xs ++ x ∷ [])) (omega (arith, length-append xs (x ∷ [])))
 
 few_rows : (m k : ℕ) → m ≤ k → k < 2 ^ 32 → nat_lt m (2 ^ 32) ≡ true
-few_rows m k h room = nat_lt_true m (2 ^ 32) (omega (arith, h, room))
+few_rows m k h room = lt-ltb m (2 ^ 32) (omega (arith, h, room))
 
 select_body : (n k : ℕ) (s : ParsedSelect) → k < 2 ^ 32 → SelectKnown n k s → select_in n s ≡ true
 select_body n k s room known =
-    both (items_in n s.items) (sources_in n s.sources && (conditions_in n s.conditions && (names_in n s.group && (names_in n s.having && order_in n s.order))))
+    and_from (items_in n s.items) (sources_in n s.sources && (conditions_in n s.conditions && (names_in n s.group && (names_in n s.having && order_in n s.order))))
     (few_in (item_in n) k s.items room known.0.items)
-    (both (sources_in n s.sources) (conditions_in n s.conditions && (names_in n s.group && (names_in n s.having && order_in n s.order)))
-    (both (nat_le 1 (length s.sources)) (are_few (length s.sources) && list_all (source_in n) s.sources) known.1 (few_in (source_in n) k s.sources room known.0.sources))
-    (both (conditions_in n s.conditions) (names_in n s.group && (names_in n s.having && order_in n s.order)) (few_in (condition_in n) k s.conditions room known.0.conditions)
-    (both (names_in n s.group) (names_in n s.having && order_in n s.order) (few_in (name_in n) k s.group room known.0.group)
-    (both (names_in n s.having) (order_in n s.order) (few_in (name_in n) k s.having room known.0.having) (few_in (order_item_in n) k s.order room known.0.order)))))
+    (and_from (sources_in n s.sources) (conditions_in n s.conditions && (names_in n s.group && (names_in n s.having && order_in n s.order)))
+    (and_from (nat_le 1 (length s.sources)) (are_few (length s.sources) && list_all (source_in n) s.sources) known.1 (few_in (source_in n) k s.sources room known.0.sources))
+    (and_from (conditions_in n s.conditions) (names_in n s.group && (names_in n s.having && order_in n s.order)) (few_in (condition_in n) k s.conditions room known.0.conditions)
+    (and_from (names_in n s.group) (names_in n s.having && order_in n s.order) (few_in (name_in n) k s.group room known.0.group)
+    (and_from (names_in n s.having) (order_in n s.order) (few_in (name_in n) k s.having room known.0.having) (few_in (order_item_in n) k s.order room known.0.order)))))
 
 insert_known : (n k : ℕ) (p : InsertParts) → k < 2 ^ 32 → InsertKnown n k p → body_in n (insert_body p) ≡ true
 insert_known n k p room known =
-    both (span_in n p.table) (names_in n p.columns && (names_in n p.found.uses && rows_in p.rows)) known.0.table
-    (both (names_in n p.columns) (names_in n p.found.uses && rows_in p.rows) (few_in (name_in n) k p.columns room known.0.columns)
-    (both (names_in n p.found.uses) (rows_in p.rows) (few_in (name_in n) k p.found.uses room known.0.values)
-    (both (nat_le 1 p.rows) (are_few p.rows) known.1 (few_rows p.rows k known.0.rows room))))
+    and_from (span_in n p.table) (names_in n p.columns && (names_in n p.found.uses && rows_in p.rows)) known.0.table
+    (and_from (names_in n p.columns) (names_in n p.found.uses && rows_in p.rows) (few_in (name_in n) k p.columns room known.0.columns)
+    (and_from (names_in n p.found.uses) (rows_in p.rows) (few_in (name_in n) k p.found.uses room known.0.values)
+    (and_from (nat_le 1 p.rows) (are_few p.rows) known.1 (few_rows p.rows k known.0.rows room))))
 
 update_known : (n k : ℕ) (p : UpdateParts) → k < 2 ^ 32 → UpdateKnown n k p → body_in n (update_body p) ≡ true
 update_known n k p room known =
-    both (source_in n p.source) (names_in n p.columns && (names_in n p.found.uses && conditions_in n p.conditions)) known.source
-    (both (names_in n p.columns) (names_in n p.found.uses && conditions_in n p.conditions) (few_in (name_in n) k p.columns room known.columns)
-    (both (names_in n p.found.uses) (conditions_in n p.conditions) (few_in (name_in n) k p.found.uses room known.values) (few_in (condition_in n) k p.conditions room known.conditions)))
+    and_from (source_in n p.source) (names_in n p.columns && (names_in n p.found.uses && conditions_in n p.conditions)) known.source
+    (and_from (names_in n p.columns) (names_in n p.found.uses && conditions_in n p.conditions) (few_in (name_in n) k p.columns room known.columns)
+    (and_from (names_in n p.found.uses) (conditions_in n p.conditions) (few_in (name_in n) k p.found.uses room known.values) (few_in (condition_in n) k p.conditions room known.conditions)))
 
 good_weight_of : (before : ℕ) (p : Terminal) → is_good_weight p.mark.weight ≡ true → is_good_weight (weight_of before p) ≡ true
 good_weight_of before p h = by_place (nat_lt before p.mark.place)
@@ -128,7 +128,7 @@ good_weight_of before p h = by_place (nat_lt before p.mark.place)
     by_place false = refl
 
 and_both : (a b x : Bool) → (a && b) ≡ true → x ≡ true → (a && (b && x)) ≡ true
-and_both true b x h e = both b x h e
+and_both true b x h e = and_from b x h e
 and_both false b x h e = cc
 
 -- one statement more
@@ -136,8 +136,8 @@ one_more : (n k j : ℕ) (s : Progress × Terminal) (body : Body) → NextKnown 
 one_more n k j s body known h =
     let w = weight_of s.0.before s.1 in
     list_all-append (statement_in n) s.0.statements _
-    ∙ both (list_all (statement_in n) s.0.statements) _ known.0
-    (both _ true (and_both (nat_le 1 w) (nat_le w 1000000) (body_in n body) (good_weight_of s.0.before s.1 known.1) h) refl)
+    ∙ and_from (list_all (statement_in n) s.0.statements) _ known.0
+    (and_from _ true (and_both (nat_le 1 w) (nat_le w 1000000) (body_in n body) (good_weight_of s.0.before s.1 known.1) h) refl)
 
 module _ (n : ℕ) (d : (x : Nesting) → Meaning (State x) (State x)) (nested : NestedKeep n d) where
   abbrev c : Scale
@@ -156,7 +156,7 @@ module _ (n : ℕ) (d : (x : Nesting) → Meaning (State x) (State x)) (nested :
       (then_keeps c (λ k found. (1 ≤ k) × Alone n 0 k found) (known_keeps c (λ k a h. h) (λ k b h. (h.some_read, h)) (expr_keeps n d nested 0))
       (use_keeps c Free (λ k o. option_in n o ≡ true) (alias_keeps n d) (λ k found known. tt)
       (λ k i found o room known other.
-      (omega (arith, known.0), both (expr_in n (expr_of found)) (option_in n o) (expr_known n k found (omega (arith, room)) known.1) other))))))
+      (omega (arith, known.0), and_from (expr_in n (expr_of found)) (option_in n o) (expr_known n k found (omega (arith, room)) known.1) other))))))
 
   -- [ALL | DISTINCT]
   quantifier_keeps : Keeps c (SelectSoFar n) quantifier (SelectSoFar n)
@@ -411,7 +411,7 @@ module _ (n : ℕ) (d : (x : Nesting) → Meaning (State x) (State x)) (nested :
       then_keeps c Free (free_keeps c)
       (then_keeps c (Passes (source_in n)) (source_keeps n d)
       (use_keeps c (Few (condition_in n)) (Few (condition_in n)) (where_keeps n d nested) (λ k x known. few_none (condition_in n) 0)
-      (λ k i x all room known new. both (source_in n x) (conditions_in n all) known.1 (few_in (condition_in n) i all (omega (arith, room)) new))))
+      (λ k i x all room known new. and_from (source_in n x) (conditions_in n all) known.1 (few_in (condition_in n) i all (omega (arith, room)) new))))
 
   -- workloads
 

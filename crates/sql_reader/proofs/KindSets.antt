@@ -1,39 +1,14 @@
 -- Sets of kinds, and lists of terminals.
-use Rattle.std.proofs.Common.{◌≡◌, ℕ, ◌==◌, Bool, true, false, ◌||◌, not, List, [], ◌∷◌, ◌++◌, length, sym, refl, ap, ◌∙◌, ◌⊎◌, inl, inr, arith, rules, tests, length-append}
-use Rattle.std.proofs.lemmas.Bool.{and_parts}
+use Rattle.std.proofs.Common.{◌≡◌, ℕ, ◌==◌, Bool, true, false, ◌||◌, not, List, [], ◌∷◌, ◌++◌, length, sym, refl, ap, ◌∙◌, inl, inr, arith, rules, tests, length-append}
+use Rattle.std.proofs.lemmas.Bool.{and_parts, or_cases, not-true, false_from_ne_true}
 use Rattle.sql_reader.specs.declared.kind.TerminalKind.{TerminalKind}
 use Rattle.sql_reader.specs.declared.terminal.Terminal.{Terminal}
 use Rattle.sql_reader.specs.Kinds.{code_of, has, apart, within}
 use Rattle.sql_reader.specs.Rule.{begins}
 
-pub or_parts : (a b : Bool) → (a || b) ≡ false → (a ≡ false) × (b ≡ false)
-or_parts false b h = (refl, h)
-or_parts true b h = cc
-
-pub or_cases : (a b : Bool) → (a || b) ≡ true → (a ≡ true) ⊎ (b ≡ true)
-or_cases false b h = inr h
-or_cases true b h = inl refl
-
-pub or_left : (a b : Bool) → a ≡ true → (a || b) ≡ true
-or_left true b h = refl
-or_left false b h = cc
-
-pub or_right : (a b : Bool) → b ≡ true → (a || b) ≡ true
-or_right true b h = refl
-or_right false b h = h
-
-pub not_true : (a : Bool) → not a ≡ true → a ≡ false
-not_true false h = refl
-not_true true h = cc
-
 pub not_both : {X : Type 0} (a : Bool) → a ≡ true → a ≡ false → X
 not_both true h e = absurd cc
 not_both false h e = absurd cc
-
--- where it can't be true it is false
-pub false_from : (a : Bool) → (a ≡ true → ⊥) → a ≡ false
-false_from false h = refl
-false_from true h = absurd (h refl)
 
 -- kinds with one number are in the same sets
 pub same_code : (ks : List TerminalKind) (j k : TerminalKind) → code_of j ≡ code_of k → has ks j ≡ has ks k
@@ -48,12 +23,12 @@ not_in_other [] ks k h m = absurd cc
 not_in_other (j ∷ js) ks k h m =
     let parts = and_parts (not (has ks j)) (apart js ks) h in
     elim (or_cases (code_of j == code_of k) (has js k) m) [
-      | inl e ↦ sym (same_code ks j k (code_eq (code_of j) (code_of k) e)) ∙ not_true (has ks j) parts.0
+      | inl e ↦ sym (same_code ks j k (code_eq (code_of j) (code_of k) e)) ∙ not-true (has ks j) parts.0
       | inr rest ↦ not_in_other js ks k parts.1 rest
     ]
 
 pub not_in_first : (js ks : List TerminalKind) (k : TerminalKind) → apart js ks ≡ true → has ks k ≡ true → has js k ≡ false
-not_in_first js ks k h m = false_from (has js k) (λ e. not_both (has ks k) m (not_in_other js ks k h e))
+not_in_first js ks k h m = false_from_ne_true (has js k) (λ e. not_both (has ks k) m (not_in_other js ks k h e))
 
 pub in_wider : (js ks : List TerminalKind) (k : TerminalKind) → within js ks ≡ true → has js k ≡ true → has ks k ≡ true
 in_wider [] ks k h m = absurd cc
@@ -80,7 +55,7 @@ begins-append js ks (p ∷ ps) = has-append js ks p.kind
 -- no terminal that begins in the wider set is none that begins in the narrower
 pub begins_narrower : (js ks : List TerminalKind) (ps : List Terminal) → within js ks ≡ true → begins ks ps ≡ false → begins js ps ≡ false
 begins_narrower js ks [] h m = refl
-begins_narrower js ks (p ∷ ps) h m = false_from (has js p.kind) (λ e. not_both (has ks p.kind) (in_wider js ks p.kind h e) m)
+begins_narrower js ks (p ∷ ps) h m = false_from_ne_true (has js p.kind) (λ e. not_both (has ks p.kind) (in_wider js ks p.kind h e) m)
 
 -- lists of terminals
 

@@ -3,7 +3,7 @@ use Rattle.std.proofs.Common.{◌≡◌, ℕ, zero, suc, ◌+◌, ◌^◌, ◌<�
 use Rattle.std.specs.List.{list_all}
 use Rattle.std.specs.Str.Parse.{digits_value}
 use Rattle.std.proofs.lemmas.List.Elements.{All-head, All-tail}
-use Rattle.std.proofs.lemmas.Bool.{le-leb}
+use Rattle.std.proofs.lemmas.Bool.{le-leb, and_from}
 use Rattle.sql_tokens.specs.declared.token.Token.{Token}
 use Rattle.sql_tokens.specs.declared.lexeme.Form.{Form}
 use Rattle.sql_tokens.specs.declared.lexeme.Form.TheVariants as form
@@ -31,7 +31,7 @@ use Rattle.sql_reader.specs.Words.{is_good_weight, last_digits, comment_weight}
 use Rattle.sql_reader.proofs.KindSets.{in_wider}
 use Rattle.sql_reader.proofs.Keeps.{Free, Scale, Keeps, AllGood, give_keeps, take_keeps, then_keeps, use_keeps, either_keeps, many_keeps, free_keeps}
 use Rattle.sql_reader.proofs.Keeps as keeps
-use Rattle.sql_reader.proofs.KeptExpressions.{InText, text_scale, both}
+use Rattle.sql_reader.proofs.KeptExpressions.{InText, text_scale}
 use Rattle.sql_reader.proofs.KeptStatements.{workload_keeps, all_nested}
 
 -- each terminal lies in the text, and its weight was judged
@@ -46,7 +46,7 @@ good_mark mark place bytes good = by_weight (is_good_weight (digits_value 10 (la
 
 span_lies : (text : List ℕ) (t : Token) → LiesIn text t → span_in (length text) t.span ≡ true
 span_lies text t (some, in_text) =
-    both (nat_le t.span.from t.span.to) (nat_le t.span.to (length text)) (le-leb t.span.from t.span.to (omega (arith, some))) (le-leb t.span.to (length text) in_text)
+    and_from (nat_le t.span.from t.span.to) (nat_le t.span.to (length text)) (le-leb t.span.from t.span.to (omega (arith, some))) (le-leb t.span.to (length text) in_text)
 
 module _ (text : List ℕ) (d : (x : Nesting) → Meaning (State x) (State x)) where
   terminal_good : (mark : Mark) (t : Token) (p : Terminal) → LiesIn text t → is_good_weight mark.weight ≡ true → IsTerminal text mark t p → InText (length text) p
@@ -192,4 +192,4 @@ limits text list terminals progress short tokens are no_start is =
     let begun = keeps.weight_of (start_scale 1001 d) terminals in
     let at_most = starts_at_most 1001 d terminals 1000 no_start in
     let counted = (workload_counted 1001 d).keeps 0 begun no_statements terminals progress (omega arith) (omega (arith, at_most)) (all_good 1001 d terminals) (omega arith) is in
-    both (nat_le (length progress.statements) 1000) (list_all (statement_in n) progress.statements) (le-leb (length progress.statements) 1000 (omega (arith, counted, at_most))) kept
+    and_from (nat_le (length progress.statements) 1000) (list_all (statement_in n) progress.statements) (le-leb (length progress.statements) 1000 (omega (arith, counted, at_most))) kept

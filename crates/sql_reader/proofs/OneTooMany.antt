@@ -1,5 +1,6 @@
 -- Too many statements: the word that stands behind 1000 others that begin a statement begins the 1001st of a workload.
-use Rattle.std.proofs.Common.{◌≡◌, ◌⊎◌, ℕ, zero, suc, ◌+◌, ◌<◌, ◌≤◌, Bool, true, false, nat_lt, List, [], ◌∷◌, ◌++◌, length, Option, Some, None, option_map, Result, Ok, Err, IfErr, IsErrOf, sym, refl, ap, ◌∙◌, subst, inl, inr, arith, rules, tests, append_assoc, le_refl, if◌then◌else◌}
+use Rattle.std.proofs.Common.{◌≡◌, ◌⊎◌, ℕ, zero, suc, ◌+◌, ◌≤◌, Bool, true, false, nat_lt, List, [], ◌∷◌, ◌++◌, length, Option, Some, None, option_map, Result, Ok, Err, IfErr, IsErrOf, sym, refl, ap, ◌∙◌, subst, inl, inr, arith, append_assoc, le_refl, if◌then◌else◌}
+use Rattle.std.proofs.lemmas.Bool.{ltb-true}
 use Rattle.sql_tokens.specs.declared.token.Token.{Token}
 use Rattle.sql_tokens.specs.declared.token.Span.{Span}
 use Rattle.sql_tokens.proofs.Places.{InOrder, in_order-cut}
@@ -165,9 +166,6 @@ not_grammar end ps progress (Some f) place (rest, fails, is) e =
     let same : f ≡ faults.TooManyStatements place = cc in
     other_fault end rest place (sym is ∙ same)
 
-nat_lt_is : (a b : ℕ) → nat_lt a b ≡ true → a < b
-nat_lt_is a b h = search (tests, rules)
-
 -- some workload goes on through the terminal
 abbrev Through : List Terminal → Terminal → Type 0
 Through front p = (more : List Terminal) × (progress : Progress) × MeansStatements no_statements (front ++ p ∷ more) progress
@@ -179,7 +177,7 @@ goes_through end ps progress None front p rest split order later says =
 goes_through end ps progress (Some f) front p rest split order later (left, fails, is) =
     elim (part fails.front left front p rest 0 (sym fails.split ∙ split) (subst (After 0) split order)) [
       | inl (middle, taken) ↦ go middle taken
-      | inr (q, more, begins, l) ↦ absurd (omega (arith, nat_lt_is (place_of p) (place_of_fault f) later, ap place_of_fault is, ap (λ (x : List Terminal). place_of_fault (grammar_fault end x)) begins, place_of_grammar end q more, l))
+      | inr (q, more, begins, l) ↦ absurd (omega (arith, ltb-true (place_of p) (place_of_fault f) later, ap place_of_fault is, ap (λ (x : List Terminal). place_of_fault (grammar_fault end x)) begins, place_of_grammar end q more, l))
     ]
   where
     go : (middle : List Terminal) → fails.front ≡ front ++ p ∷ middle → Through front p

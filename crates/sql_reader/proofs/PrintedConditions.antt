@@ -1,5 +1,6 @@
 -- Conditions mean what they mean as they are printed.
 use Rattle.std.proofs.Common.{◌≡◌, true, List, [], ◌∷◌, ◌++◌, sym, refl, ap, ◌∙◌, subst, ◌⊎◌, inl, inr}
+use Rattle.std.proofs.lemmas.Bool.{or_cases}
 use Rattle.sql_reader.specs.declared.kind.TerminalKind.{TerminalKind}
 use Rattle.sql_reader.specs.declared.kind.TerminalKind.TheVariants as kinds
 use Rattle.sql_reader.specs.declared.terminal.Terminal.{Terminal}
@@ -14,7 +15,7 @@ use Rattle.sql_reader.specs.Values.{day_literal, compare_of, beside_kind, beside
 use Rattle.sql_reader.specs.Rule.{Nesting, State, Take, Use, Meaning, IsOver}
 use Rattle.sql_reader.specs.Grammar.{names, plain_names, comparisons, after_name, column, value, turned_test, tied_test, after_equal_date, equal_test, unequal_test, between_test, in_value, more_in_values, in_values, in_test, like_test, null_test, column_test, after_test_name, after_test_date, plain_condition, condition, and_condition, more_conditions, conditions, nested_conditions, where_conditions}
 use Rattle.sql_reader.specs.Printed as printed
-use Rattle.sql_reader.proofs.KindSets.{or_cases, in_wider, has-append}
+use Rattle.sql_reader.proofs.KindSets.{in_wider, has-append}
 use Rattle.sql_reader.proofs.Alike.{Same, flat, flat_same, give_same, take_same, then_same, use_same, either_same, many_same, took, put}
 use Rattle.sql_reader.proofs.PrintedOperands.{name_parts, plain_is_name, date_is_name, value_same, Linked}
 

@@ -1,5 +1,6 @@
 -- Names, values and expressions mean what they mean as they are printed.
 use Rattle.std.proofs.Common.{◌≡◌, true, List, [], ◌∷◌, ◌++◌, Option, sym, refl, ap, ◌∙◌, subst, ◌⊎◌, inl, inr}
+use Rattle.std.proofs.lemmas.Bool.{or_cases}
 use Rattle.sql_tokens.specs.declared.token.Span.{Span}
 use Rattle.sql_reader.specs.declared.kind.TerminalKind.{TerminalKind}
 use Rattle.sql_reader.specs.declared.kind.TerminalKind.TheVariants as kinds
@@ -12,7 +13,7 @@ use Rattle.sql_reader.specs.Values.{plain_column, column_of_source, not_alone, w
 use Rattle.sql_reader.specs.Rule.{Nesting, State, Take, Then, Use, Either, Nest, Conditions, Parenthesis, Call, Signed, Meaning, IsOver}
 use Rattle.sql_reader.specs.Grammar.{names, plain_names, after_name, column, alias, source, plain_value, value, called_name, after_operand_name, after_operand_date, other_operand, operand, operation, operations, expression, another_expression, more_expressions, expressions}
 use Rattle.sql_reader.specs.Printed as printed
-use Rattle.sql_reader.proofs.KindSets.{or_cases, in_wider, has-append}
+use Rattle.sql_reader.proofs.KindSets.{in_wider, has-append}
 use Rattle.sql_reader.proofs.Alike.{Same, give_same, take_same, then_same, use_same, many_same, took, put}
 
 -- a name is DATE or another

@@ -3,7 +3,7 @@ use Rattle.std.proofs.Common.{◌≡◌, ℕ, zero, suc, ◌+◌, ◌-◌, ◌^�
 use Rattle.std.specs.Char.{to_ascii_lowercase}
 use Rattle.std.specs.List.{list_all}
 use Rattle.std.specs.Str.{str_eq_ignore_ascii_case}
-use Rattle.std.proofs.lemmas.Bool.{and_parts, or_cases}
+use Rattle.std.proofs.lemmas.Bool.{and_parts, or_cases, not-true}
 use Rattle.std.proofs.lemmas.List.{length-map}
 use Rattle.std.proofs.lemmas.List.Elements.{All-head, All-tail}
 use lib.Dec.{eqb}
@@ -37,7 +37,6 @@ use Rattle.sql_reader.specs.declared.parts.Progress.{Progress}
 use Rattle.sql_reader.specs.Workload.{GrammarSays, earlier, first_fault, Says}
 use Rattle.sql_reader.specs.inner.Surveyed.{or_first, bad_weight_of, start_at, IsSurvey, surveyed_fault}
 use Rattle.sql_reader.proofs.Ahead.{one_of_token, are_terminals}
-use Rattle.sql_reader.proofs.KindSets.{not_true}
 
 -- The words with which statements begin have six letters.
 
@@ -60,7 +59,7 @@ six_in (w ∷ ws) bytes all other = by_word (λ more. six_in ws bytes more other
     not_six six same = let e : (length bytes == 6) ≡ true = ap (λ (n : ℕ). n == 6) same ∙ six in cc
 
     by_six : length bytes ≡ length w.0 → (not (has starts w.1) ≡ true) ⊎ ((length w.0 == 6) ≡ true) → has starts w.1 ≡ false
-    by_six same (inl h) = not_true (has starts w.1) h
+    by_six same (inl h) = not-true (has starts w.1) h
     by_six same (inr h) = absurd (not_six h same)
 
     by_word : (list_all has_six ws ≡ true → has starts (kind_or kinds.Name (kind_in ws bytes)) ≡ false) → (b : Bool) → str_eq_ignore_ascii_case bytes w.0 ≡ b → has starts (kind_or kinds.Name (if b then Some w.1 else kind_in ws bytes)) ≡ false

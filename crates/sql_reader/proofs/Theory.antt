@@ -1,12 +1,12 @@
 -- What good rules have, whatever they read.
 use Rattle.std.proofs.Common.{◌≡◌, ℕ, zero, suc, ◌≤◌, Bool, true, false, not, List, [], ◌∷◌, ◌++◌, length, sym, refl, ap, ◌∙◌, subst, ◌⊎◌, inl, inr, arith, length-append, append-nil, append_assoc, if◌then◌else◌, None, le_refl}
-use Rattle.std.proofs.lemmas.Bool.{and_parts}
+use Rattle.std.proofs.lemmas.Bool.{and_parts, or_parts, or_left, or_right, not-true}
 use Rattle.std.proofs.lemmas.List.{append_cancel_right}
 use Rattle.sql_reader.specs.declared.kind.TerminalKind.{TerminalKind}
 use Rattle.sql_reader.specs.declared.terminal.Terminal.{Terminal}
 use Rattle.sql_reader.specs.Kinds.{has, apart, within}
 use Rattle.sql_reader.specs.Rule.{Nesting, State, Rule, Give, Take, Then, Use, Either, Many, Nest, Meaning, Turns, IsOver, Reading, Read, Stuck, ◌>>=◌, begins, Reader, repeated, read_over, Borders, may_be_empty, first_of_rule, more_of_rule, not_empty, closes, good}
-use Rattle.sql_reader.proofs.KindSets.{or_parts, or_left, or_right, not_true, not_both, not_in_other, not_in_first, in_wider, has-append, begins-append, nil_parts, no_front, same_itself}
+use Rattle.sql_reader.proofs.KindSets.{not_both, not_in_other, not_in_first, in_wider, has-append, begins-append, nil_parts, no_front, same_itself}
 
 -- what is left behind a reading
 abbrev pub left_of : {B : Type 0} → Reading B → List Terminal
@@ -325,7 +325,7 @@ module _ (borders : Borders) (deeper : (x : Nesting) → Meaning (State x) (Stat
       let parts4 = and_parts (within (first_of_rule borders left) kinds) _ parts3.1 in
       let stops = or_parts (begins (if may_be_empty right_rule then kinds else []) rest) _ (sym (begins-append (if may_be_empty right_rule then kinds else []) _ rest) ∙ stop) in
       let stops2 = or_parts (begins (more_of_rule borders left) rest) _ (sym (begins-append (more_of_rule borders left) _ rest) ∙ stops.1) in
-      left_complete kinds left right_rule (not_true (may_be_empty left) parts3.0) parts4.0 a b front rest h (complete left parts.0 a b front rest h stops2.0)
+      left_complete kinds left right_rule (not-true (may_be_empty left) parts3.0) parts4.0 a b front rest h (complete left parts.0 a b front rest h stops2.0)
   complete (Either kinds left right_rule) g a b front rest (inr h) stop =
       let parts = and_parts (good borders left) _ g in
       let parts2 = and_parts (good borders right_rule) _ parts.1 in
@@ -340,7 +340,7 @@ module _ (borders : Borders) (deeper : (x : Nesting) → Meaning (State x) (Stat
       let parts2 = and_parts (not (may_be_empty turn)) _ parts.1 in
       let parts3 = and_parts (within (first_of_rule borders turn) kinds) (apart (more_of_rule borders turn) kinds) parts2.1 in
       let stops = or_parts (begins kinds rest) (begins (more_of_rule borders turn) rest) (sym (begins-append kinds (more_of_rule borders turn) rest) ∙ stop) in
-      turns_complete kinds turn (not_true (may_be_empty turn) parts2.0) parts3.1 parts3.0 (complete turn parts.0) n (length (front ++ rest)) a b front rest (le_refl (length (front ++ rest))) t stops.0 stops.1
+      turns_complete kinds turn (not-true (may_be_empty turn) parts2.0) parts3.1 parts3.0 (complete turn parts.0) n (length (front ++ rest)) a b front rest (le_refl (length (front ++ rest))) t stops.0 stops.1
   complete (Nest x) g a b front rest h stop = sensible.complete x a front b rest h stop
 
   -- what is read depends on what was read and on the kind behind it
@@ -519,6 +519,6 @@ module _ (borders : Borders) (deeper : (x : Nesting) → Meaning (State x) (Stat
   local (Many kinds turn) g a front rest other same l =
       let parts = and_parts (good borders turn) _ g in
       let parts2 = and_parts (not (may_be_empty turn)) _ parts.1 in
-      turns_local kinds turn parts.0 (not_true (may_be_empty turn) parts2.0) (local turn parts.0) (length (front ++ rest)) (length (front ++ other)) a front rest other same
+      turns_local kinds turn parts.0 (not-true (may_be_empty turn) parts2.0) (local turn parts.0) (length (front ++ rest)) (length (front ++ other)) a front rest other same
       (le_refl (length (front ++ rest))) (le_refl (length (front ++ other))) l
   local (Nest x) g a front rest other same l = sensible.local x a front rest other same l

@@ -2,7 +2,6 @@
 ghost use Rattle.sql_reader.specs.Grammar as rule;
 ghost use Rattle.sql_reader.specs.inner.Reads.{AddsBy, ReadsBy};
 ghost use Rattle.sql_reader.specs.inner.Room as room;
-ghost use Rattle.std.specs.Prelude.{◌≡◌};
 
 use crate::cursor::{Cursor, GrammarReader, Unread};
 use crate::list::push;

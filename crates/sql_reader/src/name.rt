@@ -1,7 +1,6 @@
 //! Reads names, columns and sources.
 ghost use Rattle.sql_reader.specs.Grammar as rule;
 ghost use Rattle.sql_reader.specs.inner.Reads.{ReadsBy};
-ghost use Rattle.std.specs.Prelude.{◌≡◌};
 
 use crate::cursor::{Cursor, GrammarReader, Unread};
 use crate::{NameUse, Source, TerminalKind};

@@ -1,6 +1,6 @@
 //! Tells the kinds of words, names, symbols and numbers.
 ghost use Rattle.sql_reader.specs.Words as words;
-ghost use Rattle.std.specs.Prelude.{◌≡◌, ◌≤◌, ◌<◌, ◌^◌, ◌<ℤ◌, Some, None, if◌then◌else◌, nat_le, neg_ℤ, pos};
+ghost use Rattle.std.specs.Prelude.{◌≡◌, ◌<◌, ◌^◌, ◌<ℤ◌, Some, None, if◌then◌else◌, nat_le, neg_ℤ, pos};
 ghost use Rattle.std.specs.Option.{ForSome};
 ghost use Rattle.std.specs.Char.{is_ascii_digit};
 ghost use Rattle.std.specs.List.{list_all};

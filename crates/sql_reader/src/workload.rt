@@ -8,7 +8,7 @@ ghost use Rattle.sql_reader.specs.Workload as workload;
 ghost use Rattle.sql_reader.specs.declared.cursor.Unread.TheVariants.{Here, Memory};
 ghost use Rattle.sql_reader.specs.declared.parsed.ParsedStatement.{ParsedStatement};
 ghost use Rattle.sql_reader.specs.declared.parsed.SqlFault.{SqlFault};
-ghost use Rattle.std.specs.Prelude.{◌≡◌, ◌+◌, ◌<◌, ◌^◌, ◌⊎◌, ℕ, IfErr, IsErrOf, IfOk, List, IsTrue, MatchResult, length, option_map};
+ghost use Rattle.std.specs.Prelude.{◌≡◌, ◌+◌, ◌<◌, ◌^◌, ◌⊎◌, ℕ, IfErr, IsErrOf, IfOk, List, IsTrue, MatchResult, length};
 
 use crate::cursor::{Cursor, GrammarReader, Unread, has};
 use crate::survey::Survey;

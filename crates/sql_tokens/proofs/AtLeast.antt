@@ -1,6 +1,7 @@
 -- Where a lexeme stands at the front of a text, the front that is computed is at least as long.
-use Rattle.std.proofs.Common.{◌≡◌, ℕ, ◌+◌, ◌<◌, ◌≤◌, Bool, true, false, ◌||◌, ◌&&◌, eqb, cond, List, [], ◌∷◌, ◌++◌, length, drop, Option, Some, None, Result, Ok, Err, refl, ap, ◌∙◌, ◌⊎◌, inl, inr, arith}
+use Rattle.std.proofs.Common.{◌≡◌, ℕ, ◌+◌, ◌<◌, ◌≤◌, Bool, true, false, ◌&&◌, eqb, cond, List, [], ◌∷◌, ◌++◌, length, drop, Option, Some, None, Result, Ok, Err, refl, ap, ◌∙◌, ◌⊎◌, inl, inr, arith}
 use Rattle.std.specs.List.{prefix_len, list_all}
+use Rattle.std.proofs.lemmas.Bool.{or_parts, and_parts}
 use Rattle.std.proofs.lemmas.Bool.Decides.{nat_tests}
 use Rattle.std.proofs.lemmas.List.{length-append, append_assoc}
 use Rattle.sql_tokens.specs.Byte.{begins, class_of, is_letter, is_word_byte, is_digit, is_mark, is_pair, is_name_byte, is_line_byte, ends_comment}
@@ -14,7 +15,7 @@ use Rattle.sql_tokens.specs.declared.lexeme.Form.TheVariants as form
 use Rattle.sql_tokens.specs.declared.lexeme.Lexeme.{Lexeme}
 use Rattle.sql_tokens.specs.declared.lexeme.NoLexeme.{NoLexeme}
 use Rattle.sql_tokens.specs.declared.lexeme.NoLexeme.TheVariants as stop
-use Rattle.sql_tokens.proofs.Runs.{and_true, run-append, run-stops, drop-front, class_of-letter, class_of-digit, class_of-blank, class_tells, IsOfClass}
+use Rattle.sql_tokens.proofs.Runs.{run-append, run-stops, drop-front, class_of-letter, class_of-digit, class_of-blank, class_tells, IsOfClass}
 use Rattle.sql_tokens.proofs.Scan.{closing-other, comment_end-other}
 
 -- the lexeme is longer than so many bytes, or has just these and the form; a bad byte comes later
@@ -53,18 +54,14 @@ at_least-line (b ∷ c ∷ bs) ys h =
     let l : length (45 ∷ 45 ∷ bs) ≤ 1 + (1 + prefix_len is_line_byte (bs ++ ys)) = omega (arith, r) in
     rw (h.0, h.1) (same_form form.LineComment (length (45 ∷ 45 ∷ bs)) (1 + (1 + prefix_len is_line_byte (bs ++ ys))) l)
 
-or_false : (a b : Bool) → (a || b) ≡ false → (a ≡ false) × (b ≡ false)
-or_false true b e = absurd (cc)
-or_false false b e = (refl, e)
-
 -- the end of a block comment is where the first end is
 pub comment_end-found : (inside ys : List ℕ) → holds_end (inside ++ 42 ∷ []) ≡ false → comment_end (inside ++ 42 ∷ 47 ∷ ys) ≡ Some (length inside + 2)
 comment_end-found [] ys h = refl
 comment_end-found (b ∷ []) ys h =
-    let e = or_false (ends_comment b 42) false h in
+    let e = or_parts (ends_comment b 42) false h in
     rw (e.0) refl
 comment_end-found (b ∷ c ∷ bs) ys h =
-    let e = or_false (ends_comment b c) (holds_end ((c ∷ bs) ++ 42 ∷ [])) h in
+    let e = or_parts (ends_comment b c) (holds_end ((c ∷ bs) ++ 42 ∷ [])) h in
     let i : comment_end ((c ∷ bs) ++ 42 ∷ 47 ∷ ys) ≡ Some (length (c ∷ bs) + 2) = comment_end-found (c ∷ bs) ys e.1 in
     comment_end-other b c (bs ++ 42 ∷ 47 ∷ ys) e.0 ∙ (ap (further 1) i ∙ ap Some (omega arith))
 
@@ -93,7 +90,7 @@ at_least-quoted xs ys h =
 
 pub begins-all : (p : ℕ → Bool) (xs ys : List ℕ) → 0 < length xs → list_all p xs ≡ true → begins p (xs ++ ys) ≡ true
 begins-all p [] ys l h = absurd (omega arith)
-begins-all p (x ∷ xs) ys l h = (and_true (p x) (list_all p xs) h).0
+begins-all p (x ∷ xs) ys l h = (and_parts (p x) (list_all p xs) h).0
 
 pub front-number : (bs : List ℕ) → begins is_digit bs ≡ true → front bs ≡ number bs
 front-number [] h = absurd (cc)
@@ -146,7 +143,7 @@ decimal-at_least whole rest f n w d h =
 
 pub front-decimal : (whole rest : List ℕ) → list_all is_digit whole ≡ true → begins is_digit rest ≡ true → front (whole ++ 46 ∷ rest) ≡ number (whole ++ 46 ∷ rest)
 front-decimal [] rest w d = rw d refl
-front-decimal (b ∷ bs) rest w d = front-number (b ∷ (bs ++ 46 ∷ rest)) (and_true (is_digit b) (list_all is_digit bs) w).0
+front-decimal (b ∷ bs) rest w d = front-number (b ∷ (bs ++ 46 ∷ rest)) (and_parts (is_digit b) (list_all is_digit bs) w).0
 
 at_least-decimal : (xs ys : List ℕ) → IsDecimal xs → AtLeast (front (xs ++ ys)) (form.Token kind.Decimal) (length xs)
 at_least-decimal xs ys h =
@@ -243,7 +240,7 @@ mark_by class.Other a ys c m = symbol-mark a ys m
 symbol-parameter : (d : ℕ) (ds ys : List ℕ) → list_all is_digit (d ∷ ds) ≡ true → AtLeast (symbol 36 (d ∷ (ds ++ ys))) (form.Token kind.Symbol) (length (36 ∷ d ∷ ds))
 unfolding symbol
 symbol-parameter d ds ys h =
-    let both = and_true (is_digit d) (list_all is_digit ds) h in
+    let both = and_parts (is_digit d) (list_all is_digit ds) h in
     let r : prefix_len is_digit (ds ++ ys) ≡ length ds + prefix_len is_digit ys = run-append is_digit ds ys both.1 in
     let l : length (36 ∷ d ∷ ds) ≤ 1 + (1 + prefix_len is_digit (ds ++ ys)) = omega (arith, r) in
     rw (both.0) (same_form (form.Token kind.Symbol) (length (36 ∷ d ∷ ds)) (1 + (1 + prefix_len is_digit (ds ++ ys))) l)

@@ -2,11 +2,12 @@
 use Rattle.std.proofs.Common.{◌≡◌, ℕ, ◌+◌, ◌<◌, ◌≤◌, Bool, true, false, ◌&&◌, cond, ltb, List, [], ◌∷◌, ◌++◌, length, take, drop, Option, Some, None, refl, ap, sym, ◌∙◌, subst, arith}
 use Rattle.std.specs.List.{prefix_len, All, AllPairs}
 use Rattle.std.specs.Str.{str_eq_ignore_ascii_case}
+use Rattle.std.proofs.lemmas.Bool.{and_parts}
 use Rattle.std.proofs.lemmas.Bool.Decides.{nat_tests}
 use Rattle.std.proofs.lemmas.List.{length-append, length-drop}
-use Rattle.std.proofs.lemmas.List.Sums.{prefix_len-le-length}
 use Rattle.std.proofs.lemmas.List.Elements.{All-nil, All-cons}
 use Rattle.std.proofs.lemmas.List.Kept.{AllPairs-cons}
+use Rattle.std.proofs.lemmas.List.Sums.{prefix_len-le-length}
 use Rattle.sql_tokens.specs.Byte.{is_digit, is_space, is_margin}
 use Rattle.sql_tokens.specs.Front.{further}
 use Rattle.sql_tokens.specs.Span.{LiesIn, StandsBefore}
@@ -15,7 +16,6 @@ use Rattle.sql_tokens.specs.Cut.{Part, IsCut, AreTokens, weight_token, tokens_of
 use Rattle.sql_tokens.specs.declared.token.Token.{Token}
 use Rattle.sql_tokens.specs.declared.lexeme.Form.{Form}
 use Rattle.sql_tokens.specs.declared.lexeme.Form.TheVariants as form
-use Rattle.sql_tokens.proofs.Runs.{and_true}
 use Rattle.sql_tokens.proofs.Exact.{form_some}
 
 -- a length of at most so many bytes
@@ -48,7 +48,7 @@ Within (Some m) n = (0 < m) × (m ≤ n)
 
 long_word : (bs : List ℕ) → (ltb 5 (length bs) && str_eq_ignore_ascii_case (take 6 bs) weight_word) ≡ true → 6 ≤ length bs
 long_word bs t =
-    let e : ltb 5 (length bs) ≡ true = (and_true (ltb 5 (length bs)) (str_eq_ignore_ascii_case (take 6 bs) weight_word) t).0 in
+    let e : ltb 5 (length bs) ≡ true = (and_parts (ltb 5 (length bs)) (str_eq_ignore_ascii_case (take 6 bs) weight_word) t).0 in
     grind (arith, nat_tests)
 
 -- so many bytes at most, and at least six

@@ -1,15 +1,11 @@
 -- Runs of bytes, and what the class of a byte tells.
-use Rattle.std.proofs.Common.{◌≡◌, ◌≢◌, ℕ, suc, ◌+◌, Bool, true, false, ◌&&◌, eqb, cond, List, [], ◌∷◌, ◌++◌, length, take, drop, refl, arith}
+use Rattle.std.proofs.Common.{◌≡◌, ◌≢◌, ℕ, suc, ◌+◌, Bool, true, false, eqb, cond, List, [], ◌∷◌, ◌++◌, length, take, drop, refl, arith}
 use Rattle.std.specs.List.{prefix_len, list_all}
+use Rattle.std.proofs.lemmas.Bool.{and_parts}
 use Rattle.std.proofs.lemmas.Bool.Decides.{nat_tests}
 use Rattle.sql_tokens.specs.Byte.{class_of, is_blank, is_letter, is_digit}
 use Rattle.sql_tokens.specs.declared.byte.Class.{Class}
 use Rattle.sql_tokens.specs.declared.byte.Class.TheVariants as class
-
-pub and_true : (a b : Bool) → (a && b) ≡ true → (a ≡ true) × (b ≡ true)
-and_true true true e = (refl, refl)
-and_true true false e = absurd (cc)
-and_true false b e = absurd (cc)
 
 list_all-run_more : (p : ℕ → Bool) (x n : ℕ) (xs : List ℕ) → p x ≡ true → list_all p (take n xs) ≡ true → list_all p (take (1 + n) (x ∷ xs)) ≡ true
 list_all-run_more p x n xs e h = let s : 1 + n ≡ suc n = omega arith in rw s (rw e h)
@@ -30,7 +26,7 @@ list_all-run p (x ∷ xs) =
 pub run-append : (p : ℕ → Bool) (xs ys : List ℕ) → list_all p xs ≡ true → prefix_len p (xs ++ ys) ≡ length xs + prefix_len p ys
 run-append p [] ys h = omega arith
 run-append p (x ∷ xs) ys h =
-    let both = and_true (p x) (list_all p xs) h in
+    let both = and_parts (p x) (list_all p xs) h in
     let e : p x ≡ true = both.0 in
     let i : prefix_len p (xs ++ ys) ≡ length xs + prefix_len p ys = run-append p xs ys both.1 in
     rw e (omega (arith, i))

@@ -1,6 +1,7 @@
 -- What the front that is computed tells of the text: a lexeme stands there, or a fault.
 use Rattle.std.proofs.Common.{◌≡◌, ◌≢◌, ℕ, ◌+◌, ◌<◌, Bool, true, false, ◌||◌, ◌&&◌, eqb, cond, List, [], ◌∷◌, ◌++◌, length, take, drop, Option, Some, None, Result, Ok, Err, refl, ap, sym, ◌∙◌, subst, ◌⊎◌, inl, inr, arith}
 use Rattle.std.specs.List.{prefix_len, list_all}
+use Rattle.std.proofs.lemmas.Bool.{and_parts}
 use Rattle.std.proofs.lemmas.Bool.Decides.{nat_tests}
 use Rattle.std.proofs.lemmas.List.{length-append, append_assoc, length-take-le, take-append-drop, drop_at}
 use Rattle.std.proofs.lemmas.List.Sums.{prefix_len-le-length}
@@ -16,7 +17,7 @@ use Rattle.sql_tokens.specs.declared.lexeme.Form.TheVariants as form
 use Rattle.sql_tokens.specs.declared.lexeme.Lexeme.{Lexeme}
 use Rattle.sql_tokens.specs.declared.lexeme.NoLexeme.{NoLexeme}
 use Rattle.sql_tokens.specs.declared.lexeme.NoLexeme.TheVariants as stop
-use Rattle.sql_tokens.proofs.Runs.{and_true, list_all-run, class_tells, IsOfClass}
+use Rattle.sql_tokens.proofs.Runs.{list_all-run, class_tells, IsOfClass}
 use Rattle.sql_tokens.proofs.AtLeast.{AtLeast, at_least, closing-found, quoted-found, comment_end-found, number_lexeme-decimal, run-some}
 
 -- a lexeme of so many bytes at the front
@@ -132,7 +133,7 @@ comment_longer b c bs (Some m) n i = record {
 
 comment_now : (b c : ℕ) (bs : List ℕ) → ends_comment b c ≡ true → CommentEnd 2 (b ∷ c ∷ bs)
 comment_now b c bs e =
-    let both = and_true (eqb b 42) (eqb c 47) e in
+    let both = and_parts (eqb b 42) (eqb c 47) e in
     rw (is_that 42 b both.0, is_that 47 c both.1) (record { inside = []; rest = bs; spelled = refl; long = refl; first_end = refl })
 
 comment_ends : (bs : List ℕ) → CommentEnds (comment_end bs) bs
@@ -269,7 +270,7 @@ has_number_behind text d =
     let found : (v : Bool) → begins_fraction behind ≡ v → HasNumber (cond v (lexeme (form.Token kind.Decimal) (w + (1 + prefix_len is_digit (drop 1 behind)))) (lexeme (form.Token kind.Whole) w)) text =
     λ v. elim v as (λ v. begins_fraction behind ≡ v → HasNumber (cond v (lexeme (form.Token kind.Decimal) (w + (1 + prefix_len is_digit (drop 1 behind)))) (lexeme (form.Token kind.Whole) w)) text) [
       | true ↦ λ e.
-          (let both = and_true (begins (λ b. eqb b 46) behind) (begins is_digit (drop 1 behind)) e in
+          (let both = and_parts (begins (λ b. eqb b 46) behind) (begins is_digit (drop 1 behind)) e in
           let f = first_of_begins (λ b. eqb b 46) behind both.0 in
           let at : behind ≡ 46 ∷ drop 1 behind = point behind f in
           has_decimal text r.run (drop 1 behind) (w + (1 + prefix_len is_digit (drop 1 behind))) (r.spelled ∙ ap (λ ys. r.run ++ ys) (r.behind ∙ at)) r.in_set both.1 (ap (λ n. n + (1 + prefix_len is_digit (drop 1 behind))) (sym r.long)))
@@ -385,7 +386,7 @@ parameter_is_symbol (b ∷ c ∷ d ∷ ds) h = h
 
 tells-parameter : (b : ℕ) (bs : List ℕ) → (eqb b 36 && begins is_digit bs) ≡ true → HasFront (form.Token kind.Symbol) (1 + prefix_len is_digit bs) (b ∷ bs)
 tells-parameter b bs h =
-    let both = and_true (eqb b 36) (begins is_digit bs) h in
+    let both = and_parts (eqb b 36) (begins is_digit bs) h in
     let r = run_of is_digit bs in
     let s : 0 < prefix_len is_digit bs = run-some is_digit is_digit bs (λ _ e. e) both.1 in
     record {

@@ -3,6 +3,7 @@ use Rattle.std.proofs.Common.{◌≡◌, ℕ, ◌+◌, ◌<◌, Bool, true, fals
 use Rattle.std.specs.List.{prefix_len, list_all}
 use Rattle.std.specs.Char.{to_ascii_lowercase}
 use Rattle.std.specs.Str.{str_eq_ignore_ascii_case}
+use Rattle.std.proofs.lemmas.Bool.{and_parts}
 use Rattle.std.proofs.lemmas.Bool.Decides.{nat_tests}
 use Rattle.std.proofs.lemmas.List.{length-append, length-map, take_at, drop_at, take-append-drop, append-nil, take_all}
 use lib.Pointwise.{pointwise_long}
@@ -10,7 +11,7 @@ use Rattle.sql_tokens.specs.Byte.{begins, is_digit, is_space, is_margin}
 use Rattle.sql_tokens.specs.Form.{IsWhole, IsLineComment}
 use Rattle.sql_tokens.specs.Front.{further}
 use Rattle.sql_tokens.specs.Weight.{weight_word, is_margins, number_end, weight_end, weight_length, HoldsWeight}
-use Rattle.sql_tokens.proofs.Runs.{and_true, run-append, drop-front, list_all-run}
+use Rattle.sql_tokens.proofs.Runs.{run-append, drop-front, list_all-run}
 use Rattle.sql_tokens.proofs.Sound.{run_of, is_that}
 
 run-ends : (p : ℕ → Bool) (xs ys : List ℕ) → list_all p xs ≡ true → begins p ys ≡ false → prefix_len p (xs ++ ys) ≡ length xs
@@ -21,11 +22,11 @@ run-ends p xs (y ∷ ys) h b =
 
 begins-other : (p q : ℕ → Bool) (xs ys : List ℕ) → ((b : ℕ) → p b ≡ true → q b ≡ false) → 0 < length xs → list_all p xs ≡ true → begins q (xs ++ ys) ≡ false
 begins-other p q [] ys s l h = absurd (omega arith)
-begins-other p q (x ∷ xs) ys s l h = s x (and_true (p x) (list_all p xs) h).0
+begins-other p q (x ∷ xs) ys s l h = s x (and_parts (p x) (list_all p xs) h).0
 
 none_begins : (p q : ℕ → Bool) (xs : List ℕ) → ((b : ℕ) → p b ≡ true → q b ≡ false) → list_all p xs ≡ true → begins q xs ≡ false
 none_begins p q [] s h = refl
-none_begins p q (x ∷ xs) s h = s x (and_true (p x) (list_all p xs) h).0
+none_begins p q (x ∷ xs) s h = s x (and_parts (p x) (list_all p xs) h).0
 
 digit_no_space : (b : ℕ) → is_digit b ≡ true → is_space b ≡ false
 digit_no_space b e = grind (arith, nat_tests)
@@ -67,7 +68,7 @@ first_letter b e = grind (arith, nat_tests)
 
 word6 : (word : List ℕ) → str_eq_ignore_ascii_case word weight_word ≡ true → Word6 word
 word6 [] h = absurd (cc)
-word6 (b ∷ bs) h = record { long = sym (length-map (b ∷ bs) to_ascii_lowercase) ∙ pointwise_long eqb (map to_ascii_lowercase (b ∷ bs)) (map to_ascii_lowercase weight_word) h; first = λ ys. first_letter b (and_true (eqb (to_ascii_lowercase b) 119) _ h).0 }
+word6 (b ∷ bs) h = record { long = sym (length-map (b ∷ bs) to_ascii_lowercase) ∙ pointwise_long eqb (map to_ascii_lowercase (b ∷ bs)) (map to_ascii_lowercase weight_word) h; first = λ ys. first_letter b (and_parts (eqb (to_ascii_lowercase b) 119) _ h).0 }
 
 weight_end-found : (word behind : List ℕ) (m : ℕ) → str_eq_ignore_ascii_case word weight_word ≡ true → number_end behind ≡ Some m → weight_end (word ++ behind) ≡ Some (6 + m)
 unfolding weight_end
@@ -136,8 +137,8 @@ number_tells bs =
     let d = run_of is_digit text in
     tells_if (λ o. NumberTells o bs) (ltb 0 gap && ltb 0 digits && is_margins tail) (Some (gap + digits)) tt
     (λ t.
-    let a = and_true (ltb 0 gap && ltb 0 digits) (is_margins tail) t in
-    let b = and_true (ltb 0 gap) (ltb 0 digits) a.0 in
+    let a = and_parts (ltb 0 gap && ltb 0 digits) (is_margins tail) t in
+    let b = and_parts (ltb 0 gap) (ltb 0 digits) a.0 in
     let s : 0 < gap = test_some gap b.0 in
     let k : 0 < digits = test_some digits b.1 in
     record {
@@ -183,7 +184,7 @@ unfolding weight_end
 word_tells bs =
     tells_if (λ o. WordTells o bs) (ltb 5 (length bs) && str_eq_ignore_ascii_case (take 6 bs) weight_word) (further 6 (number_end (drop 6 bs))) tt
     (λ t. word_tells_by (number_end (drop 6 bs)) bs
-    (and_true (ltb 5 (length bs)) (str_eq_ignore_ascii_case (take 6 bs) weight_word) t).1 (number_tells (drop 6 bs)))
+    (and_parts (ltb 5 (length bs)) (str_eq_ignore_ascii_case (take 6 bs) weight_word) t).1 (number_tells (drop 6 bs)))
 
 holds_by : (bs : List ℕ) (o : Option ℕ) (n : ℕ) → WordTells o (drop (prefix_len is_margin bs) bs) → further (2 + prefix_len is_margin bs) o ≡ Some n → HoldsWeight (45 ∷ 45 ∷ bs) n
 holds_by bs None n i e = absurd (cc)

@@ -1,5 +1,5 @@
 //! The weight that a line comment gives.
-ghost use Rattle.std.specs.Prelude.{◌≡◌, ◌≤◌, length, IfSome, IsTrue, ◌==◌};
+ghost use Rattle.std.specs.Prelude.{◌≡◌, ◌≤◌, length, IfSome, ◌==◌};
 ghost use Rattle.sql_tokens.specs.Weight.{is_margins, number_end, weight_end, weight_length};
 
 use crate::byte::{ByteSet, after};

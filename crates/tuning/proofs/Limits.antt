@@ -1,5 +1,5 @@
 -- The limits that the prices of slots keep.
-use Rattle.std.proofs.Common.{◌≡◌, ◌∙◌, inl, inr, ℕ, suc, ◌≤◌, Bool, true, false, List, [], ◌∷◌, ◌++◌, length, get_or, All, fold, map, min, take, refl, sym, ap, subst, arith, length-append}
+use Rattle.std.proofs.Common.{◌≡◌, ◌∙◌, inl, inr, ℕ, ◌≤◌, Bool, true, false, List, [], ◌∷◌, ◌++◌, length, get_or, All, fold, map, min, take, refl, sym, ap, subst, arith, length-append}
 use Rattle.std.specs.Prelude.{Option, Some, None, if◌then◌else◌}
 use Rattle.std.specs.Option.{option_map_or, ForSome}
 use Rattle.std.proofs.lemmas.List.{length-map, get_or_append_left}
@@ -17,6 +17,7 @@ use Rattle.bip_model.specs.Limits.Grants.{MOST_ORDERS, ArePrices}
 use Rattle.bip_model.specs.Limits.SlotParts.{SlotLimits}
 use Rattle.bip_model.specs.Values.{lesser}
 use Rattle.bip_model.specs.StandsFor.{given, least_given, AreEach}
+use Rattle.bip_model.proofs.Lists.{each-length}
 use Rattle.tuning.specs.inner.Offered.{offer_at, AreParted, HasParted, IsGrantOf, AreBases, AreGrants}
 
 -- a price, where there is one, is at most that of an offer
@@ -72,12 +73,6 @@ existing-low : (slots : List SlotOffers) (s : ℕ) (existing : List Offer) (numb
 existing-low slots s existing numbered read parted limits =
     let all : All IsLowOffer (table_of slots s) = λ k d h. (limits s k d h).price in
     front-all IsLowOffer existing (map (λ n. read n.1) numbered) (subst (All IsLowOffer) parted.offers_are all)
-
-pub each-length : {A B : Type 0} (P : A → B → Type 0) (xs : List A) (ys : List B) → AreEach P xs ys → length ys ≡ length xs
-each-length P [] [] are = refl
-each-length P [] (y ∷ ys) are = absurd are
-each-length P (x ∷ xs) [] are = absurd are
-each-length P (x ∷ xs) (y ∷ ys) are = ap suc (each-length P xs ys are.1)
 
 pub each-second : {A B : Type 0} (P : A → B → Type 0) (Q : B → Type 0) → ((x : A) (y : B) → P x y → Q y) → (xs : List A) (ys : List B) → AreEach P xs ys → All Q ys
 each-second P Q gives [] [] are = All-nil Q

@@ -1,6 +1,6 @@
 -- The offers of a slot under every candidate: those of what exists, and behind them those of the candidates on its table.
 use Rattle.std.proofs.Common.{◌≡◌, ◌∙◌, inl, inr, ℕ, zero, suc, ◌+◌, ◌<◌, ◌≤◌, ◌==◌, Bool, true, false, List, [], ◌∷◌, ◌++◌, length, get_or, All, map, refl, sym, ap, subst, arith}
-use Rattle.std.specs.Prelude.{Some, None, if◌then◌else◌, filter, slice_get, option_and_then}
+use Rattle.std.specs.Prelude.{Some, None, filter, slice_get, option_and_then}
 use Rattle.std.specs.List.{enumerate_from}
 use Rattle.std.proofs.lemmas.List.{append-nil}
 use Rattle.std.proofs.lemmas.List.Elements.{All-filter}
@@ -20,14 +20,16 @@ use Rattle.adv_base.specs.Configs.{chosen}
 use Rattle.adv_base.specs.Lookups.{table_at}
 use Rattle.adv_base.specs.Named.{NamesBlock, NamesSlot}
 use Rattle.adv_base.specs.Offers.{Offer, OfferTable, Path, Heap, Existing, candidate_path, numbered_on, paths_in, paths_of, paths, path_candidate, path_candidate_at, index_offer, offers}
-use Rattle.adv_base.proofs.ConfigLaws.{chosen-none}
 use Rattle.adv_base.proofs.OfferLaws.{offers-count}
 use Rattle.plan_model.specs.Totals.{no_candidates}
 use Rattle.bip_model.specs.StandsFor.{candidates_on}
-use Rattle.bip_model.proofs.Standing.{offers-split}
+use Rattle.bip_model.proofs.Standing.{offers-split, none-on}
+use Rattle.bip_model.proofs.Lists.{front-of}
+use Rattle.bip_model.proofs.Fixing.{mapped-at}
+use Rattle.bip_model.proofs.Places.{filter-length}
 use Rattle.tuning.specs.inner.Every.{IsEvery}
 use Rattle.tuning.specs.inner.Offered.{AreParted, HasParted}
-use Rattle.tuning.proofs.Reading.{front-get, back-get, map-get}
+use Rattle.tuning.proofs.Reading.{back-get}
 
 -- ## Every candidate
 
@@ -43,21 +45,10 @@ every-on shapes every t is =
     ap (filter (λ (n : ℕ × IndexShape). n.1.table == t))
     (chosen-all every.on (enumerate_from 1 shapes) (λ a h. is.on a (omega (arith, h, length-enumerate_from 1 shapes))))
 
-none-on : (shapes : List IndexShape) (t : ℕ) → numbered_on shapes no_candidates t ≡ []
-none-on shapes t = ap (filter (λ (n : ℕ × IndexShape). n.1.table == t)) (chosen-none MOST_CANDIDATES (enumerate_from 1 shapes))
-
 -- ## Candidates on a table
 
-filter-few : {X : Type 0} (test : X → Bool) (xs : List X) → length (filter test xs) ≤ length xs
-filter-few test [] = omega arith
-filter-few test (x ∷ xs) = kept (test x) (filter-few test xs)
-  where
-    kept : (b : Bool) → length (filter test xs) ≤ length xs → length (if b then x ∷ filter test xs else filter test xs) ≤ suc (length xs)
-    kept true less = omega (arith, less)
-    kept false less = omega (arith, less)
-
 pub candidates-few : (shapes : List IndexShape) (t : ℕ) → length (candidates_on shapes t) ≤ length shapes
-candidates-few shapes t = omega (arith, filter-few (λ (n : ℕ × IndexShape). n.1.table == t) (enumerate_from 1 shapes), length-enumerate_from 1 shapes)
+candidates-few shapes t = omega (arith, filter-length (λ (n : ℕ × IndexShape). n.1.table == t) (enumerate_from 1 shapes), length-enumerate_from 1 shapes)
 
 -- the number of one of the first n candidates
 pub record IsBelow (n : ℕ) (numbered : ℕ × IndexShape) : Type 0 where
@@ -119,11 +110,11 @@ parted cat block shapes every slots s slot table is offers_are candidates_are fo
           ∙ ap (λ (ns : List (ℕ × IndexShape)). existing ++ map read ns) (every-on shapes every slot.table is);
       none = λ k below.
           elim (slice_get_cases front k).1 [
-            | inl there ↦ told k there.0 (front-get front (map candidate_path numbered) k there.0 there.2) ∙ front-none table.indexes k there.0 there.2
+            | inl there ↦ told k there.0 (front-of front (map candidate_path numbered) k there.0 there.2) ∙ front-none table.indexes k there.0 there.2
             | inr past ↦ absurd (omega (arith, past.0, below, count))
           ];
       each = λ k n there.
-          let at : slice_get (front ++ map candidate_path numbered) (length front + k) ≡ Some (candidate_path n) = back-get front (map candidate_path numbered) k ∙ map-get candidate_path numbered k n there in
+          let at : slice_get (front ++ map candidate_path numbered) (length front + k) ≡ Some (candidate_path n) = back-get front (map candidate_path numbered) k ∙ mapped-at candidate_path numbered k n there in
           ap (λ (m : ℕ). candidate_at slots s (m + k)) count ∙ told (length front + k) (candidate_path n) at;
     }
 

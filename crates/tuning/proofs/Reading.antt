@@ -17,23 +17,15 @@ use Rattle.bip_model.specs.declared.grant.Grant.{Grant}
 use Rattle.bip_model.specs.Values.{lesser}
 use Rattle.bip_model.specs.StandsFor.{given, least_given, AreEach}
 use Rattle.bip_model.proofs.Least.{lesser-none}
+use Rattle.bip_model.proofs.Lists.{front-of, each-more}
+use Rattle.bip_model.proofs.Fixing.{mapped-at}
 use Rattle.tuning.specs.inner.Offered.{offer_at, AreParted, HasParted, IsNumber, IsGrantOf, IsBaseBelow, IsBase, AreBases, AreGrantsBelow, AreGrants}
 
 -- ## Elements of two lists in one
 
-pub front-get : {X : Type 0} (xs ys : List X) (k : ℕ) (x : X) → slice_get xs k ≡ Some x → slice_get (xs ++ ys) k ≡ Some x
-front-get [] ys k x found = absurd (cc)
-front-get (y ∷ xs) ys zero x found = found
-front-get (y ∷ xs) ys (suc k) x found = front-get xs ys k x found
-
 pub back-get : {X : Type 0} (xs ys : List X) (j : ℕ) → slice_get (xs ++ ys) (length xs + j) ≡ slice_get ys j
 back-get [] ys j = let same : 0 + j ≡ j = omega arith in ap (slice_get ys) same
 back-get (x ∷ xs) ys j = let same : suc (length xs) + j ≡ suc (length xs + j) = omega arith in rw same (back-get xs ys j)
-
-pub map-get : {X Y : Type 0} (f : X → Y) (xs : List X) (k : ℕ) (x : X) → slice_get xs k ≡ Some x → slice_get (map f xs) k ≡ Some (f x)
-map-get f [] k x found = absurd (cc)
-map-get f (y ∷ xs) zero x found = let same : y ≡ x = cc in ap (λ (z : _). Some (f z)) same
-map-get f (y ∷ xs) (suc k) x found = map-get f xs k x found
 
 pub take-found : {X : Type 0} (xs : List X) (k : ℕ) (x : X) → slice_get xs k ≡ Some x → take (k + 1) xs ≡ take k xs ++ x ∷ []
 take-found [] k x found = absurd (cc)
@@ -74,7 +66,7 @@ offer-cases slots s k existing numbered read parted below =
     let reads : ℕ × IndexShape → Offer = λ n. read n.1 in
     elim (slice_get_cases existing k).1 [
       | inl there ↦
-          let found : slice_get (table_of slots s) k ≡ Some there.0 = ap (λ (os : List Offer). slice_get os k) parted.offers_are ∙ front-get existing (map reads numbered) k there.0 there.2 in
+          let found : slice_get (table_of slots s) k ≡ Some there.0 = ap (λ (os : List Offer). slice_get os k) parted.offers_are ∙ front-of existing (map reads numbered) k there.0 there.2 in
           inl (record { offer = there.0; found = there.2; is = offer-found slots s k there.0 found; none = parted.none k there.1 })
       | inr past ↦
           let j : ℕ = k - length existing in
@@ -85,7 +77,7 @@ offer-cases slots s k existing numbered read parted below =
                 let n : ℕ × IndexShape = there.0 in
                 let found : slice_get (table_of slots s) k ≡ Some (read n.1) =
                 ap (λ (os : List Offer). slice_get os k) parted.offers_are ∙ ap (slice_get (existing ++ map reads numbered)) place_is
-                ∙ back-get existing (map reads numbered) j ∙ map-get reads numbered j n there.2 in
+                ∙ back-get existing (map reads numbered) j ∙ mapped-at reads numbered j n there.2 in
                 inr (record { place = j; place_is = place_is; element = n; found = there.2; is = offer-found slots s k (read n.1) found; some = ap (candidate_at slots s) place_is ∙ parted.each j n there.2 })
             | inr beyond ↦ absurd (omega (arith, below, counted, place_is, beyond.0))
           ]
@@ -142,12 +134,6 @@ bases-more slots s orders prices order price before own =
 
 -- ## Grants
 
-pub each-push : {A B : Type 0} (P : A → B → Type 0) (xs : List A) (ys : List B) (x : A) (y : B) → AreEach P xs ys → P x y → AreEach P (xs ++ x ∷ []) (ys ++ y ∷ [])
-each-push P [] [] x y are own = (own, tt)
-each-push P [] (b ∷ ys) x y are own = absurd are
-each-push P (a ∷ xs) [] x y are own = absurd are
-each-push P (a ∷ xs) (b ∷ ys) x y are own = (are.0, each-push P xs ys x y are.1 own)
-
 pub grants-none : (slots : List SlotOffers) (s : ℕ) (orders : List Order) → AreGrantsBelow slots s orders 0 []
 grants-none slots s orders =
     record { are = λ existing numbered read parted. let none : 0 - length existing ≡ 0 = omega arith in rw none tt }
@@ -182,7 +168,7 @@ grants-more slots s orders k candidate grants grant below before some candidate_
                 let next : k + 1 - length existing ≡ there.place + 1 = omega (arith, there.place_is) in
                 let more : take (k + 1 - length existing) numbered ≡ take there.place numbered ++ n ∷ [] = ap (λ (m : ℕ). take m numbered) next ∙ take-found numbered there.place n there.found in
                 let front : AreEach (IsGrantOf orders read) (take there.place numbered) grants = subst (λ (m : ℕ). AreEach (IsGrantOf orders read) (take m numbered) grants) place (before.are existing numbered read parted) in
-                subst (λ (ns : List (ℕ × IndexShape)). AreEach (IsGrantOf orders read) ns (grants ++ grant ∷ [])) (sym more) (each-push (IsGrantOf orders read) (take there.place numbered) grants n grant front own)
+                subst (λ (ns : List (ℕ × IndexShape)). AreEach (IsGrantOf orders read) ns (grants ++ grant ∷ [])) (sym more) (each-more (IsGrantOf orders read) (take there.place numbered) grants n grant front own)
           ];
     }
 

@@ -30,7 +30,8 @@ use Rattle.inum_cache.specs.Templates.{FitsOrders}
 use Rattle.bip_model.specs.declared.slot_part.SlotPart.{SlotPart}
 use Rattle.bip_model.specs.Limits.Parts.{TemplateLimits}
 use Rattle.bip_model.specs.Values.{need}
-use Rattle.bip_model.specs.StandsFor.{given, least_given, candidates_on, AreEach, IsGrant, IsSlotPart, SomeAsksNothing}
+use Rattle.bip_model.specs.StandsFor.{given, least_given, candidates_on, IsGrant, IsSlotPart, SomeAsksNothing}
+use Rattle.bip_model.proofs.Lists.{front-of, each-map}
 use Rattle.tuning.specs.Kept.{AsksNothingPast}
 use Rattle.tuning.specs.Refusals.{IsFew}
 use Rattle.tuning.specs.inner.Every.{IsEvery}
@@ -38,7 +39,7 @@ use Rattle.tuning.specs.inner.Offered.{AreParted, HasParted, IsGrantOf, IsPriced
 use Rattle.tuning.specs.inner.Parts.{ArePriced}
 use Rattle.tuning.proofs.Counting.{one-count}
 use Rattle.tuning.proofs.Parting.{parted, slot-table}
-use Rattle.tuning.proofs.Reading.{front-get, back-get}
+use Rattle.tuning.proofs.Reading.{back-get}
 
 -- ## The slots' prices
 
@@ -53,7 +54,7 @@ priced-more slots cache k parts own before is =
       each = λ s x found.
           elim (slice_get_cases parts s).1 [
             | inl there ↦
-                let at : slice_get (parts ++ own ∷ []) s ≡ Some there.0 = front-get parts (own ∷ []) s there.0 there.2 in
+                let at : slice_get (parts ++ own ∷ []) s ≡ Some there.0 = front-of parts (own ∷ []) s there.0 there.2 in
                 let same : there.0 ≡ x = cc in
                 subst (λ (p : SlotPart). IsPriced slots s (orders_of cache s) p) same (before.each s there.0 there.2)
             | inr past ↦
@@ -125,12 +126,6 @@ asks-past task cache is = λ k d h s past.
     (cache.fit k d h).past s most
 
 -- ## The part
-
-each-map : {A B : Type 0} (P Q : A → B → Type 0) → ((x : A) (y : B) → P x y → Q x y) → (xs : List A) (ys : List B) → AreEach P xs ys → AreEach Q xs ys
-each-map P Q gives [] [] are = tt
-each-map P Q gives [] (y ∷ ys) are = absurd are
-each-map P Q gives (x ∷ xs) [] are = absurd are
-each-map P Q gives (x ∷ xs) (y ∷ ys) are = (gives x y are.0, each-map P Q gives xs ys are.1)
 
 pub slot-part : (setting : TheSetting) (block : Block) (task : Task) (every : Config) (slots : List SlotOffers) (orders : List Order) (s : ℕ) (slot : Slot) (own : SlotPart) → NamesBlock setting.cat block → IsEvery (length setting.shapes) every →
     table_of slots ≡ offers setting.cat block setting.shapes every → ((s' k : ℕ) → candidate_at slots s' k ≡ path_candidate_at setting.cat block setting.shapes every s' k) →

@@ -15,14 +15,14 @@ use Rattle.bip_model.specs.declared.slot_part.SlotPart.{SlotPart}
 use Rattle.bip_model.specs.declared.part.Part.{Part}
 use Rattle.bip_model.specs.Limits.Programmes.{GrantsWithin}
 use Rattle.bip_model.specs.StandsFor.{AreEach, Blocked, IsGrant, IsPart, blocked_in, blocked_from, candidates_on}
+use Rattle.bip_model.proofs.Lists.{each-more, each-length}
 use Rattle.tuning.specs.declared.fault.TuneFault.{TuneFault}
 use Rattle.tuning.specs.declared.fault.TuneFault.TheVariants.{Memory, TooManyCombinations}
 use Rattle.tuning.specs.Kept.{HasKept}
 use Rattle.tuning.specs.Refusals.{IsFew, AreFew, IsCause}
 use Rattle.tuning.specs.inner.Parts.{blocked, IsBlockFault, ArePartsBelow}
-use Rattle.tuning.proofs.Limits.{each-length}
 use Rattle.tuning.proofs.Parting.{IsBelow, candidates-numbered}
-use Rattle.tuning.proofs.Reading.{each-push, take-found}
+use Rattle.tuning.proofs.Reading.{take-found}
 
 -- ## Statements with a block
 
@@ -92,10 +92,10 @@ parts-more setting at statement block parts part found is own kept few before =
     record {
       parts_are =
           subst (λ (bs : List Blocked). AreEach (IsPart setting) bs (parts ++ part ∷ [])) (sym same)
-          (each-push (IsPart setting) (blocked_from 1 (take at setting.statements)) parts (blocked (at + 1) statement.weight block) part before.parts_are own);
+          (each-more (IsPart setting) (blocked_from 1 (take at setting.statements)) parts (blocked (at + 1) statement.weight block) part before.parts_are own);
       kept =
           subst (λ (bs : List Blocked). AreEach (HasKept setting) bs (parts ++ part ∷ [])) (sym same)
-          (each-push (HasKept setting) (blocked_from 1 (take at setting.statements)) parts (blocked (at + 1) statement.weight block) part before.kept kept);
+          (each-more (HasKept setting) (blocked_from 1 (take at setting.statements)) parts (blocked (at + 1) statement.weight block) part before.kept kept);
       few = few-push setting.cat setting.statements at statement found before.few (λ other other_is. let same_block : block ≡ other = (let both : Some block ≡ Some other = sym is ∙ other_is in cc) in subst (IsFew setting.cat) same_block few);
     }
 

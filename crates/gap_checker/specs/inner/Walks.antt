@@ -1,5 +1,5 @@
 -- From node to node.
-use Rattle.std.specs.Prelude.{ℕ, ◌≤◌, List, ◌∷◌}
+use Rattle.std.specs.Prelude.{◌≤◌, List, ◌∷◌}
 use Rattle.adv_base.specs.declared.limits.TheConstants.{MOST_CANDIDATES}
 use Rattle.adv_base.specs.Nodes as nodes
 use Rattle.bip_model.specs.declared.answer.Node.{Node}

@@ -1,7 +1,8 @@
 use Rattle.std.proofs.Common.{◌∷◌, take}
+use Rattle.bip_model.proofs.Lists.{each-more}
 use Rattle.gap_checker.specs.inner.Figures.{setting_of}
 use Rattle.gap_checker.specs.inner.Judges as judges
-use Rattle.gap_checker.proofs.Lists.{each-more, take-next}
+use Rattle.gap_checker.proofs.Lists.{take-next}
 use Rattle.gap_checker.proofs.judge.kept_sets.Goals as goal
 
 pub loop-set-preserved : goal.loop-set-preserved

@@ -1,6 +1,5 @@
-use Rattle.std.proofs.Common.{◌≡◌, ◌<◌, length, ap, arith}
+use Rattle.std.proofs.Common.{length, ap, arith}
 use Rattle.gap_checker.specs.inner.Earnings.{rent_of}
-use Rattle.gap_checker.specs.inner.Figures.{setting_of}
 use Rattle.gap_checker.proofs.Adding.{earned-length}
 use Rattle.gap_checker.proofs.lagrangian.earning.Goals as goal
 

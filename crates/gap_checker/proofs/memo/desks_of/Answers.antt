@@ -1,7 +1,7 @@
 use Rattle.std.proofs.Common.{take}
-use Rattle.bip_model.specs.StandsFor.{AreEach}
+use Rattle.bip_model.proofs.Lists.{each-more}
 use Rattle.gap_checker.specs.inner.Parts as kept
-use Rattle.gap_checker.proofs.Lists.{each-more, take-next}
+use Rattle.gap_checker.proofs.Lists.{take-next}
 use Rattle.gap_checker.proofs.memo.desks_of.Goals as goal
 
 pub loop-part-preserved : goal.loop-part-preserved

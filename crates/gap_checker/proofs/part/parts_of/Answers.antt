@@ -1,9 +1,8 @@
 use Rattle.std.proofs.Common.{take}
-use Rattle.adv_base.specs.declared.workload.Statement.{Statement}
-use Rattle.bip_model.specs.StandsFor.{AreEach}
 use Rattle.adv_base.specs.Settings.{the_setting}
+use Rattle.bip_model.proofs.Lists.{each-more}
 use Rattle.gap_checker.specs.inner.Parts as kept
-use Rattle.gap_checker.proofs.Lists.{each-more, take-next}
+use Rattle.gap_checker.proofs.Lists.{take-next}
 use Rattle.gap_checker.proofs.part.parts_of.Goals as goal
 
 pub loop-statement-preserved : goal.loop-statement-preserved

@@ -1,11 +1,11 @@
-use Rattle.std.proofs.Common.{◌≡◌, ◌<◌, ℕ, length, sym, ap, subst, arith}
-use Rattle.adv_base.specs.Offers.{OfferTable, charged_offers}
+use Rattle.std.proofs.Common.{◌<◌, length, sym, ap, subst, arith}
+use Rattle.adv_base.specs.Offers.{OfferTable}
 use Rattle.adv_base.proofs.OfferBounds.{tables-charged}
 use Rattle.plan_model.specs.declared.task.Task.{Task}
 use Rattle.plan_model.specs.Least.{Least}
+use Rattle.planner.proofs.Finding.{least_below}
 use Rattle.gap_checker.specs.inner.Charges.{charge_of}
 use Rattle.gap_checker.specs.inner.Rows.{table_of}
-use Rattle.gap_checker.proofs.Lists.{least-most}
 use Rattle.gap_checker.proofs.planning.block_cost.Goals as goal
 
 pub cost-requires : goal.cost-requires
@@ -28,4 +28,4 @@ returns-clause-least c =
     }
 
 pub returns-clause-most : goal.returns-clause-most
-returns-clause-most c = least-most _ _ c.cost.result c.limits.ensures c.cost.ensures.least
+returns-clause-most c = least_below _ _ c.cost.result c.limits.ensures c.cost.ensures.least

@@ -1,14 +1,14 @@
-use Rattle.std.proofs.Common.{◌≡◌, ◌∙◌, ◌<◌, ◌≤◌, ℕ, length, length-set, arith}
+use Rattle.std.proofs.Common.{◌∙◌, ◌<◌, ◌≤◌, ℕ, length, length-set, arith}
 use Rattle.std.proofs.lemmas.List.Elements.{All-set}
 use Rattle.std.proofs.lemmas.Option.{slice_get-get_or}
 use Rattle.adv_base.specs.Named.{NamesWork}
 use Rattle.adv_base.specs.Settings.{the_setting}
 use Rattle.adv_base.specs.declared.workload.Statement.{Statement}
 use Rattle.plan_model.specs.declared.plan.TheConstants.{MOST_COST}
+use Rattle.bip_model.proofs.Lists.{All-some}
 use Rattle.gap_checker.specs.inner.Charges.{charge_of}
 use Rattle.gap_checker.proofs.Desks.{desks-count, desk-at, desks-set}
 use Rattle.gap_checker.proofs.Keeping.{renewed-set, renewed-end}
-use Rattle.gap_checker.proofs.Lists.{all-at}
 use Rattle.gap_checker.proofs.plans.renew_costs.Goals as goal
 
 pub bounds-desks-i : goal.bounds-desks-i
@@ -18,7 +18,7 @@ bounds-desks-i c =
 pub plan_cost-requires-clause-named : goal.plan_cost-requires-clause-named
 plan_cost-requires-clause-named c =
     let setting = c.args.setting.now in
-    all-at (λ (s : Statement). NamesWork setting.cat.now s.work) setting.statements.now c.statements.i c.statement_at-statement.result.now setting.limits.statements_named c.statement_at-statement.ensures
+    All-some (λ (s : Statement). NamesWork setting.cat.now s.work) setting.statements.now c.statements.i c.statement_at-statement.result.now setting.limits.statements_named c.statement_at-statement.ensures
 
 pub plan_cost-requires-clause-desk_is : goal.plan_cost-requires-clause-desk_is
 plan_cost-requires-clause-desk_is c =

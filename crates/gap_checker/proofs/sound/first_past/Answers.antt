@@ -1,5 +1,5 @@
 use Rattle.std.proofs.Common.{arith}
-use Rattle.gap_checker.proofs.Numbers.{few-more, first-past, all-few}
+use Rattle.gap_checker.proofs.Numbers.{few-more, first-past}
 use Rattle.gap_checker.proofs.sound.first_past.Goals as goal
 
 pub returns-then-numbers-i-clause-found : goal.returns-then-numbers-i-clause-found

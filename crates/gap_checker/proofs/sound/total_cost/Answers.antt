@@ -7,10 +7,11 @@ use Rattle.adv_base.specs.declared.workload.Statement.{Statement}
 use Rattle.adv_base.specs.Named.{NamesWork}
 use Rattle.plan_model.specs.Totals as totals
 use Rattle.plan_model.specs.declared.plan.TheConstants.{MOST_COST}
+use Rattle.bip_model.proofs.Lists.{All-some}
 use Rattle.gap_checker.specs.inner.Figures.{setting_of}
 use Rattle.gap_checker.proofs.Adding.{costs-more, costs-sum}
 use Rattle.gap_checker.proofs.Desks.{desks-count, desk-at, desks-set}
-use Rattle.gap_checker.proofs.Lists.{all-at, take-at, take-whole}
+use Rattle.gap_checker.proofs.Lists.{take-at, take-whole}
 use Rattle.gap_checker.proofs.sound.total_cost.Goals as goal
 
 pub bounds-desks-i : goal.bounds-desks-i
@@ -28,7 +29,7 @@ statement_cost-requires-clause-desk_is c =
 pub statement_cost-requires-clause-named : goal.statement_cost-requires-clause-named
 statement_cost-requires-clause-named c =
     let setting = c.args.figures.now.setting.now in
-    all-at (λ (s : Statement). NamesWork setting.cat.now s.work) setting.statements.now c.statements.i c.statement_at-statement.result.now setting.limits.statements_named c.statement_at-statement.ensures
+    All-some (λ (s : Statement). NamesWork setting.cat.now s.work) setting.statements.now c.statements.i c.statement_at-statement.result.now setting.limits.statements_named c.statement_at-statement.ensures
 
 pub statements-init : goal.statements-init
 statements-init c = record { desks_are = c.requires.desks_are; costs = []; costs_are = tt; sum_is = refl; small = omega arith }

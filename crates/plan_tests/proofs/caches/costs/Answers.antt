@@ -1,9 +1,8 @@
-use Rattle.std.proofs.Common.{◌≡◌, ◌==◌, ◌<◌, ℕ, List, [], ◌∷◌, length, Option, Some, None, refl, sym, ap, subst, arith}
+use Rattle.std.proofs.Common.{◌≡◌, ◌==◌, ◌<◌, List, [], ◌∷◌, length, Option, Some, None, refl, arith}
 use Rattle.std.specs.Prelude.{slice_get}
 use Rattle.std.specs.List.{find}
 use Rattle.std.specs.Option.{option_map_or}
-use Rattle.adv_base.specs.Offers.{Offer, OfferTable}
-use Rattle.inum_cache.specs.Caches.{HasPlain}
+use Rattle.adv_base.specs.Offers.{Offer}
 use Rattle.plan_tests.specs.declared.table.Reads.{Reads}
 use Rattle.plan_tests.proofs.caches.costs.Goals as goal
 

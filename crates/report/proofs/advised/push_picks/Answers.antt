@@ -1,4 +1,4 @@
-use Rattle.std.proofs.Common.{◌≡◌, ◌+◌, ◌++◌, drop, ap, sym, ◌∙◌, append_assoc, append-nil}
+use Rattle.std.proofs.Common.{◌+◌, ◌++◌, drop, ap, sym, ◌∙◌, append_assoc, append-nil}
 use Rattle.report.specs.Listings.{pick_line, pick_lines}
 use Rattle.report.proofs.PickLines.{pick_lines-turn, pick_lines-end}
 use Rattle.report.proofs.advised.push_picks.Goals as goal

@@ -1,4 +1,4 @@
-use Rattle.std.proofs.Common.{◌≡◌, ◌+◌, ◌++◌, ◌∷◌, [], drop, ap, sym, ◌∙◌, append_assoc, append-nil, arith}
+use Rattle.std.proofs.Common.{◌+◌, ◌++◌, ◌∷◌, [], drop, ap, sym, ◌∙◌, append_assoc, append-nil}
 use Rattle.report.specs.Listings.{candidate_words, candidate_lines}
 use Rattle.report.proofs.CandidateLines.{candidate_lines-turn, candidate_lines-end}
 use Rattle.report.proofs.listed.push_candidates.Goals as goal

@@ -1,5 +1,5 @@
-use Rattle.std.proofs.Common.{◌≡◌, ◌+◌, ◌++◌, drop, ap, sym, ◌∙◌, append_assoc, append-nil, refl, arith}
-use Rattle.report.specs.Texts.{cost_line, cost_lines}
+use Rattle.std.proofs.Common.{◌+◌, ◌++◌, ap, sym, ◌∙◌, append_assoc, append-nil, refl, arith}
+use Rattle.report.specs.Texts.{cost_line}
 use Rattle.report.proofs.CostLines.{cost_lines-turn, cost_lines-end}
 use Rattle.report.proofs.printed.push_costs.Goals as goal
 

@@ -1,6 +1,7 @@
 use Rattle.std.proofs.Common.{◌≡◌, ◌+◌, ◌*◌, ℕ, take, get_or, length, length-take, sym, ap, ◌∙◌, arith}
 use Rattle.adv_base.specs.declared.workload.Statement.{Statement}
-use Rattle.cophy_core.proofs.PriceLists.{AreCosts-more, weighted_sum-more, AreCosts-length, next_statement}
+use Rattle.gap_checker.proofs.Adding.{costs-more, costs-sum}
+use Rattle.cophy_core.proofs.PriceLists.{AreCosts-length, next_statement}
 use Rattle.cophy_core.proofs.commands.cost.prices_of.Goals as goal
 
 pub add-requires-clause-room : goal.add-requires-clause-room
@@ -13,8 +14,8 @@ statements-preserved c =
     let statement = get_or ss i c.index-setting-at.result in
     let more = next_statement ss i statement c.statements-test.true (ap (λ (s : Statement). get_or ss i s) c.index-setting-at.is) in
     record {
-      costs_are = rw (more, c.in_ok-add.ensures.costs) (AreCosts-more _ _ _ _ _ statement c.in_ok-cost.cost c.statements.invariant.costs_are c.in_ok-cost.ensures.cost);
-      total_is = rw (more, c.in_ok-add.ensures.costs, c.in_ok-add.ensures.total) (ap (λ (n : ℕ). n + statement.weight * c.in_ok-cost.cost) c.statements.invariant.total_is ∙ sym (weighted_sum-more _ _ _ _ _ statement c.in_ok-cost.cost c.statements.invariant.costs_are));
+      costs_are = rw (more, c.in_ok-add.ensures.costs) (costs-more _ _ _ _ _ statement c.in_ok-cost.cost c.statements.invariant.costs_are c.in_ok-cost.ensures.cost);
+      total_is = rw (more, c.in_ok-add.ensures.costs, c.in_ok-add.ensures.total) (ap (λ (n : ℕ). n + statement.weight * c.in_ok-cost.cost) c.statements.invariant.total_is ∙ sym (costs-sum _ _ _ _ _ statement c.in_ok-cost.cost c.statements.invariant.costs_are));
     }
 
 pub returns-clause-each : goal.returns-clause-each

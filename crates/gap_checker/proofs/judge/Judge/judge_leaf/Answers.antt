@@ -1,13 +1,9 @@
 use Rattle.std.proofs.Common.{◌≡◌, ◌∙◌, ◌<◌, length, refl, sym, ap, subst, arith, rules}
-use Rattle.std.specs.Prelude.{Some, slice_get, ℤ, ◌≤ℤ◌, ◌<ℤ◌}
+use Rattle.std.specs.Prelude.{slice_get}
 use Rattle.std.proofs.lemmas.Int.{to_z-of_z}
 use mir.Syntax.{w128}
-use Rattle.bip_model.specs.StandsFor.{AreEach}
 use Rattle.bip_model.proofs.Pricing.{get-some}
-use Rattle.gap_checker.specs.declared.multipliers.Multipliers.{Multipliers}
 use Rattle.gap_checker.specs.inner.Figures.{setting_of}
-use Rattle.gap_checker.specs.inner.Judges as judges
-use Rattle.gap_checker.specs.inner.Nodes.{node_of}
 use Rattle.gap_checker.specs.inner.Sums.{the_multipliers}
 use Rattle.gap_checker.specs.inner.Parts.{AreDesks}
 use Rattle.gap_checker.proofs.Desks.{desks-count}
