@@ -1,16 +1,12 @@
 -- A file that is read from its front, and an output that is written from its front.
-use Rattle.std.proofs.Common.{◌≡◌, ℕ, ◌+◌, ◌-◌, ◌<◌, ◌≤◌, List, [], ◌++◌, take, drop, length, Option, Some, None, IfSome, IsSomeAnd, MatchOption, arith, length-append, sym, ap, ◌∙◌, subst}
+use Rattle.std.proofs.Common.{◌≡◌, ℕ, ◌+◌, ◌-◌, ◌<◌, ◌≤◌, List, [], ◌++◌, take, drop, length, Option, Some, None, IsSomeAnd, MatchOption, arith, length-append, sym, ap, ◌∙◌, subst}
 use Rattle.std.proofs.lemmas.List.{length-take-le, length-take, take-append-le, take_rest}
 use Rattle.std.proofs.Math.Seq.{take-add}
 use Rattle.std.specs.FinMap.{get}
 use Rattle.adv_shelf.specs.Shelf.{Files, HasFile, IsRead}
 use Rattle.adv_shelf.specs.Sink.{append_to}
+use Rattle.adv_shelf.specs.Taker.{IsFront}
 use Rattle.adv_shelf.proofs.CallerLemmas.{append_to-append_to}
-
--- where the shelf tells its files, these bytes are the front of the file of this name, or none where there is no such file
-abbrev pub IsFront : Option Files → List ℕ → List ℕ → Type 0
-IsFront files name bytes =
-    IfSome files (λ m. MatchOption (get m name) (bytes ≡ []) (λ file. take (length bytes) file ≡ bytes))
 
 -- a front and the bytes that a read finds behind it are a front
 front_of_file : (file bytes buf : List ℕ) (n : ℕ) → take (length bytes) file ≡ bytes

@@ -1,4 +1,5 @@
 pub mod CallerLemmas
 pub mod Entries
+pub mod Feeding
 pub mod Fronts
 pub mod MemoryCalls

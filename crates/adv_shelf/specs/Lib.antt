@@ -3,3 +3,4 @@ pub mod Memory
 pub mod Shelf
 pub mod Sink
 pub mod System
+pub mod Taker

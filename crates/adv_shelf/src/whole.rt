@@ -6,7 +6,7 @@ ghost use Rattle.adv_shelf.specs.Sink.{AppendsPrefix, append_to};
 ghost use Rattle.adv_shelf.specs.declared.whole.GetFault.TheVariants.{Memory as OutOfMemory, Failed as ReadFailed};
 
 use crate::{Failed, Shelf, Sink};
-use adv_base::Bytes;
+use adv_base::{Bytes, NoMemory};
 use std::alloc::{AllocError, Global};
 
 /// How many bytes are asked for at once.
@@ -27,6 +27,14 @@ impl From<AllocError> for GetFault {
     ghost from_gives = { λ _ e. e ≡ OutOfMemory };
 
     fn from(_: AllocError) -> Self {
+        GetFault::Memory
+    }
+}
+
+impl From<NoMemory> for GetFault {
+    ghost from_gives = { λ _ e. e ≡ OutOfMemory };
+
+    fn from(_: NoMemory) -> Self {
         GetFault::Memory
     }
 }

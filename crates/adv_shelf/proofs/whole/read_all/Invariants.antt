@@ -1,5 +1,5 @@
 use Rattle.std.proofs.Common.{◌≡◌, ◌≤◌, ℕ, List, length, ◌+◌, ◌-◌}
-use Rattle.adv_shelf.proofs.Fronts.{IsFront}
+use Rattle.adv_shelf.specs.Taker.{IsFront}
 use Rattle.adv_shelf.proofs.whole.read_all.Given as goal
 
 abbrev pub invariant-reading : goal.invariant-reading
