@@ -4,8 +4,6 @@ use Rattle.std.specs.Prelude.{Some, slice_get}
 use Rattle.std.proofs.lemmas.Bool.{cases_eq}
 use Rattle.std.proofs.lemmas.List.{length-map}
 use Rattle.std.proofs.lemmas.Option.{slice_get_cases, slice_get_within, get_or_from_slice_get}
-use Rattle.access_paths.specs.declared.slot_offers.SlotOffers.{SlotOffers}
-use Rattle.access_paths.specs.ConfigOffers.{table_of, candidate_at}
 use Rattle.adv_base.specs.declared.catalogue.Catalogue.{Catalogue}
 use Rattle.adv_base.specs.declared.catalogue.index.IndexShape.{IndexShape}
 use Rattle.adv_base.specs.declared.catalogue.table.Table.{Table}
@@ -34,20 +32,18 @@ use Rattle.bip_model.specs.StandsFor.{given, least_given, candidates_on, IsGrant
 use Rattle.bip_model.proofs.Lists.{front-of, each-map}
 use Rattle.tuning.specs.Kept.{AsksNothingPast}
 use Rattle.tuning.specs.Refusals.{IsFew}
-use Rattle.tuning.specs.inner.Every.{IsEvery}
-use Rattle.tuning.specs.inner.Offered.{AreParted, HasParted, IsGrantOf, IsPriced}
+use Rattle.slot_prices.specs.Prices.{IsGrantOf, IsSlotPriced}
 use Rattle.tuning.specs.inner.Parts.{ArePriced}
 use Rattle.tuning.proofs.Counting.{one-count}
-use Rattle.tuning.proofs.Parting.{parted, slot-table}
-use Rattle.tuning.proofs.Reading.{back-get}
+use Rattle.slot_prices.proofs.Reading.{back-get}
 
 -- ## The slots' prices
 
-pub priced-none : (slots : List SlotOffers) (cache : Cache) → ArePriced slots cache 0 []
-priced-none slots cache = record { count = refl; each = λ s own found. absurd (cc) }
+pub priced-none : (setting : TheSetting) (block : Block) (cache : Cache) → ArePriced setting block cache 0 []
+priced-none setting block cache = record { count = refl; each = λ s own found. absurd (cc) }
 
-pub priced-more : (slots : List SlotOffers) (cache : Cache) (k : ℕ) (parts : List SlotPart) (own : SlotPart) → ArePriced slots cache k parts → IsPriced slots k (orders_of cache k) own → ArePriced slots cache (k + 1) (parts ++ own ∷ [])
-priced-more slots cache k parts own before is =
+pub priced-more : (setting : TheSetting) (block : Block) (cache : Cache) (k : ℕ) (parts : List SlotPart) (own : SlotPart) → ArePriced setting block cache k parts → IsSlotPriced setting.cat block setting.shapes k (orders_of cache k) own → ArePriced setting block cache (k + 1) (parts ++ own ∷ [])
+priced-more setting block cache k parts own before is =
     let counted : length (parts ++ own ∷ []) ≡ length parts + 1 = length-append parts (own ∷ []) in
     record {
       count = omega (arith, counted, before.count);
@@ -56,14 +52,14 @@ priced-more slots cache k parts own before is =
             | inl there ↦
                 let at : slice_get (parts ++ own ∷ []) s ≡ Some there.0 = front-of parts (own ∷ []) s there.0 there.2 in
                 let same : there.0 ≡ x = cc in
-                subst (λ (p : SlotPart). IsPriced slots s (orders_of cache s) p) same (before.each s there.0 there.2)
+                subst (λ (p : SlotPart). IsSlotPriced setting.cat block setting.shapes s (orders_of cache s) p) same (before.each s there.0 there.2)
             | inr past ↦
                 let within : s < length (parts ++ own ∷ []) = slice_get_within (parts ++ own ∷ []) s x found in
                 let last : length parts + 0 ≡ s = omega (arith, within, counted, past.0) in
                 let at : slice_get (parts ++ own ∷ []) s ≡ Some own = ap (slice_get (parts ++ own ∷ [])) (sym last) ∙ back-get parts (own ∷ []) 0 in
                 let same : own ≡ x = cc in
                 let place : k ≡ s = omega (arith, last, before.count) in
-                subst (λ (p : SlotPart). IsPriced slots s (orders_of cache s) p) same (subst (λ (t : ℕ). IsPriced slots t (orders_of cache t) own) place is)
+                subst (λ (p : SlotPart). IsSlotPriced setting.cat block setting.shapes s (orders_of cache s) p) same (subst (λ (t : ℕ). IsSlotPriced setting.cat block setting.shapes t (orders_of cache t) own) place is)
           ];
     }
 
@@ -103,8 +99,8 @@ asks-nothing task cache slots same is =
           empty-first task s (need template s) (omega (arith, within, sizes)) (sym (plain.needs_are s));
     }
 
-pub template-limits : (cache : Cache) (slots : List SlotOffers) (n : ℕ) (parts : List SlotPart) → ArePriced slots cache n parts → ((s : ℕ) → s < n → HasParted slots s) → n ≡ length cache.choices.orders → All (TemplateLimits parts) cache.templates
-template-limits cache slots n parts priced has count = λ i d h.
+pub template-limits : (setting : TheSetting) (block : Block) (cache : Cache) (n : ℕ) (parts : List SlotPart) → ArePriced setting block cache n parts → n ≡ length cache.choices.orders → All (TemplateLimits parts) cache.templates
+template-limits setting block cache n parts priced count = λ i d h.
     let template : Template = get_or cache.templates i d in
     let fit : FitsOrders cache.choices.orders template = cache.fit i d h in
     record {
@@ -112,9 +108,9 @@ template-limits cache slots n parts priced has count = λ i d h.
       needs_within = λ s own found.
           let within : s < length parts = slice_get_within parts s own found in
           let below : s < n = omega (arith, within, priced.count) in
-          let there = has s below in
-          let base_is : own.base ≡ map (λ order. least_given order there.existing) (orders_of cache s) = (priced.each s own found).base.are there.existing there.numbered there.read there.parted in
-          let length_is : length own.base ≡ length (orders_of cache s) = ap length base_is ∙ length-map (orders_of cache s) (λ (order : Order). least_given order there.existing) in
+          let is = priced.each s own found in
+          let length_is : length own.base ≡ length (orders_of cache s) =
+          ap length is.base_is ∙ length-map (orders_of cache s) (λ (order : Order). least_given order (offers setting.cat block setting.shapes no_candidates s)) in
           let needs : need template s < size_in cache.choices.orders s = fit.within s (omega (arith, below, count)) in
           omega (arith, needs, length_is);
     }
@@ -127,28 +123,23 @@ asks-past task cache is = λ k d h s past.
 
 -- ## The part
 
-pub slot-part : (setting : TheSetting) (block : Block) (task : Task) (every : Config) (slots : List SlotOffers) (orders : List Order) (s : ℕ) (slot : Slot) (own : SlotPart) → NamesBlock setting.cat block → IsEvery (length setting.shapes) every →
-    table_of slots ≡ offers setting.cat block setting.shapes every → ((s' k : ℕ) → candidate_at slots s' k ≡ path_candidate_at setting.cat block setting.shapes every s' k) →
-    slice_get block.slots s ≡ Some slot → orders ≡ interesting_orders task s → IsPriced slots s orders own → IsSlotPart setting block task s slot own
-slot-part setting block task every slots orders s slot own named is offers_are candidates_are found orders_are priced =
-    let cat : Catalogue = setting.cat in
-    let has = slot-table cat block s slot named found in
-    let table : Table = has.0 in
-    let existing : List Offer = offers cat block setting.shapes no_candidates s in
-    let numbered : List (ℕ × IndexShape) = candidates_on setting.shapes slot.table in
-    let read : IndexShape → Offer = index_offer cat block s slot table in
-    let two : AreParted slots s existing numbered read = parted cat block setting.shapes every slots s slot table is offers_are candidates_are found has.1 in
+pub slot-part : (setting : TheSetting) (block : Block) (task : Task) (orders : List Order) (s : ℕ) (slot : Slot) (own : SlotPart) →
+    slice_get block.slots s ≡ Some slot → orders ≡ interesting_orders task s → IsSlotPriced setting.cat block setting.shapes s orders own → IsSlotPart setting block task s slot own
+slot-part setting block task orders s slot own found orders_are priced =
+    let same : priced.slot ≡ slot = (let both = priced.slot_found in cc) in
+    let is : IsSlotPart setting block task s priced.slot own =
     record {
-      table = table;
-      table_found = has.1;
-      base_is = priced.base.are existing numbered read two ∙ ap (map (λ (order : Order). least_given order existing)) orders_are;
+      table = priced.table;
+      table_found = priced.table_found;
+      base_is = priced.base_is ∙ ap (map (λ (order : Order). least_given order (offers setting.cat block setting.shapes no_candidates s))) orders_are;
       grants_are =
-          each-map (IsGrantOf orders read) (IsGrant setting block task s slot table)
+          each-map (IsGrantOf orders (index_offer setting.cat block s priced.slot priced.table)) (IsGrant setting block task s priced.slot priced.table)
           (λ n grant one. record {
             candidate_is = one.candidate_is;
-            prices_are = one.prices_are ∙ ap (map (λ (order : Order). given order (read n.1))) orders_are;
-          }) numbered own.grants (priced.grants.are existing numbered read two);
-    }
+            prices_are = one.prices_are ∙ ap (map (λ (order : Order). given order (index_offer setting.cat block s priced.slot priced.table n.1))) orders_are;
+          }) (candidates_on setting.shapes priced.slot.table) own.grants priced.grants_are;
+    } in
+    subst (λ (x : Slot). IsSlotPart setting block task s x own) same is
 
 -- ## Combinations
 

@@ -21,8 +21,8 @@ use Rattle.tuning.specs.declared.fault.TuneFault.TheVariants.{Memory, TooManyCom
 use Rattle.tuning.specs.Kept.{HasKept}
 use Rattle.tuning.specs.Refusals.{IsFew, AreFew, IsCause}
 use Rattle.tuning.specs.inner.Parts.{blocked, IsBlockFault, ArePartsBelow}
-use Rattle.tuning.proofs.Parting.{IsBelow, candidates-numbered}
-use Rattle.tuning.proofs.Reading.{take-found}
+use Rattle.slot_prices.proofs.Parting.{IsBelow, candidates-numbered}
+use Rattle.slot_prices.proofs.Reading.{take-found}
 
 -- ## Statements with a block
 

@@ -1,5 +1,2 @@
 -- What retells the loops of the code; nothing above this crate cites it.
-pub mod Every
-pub mod Offered
-pub mod Readers
 pub mod Parts

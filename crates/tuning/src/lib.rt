@@ -21,11 +21,9 @@
 #![tactic(auto)]
 
 mod building;
-mod every;
 mod fault;
 mod laws;
 mod parts;
-mod slots;
 mod sums;
 
 pub use building::programme;

@@ -5,20 +5,19 @@ ghost use Rattle.adv_base.specs.declared.limits.TheConstants.{MOST_STATEMENTS, M
 ghost use Rattle.bip_model.specs.Limits.Grants.{MOST_ORDERS};
 ghost use Rattle.bip_model.specs.StandsFor.{IsPart};
 ghost use Rattle.inum_cache.specs.Caches.{orders_of};
+ghost use Rattle.slot_prices.specs.Every.{AreEvery};
 ghost use Rattle.tuning.specs.Kept.{HasKept};
 ghost use Rattle.tuning.specs.Refusals.{IsFew};
 ghost use Rattle.adv_base.specs.Settings.{the_setting};
-ghost use Rattle.tuning.specs.inner.Offered as offered;
 ghost use Rattle.tuning.specs.inner.Parts as inner;
 
-use crate::every::every_candidate;
 use crate::fault::TuneFault;
-use crate::slots::SlotReader;
 use access_paths::{ConfigOffers, task};
 use adv_base::{Block, Catalogue, List, NoMemory, Setting};
 use bip_model::{Part, SlotPart};
 use inum_cache::{Cache, CacheFault, build};
 use plan_model::Template;
+use slot_prices::{every_offer, slot_part};
 use std::alloc::Global;
 
 /// The cache of a block's task. A fault names the statement by its number.
@@ -38,21 +37,31 @@ fn cache_of(alloc: Global, cat: &Catalogue, number: u16, block: &Block) -> Resul
     }
 }
 
-/// The prices of each slot, of the orders that the cache has for it.
+/// The prices of each slot, of the orders that the cache has for it, by the offers under every candidate.
 fn slot_parts(
     alloc: Global,
+    setting: &Setting<'_>,
+    block: &Block,
     cache: &Cache,
     offers: &ConfigOffers,
-    slots: u8,
 ) -> Result<List<SlotPart>, NoMemory>
-    requires parted { (s : ℕ) → s < slots → offered.HasParted offers.now.slots.items s }
-    requires few { (s : ℕ) → s < slots → length (orders_of cache.now s) ≤ MOST_ORDERS }
-    ensures { IfOk result (inner.ArePriced offers.now.slots.items cache.now slots) }
+    requires named { NamesBlock setting.now.cat.now block.now }
+    requires every { AreEvery setting.now.cat.now block.now setting.now.shapes.now offers.now }
+    requires few { (s : ℕ) → s < length block.now.slots → length (orders_of cache.now s) ≤ MOST_ORDERS }
+    ensures { IfOk result (inner.ArePriced (the_setting setting.now) block.now cache.now (length block.now.slots)) }
 {
     let mut parts = Vec::new(alloc);
-    for slot in 0..slots {
-        let reader = SlotReader { offers, slot };
-        let own = reader.part(alloc, cache.orders(slot))?;
+    for slot in 0..block.slots.len() as u8 {
+        let orders = cache.orders(slot);
+        let own = slot_part(
+            alloc,
+            setting.cat,
+            block,
+            setting.shapes,
+            offers,
+            slot,
+            orders,
+        )?;
         parts.push(own)?;
     }
     Ok(List { items: parts })
@@ -86,9 +95,8 @@ pub(crate) fn part(
     ensures fault { IfErr result (inner.IsBlockFault setting.now.cat.now block.now number) }
 {
     let cache = cache_of(alloc, setting.cat, number, block)?;
-    let every = every_candidate(setting.shapes.len());
-    let offers = ConfigOffers::new(alloc, setting.cat, block, setting.shapes, &every)?;
-    let slots = slot_parts(alloc, &cache, &offers, block.slots.len() as u8)?;
+    let offers = every_offer(alloc, setting.cat, block, setting.shapes)?;
+    let slots = slot_parts(alloc, setting, block, &cache, &offers)?;
     let templates = copied_templates(alloc, &cache)?;
     Ok(Part {
         statement: number,

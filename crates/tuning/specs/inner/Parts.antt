@@ -1,6 +1,5 @@
 -- Parts of statements.
 use Rattle.std.specs.Prelude.{◌≡◌, ℕ, ◌<◌, List, Some, length, slice_get, take}
-use Rattle.access_paths.specs.declared.slot_offers.SlotOffers.{SlotOffers}
 use Rattle.adv_base.specs.declared.catalogue.Catalogue.{Catalogue}
 use Rattle.adv_base.specs.declared.limits.TheConstants.{MOST_COMBINATIONS}
 use Rattle.adv_base.specs.declared.workload.block.Block.{Block}
@@ -12,11 +11,11 @@ use Rattle.bip_model.specs.declared.slot_part.SlotPart.{SlotPart}
 use Rattle.bip_model.specs.StandsFor.{AreEach, Blocked, IsPart, blocked_from}
 use Rattle.inum_cache.specs.declared.cache.Cache.{Cache}
 use Rattle.inum_cache.specs.Caches.{IsCacheOf, orders_of}
+use Rattle.slot_prices.specs.Prices.{IsSlotPriced}
 use Rattle.tuning.specs.declared.fault.TuneFault.{TuneFault}
 use Rattle.tuning.specs.declared.fault.TuneFault.TheVariants.{Memory, TooManyCombinations}
 use Rattle.tuning.specs.Kept.{HasKept}
 use Rattle.tuning.specs.Refusals.{HasCombinations, AreFew}
-use Rattle.tuning.specs.inner.Offered.{IsPriced}
 
 -- a statement with a block
 abbrev pub blocked : ℕ → ℕ → Block → Blocked
@@ -39,10 +38,10 @@ abbrev pub IsBlockFault : Catalogue → Block → ℕ → TuneFault → Type 0
 IsBlockFault cat block n Memory = Unit {0}
 IsBlockFault cat block n (TooManyCombinations m count) = IsBeyond cat block n m count
 
--- the prices of the slots below k, of the cache's orders of each
-pub record ArePriced (offers : List SlotOffers) (cache : Cache) (k : ℕ) (parts : List SlotPart) : Type 0 where
+-- the prices of the slots below k of a block, of the cache's orders of each
+pub record ArePriced (setting : TheSetting) (block : Block) (cache : Cache) (k : ℕ) (parts : List SlotPart) : Type 0 where
   pub count : length parts ≡ k
-  pub each : (s : ℕ) (own : SlotPart) → slice_get parts s ≡ Some own → IsPriced offers s (orders_of cache s) own
+  pub each : (s : ℕ) (own : SlotPart) → slice_get parts s ≡ Some own → IsSlotPriced setting.cat block setting.shapes s (orders_of cache s) own
 
 -- the parts of the first k statements
 pub record ArePartsBelow (setting : TheSetting) (k : ℕ) (parts : List Part) : Type 0 where

@@ -9,16 +9,9 @@ use Rattle.inum_cache.specs.Templates.{AreInOrder}
 use Rattle.bip_model.specs.Limits.Parts.{TemplateLimits}
 use Rattle.bip_model.specs.StandsFor.{SomeAsksNothing}
 use Rattle.adv_base.specs.Settings.{the_setting}
-use Rattle.tuning.proofs.Parting.{has-parted}
 use Rattle.tuning.specs.Kept.{AsksNothingPast}
 use Rattle.tuning.proofs.SlotParts.{asks-nothing, asks-past, template-limits, slot-part}
 use Rattle.tuning.proofs.parts.part.Goals as goal
-
-pub slot_parts-requires-clause-parted : goal.slot_parts-requires-clause-parted
-slot_parts-requires-clause-parted c = λ s below.
-    let setting = c.args.setting.now in
-    has-parted setting.cat.now c.args.block.now setting.shapes.now c.every_candidate-every.result c.in_ok-offers.offers.slots.items s c.requires.named setting.limits.shapes_most c.every_candidate-every.ensures
-    c.in_ok-offers.ensures.offers_are c.in_ok-offers.ensures.candidates_are (omega (arith, below, c.len.ensures))
 
 pub invariant_of-result : goal.invariant_of-result
 invariant_of-result c =
@@ -27,14 +20,10 @@ invariant_of-result c =
     let cache = c.in_ok-cache.cache in
     let cached = c.in_ok-cache.ensures.cache in
     let parts = c.in_ok-slots.slots in
-    let slots = c.in_ok-offers.offers.slots.items in
     let few : length block.slots ≤ MOST_SLOTS = block.limits.slots_most in
     let some : 1 ≤ length block.slots = block.limits.slots_some in
-    let count : length parts ≡ c.len.result = c.in_ok-slots.ensures.count in
-    let has = λ (s : ℕ) (below : s < c.len.result).
-    has-parted setting.cat.now block setting.shapes.now c.every_candidate-every.result slots s c.requires.named setting.limits.shapes_most c.every_candidate-every.ensures
-    c.in_ok-offers.ensures.offers_are c.in_ok-offers.ensures.candidates_are (omega (arith, below, c.len.ensures)) in
-    let counted : c.len.result ≡ length cache.choices.orders = omega (arith, c.len.ensures, cached.task_is.slots_are, cached.cache_is.slots) in
+    let count : length parts ≡ length block.slots = c.in_ok-slots.ensures.count in
+    let counted : length block.slots ≡ length cache.choices.orders = omega (arith, cached.task_is.slots_are, cached.cache_is.slots) in
     record {
       limits =
           record {
@@ -42,11 +31,11 @@ invariant_of-result c =
             statement_most = c.requires.number_most;
             weight_least = c.requires.weight_least;
             weight_most = c.requires.weight_most;
-            slots_some = omega (arith, count, c.len.ensures, some);
-            slots_most = omega (arith, count, c.len.ensures, few);
+            slots_some = omega (arith, count, some);
+            slots_most = omega (arith, count, few);
             templates_limits =
                 subst (λ (templates : List Template). All (TemplateLimits parts) templates) (sym c.in_ok-templates.ensures)
-                (template-limits cache slots c.len.result parts c.in_ok-slots.ensures has counted);
+                (template-limits (the_setting setting) block cache (length block.slots) parts c.in_ok-slots.ensures counted);
           };
     }
 
@@ -57,7 +46,6 @@ returns-clause-part_is c =
     let cache = c.in_ok-cache.cache in
     let cached = c.in_ok-cache.ensures.cache in
     let task = cached.task in
-    let slots = c.in_ok-offers.offers.slots.items in
     record {
       statement_is = refl;
       weight_is = refl;
@@ -66,13 +54,12 @@ returns-clause-part_is c =
       decompose = subst (Decompose task) (sym c.in_ok-templates.ensures) (kept-list-decompose task cache.templates cached.cache_is.kept);
       some_plan =
           subst (SomeAsksNothing (length c.in_ok-slots.slots)) (sym c.in_ok-templates.ensures)
-          (asks-nothing task cache (length c.in_ok-slots.slots) (omega (arith, c.in_ok-slots.ensures.count, c.len.ensures, cached.task_is.slots_are)) cached.cache_is);
-      slots_count = omega (arith, c.in_ok-slots.ensures.count, c.len.ensures);
+          (asks-nothing task cache (length c.in_ok-slots.slots) (omega (arith, c.in_ok-slots.ensures.count, cached.task_is.slots_are)) cached.cache_is);
+      slots_count = c.in_ok-slots.ensures.count;
       slots_are = λ s slot own found own_found.
           let within = slice_get_within block.slots s slot found in
           let below : s < task.slots = omega (arith, within, cached.task_is.slots_are) in
-          slot-part (the_setting setting) block task c.every_candidate-every.result slots (orders_of cache s) s slot own c.requires.named c.every_candidate-every.ensures
-          c.in_ok-offers.ensures.offers_are c.in_ok-offers.ensures.candidates_are found (cached.cache_is.orders s below) (c.in_ok-slots.ensures.each s own own_found);
+          slot-part (the_setting setting) block task (orders_of cache s) s slot own found (cached.cache_is.orders s below) (c.in_ok-slots.ensures.each s own own_found);
     }
 
 pub returns-clause-kept : goal.returns-clause-kept

@@ -1,5 +1,0 @@
-use Rattle.tuning.specs.inner.Readers as reads
-use Rattle.tuning.proofs.slots.SlotReader.grants.Given as goal
-
-abbrev pub invariant-loop-offer : goal.invariant-loop-offer
-invariant-loop-offer l = reads.AreGrantsBelow l.self l.orders l.offer l.grants.items
