@@ -1,5 +1,5 @@
 -- A root that leaves each candidate free, and what a best answer from it bounds.
-use Rattle.std.proofs.Common.{◌≡◌, ℕ, zero, suc, Bool, false, List, [], ◌∷◌, map, replicate, slice_index_or, refl, ap, ◌∙◌, arith}
+use Rattle.std.proofs.Common.{◌≡◌, ℕ, zero, suc, ◌<◌, Bool, false, List, [], ◌∷◌, map, replicate, slice_index_or, refl, ap, ◌∙◌, arith}
 use Rattle.std.specs.Prelude.{sum}
 use Rattle.adv_base.specs.declared.limits.TheConstants.{MOST_CANDIDATES}
 use Rattle.adv_base.specs.declared.setting.Config.{Config}
@@ -16,6 +16,8 @@ use Rattle.bip_model.specs.Best.{IsBest}
 use Rattle.bip_model.specs.Proves.{free_node}
 use Rattle.bip_model.specs.Views.{is_in, is_out, node_of}
 use Rattle.branch_bound.specs.Sides.{IsRoot}
+use Rattle.plan_model.specs.declared.plan.TheConstants.{MOST_TOTAL}
+use Rattle.plan_model.specs.Totals.{IsTotal}
 use Rattle.plan_model.proofs.TotalBound.{total-below}
 use Rattle.report.specs.Texts.{IsBoundedBy}
 
@@ -59,10 +61,15 @@ root_starts programme budget root free =
 
 -- ## The answer
 
--- its cost is a total, and its bound is at most that
+-- a total is within its limit
+pub total_small : (setting : TheSetting) (config : Config) (total : ℕ) → KeepsLimits setting → IsTotal setting.cat setting.shapes config setting.statements total → total < MOST_TOTAL
+total_small setting config total limits is =
+    total-below setting.cat setting.shapes config setting.statements total limits.shapes_most limits.statements_most
+    (λ k d h block is. offers-limits setting.cat block setting.shapes config) is
+
+-- its cost is one, and its bound is at most that
 pub is_bounded : (setting : TheSetting) (budget count : ℕ) (root : nodes.Node) (answer : Answer) → KeepsLimits setting → IsBest setting budget count root answer → IsBoundedBy answer.cost answer.bound
 is_bounded setting budget count root answer limits best = record {
-  small = total-below setting.cat setting.shapes answer.config setting.statements answer.cost limits.shapes_most limits.statements_most
-      (λ k d h block is. offers-limits setting.cat block setting.shapes answer.config) best.proves.cost_is;
+  small = total_small setting answer.config answer.cost limits best.proves.cost_is;
   most = best.bound_most;
 }

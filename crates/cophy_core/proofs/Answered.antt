@@ -1,8 +1,11 @@
 -- What is answered over a command's files is an answer to the command.
-use Rattle.std.proofs.Common.{◌≡◌, ℕ, ◌≤◌, List, [], ◌∷◌, ◌++◌, length, Option, Some, arith}
+use Rattle.std.proofs.Common.{◌≡◌, ℕ, ◌≤◌, Bool, true, false, List, [], ◌∷◌, ◌++◌, length, map, Option, Some, None, refl, ap, ◌∙◌, arith}
+use Rattle.std.specs.Prelude.{MatchBool}
 use Rattle.adv_base.specs.declared.limits.TheConstants.{MOST_CERTIFICATE_BYTES, MOST_FILE_BYTES}
 use Rattle.adv_shelf.specs.Shelf.{Files}
 use Rattle.adv_base.specs.Settings.{TheSetting}
+use Rattle.report.specs.Advices.{needs_setting}
+use Rattle.report.proofs.ToldAlone.{told_alone}
 use Rattle.report.specs.Texts.{done_text}
 use Rattle.report.specs.declared.done.Done.{Done}
 use Rattle.report.specs.declared.done.Done.TheVariants as answers
@@ -12,7 +15,7 @@ use Rattle.workload_gen.proofs.Lengths.{workload_short}
 use Rattle.report.specs.declared.done.Refusal.TheVariants.{TooLong, Cat, Sql, Bind}
 use Rattle.cophy_core.specs.declared.stop.Stop.{Stop}
 use Rattle.cophy_core.specs.declared.stop.Stop.TheVariants.{Memory, Failed, Refused}
-use Rattle.cophy_core.specs.Answers.{RefusesOver, GivesOver, PutsOver, OfSetting, Answers}
+use Rattle.cophy_core.specs.Answers.{RefusesOver, GivesOver, files_put, PutsOver, OfSetting, Answers}
 use Rattle.cophy_core.specs.CommandLine.{PlainCommand, Candidates, Cost, WhatIf, Explain, Advise, Check, Bench}
 use Rattle.cophy_core.specs.Spellings.{IsInRange}
 use Rattle.cophy_core.specs.Files.{InputFile, input_file, setting_files, files_of, AreInputs, input, ReadCounts}
@@ -32,15 +35,15 @@ IsOwn (Bind fault) = ⊥
 IsOwn why = Unit {0}
 
 -- an answer that a command gives
-abbrev IsGiven : Done → Type 0
-IsGiven (answers.Priced prices) = Unit {0}
-IsGiven (answers.Listed found) = Unit {0}
-IsGiven (answers.Explained explained) = Unit {0}
-IsGiven (answers.Advised advice) = Unit {0}
-IsGiven (answers.Checked checked) = Unit {0}
-IsGiven (answers.NotProved why) = Unit {0}
-IsGiven (answers.Benched bench) = Unit {0}
-IsGiven done = ⊥
+abbrev pub IsCommandsOwn : Done → Type 0
+IsCommandsOwn (answers.Priced prices) = Unit {0}
+IsCommandsOwn (answers.Listed found) = Unit {0}
+IsCommandsOwn (answers.Explained explained) = Unit {0}
+IsCommandsOwn (answers.Advised advice) = Unit {0}
+IsCommandsOwn (answers.Checked checked) = Unit {0}
+IsCommandsOwn (answers.NotProved why) = Unit {0}
+IsCommandsOwn (answers.Benched bench) = Unit {0}
+IsCommandsOwn done = ⊥
 
 -- the second of the files is a workload's, and within its limit
 second_file : (files : Option Files) (cat load : List ℕ) (more : List InputFile) (inputs : List (List ℕ)) → AreInputs files (setting_files cat load ++ more) inputs → length (input inputs 1) ≤ MOST_FILE_BYTES
@@ -119,7 +122,7 @@ work_stops command files before after inputs setting left_over (Refused why) are
     (record { inputs = inputs; setting = setting; left_over = left_over; inputs_are = are; setting_is = is; holds = h })
 
 -- what a command gives is prices, candidates, an explained plan, advice, or what a certificate proves or doesn't
-given : (command : PlainCommand) (inputs : List (List ℕ)) (setting : TheSetting) (done : Done) → GivesOver command inputs setting done → IsGiven done
+pub given : (command : PlainCommand) (inputs : List (List ℕ)) (setting : TheSetting) (done : Done) → GivesOver command inputs setting done → IsCommandsOwn done
 given (Candidates cat load) inputs setting (answers.Listed found) h = tt
 given (Candidates cat load) inputs setting done h = absurd h
 given (Cost cat load) inputs setting (answers.Priced prices) h = tt
@@ -136,7 +139,7 @@ given (Check cat load cert) inputs setting done h = absurd h
 given (Bench seed tables statements budget) inputs setting (answers.Benched bench) h = tt
 given (Bench seed tables statements budget) inputs setting done h = absurd h
 
-given_over : (command : PlainCommand) (files : Option Files) (done : Done) → IsGiven done → OfSetting files command (λ inputs setting. GivesOver command inputs setting done) → Answers command files done
+given_over : (command : PlainCommand) (files : Option Files) (done : Done) → IsCommandsOwn done → OfSetting files command (λ inputs setting. GivesOver command inputs setting done) → Answers command files done
 given_over command files (answers.Priced prices) is_given h = h
 given_over command files (answers.Listed found) is_given h = h
 given_over command files (answers.Explained explained) is_given h = h
@@ -152,41 +155,43 @@ work_gives command files inputs setting left_over done are is h =
     given_over command files done (given command inputs setting done h)
     (record { inputs = inputs; setting = setting; left_over = left_over; inputs_are = are; setting_is = is; holds = h })
 
--- an answer that is no advice
-abbrev IsOther : Done → Type 0
-IsOther (answers.Advised advice) = ⊥
-IsOther done = Unit {0}
+-- ## What is put and told
 
--- nothing is put for it
-none_put : (command : PlainCommand) (setting : TheSetting) (done : Done) (puts : List Put) → IsOther done → PutsOver command setting done puts → puts ≡ []
-none_put (Advise cat load budget nodes cert) setting (answers.Advised advice) puts other h = absurd other
+-- a fact by a test of which only one half is needed
+by_test : (test : Bool) (P Q : Type 0) → (test ≡ true → P) → (test ≡ false → Q) → MatchBool test P Q
+by_test true P Q whenever otherwise = whenever refl
+by_test false P Q whenever otherwise = otherwise refl
+
+-- nothing is put for an answer that needs no setting
+none_put : (command : PlainCommand) (setting : TheSetting) (done : Done) (puts : List Put) → needs_setting done ≡ false → PutsOver command setting done puts → puts ≡ []
+none_put (Advise cat load budget nodes cert) setting (answers.Advised advice) puts other h = absurd cc
 none_put (Advise cat load budget nodes cert) setting done puts other h = h
 none_put command setting done puts other h = h
 
--- what is put for its answer is put over that setting
+-- what is put are the files of the command, in turn
+names_put : (command : PlainCommand) (inputs : List (List ℕ)) (setting : TheSetting) (done : Done) (puts : List Put) → GivesOver command inputs setting done → PutsOver command setting done puts → map (λ put. put.name) puts ≡ files_put command
+names_put (Advise cat load budget nodes (Some file)) inputs setting (answers.Advised advice) puts gives h = ap (map (λ (put : Put). put.name)) h.puts_are
+names_put (Advise cat load budget nodes None) inputs setting (answers.Advised advice) puts gives h = ap (map (λ (put : Put). put.name)) h
+names_put (Advise cat load budget nodes cert) inputs setting done puts gives h = absurd gives
+names_put command inputs setting done puts gives h = ap (map (λ (put : Put). put.name)) h
+
+-- what is put for an answer is put over its setting
 pub work_puts : (command : PlainCommand) (files : Option Files) (words : List (List ℕ)) (inputs : List (List ℕ)) (setting : TheSetting) (left_over : ℕ) (done : Done) (puts : List Put) (text : List ℕ) → HasInputs files command inputs → IsSetting (input inputs 0) (input inputs 1) setting left_over → GivesOver command inputs setting done → PutsOver command setting done puts → text ≡ done_text words (Some setting) done → ArePuts command files words done puts text
-work_puts command files words inputs setting left_over (answers.Advised advice) puts text are is gives put e =
-    record {
+work_puts command files words inputs setting left_over done puts text are is gives put e =
+    by_test (needs_setting done) _ _
+    (λ needed. record {
       inputs = inputs;
       setting = setting;
       left_over = left_over;
       inputs_are = are;
       setting_is = is;
-      holds = record { gives = gives; puts_are = put; text_is = e };
-    }
-work_puts command files words inputs setting left_over done puts text are is gives put e = none_put command setting done puts tt put
+      holds = record { gives = gives; puts_are = put; names_are = names_put command inputs setting done puts gives put; text_is = e };
+    })
+    (λ other. none_put command setting done puts other put)
 
 -- its text is told over that setting
-pub work_told : (command : PlainCommand) (files : Option Files) (words : List (List ℕ)) (inputs : List (List ℕ)) (setting : TheSetting) (left_over : ℕ) (done : Done) (text : List ℕ) → HasInputs files command inputs → IsSetting (input inputs 0) (input inputs 1) setting left_over → GivesOver command inputs setting done → text ≡ done_text words (Some setting) done → IsTextOf command files words done text
-work_told command files words inputs setting left_over (answers.Priced prices) text are is h e =
-    record { inputs = inputs; setting = setting; left_over = left_over; inputs_are = are; setting_is = is; holds = e }
-work_told command files words inputs setting left_over (answers.Listed found) text are is h e =
-    record { inputs = inputs; setting = setting; left_over = left_over; inputs_are = are; setting_is = is; holds = e }
-work_told command files words inputs setting left_over (answers.Advised advice) text are is h e =
-    record { inputs = inputs; setting = setting; left_over = left_over; inputs_are = are; setting_is = is; holds = e }
-work_told command files words inputs setting left_over (answers.Benched bench) text are is h e =
-    record { inputs = inputs; setting = setting; left_over = left_over; inputs_are = are; setting_is = is; holds = e }
-work_told command files words inputs setting left_over (answers.Explained explained) text are is h e = e
-work_told command files words inputs setting left_over (answers.Checked checked) text are is h e = e
-work_told command files words inputs setting left_over (answers.NotProved why) text are is h e = e
-work_told command files words inputs setting left_over done text are is h e = e
+pub work_told : (command : PlainCommand) (files : Option Files) (words : List (List ℕ)) (inputs : List (List ℕ)) (setting : TheSetting) (left_over : ℕ) (done : Done) (text : List ℕ) → HasInputs files command inputs → IsSetting (input inputs 0) (input inputs 1) setting left_over → text ≡ done_text words (Some setting) done → IsTextOf command files words done text
+work_told command files words inputs setting left_over done text are is e =
+    by_test (needs_setting done) _ _
+    (λ needed. record { inputs = inputs; setting = setting; left_over = left_over; inputs_are = are; setting_is = is; holds = e })
+    (λ other. e ∙ told_alone words setting done other)

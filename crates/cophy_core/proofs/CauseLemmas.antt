@@ -1,123 +1,65 @@
 -- What a reply and its ending say of the answer.
-use Rattle.std.proofs.Common.{◌≡◌, ◌⊎◌, inl, inr, ℕ, List, [], ◌∷◌, ◌++◌, Option, Some, None, Result, Ok, Err, refl, sym, ap, subst, ◌∙◌}
+use Rattle.std.proofs.Common.{◌≡◌, ◌⊎◌, inl, inr, ℕ, Bool, true, false, List, [], ◌∷◌, ◌++◌, map, Option, Some, None, Result, Ok, Err, refl, sym, ap, subst, ◌∙◌}
+use Rattle.std.specs.Prelude.{MatchBool}
 use Rattle.std.proofs.Math.Path.{fun_ext}
 use Rattle.std.proofs.lemmas.List.{append-nil}
 use Rattle.adv_shelf.specs.Faults.{Rose}
 use Rattle.adv_shelf.specs.Shelf.{Files}
-use Rattle.adv_shelf.specs.Sink.{append_to, AppendsPrefix}
+use Rattle.adv_shelf.specs.Sink.{append_to}
 use Rattle.adv_shelf.specs.declared.shelf.PutFault.{PutFault}
 use Rattle.adv_shelf.specs.declared.shelf.PutFault.TheVariants as faults
+use Rattle.report.specs.Advices.{needs_setting}
 use Rattle.report.specs.Texts.{done_text}
 use Rattle.report.specs.declared.done.Done.{Done}
-use Rattle.report.specs.declared.done.Done.TheVariants.{Usage, ReadFault, WriteFault, Refused, Memory, Priced, Listed, Explained as ExplainedDone, Advised, Checked, NotProved as NotProvedDone, Benched}
+use Rattle.report.specs.declared.done.Done.TheVariants.{Usage, ReadFault, WriteFault, Refused, Memory, NotProved as NotProvedDone}
 use Rattle.report.specs.declared.done.NotProved.{NotProved}
 use Rattle.report.specs.declared.done.WordFault.{WordFault}
-use Rattle.cophy_core.specs.Answers.{Answers}
-use Rattle.cophy_core.specs.Causes.{IsOrMemory, IsSteady, UsageIsTrue, ReadFaultIsTrue, WriteFaultIsTrue, RefusalIsTrue, MemoryWritesNothing, IsSound, IsWritten, IsBounded, IsUnproved, NotProvedIsTrue}
+use Rattle.cophy_core.specs.Answers.{GivesOver, files_put, OfSetting, Answers}
+use Rattle.cophy_core.specs.Causes.{IsAnswered, IsOrMemory, IsSteady, UsageIsTrue, ReadFaultIsTrue, WriteFaultIsTrue, RefusalIsTrue, MemoryWritesNothing, IsSound, IsWritten, IsBounded, IsUnproved, NotProvedIsTrue}
 use Rattle.cophy_core.specs.CommandLine.{PlainCommand, Candidates, Cost, WhatIf, Explain, Advise, Check, Bench, command_of}
-use Rattle.cophy_core.specs.Endings.{Put, Outside, outside, put_all, put_answer, IsPutFault, EndsUnput, Ends}
-use Rattle.cophy_core.specs.Left.{PutsFile, PutsFileTo}
+use Rattle.cophy_core.specs.Endings.{Put, Outside, outside, put_all, put_answer, IsPutFault, IsUnput, EndsWhole, EndsUnput, Ends}
+use Rattle.cophy_core.specs.Left.{PutsFileTo, IsCutShort}
 use Rattle.cophy_core.specs.Files.{ReadCounts, counts}
 use Rattle.cophy_core.specs.Reading.{StopsAtFiles}
-use Rattle.cophy_core.specs.Replies.{MayAnswer, MayAnswerWords, ArePuts, ArePutsTo, IsTextOf, IsTextTo, Replies, IsReply}
+use Rattle.cophy_core.specs.Replies.{MayAnswer, MayAnswerWords, ArePuts, ArePutsTo, IsGiven, IsTextOf, IsTextTo, Replies, IsReply, IsRun}
 use Rattle.cophy_core.specs.Stops.{done_of}
 use Rattle.cophy_core.specs.declared.stop.Stop.{Stop}
 use Rattle.cophy_core.specs.declared.stop.Stop.TheVariants as stops
+use Rattle.cophy_core.proofs.Answered.{given, IsCommandsOwn}
 
--- a command's files answer with what it gives or a refusal
-abbrev IsAnswer : Done → Type 0
-IsAnswer (Priced prices) = Unit {0}
-IsAnswer (Listed found) = Unit {0}
-IsAnswer (ExplainedDone explained) = Unit {0}
-IsAnswer (Advised advice) = Unit {0}
-IsAnswer (Checked checked) = Unit {0}
-IsAnswer (NotProvedDone why) = Unit {0}
-IsAnswer (Benched bench) = Unit {0}
-IsAnswer (Refused why) = Unit {0}
-IsAnswer done = ⊥
+-- what is put for an answer are the files of the command, or nothing
+pub names_of : (test : Bool) (command : PlainCommand) (files : Option Files) (words : List (List ℕ)) (done : Done) (puts : List Put) (text : List ℕ) →
+    MatchBool test (OfSetting files command (λ inputs setting. IsGiven command words inputs setting done puts text)) (puts ≡ []) →
+    (map (λ put. put.name) puts ≡ files_put command) ⊎ (puts ≡ [])
+names_of true command files words done puts text h = inl h.holds.names_are
+names_of false command files words done puts text h = inr h
 
-is_answer : (command : PlainCommand) (files : Option Files) (done : Done) → Answers command files done → IsAnswer done
-is_answer command files (Priced prices) h = tt
-is_answer command files (Listed found) h = tt
-is_answer command files (ExplainedDone explained) h = tt
-is_answer command files (Advised advice) h = tt
-is_answer command files (Checked checked) h = tt
-is_answer command files (NotProvedDone why) h = tt
-is_answer command files (Benched bench) h = tt
-is_answer command files (Refused why) h = tt
-is_answer (Candidates cat load) files done h = absurd h.holds
-is_answer (Cost cat load) files done h = absurd h.holds
-is_answer (WhatIf cat load conf) files done h = absurd h.holds
-is_answer (Explain cat load conf number) files done h = absurd h.holds
-is_answer (Advise cat load budget nodes cert) files done h = absurd h.holds
-is_answer (Check cat load cert) files done h = absurd h.holds
-is_answer (Bench seed tables statements budget) files done h = absurd h.holds
+none_named : (puts : List Put) → map (λ put. put.name) puts ≡ [] → puts ≡ []
+none_named [] e = refl
+none_named (put ∷ puts) e = absurd cc
 
--- a command for whose answer something is put puts a file
-puts_file_of : (command : PlainCommand) (files : Option Files) (words : List (List ℕ)) (reply : Done) (puts : List Put) (text : List ℕ) → ArePuts command files words reply puts text → (puts ≡ [] → ⊥) → PutsFile command
-puts_file_of (Advise cat load budget nodes (Some file)) files words reply puts text h some = tt
-puts_file_of (Advise cat load budget nodes None) files words (Advised advice) puts text h some = some h.holds.puts_are
-puts_file_of command files words (Advised advice) puts text h some = some h.holds.puts_are
-puts_file_of command files words reply puts text h some = absurd (some h)
+-- for a command that puts no file nothing is put
+pub no_puts : (command : PlainCommand) (files : Option Files) (words : List (List ℕ)) (done : Done) (puts : List Put) (text : List ℕ) → files_put command ≡ [] → ArePuts command files words done puts text → puts ≡ []
+no_puts command files words done puts text none h =
+    elim (names_of (needs_setting done) command files words done puts text h) [
+      | inl named ↦ none_named puts (named ∙ none)
+      | inr e ↦ e
+    ]
 
 puts_file : (words : Result PlainCommand WordFault) (files : Option Files) (line : List (List ℕ)) (reply : Done) (puts : List Put) (text : List ℕ) → ArePutsTo words files line reply puts text → (puts ≡ [] → ⊥) → PutsFileTo words
-puts_file (Ok command) files line reply puts text h some = puts_file_of command files line reply puts text h some
+puts_file (Ok command) files line reply puts text h some = λ none. some (no_puts command files line reply puts text none h)
 puts_file (Err fault) files line reply puts text h some = some h
 
 -- ## Replies
 
-usage_of : (words : Result PlainCommand WordFault) (files : Option Files) (before after : ReadCounts) (reply : Done) → MayAnswerWords words files before after reply → UsageIsTrue words reply
-usage_of (Ok command) files before after (Usage fault) h = absurd (is_answer command files (Usage fault) h)
-usage_of (Err fault) files before after (Usage told) h = ap Err (sym h)
-usage_of words files before after reply h = tt
-
-read_fault_of : (words : Result PlainCommand WordFault) (files : Option Files) (before after : ReadCounts) (reply : Done) → MayAnswerWords words files before after reply → ReadFaultIsTrue words files before after reply
-read_fault_of (Ok command) files before after (ReadFault role) h = (command, refl, h)
-read_fault_of (Err fault) files before after (ReadFault role) h = absurd h
-read_fault_of words files before after reply h = tt
-
-refusal_of : (words : Result PlainCommand WordFault) (files : Option Files) (before after : ReadCounts) (reply : Done) → MayAnswerWords words files before after reply → RefusalIsTrue words files reply
-refusal_of (Ok command) files before after (Refused why) h = (command, refl, h)
-refusal_of (Err fault) files before after (Refused why) h = absurd h
-refusal_of words files before after reply h = tt
-
--- a command whose files prove nothing is `check`
-unproved : (command : PlainCommand) (files : Option Files) (why : NotProved) → Answers command files (NotProvedDone why) → IsUnproved (Ok command) files why
-unproved (Candidates cat load) files why h = absurd h.holds
-unproved (Cost cat load) files why h = absurd h.holds
-unproved (WhatIf cat load conf) files why h = absurd h.holds
-unproved (Explain cat load conf number) files why h = absurd h.holds
-unproved (Advise cat load budget nodes cert) files why h = absurd h.holds
-unproved (Bench seed tables statements budget) files why h = absurd h.holds
-unproved (Check cat load cert) files why h = record { cat = cat; load = load; cert = cert; words_are = refl; first = h }
-
-not_proved_of : (words : Result PlainCommand WordFault) (files : Option Files) (before after : ReadCounts) (reply : Done) → MayAnswerWords words files before after reply → NotProvedIsTrue words files reply
-not_proved_of (Ok command) files before after (NotProvedDone why) h = unproved command files why h
-not_proved_of (Err fault) files before after (NotProvedDone why) h = absurd h
-not_proved_of words files before after reply h = tt
-
-sound_of : (command : PlainCommand) (files : Option Files) (before after : ReadCounts) (reply : Done) → MayAnswer command files before after reply → IsSound command files reply
-sound_of command files before after (ReadFault role) h = tt
-sound_of command files before after WriteFault h = tt
-sound_of command files before after Memory h = tt
-sound_of command files before after reply h = h
+-- an answer of a command that no command gives
+no_answer : (command : PlainCommand) (files : Option Files) (done : Done) → OfSetting files command (λ inputs setting. GivesOver command inputs setting done) → IsCommandsOwn done
+no_answer command files done h = given command h.inputs h.setting done h.holds
 
 -- a reply is never a write fault
 pub no_write_fault : (words : Result PlainCommand WordFault) (files : Option Files) (before after : ReadCounts) → MayAnswerWords words files before after WriteFault → ⊥
-no_write_fault (Ok command) files before after h = is_answer command files WriteFault h
+no_write_fault (Ok command) files before after h = no_answer command files WriteFault h
 no_write_fault (Err fault) files before after h = h
-
--- where no read failed, a command has its answer
-answered : (command : PlainCommand) (files : Option Files) (before after : ReadCounts) (reply : Done) → IsSteady before.all after.all → MayAnswer command files before after reply → Answers command files reply ⊎ (reply ≡ Memory)
-answered command files before after (ReadFault role) steady h = absurd (steady h.bad.failed.rose)
-answered command files before after Memory steady h = inr refl
-answered command files before after reply steady h = inl h
-
-told_usage : (words : Result PlainCommand WordFault) (files : Option Files) (before after : ReadCounts) (fault : WordFault) (reply : Done) → words ≡ Err fault → MayAnswerWords words files before after reply → IsOrMemory (Usage fault) reply
-told_usage (Ok command) files before after fault reply e h = absurd cc
-told_usage (Err f) files before after fault (Usage told) e h = let same : f ≡ fault = cc in inl (ap Usage (h ∙ same))
-told_usage (Err f) files before after fault Memory e h = inr refl
-told_usage (Err f) files before after fault reply e h = absurd h
 
 -- a fault of the words is told
 pub told_fault : (words : List (List ℕ)) (files : Option Files) (before after : ReadCounts) (fault : WordFault) (done : Done) (puts : List Put) (text : List ℕ) → command_of words ≡ Err fault → (done ≡ Usage fault) ⊎ (done ≡ Memory) → puts ≡ [] → text ≡ done_text words None done → IsReply words files before after done puts text
@@ -170,7 +112,7 @@ told_stop words command files before after stop done puts text e h (inr memory) 
     (subst (λ (d : Done). IsTextOf command files words d text) (sym memory) (subst (λ (d : Done). text ≡ done_text words None d) memory told))
 
 may_answer : (command : PlainCommand) (files : Option Files) (before after : ReadCounts) (done : Done) → Answers command files done → MayAnswer command files before after done
-may_answer command files before after (ReadFault role) h = absurd (is_answer command files (ReadFault role) h)
+may_answer command files before after (ReadFault role) h = absurd (no_answer command files (ReadFault role) h)
 may_answer command files before after Memory h = tt
 may_answer command files before after done h = h
 
@@ -178,12 +120,6 @@ may_answer command files before after done h = h
 pub told_reply : (words : List (List ℕ)) (command : PlainCommand) (files : Option Files) (before after : ReadCounts) (done : Done) (puts : List Put) (text : List ℕ) → command_of words ≡ Ok command → Replies command files words done puts text → IsReply words files before after done puts text
 told_reply words command files before after done puts text e h =
     to_words words command files before after done puts text e h.puts_are (may_answer command files before after done h.answers) h.text_is
-
--- the counts of reads are the same behind the end
-pub moved : (words : List (List ℕ)) (files : Option Files) (before : ReadCounts) (all new : ℕ) (at new_at : List ℕ → ℕ) (done : Done) (puts : List Put) (text : List ℕ) → new ≡ all → ((n : List ℕ) → new_at n ≡ at n) → IsReply words files before (counts all at) done puts text → IsReply words files before (counts new new_at) done puts text
-moved words files before all new at new_at done puts text e f r =
-    let all_same = subst (λ (n : ℕ). IsReply words files before (counts n at) done puts text) (sym e) r in
-    subst (λ (g : List ℕ → ℕ). IsReply words files before (counts new g) done puts text) (sym (fun_ext f)) all_same
 
 -- ## Endings
 
@@ -195,126 +131,242 @@ not_nil (p ∷ ps) rest put e = cc
 pub all_put : (old new : Outside) (puts : List Put) (done : Done) → puts ≡ [] → EndsUnput old new puts done → ⊥
 all_put old new puts done none unput = not_nil unput.unput.front unput.unput.rest unput.unput.put (sym none ∙ unput.unput.puts_are)
 
-by_fault : (P : Done → Type 0) (fault : PutFault) (before after : Option Files) (a b : ℕ) (put : Put) (done : Done) → done ≡ put_answer fault → IsPutFault fault before after a b put → P Memory → (Rose a b → P WriteFault) → P done
-by_fault P faults.Memory before after a b put done is h of_memory of_put = subst P (sym is) of_memory
-by_fault P faults.Failed before after a b put done is h of_memory of_put = subst P (sym is) (of_put h.1)
+-- ## Runs
 
--- what holds of the reply, of a write fault where a write or a put failed, and of want of memory, holds of the answer
-pub settle : (P : Done → Type 0) (old new : Outside) (reply : Done) (puts : List Put) (text : List ℕ) (done : Done) → Ends old new reply puts text done → P reply → (Rose old.faults new.faults → P WriteFault) → (EndsUnput old new puts done → Rose old.put_faults new.put_faults → P WriteFault) → P Memory → P done
-settle P old new reply puts text done (inl whole) of_reply of_fault of_put of_memory = subst P (sym whole.stands) of_reply
-settle P old new reply puts text done (inr (inl unwritten)) of_reply of_fault of_put of_memory = subst P (sym unwritten.fault) (of_fault unwritten.rose)
-settle P old new reply puts text done (inr (inr unput)) of_reply of_fault of_put of_memory =
-    by_fault P unput.fault (put_all old.files unput.unput.front) new.files old.put_faults new.put_faults unput.unput.put done unput.done_is unput.unput.files_are of_memory (of_put unput)
+-- the files, and the count of failed puts, are those of the start
+from_start : (files moved : Option Files) (before reads : ReadCounts) (put_faults rest : ℕ) (written : Option (List ℕ)) (faults : ℕ) (new : Outside) (told : Done) (puts : List Put) (text : List ℕ) (done : Done) → moved ≡ files → rest ≡ put_faults → Ends (outside moved reads rest written faults) new told puts text done → Ends (outside files before put_faults written faults) new told puts text done
+from_start files moved before reads put_faults rest written faults new told puts text done e f (inl whole) =
+    inl (record { stands = whole.stands; files_are = whole.files_are ∙ ap (λ (fs : Option Files). put_all fs puts) e; written = whole.written })
+from_start files moved before reads put_faults rest written faults new told puts text done e f (inr (inl cut)) =
+    inr (inl (record { some = cut.some; fault = cut.fault; rose = cut.rose; files_are = cut.files_are ∙ ap (λ (fs : Option Files). put_all fs puts) e; prefix = cut.prefix }))
+from_start files moved before reads put_faults rest written faults new told puts text done e f (inr (inr unput)) =
+    let there = subst (λ (fs : Option Files). IsUnput fs new.files rest new.put_faults puts unput.fault) e unput.unput in
+    inr (inr (record {
+      fault = unput.fault;
+      done_is = unput.done_is;
+      unput = subst (λ (n : ℕ). IsUnput files new.files n new.put_faults puts unput.fault) f there;
+      unwritten = unput.unwritten;
+    }))
 
--- the same of files and a count of puts that are as they were at the start
-pub from_start : (files moved : Option Files) (put_faults rest : ℕ) (written : Option (List ℕ)) (count : ℕ) (new : Outside) (reply : Done) (puts : List Put) (text : List ℕ) (done : Done) → moved ≡ files → rest ≡ put_faults → Ends (outside moved rest written count) new reply puts text done → Ends (outside files put_faults written count) new reply puts text done
-from_start files moved put_faults rest written count new reply puts text done e f h =
-    let there = subst (λ (fs : Option Files). Ends (outside fs rest written count) new reply puts text done) e h in
-    subst (λ (n : ℕ). Ends (outside files n written count) new reply puts text done) f there
+-- A run that replied to the words and ended so. Its reply left the files and the count of failed puts as they were, and its
+-- end the counts of failed reads.
+pub run_of : (words : List (List ℕ)) (files moved : Option Files) (before reads : ReadCounts) (put_faults rest : ℕ) (written : Option (List ℕ)) (faults : ℕ) (new : Outside) (told : Done) (puts : List Put) (text : List ℕ) (done : Done) →
+    moved ≡ files → rest ≡ put_faults → new.reads ≡ reads → IsReply words files before reads told puts text → Ends (outside moved reads rest written faults) new told puts text done →
+    IsRun words (outside files before put_faults written faults) new done
+run_of words files moved before reads put_faults rest written faults new told puts text done e f same reply ends = record {
+  told = told;
+  puts = puts;
+  text = text;
+  reply_is = subst (λ (r : ReadCounts). IsReply words files before r told puts text) (sym same) reply;
+  ends = from_start files moved before reads put_faults rest written faults new told puts text done e f ends;
+}
 
--- ## Clauses
+-- the counts of reads are the same
+pub same_counts : (all new : ℕ) (at new_at : List ℕ → ℕ) → new ≡ all → ((n : List ℕ) → new_at n ≡ at n) → counts new new_at ≡ counts all at
+same_counts all new at new_at e f = ap (λ (n : ℕ). counts n new_at) e ∙ ap (counts all) (fun_ext f)
 
-pub usage : (words : List (List ℕ)) (files : Option Files) (before after : ReadCounts) (old new : Outside) (reply : Done) (puts : List Put) (text : List ℕ) (done : Done) → IsReply words files before after reply puts text → Ends old new reply puts text done → UsageIsTrue (command_of words) done
-usage words files before after old new reply puts text done r e =
-    settle (UsageIsTrue (command_of words)) old new reply puts text done e (usage_of (command_of words) files before after reply r.answers) (λ rose. tt) (λ unput rose. tt) tt
+-- how a run ended: its reply stands, or it was cut short, or it wanted memory for a put
+abbrev pub Ended : List (List ℕ) → Outside → Outside → Done → List Put → List ℕ → Done → Type 0
+Ended words before after told puts text done =
+    EndsWhole before after told puts text done
+    ⊎ (((done ≡ WriteFault) × IsCutShort words before after done) ⊎ ((done ≡ Memory) × EndsUnput before after puts done))
 
-no_put_to : (words : Result PlainCommand WordFault) (files : Option Files) (line : List (List ℕ)) (fault : WordFault) (reply : Done) (puts : List Put) (text : List ℕ) → words ≡ Err fault → ArePutsTo words files line reply puts text → puts ≡ []
-no_put_to (Ok command) files line fault reply puts text e h = absurd cc
-no_put_to (Err told) files line fault reply puts text e h = h
+put_ends : (fault : PutFault) → (put_answer fault ≡ WriteFault) ⊎ (put_answer fault ≡ Memory)
+put_ends faults.Memory = inr refl
+put_ends faults.Failed = inl refl
 
-pub usage_always : (words : List (List ℕ)) (files : Option Files) (before after : ReadCounts) (old new : Outside) (reply : Done) (puts : List Put) (text : List ℕ) (done : Done) → IsReply words files before after reply puts text → Ends old new reply puts text done → (fault : WordFault) → command_of words ≡ Err fault → IsSteady old.faults new.faults → IsOrMemory (Usage fault) done
-usage_always words files before after old new reply puts text done r e fault is steady =
-    settle (IsOrMemory (Usage fault)) old new reply puts text done e (told_usage (command_of words) files before after fault reply is r.answers) (λ rose. absurd (steady rose))
-    (λ unput rose. absurd (all_put old new puts done (no_put_to (command_of words) files words fault reply puts text is r.puts_are) unput)) (inr refl)
+ended_by : (words : List (List ℕ)) (before after : Outside) (told : Done) (puts : List Put) (text : List ℕ) (done : Done) → IsReply words before.files before.reads after.reads told puts text → Ends before after told puts text done → Ended words before after told puts text done
+ended_by words before after told puts text done reply (inl whole) = inl whole
+ended_by words before after told puts text done reply (inr (inl cut)) =
+    inr (inl (cut.fault, record { told = told; puts = puts; text = text; reply_is = reply; ends = inl cut }))
+ended_by words before after told puts text done reply (inr (inr unput)) =
+    elim (put_ends unput.fault) [
+      | inl failed ↦ inr (inl (unput.done_is ∙ failed, record { told = told; puts = puts; text = text; reply_is = reply; ends = inr unput }))
+      | inr memory ↦ inr (inr (unput.done_is ∙ memory, unput))
+    ]
 
-pub read_fault : (words : List (List ℕ)) (files : Option Files) (before after : ReadCounts) (old new : Outside) (reply : Done) (puts : List Put) (text : List ℕ) (done : Done) → IsReply words files before after reply puts text → Ends old new reply puts text done → ReadFaultIsTrue (command_of words) files before after done
-read_fault words files before after old new reply puts text done r e =
-    settle (ReadFaultIsTrue (command_of words) files before after) old new reply puts text done e (read_fault_of (command_of words) files before after reply r.answers) (λ rose. tt) (λ unput rose. tt) tt
+pub ended : {words : List (List ℕ)} {before after : Outside} {done : Done} (run : IsRun words before after done) → Ended words before after run.told run.puts run.text done
+ended {words = words} {before = before} {after = after} {done = done} run =
+    ended_by words before after run.told run.puts run.text done run.reply_is run.ends
 
-unfaulted : (old new : Outside) (words : Result PlainCommand WordFault) (files : Option Files) (before after : ReadCounts) (reply : Done) → MayAnswerWords words files before after reply → WriteFaultIsTrue words old new reply
-unfaulted old new words files before after WriteFault h = absurd (no_write_fault words files before after h)
-unfaulted old new words files before after reply h = tt
+-- what holds of the reply, of a write fault, and of want of memory holds of the answer
+settle_by : (P : Done → Type 0) (words : List (List ℕ)) (before after : Outside) (told : Done) (puts : List Put) (text : List ℕ) (done : Done) → Ended words before after told puts text done → P told → P WriteFault → P Memory → P done
+settle_by P words before after told puts text done (inl whole) of_told of_fault of_memory = subst P (sym whole.stands) of_told
+settle_by P words before after told puts text done (inr (inl cut)) of_told of_fault of_memory = subst P (sym cut.0) of_fault
+settle_by P words before after told puts text done (inr (inr want)) of_told of_fault of_memory = subst P (sym want.0) of_memory
 
-pub write_fault : (words : List (List ℕ)) (files : Option Files) (before after : ReadCounts) (old new : Outside) (reply : Done) (puts : List Put) (text : List ℕ) (done : Done) → IsReply words files before after reply puts text → Ends old new reply puts text done → WriteFaultIsTrue (command_of words) old new done
-write_fault words files before after old new reply puts text done r e =
-    settle (WriteFaultIsTrue (command_of words) old new) old new reply puts text done e (unfaulted old new (command_of words) files before after reply r.answers) (λ rose. inl rose)
-    (λ unput rose. inr (puts_file (command_of words) files words reply puts text r.puts_are (λ none. all_put old new puts done none unput), rose)) tt
+pub settle : {words : List (List ℕ)} {before after : Outside} {done : Done} (P : Done → Type 0) (run : IsRun words before after done) → P run.told → P WriteFault → P Memory → P done
+settle {words = words} {before = before} {after = after} {done = done} P run of_told of_fault of_memory =
+    settle_by P words before after run.told run.puts run.text done (ended run) of_told of_fault of_memory
 
-pub refused : (words : List (List ℕ)) (files : Option Files) (before after : ReadCounts) (old new : Outside) (reply : Done) (puts : List Put) (text : List ℕ) (done : Done) → IsReply words files before after reply puts text → Ends old new reply puts text done → RefusalIsTrue (command_of words) files done
-refused words files before after old new reply puts text done r e =
-    settle (RefusalIsTrue (command_of words) files) old new reply puts text done e (refusal_of (command_of words) files before after reply r.answers) (λ rose. tt) (λ unput rose. tt) tt
+reply_answered : (words : Result PlainCommand WordFault) (before after : Outside) (told : Done) → MayAnswerWords words before.files before.reads after.reads told → IsAnswered words before after told
+reply_answered words before after WriteFault h = tt
+reply_answered words before after told h = h
 
-pub not_proved : (words : List (List ℕ)) (files : Option Files) (before after : ReadCounts) (old new : Outside) (reply : Done) (puts : List Put) (text : List ℕ) (done : Done) → IsReply words files before after reply puts text → Ends old new reply puts text done → NotProvedIsTrue (command_of words) files done
-not_proved words files before after old new reply puts text done r e =
-    settle (NotProvedIsTrue (command_of words) files) old new reply puts text done e (not_proved_of (command_of words) files before after reply r.answers) (λ rose. tt) (λ unput rose. tt) tt
+memory_answered : (words : Result PlainCommand WordFault) (before after : Outside) → IsAnswered words before after Memory
+memory_answered (Ok command) before after = tt
+memory_answered (Err fault) before after = tt
 
--- the answer to words that are a command
-pub to_command : (words : Result PlainCommand WordFault) (command : PlainCommand) (files : Option Files) (before after : ReadCounts) (reply : Done) → words ≡ Ok command → MayAnswerWords words files before after reply → MayAnswer command files before after reply
-to_command words command files before after reply is h = subst (λ (w : Result PlainCommand WordFault). MayAnswerWords w files before after reply) is h
+pub answer : {words : List (List ℕ)} {before after : Outside} {done : Done} → IsRun words before after done → IsAnswered (command_of words) before after done
+answer {words = words} {before = before} {after = after} run =
+    settle (IsAnswered (command_of words) before after) run (reply_answered (command_of words) before after run.told run.reply_is.answers) tt (memory_answered (command_of words) before after)
 
--- what is put for it
-pub to_puts : (words : Result PlainCommand WordFault) (command : PlainCommand) (files : Option Files) (line : List (List ℕ)) (reply : Done) (puts : List Put) (text : List ℕ) → words ≡ Ok command → ArePutsTo words files line reply puts text → ArePuts command files line reply puts text
-to_puts words command files line reply puts text is h = subst (λ (w : Result PlainCommand WordFault). ArePutsTo w files line reply puts text) is h
+-- a write fault is that of the sink, or of a put
+put_rose : (before after : Option Files) (a b : ℕ) (put : Put) (fault : PutFault) → put_answer fault ≡ WriteFault → IsPutFault fault before after a b put → Rose a b
+put_rose before after a b put faults.Memory e h = absurd cc
+put_rose before after a b put faults.Failed e h = h.1
 
-pub soundness : (words : List (List ℕ)) (files : Option Files) (before after : ReadCounts) (old new : Outside) (reply : Done) (puts : List Put) (text : List ℕ) (done : Done) → IsReply words files before after reply puts text → Ends old new reply puts text done → (command : PlainCommand) → command_of words ≡ Ok command → IsSound command files done
-soundness words files before after old new reply puts text done r e command is =
-    settle (IsSound command files) old new reply puts text done e (sound_of command files before after reply (to_command (command_of words) command files before after reply is r.answers)) (λ rose. tt) (λ unput rose. tt) tt
+caused : (read : Result PlainCommand WordFault) (words : List (List ℕ)) (before after : Outside) (told : Done) (puts : List Put) (text : List ℕ) (done : Done) →
+    MayAnswerWords read before.files before.reads after.reads told → ArePutsTo read before.files words told puts text → Ends before after told puts text done → done ≡ WriteFault → WriteFaultIsTrue read before after WriteFault
+caused read words before after told puts text done may put (inl whole) is =
+    absurd (no_write_fault read before.files before.reads after.reads (subst (MayAnswerWords read before.files before.reads after.reads) (sym whole.stands ∙ is) may))
+caused read words before after told puts text done may put (inr (inl cut)) is = inl cut.rose
+caused read words before after told puts text done may put (inr (inr unput)) is =
+    let u = unput.unput in
+    inr (
+      puts_file read before.files words told puts text put (λ none. all_put before after puts done none unput),
+      put_rose (put_all before.files u.front) after.files before.put_faults after.put_faults u.put unput.fault (sym unput.done_is ∙ is) u.files_are,
+    )
 
-pub completeness : (words : List (List ℕ)) (files : Option Files) (before after : ReadCounts) (old new : Outside) (reply : Done) (puts : List Put) (text : List ℕ) (done : Done) → IsReply words files before after reply puts text → Ends old new reply puts text done → (command : PlainCommand) → command_of words ≡ Ok command → IsSteady before.all after.all → IsSteady old.put_faults new.put_faults → IsSteady old.faults new.faults → Answers command files done ⊎ (done ≡ Memory)
-completeness words files before after old new reply puts text done r e command is reads put writes =
-    settle (λ d. Answers command files d ⊎ (d ≡ Memory)) old new reply puts text done e
-    (answered command files before after reply reads (to_command (command_of words) command files before after reply is r.answers))
-    (λ rose. absurd (writes rose)) (λ unput rose. absurd (put rose)) (inr refl)
+-- of no other answer anything is said
+fault_alone : (words : Result PlainCommand WordFault) (before after : Outside) (done : Done) → (done ≡ WriteFault → WriteFaultIsTrue words before after WriteFault) → WriteFaultIsTrue words before after done
+fault_alone words before after WriteFault h = h refl
+fault_alone words before after done h = tt
+
+pub write_fault : {words : List (List ℕ)} {before after : Outside} {done : Done} → IsRun words before after done → WriteFaultIsTrue (command_of words) before after done
+write_fault {words = words} {before = before} {after = after} {done = done} run =
+    fault_alone (command_of words) before after done
+    (caused (command_of words) words before after run.told run.puts run.text done run.reply_is.answers run.reply_is.puts_are run.ends)
+
+-- ## Rows of causes
+
+usage_of : (words : Result PlainCommand WordFault) (before after : Outside) (done : Done) → IsAnswered words before after done → UsageIsTrue words done
+usage_of (Ok command) before after (Usage fault) h = absurd (no_answer command before.files (Usage fault) h)
+usage_of (Err fault) before after (Usage told) h = ap Err (sym h)
+usage_of words before after done h = tt
+
+pub usage : {words : List (List ℕ)} {before after : Outside} {done : Done} → IsRun words before after done → UsageIsTrue (command_of words) done
+usage {words = words} {before = before} {after = after} {done = done} run = usage_of (command_of words) before after done (answer run)
+
+told_usage : (words : Result PlainCommand WordFault) (before after : Outside) (fault : WordFault) (done : Done) → words ≡ Err fault → IsSteady before.faults after.faults → WriteFaultIsTrue words before after done → IsAnswered words before after done → IsOrMemory (Usage fault) done
+told_usage (Ok command) before after fault done e steady w h = absurd cc
+told_usage (Err f) before after fault WriteFault e steady w h = absurd (elim w [ inl rose ↦ steady rose | inr put ↦ put.0 ])
+told_usage (Err f) before after fault (Usage told) e steady w h = let same : f ≡ fault = cc in inl (ap Usage (h ∙ same))
+told_usage (Err f) before after fault Memory e steady w h = inr refl
+told_usage (Err f) before after fault done e steady w h = absurd h
+
+pub usage_always : {words : List (List ℕ)} {before after : Outside} {done : Done} → IsRun words before after done → (fault : WordFault) → command_of words ≡ Err fault → IsSteady before.faults after.faults → IsOrMemory (Usage fault) done
+usage_always {words = words} {before = before} {after = after} {done = done} run fault is steady =
+    told_usage (command_of words) before after fault done is steady (write_fault run) (answer run)
+
+read_fault_of : (words : Result PlainCommand WordFault) (before after : Outside) (done : Done) → IsAnswered words before after done → ReadFaultIsTrue words before after done
+read_fault_of (Ok command) before after (ReadFault role) h = (command, refl, h)
+read_fault_of (Err fault) before after (ReadFault role) h = absurd h
+read_fault_of words before after done h = tt
+
+pub read_fault : {words : List (List ℕ)} {before after : Outside} {done : Done} → IsRun words before after done → ReadFaultIsTrue (command_of words) before after done
+read_fault {words = words} {before = before} {after = after} {done = done} run = read_fault_of (command_of words) before after done (answer run)
+
+refused_of : (words : Result PlainCommand WordFault) (before after : Outside) (done : Done) → IsAnswered words before after done → RefusalIsTrue words before.files done
+refused_of (Ok command) before after (Refused why) h = (command, refl, h)
+refused_of (Err fault) before after (Refused why) h = absurd h
+refused_of words before after done h = tt
+
+pub refused : {words : List (List ℕ)} {before after : Outside} {done : Done} → IsRun words before after done → RefusalIsTrue (command_of words) before.files done
+refused {words = words} {before = before} {after = after} {done = done} run = refused_of (command_of words) before after done (answer run)
+
+-- a command whose files prove nothing is `check`
+unproved : (command : PlainCommand) (files : Option Files) (why : NotProved) → Answers command files (NotProvedDone why) → IsUnproved (Ok command) files why
+unproved (Check cat load cert) files why h = record { cat = cat; load = load; cert = cert; words_are = refl; first = h }
+unproved (Candidates cat load) files why h = absurd h.holds
+unproved (Cost cat load) files why h = absurd h.holds
+unproved (WhatIf cat load conf) files why h = absurd h.holds
+unproved (Explain cat load conf number) files why h = absurd h.holds
+unproved (Advise cat load budget nodes cert) files why h = absurd h.holds
+unproved (Bench seed tables statements budget) files why h = absurd h.holds
+
+not_proved_of : (words : Result PlainCommand WordFault) (before after : Outside) (done : Done) → IsAnswered words before after done → NotProvedIsTrue words before.files done
+not_proved_of (Ok command) before after (NotProvedDone why) h = unproved command before.files why h
+not_proved_of (Err fault) before after (NotProvedDone why) h = absurd h
+not_proved_of words before after done h = tt
+
+pub not_proved : {words : List (List ℕ)} {before after : Outside} {done : Done} → IsRun words before after done → NotProvedIsTrue (command_of words) before.files done
+not_proved {words = words} {before = before} {after = after} {done = done} run = not_proved_of (command_of words) before after done (answer run)
+
+-- what was answered to a command
+pub to_command : {words : List (List ℕ)} {before after : Outside} {done : Done} (command : PlainCommand) → command_of words ≡ Ok command → IsRun words before after done → IsAnswered (Ok command) before after done
+to_command {words = words} {before = before} {after = after} {done = done} command is run =
+    subst (λ (w : Result PlainCommand WordFault). IsAnswered w before after done) is (answer run)
+
+sound_of : (command : PlainCommand) (before after : Outside) (done : Done) → IsAnswered (Ok command) before after done → IsSound command before.files done
+sound_of command before after (ReadFault role) h = tt
+sound_of command before after WriteFault h = tt
+sound_of command before after Memory h = tt
+sound_of command before after done h = h
+
+pub soundness : {words : List (List ℕ)} {before after : Outside} {done : Done} → IsRun words before after done → (command : PlainCommand) → command_of words ≡ Ok command → IsSound command before.files done
+soundness {before = before} {after = after} {done = done} run command is = sound_of command before after done (to_command command is run)
+
+complete_of : (words : Result PlainCommand WordFault) (command : PlainCommand) (before after : Outside) (done : Done) → IsSteady before.reads.all after.reads.all → IsSteady before.put_faults after.put_faults → IsSteady before.faults after.faults → WriteFaultIsTrue words before after done → IsAnswered (Ok command) before after done → Answers command before.files done ⊎ (done ≡ Memory)
+complete_of words command before after (ReadFault role) reads put writes w h = absurd (reads h.bad.failed.rose)
+complete_of words command before after WriteFault reads put writes w h = absurd (elim w [ inl rose ↦ writes rose | inr failed ↦ put failed.1 ])
+complete_of words command before after Memory reads put writes w h = inr refl
+complete_of words command before after done reads put writes w h = inl h
+
+pub completeness : {words : List (List ℕ)} {before after : Outside} {done : Done} → IsRun words before after done → (command : PlainCommand) → command_of words ≡ Ok command → IsSteady before.reads.all after.reads.all → IsSteady before.put_faults after.put_faults → IsSteady before.faults after.faults → Answers command before.files done ⊎ (done ≡ Memory)
+completeness {words = words} {before = before} {after = after} {done = done} run command is reads put writes =
+    complete_of (command_of words) command before after done reads put writes (write_fault run) (to_command command is run)
+
+-- ## What is written
 
 no_text : (words : Result PlainCommand WordFault) (files : Option Files) (line : List (List ℕ)) (text : List ℕ) → IsTextTo words files line Memory text → text ≡ []
 no_text (Ok command) files line text h = h
 no_text (Err fault) files line text h = h
 
-nothing_more : (old : Option (List ℕ)) → append_to old [] ≡ old
-nothing_more None = refl
-nothing_more (Some bytes) = ap Some (append-nil bytes)
-
-silent : (words : Result PlainCommand WordFault) (files : Option Files) (line : List (List ℕ)) (old new : Option (List ℕ)) (reply : Done) (text : List ℕ) → IsTextTo words files line reply text → new ≡ append_to old text → MemoryWritesNothing old new reply
-silent words files line old new Memory text told written = written ∙ (ap (append_to old) (no_text words files line text told) ∙ nothing_more old)
-silent words files line old new reply text told written = tt
-
--- where nothing was written, that is so for want of memory too
-unwritten_silent : (old new : Option (List ℕ)) (done : Done) → new ≡ old → MemoryWritesNothing old new done
-unwritten_silent old new Memory e = e
-unwritten_silent old new done e = tt
-
-pub memory : (words : List (List ℕ)) (files : Option Files) (before after : ReadCounts) (old new : Outside) (reply : Done) (puts : List Put) (text : List ℕ) (done : Done) → IsReply words files before after reply puts text → Ends old new reply puts text done → MemoryWritesNothing old.written new.written done
-memory words files before after old new reply puts text done r (inl whole) =
-    subst (MemoryWritesNothing old.written new.written) (sym whole.stands) (silent (command_of words) files words old.written new.written reply text r.text_is whole.written)
-memory words files before after old new reply puts text done r (inr (inl unwritten)) = subst (MemoryWritesNothing old.written new.written) (sym unwritten.fault) tt
-memory words files before after old new reply puts text done r (inr (inr unput)) = unwritten_silent old.written new.written done unput.unwritten
-
-whole_text : (words : List (List ℕ)) (files : Option Files) (before after : ReadCounts) (old new : Option (List ℕ)) (reply : Done) (text : List ℕ) → MayAnswerWords (command_of words) files before after reply → IsTextTo (command_of words) files words reply text → new ≡ append_to old text → IsWritten words files before after old new reply
-whole_text words files before after old new WriteFault text h told written = absurd (no_write_fault (command_of words) files before after h)
-whole_text words files before after old new reply text h told written = (text, (told, written))
-
--- nothing is a prefix of the text
-none_written : (old new : Option (List ℕ)) (text : List ℕ) → new ≡ old → AppendsPrefix old new text
-none_written old new text e = (0, e ∙ sym (nothing_more old))
-
 no_words : (words : Result PlainCommand WordFault) (files : Option Files) (line : List (List ℕ)) → IsTextTo words files line Memory []
 no_words (Ok command) files line = refl
 no_words (Err fault) files line = refl
 
--- want of memory has no text
-memory_text : (words : List (List ℕ)) (files : Option Files) (before after : ReadCounts) (old new : Option (List ℕ)) → new ≡ old → IsWritten words files before after old new Memory
-memory_text words files before after old new e = ([], (no_words (command_of words) files words, e ∙ sym (nothing_more old)))
+nothing_more : (old : Option (List ℕ)) → append_to old [] ≡ old
+nothing_more None = refl
+nothing_more (Some bytes) = ap Some (append-nil bytes)
 
-pub text_written : (words : List (List ℕ)) (files : Option Files) (before after : ReadCounts) (old new : Outside) (reply : Done) (puts : List Put) (text : List ℕ) (done : Done) → IsReply words files before after reply puts text → Ends old new reply puts text done → IsWritten words files before after old.written new.written done
-text_written words files before after old new reply puts text done r (inl whole) =
-    subst (IsWritten words files before after old.written new.written) (sym whole.stands) (whole_text words files before after old.written new.written reply text r.answers r.text_is whole.written)
-text_written words files before after old new reply puts text done r (inr (inl unwritten)) =
-    subst (IsWritten words files before after old.written new.written) (sym unwritten.fault) (reply, text, (r.answers, (r.text_is, unwritten.prefix)))
-text_written words files before after old new reply puts text done r (inr (inr unput)) =
-    let u = unput.unput in
-    by_fault (IsWritten words files before after old.written new.written) unput.fault (put_all old.files u.front) new.files old.put_faults new.put_faults u.put done unput.done_is u.files_are
-    (memory_text words files before after old.written new.written unput.unwritten)
-    (λ rose. (reply, text, (r.answers, (r.text_is, none_written old.written new.written text unput.unwritten))))
+-- the text of an answer that stands
+whole_text : (words : List (List ℕ)) (before after : Outside) (told : Done) (text : List ℕ) → MayAnswerWords (command_of words) before.files before.reads after.reads told → IsTextTo (command_of words) before.files words told text → after.written ≡ append_to before.written text → IsWritten words before after told
+whole_text words before after WriteFault text h is written = absurd (no_write_fault (command_of words) before.files before.reads after.reads h)
+whole_text words before after told text h is written = (text, (is, written))
 
-pub bound : (words : List (List ℕ)) (files : Option Files) (before after : ReadCounts) (old new : Outside) (reply : Done) (puts : List Put) (text : List ℕ) (done : Done) → IsReply words files before after reply puts text → Ends old new reply puts text done → IsBounded reply → IsBounded done
-bound words files before after old new reply puts text done r e low = settle IsBounded old new reply puts text done e low (λ rose. tt) (λ unput rose. tt) tt
+text_by : (words : List (List ℕ)) (before after : Outside) (told : Done) (puts : List Put) (text : List ℕ) (done : Done) → IsReply words before.files before.reads after.reads told puts text → Ended words before after told puts text done → IsWritten words before after done
+text_by words before after told puts text done reply (inl whole) =
+    subst (IsWritten words before after) (sym whole.stands) (whole_text words before after told text reply.answers reply.text_is whole.written)
+text_by words before after told puts text done reply (inr (inl cut)) =
+    subst (IsWritten words before after) (sym cut.0) (subst (IsCutShort words before after) cut.0 cut.1)
+text_by words before after told puts text done reply (inr (inr want)) =
+    subst (IsWritten words before after) (sym want.0) ([], (no_words (command_of words) before.files words, want.1.unwritten ∙ sym (nothing_more before.written)))
+
+pub text_written : {words : List (List ℕ)} {before after : Outside} {done : Done} → IsRun words before after done → IsWritten words before after done
+text_written {words = words} {before = before} {after = after} {done = done} run =
+    text_by words before after run.told run.puts run.text done run.reply_is (ended run)
+
+silent : (words : Result PlainCommand WordFault) (files : Option Files) (line : List (List ℕ)) (old new : Option (List ℕ)) (told : Done) (text : List ℕ) → IsTextTo words files line told text → new ≡ append_to old text → MemoryWritesNothing old new told
+silent words files line old new Memory text is written = written ∙ (ap (append_to old) (no_text words files line text is) ∙ nothing_more old)
+silent words files line old new told text is written = tt
+
+memory_by : (words : List (List ℕ)) (before after : Outside) (told : Done) (puts : List Put) (text : List ℕ) (done : Done) → IsReply words before.files before.reads after.reads told puts text → Ended words before after told puts text done → MemoryWritesNothing before.written after.written done
+memory_by words before after told puts text done reply (inl whole) =
+    subst (MemoryWritesNothing before.written after.written) (sym whole.stands) (silent (command_of words) before.files words before.written after.written told text reply.text_is whole.written)
+memory_by words before after told puts text done reply (inr (inl cut)) = subst (MemoryWritesNothing before.written after.written) (sym cut.0) tt
+memory_by words before after told puts text done reply (inr (inr want)) = subst (MemoryWritesNothing before.written after.written) (sym want.0) want.1.unwritten
+
+pub memory : {words : List (List ℕ)} {before after : Outside} {done : Done} → IsRun words before after done → MemoryWritesNothing before.written after.written done
+memory {words = words} {before = before} {after = after} {done = done} run =
+    memory_by words before after run.told run.puts run.text done run.reply_is (ended run)
+
+bound_put : (fault : PutFault) → IsBounded (put_answer fault)
+bound_put faults.Memory = tt
+bound_put faults.Failed = tt
+
+pub bound : (before after : Outside) (told : Done) (puts : List Put) (text : List ℕ) (done : Done) → Ends before after told puts text done → IsBounded told → IsBounded done
+bound before after told puts text done (inl whole) low = subst IsBounded (sym whole.stands) low
+bound before after told puts text done (inr (inl cut)) low = subst IsBounded (sym cut.fault) tt
+bound before after told puts text done (inr (inr unput)) low = subst IsBounded (sym unput.done_is) (bound_put unput.fault)

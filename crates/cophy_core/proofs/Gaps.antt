@@ -5,19 +5,18 @@ use Rattle.adv_shelf.specs.Shelf.{Files}
 use Rattle.report.specs.declared.done.Advice.{Advice}
 use Rattle.report.specs.declared.done.Bench.{Bench as Made}
 use Rattle.report.specs.declared.done.Done.{Done}
-use Rattle.report.specs.declared.done.Done.TheVariants.{WriteFault, Memory, Advised, Benched}
+use Rattle.report.specs.declared.done.Done.TheVariants.{Advised, Benched}
 use Rattle.report.specs.declared.done.WordFault.{WordFault}
 use Rattle.cophy_core.specs.commands.Advise.{IsAdvice}
 use Rattle.cophy_core.specs.Answers.{Answers}
-use Rattle.cophy_core.specs.Causes.{advice_status_of, HasGivenUp, GapIsTrue}
-use Rattle.cophy_core.specs.Endings.{Put, Outside, Ends}
-use Rattle.cophy_core.specs.Files.{ReadCounts}
+use Rattle.cophy_core.specs.Causes.{gap_status, HasGivenUp, GapIsTrue, IsAnswered}
+use Rattle.cophy_core.specs.Endings.{Outside}
 use Rattle.cophy_core.specs.CommandLine.{PlainCommand, Advise, Bench, command_of}
-use Rattle.cophy_core.specs.Replies.{MayAnswerWords, IsReply}
-use Rattle.cophy_core.proofs.CauseLemmas.{settle}
+use Rattle.cophy_core.specs.Replies.{IsRun}
+use Rattle.cophy_core.proofs.CauseLemmas.{answer}
 use Rattle.cophy_core.proofs.Headlines.{spent_nodes, gap_by}
 
-given_up : (budget nodes : ℕ) (setting : TheSetting) (advice : Advice) → IsAdvice budget nodes setting advice → advice_status_of advice ≡ 1 → HasGivenUp advice
+given_up : (budget nodes : ℕ) (setting : TheSetting) (advice : Advice) → IsAdvice budget nodes setting advice → gap_status advice.answer.cost advice.answer.bound ≡ 1 → HasGivenUp advice
 given_up budget nodes setting advice is one =
     let answer = advice.answer in
     let best = is.best in
@@ -33,22 +32,19 @@ given_up budget nodes setting advice is one =
     ]
 
 of_advice : (command : PlainCommand) (files : Option Files) (advice : Advice) → Answers command files (Advised advice) → GapIsTrue (Advised advice)
-of_advice (Advise cat load budget nodes cert) files advice h = given_up budget nodes h.setting advice h.holds
+of_advice (Advise cat load budget nodes cert) files advice h = λ one. inl (given_up budget nodes h.setting advice h.holds one)
 of_advice command files advice h = absurd h.holds
 
 of_bench : (command : PlainCommand) (files : Option Files) (bench : Made) → Answers command files (Benched bench) → GapIsTrue (Benched bench)
-of_bench (Bench seed tables statements budget) files bench h = given_up budget 20000 h.setting bench.advice h.holds.advice_is
+of_bench (Bench seed tables statements budget) files bench h = λ one. inl (given_up budget 20000 h.setting bench.advice h.holds.advice_is one)
 of_bench command files bench h = absurd h.holds
 
-of_reply : (words : Result PlainCommand WordFault) (files : Option Files) (before after : ReadCounts) (reply : Done) → MayAnswerWords words files before after reply → GapIsTrue reply
-of_reply (Ok command) files before after (Advised advice) h = of_advice command files advice h
-of_reply (Ok command) files before after (Benched bench) h = of_bench command files bench h
-of_reply (Err fault) files before after (Advised advice) h = absurd h
-of_reply (Err fault) files before after (Benched bench) h = absurd h
-of_reply words files before after reply h = λ e. omega arith
+of_answer : (words : Result PlainCommand WordFault) (before after : Outside) (done : Done) → IsAnswered words before after done → GapIsTrue done
+of_answer (Ok command) before after (Advised advice) h = of_advice command before.files advice h
+of_answer (Ok command) before after (Benched bench) h = of_bench command before.files bench h
+of_answer (Err fault) before after (Advised advice) h = absurd h
+of_answer (Err fault) before after (Benched bench) h = absurd h
+of_answer words before after done h = λ e. omega arith
 
-pub gap : (words : List (List ℕ)) (files : Option Files) (before after : ReadCounts) (old new : Outside) (reply : Done) (puts : List Put) (text : List ℕ) (done : Done) → IsReply words files before after reply puts text → Ends old new reply puts text done → GapIsTrue done
-gap words files before after old new reply puts text done r e =
-    let not_written : GapIsTrue WriteFault = λ x. omega arith in
-    let no_memory : GapIsTrue Memory = λ x. omega arith in
-    settle GapIsTrue old new reply puts text done e (of_reply (command_of words) files before after reply r.answers) (λ rose. not_written) (λ unput rose. not_written) no_memory
+pub gap : {words : List (List ℕ)} {before after : Outside} {done : Done} → IsRun words before after done → GapIsTrue done
+gap {words = words} {before = before} {after = after} {done = done} run = of_answer (command_of words) before after done (answer run)

@@ -1,5 +1,5 @@
 -- From what is replied, and how that ends, to what is promised.
-use Rattle.std.proofs.Common.{◌≡◌, ◌≢◌, inl, inr, ◌⊎◌, ℕ, ◌+◌, ◌<◌, ◌≤◌, Bool, true, false, List, [], ◌∷◌, ◌++◌, length, Option, Some, None, Ok, ℤ, pos, negsuc, refl, sym, ap, subst, ◌∙◌, eqb, arith}
+use Rattle.std.proofs.Common.{◌≡◌, ◌≢◌, inl, inr, ◌⊎◌, ℕ, ◌+◌, ◌<◌, ◌≤◌, Bool, true, false, List, [], ◌∷◌, ◌++◌, length, Option, Some, None, Result, Ok, ℤ, pos, negsuc, refl, sym, ap, subst, ◌∙◌, eqb, arith}
 use Rattle.std.specs.Prelude.{◌<ℤ◌, ◌≤ℤ◌, ◌==◌, if◌then◌else◌}
 use Rattle.std.specs.FinMap.{insert}
 use Rattle.std.proofs.lemmas.Bool.{eqb-true, eqb-false}
@@ -7,12 +7,11 @@ use Rattle.std.proofs.lemmas.Int.{ints}
 use Rattle.adv_base.specs.declared.limits.TheConstants.{MOST_CERTIFICATE_BYTES, MOST_FILE_BYTES}
 use Rattle.adv_base.specs.Settings.{TheSetting}
 use Rattle.adv_shelf.proofs.CallerLemmas.{put_is_there, others_stay}
-use Rattle.adv_shelf.specs.declared.shelf.PutFault.{PutFault}
-use Rattle.adv_shelf.specs.declared.shelf.PutFault.TheVariants as faults
 use Rattle.adv_shelf.specs.Shelf.{Files, HasFile, put_file}
 use Rattle.adv_shelf.specs.Sink.{append_to}
 use Rattle.certificate.specs.declared.cert.Cert.{Cert}
 use Rattle.certificate.specs.Certificates.{IsCertificate, OneCertificate, TextsFit}
+use Rattle.bip_model.specs.declared.answer.Answer.{Answer}
 use Rattle.certificate.specs.Answers.{answer_cert}
 use Rattle.gap_checker.specs.declared.fault.Checked.{Checked as GapChecked}
 use Rattle.gap_checker.specs.Faults.{IsFault}
@@ -20,23 +19,25 @@ use Rattle.gap_checker.specs.Laws.{BestAreProved, FaultsExcludeProofs}
 use Rattle.gap_checker.specs.Views.{IsProof}
 use Rattle.report.specs.declared.done.Advice.{Advice}
 use Rattle.report.specs.declared.done.Done.{Done}
-use Rattle.report.specs.declared.done.Done.TheVariants.{ReadFault, Refused, Memory, Advised, Checked, NotProved}
+use Rattle.report.specs.declared.done.Done.TheVariants.{ReadFault, WriteFault, Refused, Memory, Advised, Checked, NotProved}
 use Rattle.report.specs.declared.done.NotProved.TheVariants.{Malformed, Fault}
 use Rattle.report.specs.declared.done.Refusal.{Refusal}
+use Rattle.report.specs.declared.done.WordFault.{WordFault}
 use Rattle.report.specs.declared.done.Refusal.TheVariants.{TooLong, Cat, Sql, Bind, TooManyCombinations}
 use Rattle.report.specs.declared.done.Role.{Role}
 use Rattle.report.specs.declared.done.Role.TheVariants.{Catalogue, Workload}
 use Rattle.cophy_core.specs.commands.Advise.{IsAdvice, PutsFor}
 use Rattle.cophy_core.specs.commands.Check as check
 use Rattle.cophy_core.specs.Answers.{Answers}
-use Rattle.cophy_core.specs.Causes.{IsSteady, gap_status, status_of}
-use Rattle.cophy_core.specs.Endings.{Put, Outside, put_all, put_answer, IsPutFault, EndsWhole, Ends}
+use Rattle.cophy_core.specs.Causes.{IsSteady, WriteFaultIsTrue, gap_status, status_of}
+use Rattle.cophy_core.specs.Endings.{Put, Outside, put_all, EndsWhole}
 use Rattle.cophy_core.specs.Files.{InputFile, IsInput, AreInputs, input, input_file, setting_files, files_of, IsTooLong, ReadCounts}
-use Rattle.cophy_core.specs.Headline.{Asked, asked_command, IsAccepted, IsEnd, Certifies, Headline}
-use Rattle.cophy_core.specs.CommandLine.{Check, command_of}
-use Rattle.cophy_core.specs.Replies.{MayAnswer, ArePuts, IsReply}
+use Rattle.cophy_core.specs.Headline.{Asked, asked_command, IsAccepted, IsEnd, proved, Certifies, Headline}
+use Rattle.cophy_core.specs.CommandLine.{PlainCommand, Check, command_of}
+use Rattle.cophy_core.specs.Replies.{MayAnswer, MayAnswerWords, ArePuts, ArePutsTo, IsRun}
 use Rattle.cophy_core.specs.Settings.{IsSetting, HasCatFault, IsSqlRefusal, IsBindRefusal}
-use Rattle.cophy_core.proofs.CauseLemmas.{to_command, to_puts}
+use Rattle.cophy_core.specs.Laws.{ChecksStandAlone}
+use Rattle.cophy_core.proofs.CauseLemmas.{Ended, ended as ran, write_fault}
 use Rattle.cophy_core.proofs.Combinations.{none_beyond}
 use Rattle.cophy_core.proofs.FilesRead.{not_long_and_whole, one_content}
 use Rattle.cophy_core.proofs.Lines.{not_nothing}
@@ -91,15 +92,16 @@ told_advice files asked before after (Refused why) ok steady some may = absurd (
 told_advice files asked before after (Advised advice) ok steady some may = (advice, refl)
 told_advice files asked before after reply ok steady some may = absurd may.holds
 
-no_unput : (fault : PutFault) (before after : Option Files) (a b : ℕ) (put : Put) (done : Done) → done ≡ put_answer fault → IsPutFault fault before after a b put → IsSteady a b → done ≢ Memory → ⊥
-no_unput faults.Memory before after a b put done is h steady some = some is
-no_unput faults.Failed before after a b put done is h steady some = steady h.1
+-- where nothing failed, the reply stands
+whole_end : (words : List (List ℕ)) (before after : Outside) (told : Done) (puts : List Put) (text : List ℕ) (done : Done) → Ended words before after told puts text done → (done ≡ WriteFault → ⊥) → done ≢ Memory → EndsWhole before after told puts text done
+whole_end words before after told puts text done (inl whole) written some = whole
+whole_end words before after told puts text done (inr (inl cut)) written some = absurd (written cut.0)
+whole_end words before after told puts text done (inr (inr want)) written some = absurd (some want.0)
 
-whole_end : (old new : Outside) (reply : Done) (puts : List Put) (text : List ℕ) (done : Done) → IsSteady old.put_faults new.put_faults → IsSteady old.faults new.faults → done ≢ Memory → Ends old new reply puts text done → EndsWhole old new reply puts text done
-whole_end old new reply puts text done put writes some (inl whole) = whole
-whole_end old new reply puts text done put writes some (inr (inl unwritten)) = absurd (writes unwritten.rose)
-whole_end old new reply puts text done put writes some (inr (inr unput)) =
-    absurd (no_unput unput.fault (put_all old.files unput.unput.front) new.files old.put_faults new.put_faults unput.unput.put done unput.done_is unput.unput.files_are put some)
+-- where no count rose, the answer is no write fault
+no_fault : (words : Result PlainCommand WordFault) (before after : Outside) (done : Done) → IsSteady before.put_faults after.put_faults → IsSteady before.faults after.faults → WriteFaultIsTrue words before after done → done ≡ WriteFault → ⊥
+no_fault words before after done puts writes caused is =
+    elim (subst (WriteFaultIsTrue words before after) is caused) [ inl rose ↦ writes rose | inr failed ↦ puts failed.1 ]
 
 -- ## How the search ended
 
@@ -137,6 +139,7 @@ pub record Laws : Type 0 where
   pub one : OneCertificate
   pub proved : BestAreProved
   pub exclude : FaultsExcludeProofs
+  pub alone : ChecksStandAlone
 
 checked_is : (checked : GapChecked) (budget cost : ℕ) (bound : ℤ) → checked.budget ≡ budget → checked.cost ≡ cost → checked.bound ≡ bound → checked ≡ record { budget = budget; cost = cost; bound = bound }
 checked_is checked budget cost bound e f g =
@@ -169,42 +172,52 @@ checked_inputs files cat load file a b bytes after are e not_cat not_load few =
       ),
     )
 
+-- over files that are told a check of the certificate has no other answer
+check_alone_after : (laws : Laws) (asked : Asked) (file : List ℕ) (after : Option Files) (left : Files) (answer : Answer) → after ≡ Some left → Answers (Check asked.cat asked.load file) after (proved asked answer) → (done : Done) → Answers (Check asked.cat asked.load file) after done → done ≡ proved asked answer
+check_alone_after laws asked file after left answer is accepted done h =
+    laws.alone asked.cat asked.load file left done (proved asked answer)
+    (subst (λ (fs : Option Files). Answers (Check asked.cat asked.load file) fs done) is h)
+    (subst (λ (fs : Option Files). Answers (Check asked.cat asked.load file) fs (proved asked answer)) is accepted)
+
 certified : (laws : Laws) (setting : TheSetting) (files : Files) (asked : Asked) (advice : Advice) (left_over : ℕ) (a b : List ℕ) (cert : Option (List ℕ)) (puts : List Put) (after : Option Files) → AreInputs (Some files) (setting_files asked.cat asked.load) (a ∷ b ∷ []) → IsSetting a b setting left_over → IsAdvice asked.budget asked.nodes setting advice → PutsFor cert setting asked.budget advice.answer puts → after ≡ put_all (Some files) puts → Certifies cert setting files asked advice.answer after
 certified laws setting files asked advice left_over a b (Some file) puts after are is_setting is put e =
     let answer = advice.answer in
     let own = put.certificate_is in
     let proof = laws.proved setting own.programme asked.budget asked.nodes answer own.stands is.flags is.best in
     let there : after ≡ put_file (Some files) file put.bytes = e ∙ ap (put_all (Some files)) put.puts_are in
+    let accepted : file ≢ asked.cat → file ≢ asked.load → Answers (Check asked.cat asked.load file) after (proved asked answer) = λ not_cat not_load. record {
+      inputs = a ∷ b ∷ put.bytes ∷ [];
+      setting = setting;
+      left_over = left_over;
+      inputs_are = checked_inputs files asked.cat asked.load file a b put.bytes after are there not_cat not_load (laws.fit put.bytes (answer_cert own.programme asked.budget answer) own.is_text);
+      setting_is = is_setting;
+      holds = record {
+        cert = answer_cert own.programme asked.budget answer;
+        cert_is = own.is_text;
+        checked_is = record {
+          budget_is = refl;
+          cost_is = refl;
+          bound_is = refl;
+          proof = proof;
+        };
+        bounds = is.bounds;
+      };
+    } in
     record {
       bytes = put.bytes;
       certificate_is = own;
       files_are = there;
+      alone = λ not_cat not_load.
+          check_alone_after laws asked file after (insert files file put.bytes) answer there (accepted not_cat not_load);
       nothing_else = λ done h. only_proved laws setting put.bytes (answer_cert own.programme asked.budget answer) done own.is_text proof h;
-      accepted = λ not_cat not_load. record {
-        inputs = a ∷ b ∷ put.bytes ∷ [];
-        setting = setting;
-        left_over = left_over;
-        inputs_are = checked_inputs files asked.cat asked.load file a b put.bytes after are there not_cat not_load (laws.fit put.bytes (answer_cert own.programme asked.budget answer) own.is_text);
-        setting_is = is_setting;
-        holds = record {
-          cert = answer_cert own.programme asked.budget answer;
-          cert_is = own.is_text;
-          checked_is = record {
-            budget_is = refl;
-            cost_is = refl;
-            bound_is = refl;
-            proof = proof;
-          };
-          bounds = is.bounds;
-        };
-      };
+      accepted = accepted;
     }
 certified laws setting files asked advice left_over a b None puts after are is_setting is put e = e ∙ ap (put_all (Some files)) put
 
 -- ## The whole
 
-from_advice : (laws : Laws) (words : List (List ℕ)) (files : Files) (asked : Asked) (written : Option (List ℕ)) (status : ℕ) (advice : Advice) (puts : List Put) (text : List ℕ) (files_after : Option Files) (written_after : Option (List ℕ)) → IsAccepted files asked → ArePuts (asked_command asked) (Some files) words (Advised advice) puts text → status ≡ status_of (Advised advice) → files_after ≡ put_all (Some files) puts → written_after ≡ append_to written text → Headline words files asked written status files_after written_after
-from_advice laws words files asked written status advice puts text files_after written_after ok h is put wrote =
+from_advice : (laws : Laws) (words : List (List ℕ)) (files : Files) (asked : Asked) (before after : Outside) (status : ℕ) (advice : Advice) (puts : List Put) (text : List ℕ) (done : Done) → IsAccepted files asked → ArePuts (asked_command asked) (Some files) words (Advised advice) puts text → done ≡ Advised advice → status ≡ status_of done → after.files ≡ put_all (Some files) puts → after.written ≡ append_to before.written text → Headline words files asked before after status done
+from_advice laws words files asked before after status advice puts text done ok h answer_is is put wrote =
     let same = same_inputs files asked h.inputs ok h.inputs_are in
     let setting = h.setting in
     let gives : IsAdvice asked.budget asked.nodes setting advice = h.holds.gives in
@@ -220,22 +233,25 @@ from_advice laws words files asked written status advice puts text files_after w
       inputs_are = are;
       setting_is = is_setting;
       advice = advice;
+      done_is = answer_is;
       advice_is = gives;
-      printed = wrote ∙ ap (append_to written) h.holds.text_is;
+      printed = wrote ∙ ap (append_to before.written) h.holds.text_is;
       bounded = record { candidates = gives.best.proves.members; fits = gives.best.proves.fits; cost_is = gives.best.proves.cost_is; bound = gives.bounds.all };
-      ended = ended setting asked advice status gives is;
-      certified = certified laws setting files asked advice h.left_over ok.cat_bytes ok.load_bytes asked.cert puts files_after are is_setting gives puts_are put;
+      ended = ended setting asked advice status gives (is ∙ ap status_of answer_is);
+      certified = certified laws setting files asked advice h.left_over ok.cat_bytes ok.load_bytes asked.cert puts after.files are is_setting gives puts_are put;
     }
 
-pub headline : (laws : Laws) (words : List (List ℕ)) (told : Option Files) (before after : ReadCounts) (old new : Outside) (reply : Done) (puts : List Put) (text : List ℕ) (done : Done) (status : ℕ) → IsReply words told before after reply puts text → Ends old new reply puts text done → old.files ≡ told → status ≡ status_of done → (files : Files) (asked : Asked) → told ≡ Some files → command_of words ≡ Ok (asked_command asked) → IsAccepted files asked → IsSteady before.all after.all → IsSteady old.put_faults new.put_faults → IsSteady old.faults new.faults → done ≢ Memory → Headline words files asked old.written status new.files new.written
-headline laws words told before after old new reply puts text done status r e same is files asked tells asks ok reads put writes some =
-    let whole = whole_end old new reply puts text done put writes some e in
-    let some_reply : reply ≢ Memory = λ m. some (whole.stands ∙ m) in
-    let may = subst (λ (fs : Option Files). MayAnswer (asked_command asked) fs before after reply) tells (to_command (command_of words) (asked_command asked) told before after reply asks r.answers) in
-    let advice = told_advice files asked before after reply ok reads some_reply may in
-    let here = subst (λ (fs : Option Files). ArePuts (asked_command asked) fs words reply puts text) tells (to_puts (command_of words) (asked_command asked) told words reply puts text asks r.puts_are) in
-    let puts_are = subst (λ (d : Done). ArePuts (asked_command asked) (Some files) words d puts text) advice.1 here in
-    from_advice laws words files asked old.written status advice.0 puts text new.files new.written ok puts_are
-    (is ∙ ap status_of (whole.stands ∙ advice.1))
-    (whole.files_are ∙ ap (λ (fs : Option Files). put_all fs puts) (same ∙ tells))
+pub headline : {words : List (List ℕ)} {before after : Outside} {done : Done} (laws : Laws) (run : IsRun words before after done) (status : ℕ) → status ≡ status_of done → (files : Files) (asked : Asked) → before.files ≡ Some files → command_of words ≡ Ok (asked_command asked) → IsAccepted files asked → IsSteady before.reads.all after.reads.all → IsSteady before.put_faults after.put_faults → IsSteady before.faults after.faults → done ≢ Memory → Headline words files asked before after status done
+headline {words = words} {before = before} {after = after} {done = done} laws run status is files asked tells asks ok reads put writes some =
+    let whole = whole_end words before after run.told run.puts run.text done (ran run) (no_fault (command_of words) before after done put writes (write_fault run)) some in
+    let some_told : run.told ≢ Memory = λ m. some (whole.stands ∙ m) in
+    let to_words = subst (λ (w : Result PlainCommand WordFault). MayAnswerWords w before.files before.reads after.reads run.told) asks run.reply_is.answers in
+    let may = subst (λ (fs : Option Files). MayAnswer (asked_command asked) fs before.reads after.reads run.told) tells to_words in
+    let advice = told_advice files asked before.reads after.reads run.told ok reads some_told may in
+    let put_to = subst (λ (w : Result PlainCommand WordFault). ArePutsTo w before.files words run.told run.puts run.text) asks run.reply_is.puts_are in
+    let here = subst (λ (fs : Option Files). ArePuts (asked_command asked) fs words run.told run.puts run.text) tells put_to in
+    let puts_are = subst (λ (d : Done). ArePuts (asked_command asked) (Some files) words d run.puts run.text) advice.1 here in
+    from_advice laws words files asked before after status advice.0 run.puts run.text done ok puts_are
+    (whole.stands ∙ advice.1) is
+    (whole.files_are ∙ ap (λ (fs : Option Files). put_all fs run.puts) tells)
     whole.written

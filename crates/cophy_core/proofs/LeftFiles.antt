@@ -1,155 +1,95 @@
--- What a reply and its ending leave of the files.
-use Rattle.std.proofs.Common.{◌≡◌, ◌≢◌, inl, inr, ℕ, ◌<◌, arith, List, [], ◌∷◌, ◌++◌, length, Option, Some, None, Result, Ok, Err, refl, sym, ap, subst, ◌∙◌}
+-- What a run leaves of the files.
+use Rattle.std.proofs.Common.{◌≡◌, ◌⊎◌, inl, inr, ℕ, Bool, true, false, List, [], ◌∷◌, ◌++◌, map, Option, Result, Ok, Err, refl, sym, ap, subst, ◌∙◌}
+use Rattle.std.specs.Prelude.{MatchBool}
 use Rattle.adv_shelf.specs.declared.shelf.PutFault.{PutFault}
 use Rattle.adv_shelf.specs.declared.shelf.PutFault.TheVariants as faults
-use Rattle.adv_shelf.specs.Shelf.{Files, IsPutInPart, put_file}
-use Rattle.report.specs.declared.done.Advice.{Advice}
+use Rattle.adv_shelf.specs.Shelf.{Files}
+use Rattle.report.specs.Advices.{needs_setting}
 use Rattle.report.specs.declared.done.Done.{Done}
-use Rattle.report.specs.declared.done.Done.TheVariants.{WriteFault, Memory, Advised}
+use Rattle.report.specs.declared.done.Done.TheVariants.{WriteFault, Memory}
 use Rattle.report.specs.declared.done.WordFault.{WordFault}
-use Rattle.cophy_core.specs.Answers.{Answers}
-use Rattle.cophy_core.specs.CommandLine.{PlainCommand, Advise, command_of}
-use Rattle.cophy_core.specs.Endings.{Put, Outside, put_all, put_answer, IsPutFault, Ends}
-use Rattle.cophy_core.specs.Files.{ReadCounts}
-use Rattle.cophy_core.specs.Left.{OfCertificate, IsPutFor, Leaves, LeavesFiles}
-use Rattle.cophy_core.specs.Replies.{MayAnswer, MayAnswerWords, ArePuts, ArePutsTo, IsTextOf, IsTextTo, IsReply}
-use Rattle.cophy_core.proofs.CauseLemmas.{not_nil, all_put, no_write_fault}
-
--- the one put of a row of one
-one_only : (front rest : List Put) (p put : Put) → p ∷ [] ≡ front ++ put ∷ rest → (front ≡ []) × (put ≡ p)
-one_only [] rest p put e = (refl, cc)
-one_only (q ∷ qs) rest p put e = absurd (not_nil qs rest put (cc))
-
--- what holds of the bytes that are put for advice holds of its certificate
-certified : (cat load : List ℕ) (budget nodes : ℕ) (file : List ℕ) (files : Option Files) (words : List (List ℕ)) (advice : Advice) (puts : List Put) (text : List ℕ) (P : List ℕ → Type 0) → ArePuts (Advise cat load budget nodes (Some file)) files words (Advised advice) puts text → ((bytes : List ℕ) → puts ≡ record { name = file; bytes = bytes } ∷ [] → P bytes) → OfCertificate files (Advise cat load budget nodes (Some file)) advice P
-certified cat load budget nodes file files words advice puts text P h of_bytes = record {
-  bytes = h.holds.puts_are.bytes;
-  certificate_is = record {
-    inputs = h.inputs;
-    setting = h.setting;
-    left_over = h.left_over;
-    inputs_are = h.inputs_are;
-    setting_is = h.setting_is;
-    holds = h.holds.puts_are.certificate_is;
-  };
-  holds = of_bytes h.holds.puts_are.bytes h.holds.puts_are.puts_are;
-}
-
--- it was put
-whole_file : (file : List ℕ) (before after : Option Files) (puts : List Put) → after ≡ put_all before puts → (bytes : List ℕ) → puts ≡ record { name = file; bytes = bytes } ∷ [] → after ≡ put_file before file bytes
-whole_file file before after puts e bytes is = e ∙ ap (put_all before) is
-
-part_file : (file : List ℕ) (before after : Option Files) (puts front rest : List Put) (put : Put) → puts ≡ front ++ put ∷ rest → IsPutInPart (put_all before front) after put.name put.bytes → (bytes : List ℕ) → puts ≡ record { name = file; bytes = bytes } ∷ [] → IsPutInPart before after file bytes
-part_file file before after puts front rest put parts h bytes is =
-    let one = one_only front rest (record { name = file; bytes = bytes }) put (sym is ∙ parts) in
-    let there = subst (λ (p : Put). IsPutInPart (put_all before front) after p.name p.bytes) one.1 h in
-    subst (λ (ps : List Put). IsPutInPart (put_all before ps) after file bytes) one.0 there
-
-same_files : (file : List ℕ) (before after : Option Files) (puts front rest : List Put) (put : Put) (bytes : List ℕ) → puts ≡ front ++ put ∷ rest → puts ≡ record { name = file; bytes = bytes } ∷ [] → after ≡ put_all before front → after ≡ before
-same_files file before after puts front rest put bytes parts is e =
-    let one = one_only front rest (record { name = file; bytes = bytes }) put (sym is ∙ parts) in
-    e ∙ ap (put_all before) one.0
-
--- a put failed, or memory ran out for it
-left_unput : (cat load : List ℕ) (budget nodes : ℕ) (file : List ℕ) (words : List (List ℕ)) (reads_before reads_after : ReadCounts) (old new : Outside) (advice : Advice) (puts front rest : List Put) (put : Put) (fault : PutFault) (text : List ℕ) (done : Done) → Answers (Advise cat load budget nodes (Some file)) old.files (Advised advice) → ArePuts (Advise cat load budget nodes (Some file)) old.files words (Advised advice) puts text → puts ≡ front ++ put ∷ rest → done ≡ put_answer fault → new.written ≡ old.written → IsPutFault fault (put_all old.files front) new.files old.put_faults new.put_faults put → Leaves (Advise cat load budget nodes (Some file)) reads_before reads_after old new done
-left_unput cat load budget nodes file words reads_before reads_after old new advice puts front rest put faults.Memory text done answers h parts is unwritten f =
-    subst (Leaves (Advise cat load budget nodes (Some file)) reads_before reads_after old new) (sym is)
-    (same_files file old.files new.files puts front rest put h.holds.puts_are.bytes parts h.holds.puts_are.puts_are f)
-left_unput cat load budget nodes file words reads_before reads_after old new advice puts front rest put faults.Failed text done answers h parts is unwritten f =
-    subst (Leaves (Advise cat load budget nodes (Some file)) reads_before reads_after old new) (sym is)
-    (inr (record {
-      rose = f.1;
-      advice = advice;
-      answers = answers;
-      files_are = certified cat load budget nodes file old.files words advice puts text _ h (part_file file old.files new.files puts front rest put parts f.0);
-      unwritten = unwritten;
-    }))
-
--- an answer that is advice
-abbrev IsAdvised : Done → Type 0
-IsAdvised (Advised advice) = Unit {0}
-IsAdvised done = ⊥
-
--- advice was to be told
-left_put : (cat load : List ℕ) (budget nodes : ℕ) (file : List ℕ) (words : List (List ℕ)) (reads_before reads_after : ReadCounts) (old new : Outside) (advice : Advice) (puts : List Put) (text : List ℕ) (done : Done) → Answers (Advise cat load budget nodes (Some file)) old.files (Advised advice) → ArePuts (Advise cat load budget nodes (Some file)) old.files words (Advised advice) puts text → Ends old new (Advised advice) puts text done → Leaves (Advise cat load budget nodes (Some file)) reads_before reads_after old new done
-left_put cat load budget nodes file words reads_before reads_after old new advice puts text done answers h (inl whole) =
-    subst (Leaves (Advise cat load budget nodes (Some file)) reads_before reads_after old new) (sym whole.stands)
-    (certified cat load budget nodes file old.files words advice puts text _ h (whole_file file old.files new.files puts whole.files_are))
-left_put cat load budget nodes file words reads_before reads_after old new advice puts text done answers h (inr (inl unwritten)) =
-    subst (Leaves (Advise cat load budget nodes (Some file)) reads_before reads_after old new) (sym unwritten.fault)
-    (inl (record {
-      rose = unwritten.rose;
-      told = Advised advice;
-      some = λ e. subst IsAdvised e tt;
-      may = answers;
-      files_are = certified cat load budget nodes file old.files words advice puts text _ h (whole_file file old.files new.files puts unwritten.files_are);
-    }))
-left_put cat load budget nodes file words reads_before reads_after old new advice puts text done answers h (inr (inr unput)) =
-    let u = unput.unput in
-    left_unput cat load budget nodes file words reads_before reads_after old new advice puts u.front u.rest u.put unput.fault text done answers h u.puts_are unput.done_is unput.unwritten u.files_are
+use Rattle.cophy_core.specs.Answers.{files_put, OfSetting}
+use Rattle.cophy_core.specs.CommandLine.{PlainCommand, command_of}
+use Rattle.cophy_core.specs.Endings.{Put, Outside, put_all, put_answer, IsPutFault, EndsUnput, Ends}
+use Rattle.cophy_core.specs.Left.{IsCutShort, IsPut, LeavesFront, Leaves, LeavesFilesTo, LeavesFiles}
+use Rattle.cophy_core.specs.Replies.{MayAnswerWords, ArePuts, ArePutsTo, IsGiven, IsReply, IsRun}
+use Rattle.cophy_core.proofs.CauseLemmas.{all_put, no_puts, names_of, no_write_fault, Ended, ended}
 
 -- ## Nothing is put
 
--- want of memory has no text
-some_answer : (command : PlainCommand) (files : Option Files) (words : List (List ℕ)) (reply : Done) (text : List ℕ) → IsTextOf command files words reply text → 0 < length text → reply ≢ Memory
-some_answer command files words reply text told some e =
-    let none : text ≡ [] = subst (λ (d : Done). IsTextOf command files words d text) e told in
-    omega (arith, ap length none, some)
+files_stay : (words : List (List ℕ)) (before after : Outside) (told : Done) (puts : List Put) (text : List ℕ) (done : Done) → puts ≡ [] → Ends before after told puts text done → after.files ≡ before.files
+files_stay words before after told puts text done none (inl whole) = whole.files_are ∙ ap (put_all before.files) none
+files_stay words before after told puts text done none (inr (inl cut)) = cut.files_are ∙ ap (put_all before.files) none
+files_stay words before after told puts text done none (inr (inr unput)) = absurd (all_put before after puts done none unput)
 
-pub files_stay : (old new : Outside) (reply : Done) (puts : List Put) (text : List ℕ) (done : Done) → puts ≡ [] → Ends old new reply puts text done → new.files ≡ old.files
-files_stay old new reply puts text done none (inl whole) = whole.files_are ∙ ap (put_all old.files) none
-files_stay old new reply puts text done none (inr (inl unwritten)) = unwritten.files_are ∙ ap (put_all old.files) none
-files_stay old new reply puts text done none (inr (inr unput)) = absurd (all_put old new puts done none unput)
+-- ## One file is put
 
--- an answer that is no advice
-abbrev IsOther : Done → Type 0
-IsOther (Advised advice) = ⊥
-IsOther done = Unit {0}
+-- one put at most has none before it
+none_before : (front rest : List Put) (put : Put) (name : List ℕ) → map (λ put. put.name) (front ++ put ∷ rest) ≡ name ∷ [] → front ≡ []
+none_before [] rest put name e = refl
+none_before (first ∷ []) rest put name e = absurd cc
+none_before (first ∷ second ∷ front) rest put name e = absurd cc
 
-same_for : (command : PlainCommand) (file : List ℕ) (before after : Option Files) (reply : Done) → IsOther reply → after ≡ before → IsPutFor command file before after reply
-same_for command file before after (Advised advice) other e = absurd other
-same_for command file before after reply other e = e
+unput_front : (before after : Option Files) (a b : ℕ) (put : Put) (fault : PutFault) → put_answer fault ≡ Memory → IsPutFault fault before after a b put → after ≡ before
+unput_front before after a b put faults.Memory e h = h
+unput_front before after a b put faults.Failed e h = absurd cc
 
-same_left : (cat load : List ℕ) (budget nodes : ℕ) (file : List ℕ) (reads_before reads_after : ReadCounts) (old new : Outside) (reply : Done) → IsOther reply → MayAnswer (Advise cat load budget nodes (Some file)) old.files reads_before reads_after reply → new.files ≡ old.files → Leaves (Advise cat load budget nodes (Some file)) reads_before reads_after old new reply
-same_left cat load budget nodes file reads_before reads_after old new (Advised advice) other may e = absurd other
-same_left cat load budget nodes file reads_before reads_after old new WriteFault other may e =
-    absurd (no_write_fault (Ok (Advise cat load budget nodes (Some file))) old.files reads_before reads_after may)
-same_left cat load budget nodes file reads_before reads_after old new reply other may e = e
+-- so want of memory leaves the files as they were
+one_stays : (name : List ℕ) (before after : Outside) (puts : List Put) (done : Done) → (map (λ put. put.name) puts ≡ name ∷ []) ⊎ (puts ≡ []) → done ≡ Memory → EndsUnput before after puts done → after.files ≡ before.files
+one_stays name before after puts done (inr none) is unput = absurd (all_put before after puts done none unput)
+one_stays name before after puts done (inl named) is unput =
+    let u = unput.unput in
+    let same : u.front ≡ [] = none_before u.front u.rest u.put name (ap (map (λ (put : Put). put.name)) (sym u.puts_are) ∙ named) in
+    unput_front (put_all before.files u.front) after.files before.put_faults after.put_faults u.put unput.fault (sym unput.done_is ∙ is) u.files_are
+    ∙ ap (put_all before.files) same
 
-left_other : (cat load : List ℕ) (budget nodes : ℕ) (file : List ℕ) (words : List (List ℕ)) (reads_before reads_after : ReadCounts) (old new : Outside) (reply : Done) (puts : List Put) (text : List ℕ) (done : Done) → IsOther reply → MayAnswer (Advise cat load budget nodes (Some file)) old.files reads_before reads_after reply → IsTextOf (Advise cat load budget nodes (Some file)) old.files words reply text → puts ≡ [] → Ends old new reply puts text done → Leaves (Advise cat load budget nodes (Some file)) reads_before reads_after old new done
-left_other cat load budget nodes file words reads_before reads_after old new reply puts text done other may told none (inl whole) =
-    subst (Leaves (Advise cat load budget nodes (Some file)) reads_before reads_after old new) (sym whole.stands)
-    (same_left cat load budget nodes file reads_before reads_after old new reply other may (whole.files_are ∙ ap (put_all old.files) none))
-left_other cat load budget nodes file words reads_before reads_after old new reply puts text done other may told none (inr (inl unwritten)) =
-    subst (Leaves (Advise cat load budget nodes (Some file)) reads_before reads_after old new) (sym unwritten.fault)
-    (inl (record {
-      rose = unwritten.rose;
-      told = reply;
-      some = some_answer (Advise cat load budget nodes (Some file)) old.files words reply text told unwritten.some;
-      may = may;
-      files_are = same_for (Advise cat load budget nodes (Some file)) file old.files new.files reply other (unwritten.files_are ∙ ap (put_all old.files) none);
-    }))
-left_other cat load budget nodes file words reads_before reads_after old new reply puts text done other may told none (inr (inr unput)) =
-    absurd (all_put old new puts done none unput)
+-- ## Files are put
 
--- ## Commands
+-- an answer for which its files were put
+put_by : (test : Bool) (command : PlainCommand) (words : List (List ℕ)) (before after : Option Files) (done : Done) (puts : List Put) (text : List ℕ) → needs_setting done ≡ test → ArePuts command before words done puts text → after ≡ put_all before puts → MatchBool test (IsPut command words before after done) (after ≡ before)
+put_by true command words before after done puts text is h e = record { puts = puts; text = text; puts_are = h; files_are = e }
+put_by false command words before after done puts text is h e =
+    let none : puts ≡ [] = subst (λ (test : Bool). MatchBool test (OfSetting before command (λ inputs setting. IsGiven command words inputs setting done puts text)) (puts ≡ [])) is h in
+    e ∙ ap (put_all before) none
 
-left_command : (command : PlainCommand) (words : List (List ℕ)) (reads_before reads_after : ReadCounts) (old new : Outside) (reply : Done) (puts : List Put) (text : List ℕ) (done : Done) → MayAnswer command old.files reads_before reads_after reply → IsTextOf command old.files words reply text → ArePuts command old.files words reply puts text → Ends old new reply puts text done → Leaves command reads_before reads_after old new done
-left_command (Advise cat load budget nodes (Some file)) words reads_before reads_after old new (Advised advice) puts text done may told h e =
-    left_put cat load budget nodes file words reads_before reads_after old new advice puts text done may h e
-left_command (Advise cat load budget nodes (Some file)) words reads_before reads_after old new reply puts text done may told h e =
-    left_other cat load budget nodes file words reads_before reads_after old new reply puts text done tt may told h e
-left_command (Advise cat load budget nodes None) words reads_before reads_after old new (Advised advice) puts text done may told h e =
-    files_stay old new (Advised advice) puts text done h.holds.puts_are e
-left_command command words reads_before reads_after old new (Advised advice) puts text done may told h e =
-    files_stay old new (Advised advice) puts text done h.holds.puts_are e
-left_command command words reads_before reads_after old new reply puts text done may told h e = files_stay old new reply puts text done h e
+-- want of memory before anything was put
+stays_front : (names words : List (List ℕ)) (before after : Outside) → after.files ≡ before.files → LeavesFront names words before after
+stays_front [] words before after e = e
+stays_front (name ∷ []) words before after e = e
+stays_front (first ∷ second ∷ names) words before after e = inl e
 
-left_words : (read : Result PlainCommand WordFault) (words : List (List ℕ)) (reads_before reads_after : ReadCounts) (old new : Outside) (reply : Done) (puts : List Put) (text : List ℕ) (done : Done) → MayAnswerWords read old.files reads_before reads_after reply → IsTextTo read old.files words reply text → ArePutsTo read old.files words reply puts text → Ends old new reply puts text done → LeavesFiles read reads_before reads_after old new done
-left_words (Ok command) words reads_before reads_after old new reply puts text done may told h e =
-    left_command command words reads_before reads_after old new reply puts text done may told h e
-left_words (Err fault) words reads_before reads_after old new reply puts text done may told h e = files_stay old new reply puts text done h e
+left_whole : (name : List ℕ) (names : List (List ℕ)) (command : PlainCommand) (words : List (List ℕ)) (before after : Outside) (told : Done) (puts : List Put) (text : List ℕ) → MayAnswerWords (Ok command) before.files before.reads after.reads told → ArePuts command before.files words told puts text → after.files ≡ put_all before.files puts → Leaves (name ∷ names) command words before after told
+left_whole name names command words before after WriteFault puts text may h e = absurd (no_write_fault (Ok command) before.files before.reads after.reads may)
+left_whole name names command words before after Memory puts text may h e = stays_front (name ∷ names) words before after (e ∙ ap (put_all before.files) h)
+left_whole name names command words before after told puts text may h e = put_by (needs_setting told) command words before.files after.files told puts text refl h e
 
-pub left : (words : List (List ℕ)) (reads_before reads_after : ReadCounts) (old new : Outside) (reply : Done) (puts : List Put) (text : List ℕ) (done : Done) → IsReply words old.files reads_before reads_after reply puts text → Ends old new reply puts text done → LeavesFiles (command_of words) reads_before reads_after old new done
-left words reads_before reads_after old new reply puts text done r e =
-    left_words (command_of words) words reads_before reads_after old new reply puts text done r.answers r.text_is r.puts_are e
+left_front : (name : List ℕ) (names : List (List ℕ)) (words : List (List ℕ)) (before after : Outside) (puts : List Put) (done : Done) → (map (λ put. put.name) puts ≡ name ∷ names) ⊎ (puts ≡ []) → done ≡ Memory → EndsUnput before after puts done → IsCutShort words before after done → LeavesFront (name ∷ names) words before after
+left_front name [] words before after puts done named is unput cut = one_stays name before after puts done named is unput
+left_front name (other ∷ names) words before after puts done named is unput cut = inr (subst (IsCutShort words before after) is cut)
+
+left_named : (name : List ℕ) (names : List (List ℕ)) (command : PlainCommand) (words : List (List ℕ)) (before after : Outside) (told : Done) (puts : List Put) (text : List ℕ) (done : Done) → (map (λ put. put.name) puts ≡ name ∷ names) ⊎ (puts ≡ []) → MayAnswerWords (Ok command) before.files before.reads after.reads told → ArePuts command before.files words told puts text → IsReply words before.files before.reads after.reads told puts text → Ended words before after told puts text done → Leaves (name ∷ names) command words before after done
+left_named name names command words before after told puts text done named may h reply (inl whole) =
+    subst (Leaves (name ∷ names) command words before after) (sym whole.stands) (left_whole name names command words before after told puts text may h whole.files_are)
+left_named name names command words before after told puts text done named may h reply (inr (inl cut)) =
+    subst (Leaves (name ∷ names) command words before after) (sym cut.0) (subst (IsCutShort words before after) cut.0 cut.1)
+left_named name names command words before after told puts text done named may h reply (inr (inr want)) =
+    subst (Leaves (name ∷ names) command words before after) (sym want.0)
+    (left_front name names words before after puts done named want.0 want.1 (record { told = told; puts = puts; text = text; reply_is = reply; ends = inr want.1 }))
+
+-- ## The whole
+
+left_command : (names : List (List ℕ)) (command : PlainCommand) (words : List (List ℕ)) (before after : Outside) (told : Done) (puts : List Put) (text : List ℕ) (done : Done) → files_put command ≡ names → MayAnswerWords (Ok command) before.files before.reads after.reads told → ArePuts command before.files words told puts text → IsReply words before.files before.reads after.reads told puts text → Ends before after told puts text done → Ended words before after told puts text done → Leaves names command words before after done
+left_command [] command words before after told puts text done are may h reply ends how =
+    files_stay words before after told puts text done (no_puts command before.files words told puts text are h) ends
+left_command (name ∷ names) command words before after told puts text done are may h reply ends how =
+    let named = subst (λ (ns : List (List ℕ)). (map (λ put. put.name) puts ≡ ns) ⊎ (puts ≡ [])) are (names_of (needs_setting told) command before.files words told puts text h) in
+    left_named name names command words before after told puts text done named may h reply how
+
+left_words : (read : Result PlainCommand WordFault) (words : List (List ℕ)) (before after : Outside) (told : Done) (puts : List Put) (text : List ℕ) (done : Done) → MayAnswerWords read before.files before.reads after.reads told → ArePutsTo read before.files words told puts text → IsReply words before.files before.reads after.reads told puts text → Ends before after told puts text done → Ended words before after told puts text done → LeavesFilesTo read words before after done
+left_words (Ok command) words before after told puts text done may h reply ends how =
+    left_command (files_put command) command words before after told puts text done refl may h reply ends how
+left_words (Err fault) words before after told puts text done may h reply ends how = files_stay words before after told puts text done h ends
+
+pub left : {words : List (List ℕ)} {before after : Outside} {done : Done} → IsRun words before after done → LeavesFiles words before after done
+left {words = words} {before = before} {after = after} {done = done} run =
+    left_words (command_of words) words before after run.told run.puts run.text done run.reply_is.answers run.reply_is.puts_are run.reply_is run.ends (ended run)

@@ -1,4 +1,4 @@
--- A command that is refused over its files has no other answer.
+-- A command that is refused over its files has no other answer, and a check has one.
 use Rattle.std.proofs.Common.{◌≡◌, ℕ, ◌≤◌, List, length, Some, Ok, Err, sym, ap, subst, ◌∙◌, arith}
 use Rattle.adv_base.specs.declared.catalogue.Catalogue.{Catalogue}
 use Rattle.adv_base.specs.declared.limits.TheConstants.{MOST_CANDIDATES}
@@ -17,10 +17,11 @@ use Rattle.sql_reader.proofs.Unique.{one_workload, workload_or_fault, one_sql_fa
 use Rattle.sql_reader.specs.declared.parsed.ParsedStatement.{ParsedStatement}
 use Rattle.sql_reader.specs.declared.parsed.SqlFault.{SqlFault}
 use Rattle.cophy_core.specs.Answers.{RefusesOver, GivesOver, OfFiles, OfSetting, Answers}
-use Rattle.cophy_core.specs.CommandLine.{PlainCommand, WhatIf, Explain, Advise, Bench}
+use Rattle.cophy_core.specs.CommandLine.{PlainCommand, WhatIf, Explain, Advise, Check, Bench}
 use Rattle.cophy_core.specs.Files.{InputFile, AreInputs, IsTooLong, files_of, input}
 use Rattle.cophy_core.specs.Inputs.{HasInputs}
 use Rattle.cophy_core.specs.Settings.{IsCatalogueOf, IsSetting, HasCatFault, IsSqlRefusal, IsBindRefusal}
+use Rattle.cophy_core.specs.commands.Check.{OneAnswer}
 use Rattle.cophy_core.proofs.Combinations.{none_beyond, one_beyond}
 use Rattle.cophy_core.proofs.FilesRead.{one_each, none_long, one_long}
 use Rattle.cophy_core.proofs.Lines.{not_nothing, conf_or_fault, one_conf_fault}
@@ -238,3 +239,11 @@ refusal_alone command files (Cat fault) done a b = cat_alone command files fault
 refusal_alone command files (Sql fault) done a b = sql_alone command files fault done a b
 refusal_alone command files (Bind fault) done a b = bind_alone command files fault done a b
 refusal_alone command files why done a b = own_alone command files why done a b
+
+-- a check has one answer
+pub check_alone : OneAnswer → (cat load cert : List ℕ) (files : Files) (done other : Done) → Answers (Check cat load cert) (Some files) done → Answers (Check cat load cert) (Some files) other → done ≡ other
+check_alone one cat load cert files (Refused why) other a b = sym (refusal_alone (Check cat load cert) files why other a b)
+check_alone one cat load cert files done (Refused why) a b = refusal_alone (Check cat load cert) files why done b a
+check_alone one cat load cert files done other a b =
+    one b.setting (input b.inputs 2) done other
+    (over_setting (Check cat load cert) files (GivenAt (Check cat load cert) done) (GivenAt (Check cat load cert) other) a b) b.holds

@@ -1,5 +1,5 @@
 -- What each command answers over the files.
-use Rattle.std.specs.Prelude.{◌≡◌, ℕ, List, [], Option}
+use Rattle.std.specs.Prelude.{◌≡◌, ℕ, List, [], Option, option_to_list}
 use Rattle.adv_shelf.specs.Shelf.{Files}
 use Rattle.adv_base.specs.Settings.{TheSetting}
 use Rattle.report.specs.declared.done.Done.{Done}
@@ -37,6 +37,11 @@ GivesOver (Explain cat load conf number) inputs setting done = explain.Gives num
 GivesOver (Advise cat load budget nodes cert) inputs setting done = advise.Gives budget nodes setting done
 GivesOver (Check cat load cert) inputs setting done = check.Gives (input inputs 2) setting done
 GivesOver (Bench seed tables statements budget) inputs setting done = bench.Gives budget setting done
+
+-- the names of the files that a command puts, in turn
+abbrev pub files_put : PlainCommand → List (List ℕ)
+files_put (Advise cat load budget nodes cert) = option_to_list cert
+files_put command = []
 
 -- what a command puts for an answer over a setting
 abbrev pub PutsOver : PlainCommand → TheSetting → Done → List Put → Type 0

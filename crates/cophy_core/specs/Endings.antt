@@ -1,5 +1,5 @@
 -- How a run ends: files are put, one after the other, and then the text is written.
-use Rattle.std.specs.Prelude.{◌≡◌, ℕ, ◌<◌, ◌⊎◌, List, [], ◌∷◌, ◌++◌, length, map, Option}
+use Rattle.std.specs.Prelude.{◌≡◌, ℕ, ◌<◌, ◌⊎◌, List, [], ◌∷◌, ◌++◌, length, map, Option, string_bytes}
 use Rattle.adv_shelf.specs.Faults.{Rose}
 use Rattle.adv_shelf.specs.Shelf.{Files, IsPutInPart, put_file}
 use Rattle.adv_shelf.specs.Sink.{append_to, AppendsPrefix}
@@ -8,6 +8,7 @@ use Rattle.report.specs.declared.done.Done.TheVariants.{WriteFault, Memory}
 use Rattle.adv_shelf.specs.declared.shelf.PutFault.{PutFault}
 use Rattle.adv_shelf.specs.declared.shelf.PutFault.TheVariants as faults
 use Rattle.cophy_core.specs.declared.worked.FilePut.{FilePut}
+use Rattle.cophy_core.specs.Files.{ReadCounts}
 
 -- a file to be put
 pub record Put : Type 0 where
@@ -15,22 +16,25 @@ pub record Put : Type 0 where
   pub bytes : List ℕ
 
 abbrev pub plain_puts : List FilePut → List Put
-plain_puts puts = map (λ put. record { name = put.name.now; bytes = put.bytes }) puts
+plain_puts puts = map (λ put. record { name = string_bytes put.name; bytes = put.bytes }) puts
 
 -- the files after these were put, in turn
 abbrev pub put_all : Option Files → List Put → Option Files
 put_all files [] = files
 put_all files (put ∷ puts) = put_all (put_file files put.name put.bytes) puts
 
--- what a run finds or leaves: the shelf's files and its count of failed puts, the bytes on the sink and its count
+-- what a run finds or leaves: the shelf's files, its counts of failed reads and of failed puts, the bytes on the sink, and
+-- its count of failed writes
 pub record Outside : Type 0 where
   pub files : Option Files
+  pub reads : ReadCounts
   pub put_faults : ℕ
   pub written : Option (List ℕ)
   pub faults : ℕ
 
-abbrev pub outside : Option Files → ℕ → Option (List ℕ) → ℕ → Outside
-outside files put_faults written faults = record { files = files; put_faults = put_faults; written = written; faults = faults }
+abbrev pub outside : Option Files → ReadCounts → ℕ → Option (List ℕ) → ℕ → Outside
+outside files reads put_faults written faults =
+    record { files = files; reads = reads; put_faults = put_faults; written = written; faults = faults }
 
 -- all files were put and all of the text was written, and the answer stands
 pub record EndsWhole (before after : Outside) (reply : Done) (puts : List Put) (text : List ℕ) (done : Done) : Type 0 where

@@ -25,6 +25,7 @@ use Rattle.tuning.specs.Refusals.{AreFew}
 use Rattle.cophy_core.specs.commands.Advise.{IsAdvice, IsCertificateOf}
 use Rattle.cophy_core.specs.commands.Check as check
 use Rattle.cophy_core.specs.Answers.{Answers}
+use Rattle.cophy_core.specs.Endings.{Outside}
 use Rattle.cophy_core.specs.Files.{IsInput, AreInputs, input_file, setting_files}
 use Rattle.cophy_core.specs.CommandLine.{PlainCommand, Advise, Check}
 use Rattle.cophy_core.specs.Settings.{IsSetting, IsSettingRefusal}
@@ -84,13 +85,13 @@ abbrev pub proved : Asked → Answer → Done
 proved asked answer = Checked (record { budget = asked.budget; cost = answer.cost; bound = answer.bound })
 
 -- The file holds the certificate of the answer, and every other file is as it was. Unless it took the place of the catalogue
--- or the workload, `check` of these files and that one finds the budget, the cost and the bound proved; and over the setting it
--- finds nothing else.
+-- or the workload, `check` of these files and that one finds the budget, the cost and the bound proved, and nothing else.
 pub record IsCertified (setting : TheSetting) (files : Files) (asked : Asked) (file : List ℕ) (answer : Answer) (after : Option Files) : Type 0 where
   pub bytes : List ℕ
   pub certificate_is : IsCertificateOf setting asked.budget answer bytes
   pub files_are : after ≡ put_file (Some files) file bytes
   pub accepted : file ≢ asked.cat → file ≢ asked.load → Answers (Check asked.cat asked.load file) after (proved asked answer)
+  pub alone : file ≢ asked.cat → file ≢ asked.load → (done : Done) → Answers (Check asked.cat asked.load file) after done → done ≡ proved asked answer
   pub nothing_else : (done : Done) → check.Gives bytes setting done → done ≡ proved asked answer
 
 -- where a file is named for it; else no file changes
@@ -100,8 +101,8 @@ Certifies None setting files asked answer after = after ≡ Some files
 
 -- ## The whole
 
--- what a run with these words leaves: a status, the shelf's files, and the bytes on the sink behind those that were there
-pub record Headline (words : List (List ℕ)) (files : Files) (asked : Asked) (written : Option (List ℕ)) (status : ℕ) (files_after : Option Files) (written_after : Option (List ℕ)) : Type 0 where
+-- what a run with these words finds, leaves and answers, with this status
+pub record Headline (words : List (List ℕ)) (files : Files) (asked : Asked) (before after : Outside) (status : ℕ) (done : Done) : Type 0 where
   pub cat_bytes : List ℕ
   pub load_bytes : List ℕ
   pub setting : TheSetting
@@ -109,8 +110,9 @@ pub record Headline (words : List (List ℕ)) (files : Files) (asked : Asked) (w
   pub inputs_are : AreInputs (Some files) (setting_files asked.cat asked.load) (cat_bytes ∷ load_bytes ∷ [])
   pub setting_is : IsSetting cat_bytes load_bytes setting left_over
   pub advice : Advice
+  pub done_is : done ≡ Advised advice
   pub advice_is : IsAdvice asked.budget asked.nodes setting advice
-  pub printed : written_after ≡ append_to written (done_text words (Some setting) (Advised advice))
+  pub printed : after.written ≡ append_to before.written (done_text words (Some setting) (Advised advice))
   pub bounded : IsPriced setting asked.budget advice.answer
   pub ended : IsEnd setting asked.budget asked.nodes advice.answer status
-  pub certified : Certifies asked.cert setting files asked advice.answer files_after
+  pub certified : Certifies asked.cert setting files asked advice.answer after.files

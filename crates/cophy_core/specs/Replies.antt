@@ -1,14 +1,15 @@
 -- An answer that may be given to words, and its text.
-use Rattle.std.specs.Prelude.{◌≡◌, ℕ, List, [], Option, Some, None, Result, Ok, Err}
+use Rattle.std.specs.Prelude.{◌≡◌, ℕ, List, [], map, MatchBool, Option, Some, None, Result, Ok, Err}
 use Rattle.adv_base.specs.Settings.{TheSetting}
 use Rattle.adv_shelf.specs.Shelf.{Files}
+use Rattle.report.specs.Advices.{needs_setting}
 use Rattle.report.specs.Texts.{done_text}
 use Rattle.report.specs.declared.done.Done.{Done}
-use Rattle.report.specs.declared.done.Done.TheVariants.{Usage, ReadFault, Memory, Priced, Listed, Advised, Benched}
+use Rattle.report.specs.declared.done.Done.TheVariants.{Usage, ReadFault, Memory}
 use Rattle.report.specs.declared.done.WordFault.{WordFault}
-use Rattle.cophy_core.specs.Answers.{GivesOver, PutsOver, OfSetting, Answers}
+use Rattle.cophy_core.specs.Answers.{GivesOver, files_put, PutsOver, OfSetting, Answers}
 use Rattle.cophy_core.specs.CommandLine.{PlainCommand, command_of}
-use Rattle.cophy_core.specs.Endings.{Put}
+use Rattle.cophy_core.specs.Endings.{Put, Outside, Ends}
 use Rattle.cophy_core.specs.Files.{files_of, ReadCounts, IsReadFault}
 
 -- What may be answered to a command between these counts of faults: a read fault, want of memory, or what the files
@@ -25,35 +26,30 @@ MayAnswerWords (Err fault) files before after (Usage told) = told ≡ fault
 MayAnswerWords (Err fault) files before after Memory = Unit {0}
 MayAnswerWords (Err fault) files before after done = ⊥
 
--- the text of an answer to a command: prices, candidates and advice are told over its setting
+-- the text of an answer to a command, told over its setting where it needs one
 abbrev pub IsTextOf : PlainCommand → Option Files → List (List ℕ) → Done → List ℕ → Type 0
-IsTextOf command files words (Priced prices) text =
-    OfSetting files command (λ inputs setting. text ≡ done_text words (Some setting) (Priced prices))
-IsTextOf command files words (Listed found) text =
-    OfSetting files command (λ inputs setting. text ≡ done_text words (Some setting) (Listed found))
-IsTextOf command files words (Advised advice) text =
-    OfSetting files command (λ inputs setting. text ≡ done_text words (Some setting) (Advised advice))
-IsTextOf command files words (Benched bench) text =
-    OfSetting files command (λ inputs setting. text ≡ done_text words (Some setting) (Benched bench))
-IsTextOf command files words done text = text ≡ done_text words None done
+IsTextOf command files words done text =
+    MatchBool (needs_setting done) (OfSetting files command (λ inputs setting. text ≡ done_text words (Some setting) done))
+    (text ≡ done_text words None done)
 
 -- the same to words
 abbrev pub IsTextTo : Result PlainCommand WordFault → Option Files → List (List ℕ) → Done → List ℕ → Type 0
 IsTextTo (Ok command) files words done text = IsTextOf command files words done text
 IsTextTo (Err fault) files words done text = text ≡ done_text words None done
 
--- what a command gives over a setting, what it puts for that, and the text
+-- what a command gives over a setting, what it puts for that, which are its files in turn, and the text
 pub record IsGiven (command : PlainCommand) (words : List (List ℕ)) (inputs : List (List ℕ)) (setting : TheSetting) (done : Done) (puts : List Put) (text : List ℕ) : Type 0 where
   pub gives : GivesOver command inputs setting done
   pub puts_are : PutsOver command setting done puts
+  pub names_are : map (λ put. put.name) puts ≡ files_put command
   pub text_is : text ≡ done_text words (Some setting) done
 
--- what is put for an answer to a command: for advice what the command puts, over one setting with the advice and its text;
--- nothing for all other answers
+-- what is put for an answer to a command: where its text needs a setting, what the command puts, over one setting with the
+-- answer and that text; nothing for all other answers
 abbrev pub ArePuts : PlainCommand → Option Files → List (List ℕ) → Done → List Put → List ℕ → Type 0
-ArePuts command files words (Advised advice) puts text =
-    OfSetting files command (λ inputs setting. IsGiven command words inputs setting (Advised advice) puts text)
-ArePuts command files words done puts text = puts ≡ []
+ArePuts command files words done puts text =
+    MatchBool (needs_setting done) (OfSetting files command (λ inputs setting. IsGiven command words inputs setting done puts text))
+    (puts ≡ [])
 
 -- the same to words
 abbrev pub ArePutsTo : Result PlainCommand WordFault → Option Files → List (List ℕ) → Done → List Put → List ℕ → Type 0
@@ -71,3 +67,11 @@ pub record IsReply (words : List (List ℕ)) (files : Option Files) (before afte
   pub answers : MayAnswerWords (command_of words) files before after done
   pub puts_are : ArePutsTo (command_of words) files words done puts text
   pub text_is : IsTextTo (command_of words) files words done text
+
+-- a run: a reply to the words, and how it ended
+pub record IsRun (words : List (List ℕ)) (before after : Outside) (done : Done) : Type 0 where
+  pub told : Done
+  pub puts : List Put
+  pub text : List ℕ
+  pub reply_is : IsReply words before.files before.reads after.reads told puts text
+  pub ends : Ends before after told puts text done

@@ -1,6 +1,7 @@
 //! From words to an answer with its text.
 ghost use Rattle.std.specs.Prelude.{◌≡◌, ◌≤◌, ℕ, List, Some, Ok, IfOk, IfErr};
 ghost use Rattle.adv_base.specs.Settings.{the_setting};
+ghost use Rattle.candidates.specs.Candidates.{AreCandidates};
 ghost use Rattle.report.specs.Texts.{FitsSetting};
 ghost use Rattle.cophy_core.specs.Answers.{RefusesOver, GivesOver, PutsOver};
 ghost use Rattle.cophy_core.specs.Causes.{IsBounded};
@@ -30,14 +31,17 @@ use adv_shelf::Shelf;
 use report::{Done, text};
 use std::alloc::Global;
 
-/// What a command gives over the bytes that it answers from and their setting, and the files that it puts for that.
-fn work<'a>(
+/// What a command gives over the bytes that it answers from and their setting, whose workload proposes `left_over` indexes
+/// more, and the files that it puts for that.
+fn work(
     alloc: Global,
-    command: &Command<'a>,
+    command: &Command<'_>,
     inputs: &List<Bytes>,
     setting: &Setting<'_>,
-) -> Result<Worked<'a>, Stop>
-    requires { IsInRange (plain_command command.now) }
+    left_over: u64,
+) -> Result<Worked, Stop>
+    requires range { IsInRange (plain_command command.now) }
+    requires found { AreCandidates setting.now.cat.now setting.now.statements.now setting.now.shapes.now left_over }
     ensures gives { IfOk result (λ worked. GivesOver (plain_command command.now) inputs.now (the_setting setting.now) worked.done) }
     ensures puts { IfOk result (λ worked. PutsOver (plain_command command.now) (the_setting setting.now) worked.done (plain_puts worked.puts)) }
     ensures fits { IfOk result (λ worked. FitsSetting (Some (the_setting setting.now)) worked.done) }
@@ -58,7 +62,7 @@ fn work<'a>(
             Ok(Worked::alone(alloc, done))
         }
         Command::Candidates { .. } => {
-            let done = list_candidates(alloc, setting)?;
+            let done = list_candidates(alloc, setting, left_over)?;
             Ok(Worked::alone(alloc, done))
         }
         Command::Advise {
@@ -66,25 +70,25 @@ fn work<'a>(
             nodes,
             cert,
             ..
-        } => advise(alloc, setting, budget, nodes, cert),
+        } => advise(alloc, setting, left_over, budget, nodes, cert),
         Command::Check { .. } => {
             let done = check(alloc, setting, bytes_at(inputs, 2))?;
             Ok(Worked::alone(alloc, done))
         }
         Command::Bench { budget, .. } => {
-            let done = bench(alloc, setting, budget)?;
+            let done = bench(alloc, setting, left_over, budget)?;
             Ok(Worked::alone(alloc, done))
         }
     }
 }
 
 /// The answer to a command with its text, or why there is none.
-fn answer<'a, S: Shelf>(
+fn answer<S: Shelf>(
     alloc: Global,
     words: &[String],
     shelf: &mut S,
-    command: &Command<'a>,
-) -> Result<Reply<'a>, Stop>
+    command: &Command<'_>,
+) -> Result<Reply, Stop>
     requires { IsInRange (plain_command command.now) }
     ensures reply { IfOk result (λ reply. Replies (plain_command command.now) (S.files shelf.old) (texts words.now) reply.done (plain_puts reply.puts) reply.text) }
     ensures bound { IfOk result (λ reply. IsBounded reply.done) }
@@ -99,7 +103,7 @@ fn answer<'a, S: Shelf>(
     let inputs = inputs_of(alloc, shelf, command)?;
     let opened = open(alloc, bytes_at(&inputs, 0), bytes_at(&inputs, 1))?;
     let setting = opened.setting();
-    let worked = work(alloc, command, &inputs, &setting)?;
+    let worked = work(alloc, command, &inputs, &setting, opened.left_over)?;
     let text = text(alloc, &worked.done, words, Some(&setting))?;
     Ok(Reply {
         done: worked.done,
@@ -109,12 +113,12 @@ fn answer<'a, S: Shelf>(
 }
 
 /// The reply to the words of a command.
-fn reply_to<'a, S: Shelf>(
+fn reply_to<S: Shelf>(
     alloc: Global,
     words: &[String],
     shelf: &mut S,
-    command: &Command<'a>,
-) -> Reply<'a>
+    command: &Command<'_>,
+) -> Reply
     requires { command_of (texts words.now) ≡ Ok (plain_command command.now) }
     ensures reply { IsReply (texts words.now) (S.files shelf.old)
         (counts (S.read_faults shelf.old) (S.read_faults_at shelf.old)) (counts (S.read_faults shelf.new) (S.read_faults_at shelf.new))
@@ -133,7 +137,7 @@ fn reply_to<'a, S: Shelf>(
 }
 
 /// The reply to words.
-pub(crate) fn reply<'a, S: Shelf>(alloc: Global, words: &'a [String], shelf: &mut S) -> Reply<'a>
+pub(crate) fn reply<S: Shelf>(alloc: Global, words: &[String], shelf: &mut S) -> Reply
     ensures reply { IsReply (texts words.now) (S.files shelf.old)
         (counts (S.read_faults shelf.old) (S.read_faults_at shelf.old)) (counts (S.read_faults shelf.new) (S.read_faults_at shelf.new))
         result.done (plain_puts result.puts) result.text }

@@ -5,6 +5,7 @@ ghost use Rattle.adv_shelf.specs.Sink.{append_to, AppendsPrefix};
 ghost use Rattle.report.specs.Texts.{done_text, FitsSetting};
 ghost use Rattle.cophy_core.specs.Causes.{IsBounded};
 ghost use Rattle.cophy_core.specs.CommandLine.{texts};
+ghost use Rattle.cophy_core.specs.Files.{counts};
 ghost use Rattle.cophy_core.specs.Endings.{outside, plain_puts, put_all, Ends, IsUnput};
 
 use crate::worked::FilePut;
@@ -15,15 +16,15 @@ use std::alloc::Global;
 
 /// An answer, the files that are put for it, and its text.
 #[derive(Drop)]
-pub(crate) struct Reply<'a> {
+pub(crate) struct Reply {
     pub done: Done,
-    pub puts: List<FilePut<'a>>,
+    pub puts: List<FilePut>,
     pub text: Bytes,
 }
 
-impl<'a> Reply<'a> {
+impl Reply {
     /// An answer that speaks of no setting; want of memory, where there is none for its text.
-    pub(crate) fn plain(alloc: Global, words: &[String], done: Done) -> Reply<'a>
+    pub(crate) fn plain(alloc: Global, words: &[String], done: Done) -> Reply
         requires fits { FitsSetting None done }
         requires bound { IsBounded done }
         ensures done { (result.done ≡ done) ⊎ (result.done ≡ Done.Memory) }
@@ -49,7 +50,7 @@ impl<'a> Reply<'a> {
 }
 
 /// Puts files, one after the other.
-fn put_each<S: Shelf>(shelf: &mut S, puts: &[FilePut<'_>]) -> Result<(), PutFault>
+fn put_each<S: Shelf>(shelf: &mut S, puts: &[FilePut]) -> Result<(), PutFault>
     ensures ok { OnOk result (S.files shelf.new ≡ put_all (S.files shelf.old) (plain_puts puts.now)) }
     ensures err { IfErr result (IsUnput (S.files shelf.old) (S.files shelf.new) (S.put_faults shelf.old) (S.put_faults shelf.new) (plain_puts puts.now)) }
     ensures counts { S.put_faults shelf.old ≤ S.put_faults shelf.new }
@@ -58,7 +59,7 @@ fn put_each<S: Shelf>(shelf: &mut S, puts: &[FilePut<'_>]) -> Result<(), PutFaul
 {
     'puts: for at in 0..puts.len() {
         let file = &puts[at];
-        shelf.put(file.name, file.bytes.as_slice())?;
+        shelf.put(file.name.as_str(), file.bytes.as_slice())?;
     }
     Ok(())
 }
@@ -78,10 +79,10 @@ fn write_text<O: Sink>(out: &mut O, text: &[u8]) -> Result<(), Failed>
 }
 
 /// Puts a reply's files and writes its text, and answers what it answers, or why that could not be done.
-pub(crate) fn give<S: Shelf, O: Sink>(shelf: &mut S, out: &mut O, reply: Reply<'_>) -> Done
-    ensures ends { Ends (outside (S.files shelf.old) (S.put_faults shelf.old) (O.written out.old) (O.faults out.old))
-        (outside (S.files shelf.new) (S.put_faults shelf.new) (O.written out.new) (O.faults out.new))
-        reply.entry.done (plain_puts reply.entry.puts) reply.entry.text result }
+pub(crate) fn give<S: Shelf, O: Sink>(shelf: &mut S, out: &mut O, reply: Reply) -> Done
+    ensures ends { Ends (outside (S.files shelf.old) (counts (S.read_faults shelf.old) (S.read_faults_at shelf.old)) (S.put_faults shelf.old) (O.written out.old) (O.faults out.old))
+        (outside (S.files shelf.new) (counts (S.read_faults shelf.new) (S.read_faults_at shelf.new)) (S.put_faults shelf.new) (O.written out.new) (O.faults out.new))
+        reply.done (plain_puts reply.puts) reply.text result }
     ensures puts { S.put_faults shelf.old ≤ S.put_faults shelf.new }
     ensures faults { O.faults out.old ≤ O.faults out.new }
     ensures reads { S.read_faults shelf.new ≡ S.read_faults shelf.old }

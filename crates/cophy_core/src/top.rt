@@ -2,15 +2,17 @@
 ghost use Rattle.std.specs.Prelude.{◌≡◌, ◌≢◌, ◌≤◌, ◌⊎◌, ℕ, List, Some, Ok, Err};
 ghost use Rattle.adv_shelf.specs.Shelf.{Files};
 ghost use Rattle.report.specs.declared.done.WordFault.{WordFault};
-ghost use Rattle.cophy_core.specs.Causes.{advice_status_of, status_of, IsOrMemory, IsSteady, UsageIsTrue, ReadFaultIsTrue, WriteFaultIsTrue, RefusalIsTrue, NotProvedIsTrue, GapIsTrue, MemoryWritesNothing, IsSound, IsWritten, IsBounded};
+ghost use Rattle.cophy_core.specs.Causes.{gap_status, status_of, IsAnswered, IsOrMemory, IsSteady, UsageIsTrue, ReadFaultIsTrue, WriteFaultIsTrue, RefusalIsTrue, NotProvedIsTrue, GapIsTrue, MemoryWritesNothing, IsSound, IsWritten, IsBounded};
 ghost use Rattle.cophy_core.specs.Answers.{Answers};
 ghost use Rattle.cophy_core.specs.CommandLine.{texts, PlainCommand, command_of};
 ghost use Rattle.cophy_core.specs.Endings.{outside};
 ghost use Rattle.cophy_core.specs.Files.{counts};
 ghost use Rattle.cophy_core.specs.Headline.{Asked, asked_command, IsAccepted, Headline};
 ghost use Rattle.cophy_core.specs.Left.{LeavesFiles};
+ghost use Rattle.cophy_core.specs.Replies.{IsRun};
 
 use crate::answer::reply;
+use crate::laws::checks_stand_alone;
 use crate::reply::give;
 use adv_shelf::{Shelf, Sink};
 use certificate::{texts_are_one, written_certificates_fit};
@@ -27,7 +29,7 @@ pub struct Outcome {
 
 /// The exit status of advice: 1 where a gap is left between bound and cost.
 fn advice_status(advice: &Advice) -> u8
-    ensures { result ≡ advice_status_of advice.now }
+    ensures { result ≡ gap_status advice.now.answer.cost advice.now.answer.bound }
 {
     let answer = &advice.answer;
     if answer.bound >= 0 && answer.bound as u128 == answer.cost {
@@ -57,6 +59,22 @@ fn status(done: &Done) -> u8
     }
 }
 
+/// Replies to the words: puts the files of the reply and writes its text.
+fn carry_out<S: Shelf, O: Sink>(alloc: Global, words: &[String], shelf: &mut S, out: &mut O) -> Done
+    ensures run { IsRun (texts words.now)
+        (outside (S.files shelf.old) (counts (S.read_faults shelf.old) (S.read_faults_at shelf.old)) (S.put_faults shelf.old) (O.written out.old) (O.faults out.old))
+        (outside (S.files shelf.new) (counts (S.read_faults shelf.new) (S.read_faults_at shelf.new)) (S.put_faults shelf.new) (O.written out.new) (O.faults out.new)) result }
+    ensures bound { IsBounded result }
+
+    ensures puts { S.put_faults shelf.old ≤ S.put_faults shelf.new }
+    ensures reads { S.read_faults shelf.old ≤ S.read_faults shelf.new }
+    ensures reads_at { (n : List ℕ) → S.read_faults_at shelf.old n ≤ S.read_faults_at shelf.new n }
+    ensures writes { O.faults out.old ≤ O.faults out.new }
+{
+    let reply = reply(alloc, words, shelf);
+    give(shelf, out, reply)
+}
+
 /// Answers the words of a command line: reads the files that its command names, or makes what `bench` advises on, puts the
 /// certificate of advice where one is asked for, and writes the answer's text to the output. No other file changes.
 ///
@@ -74,15 +92,20 @@ pub fn run<S: Shelf, O: Sink>(
     out: &mut O,
 ) -> Outcome
     ensures status { result.status ≡ status_of result.done }
+    // The rows of causes that follow come from this one and from that of write faults.
+    ensures answer { IsAnswered (command_of (texts words.now))
+        (outside (S.files shelf.old) (counts (S.read_faults shelf.old) (S.read_faults_at shelf.old)) (S.put_faults shelf.old) (O.written out.old) (O.faults out.old))
+        (outside (S.files shelf.new) (counts (S.read_faults shelf.new) (S.read_faults_at shelf.new)) (S.put_faults shelf.new) (O.written out.new) (O.faults out.new)) result.done }
     // A faulty command line is told only where the words are none, and always there where no write failed.
     ensures usage { UsageIsTrue (command_of (texts words.now)) result.done }
     ensures usage_always { (fault : WordFault) → command_of (texts words.now) ≡ Err fault →
         IsSteady (O.faults out.old) (O.faults out.new) → IsOrMemory (Done.Usage fault) result.done }
-    ensures read_fault { ReadFaultIsTrue (command_of (texts words.now)) (S.files shelf.old)
-        (counts (S.read_faults shelf.old) (S.read_faults_at shelf.old)) (counts (S.read_faults shelf.new) (S.read_faults_at shelf.new)) result.done }
+    ensures read_fault { ReadFaultIsTrue (command_of (texts words.now))
+        (outside (S.files shelf.old) (counts (S.read_faults shelf.old) (S.read_faults_at shelf.old)) (S.put_faults shelf.old) (O.written out.old) (O.faults out.old))
+        (outside (S.files shelf.new) (counts (S.read_faults shelf.new) (S.read_faults_at shelf.new)) (S.put_faults shelf.new) (O.written out.new) (O.faults out.new)) result.done }
     ensures write_fault { WriteFaultIsTrue (command_of (texts words.now))
-        (outside (S.files shelf.old) (S.put_faults shelf.old) (O.written out.old) (O.faults out.old))
-        (outside (S.files shelf.new) (S.put_faults shelf.new) (O.written out.new) (O.faults out.new)) result.done }
+        (outside (S.files shelf.old) (counts (S.read_faults shelf.old) (S.read_faults_at shelf.old)) (S.put_faults shelf.old) (O.written out.old) (O.faults out.old))
+        (outside (S.files shelf.new) (counts (S.read_faults shelf.new) (S.read_faults_at shelf.new)) (S.put_faults shelf.new) (O.written out.new) (O.faults out.new)) result.done }
     ensures refused { RefusalIsTrue (command_of (texts words.now)) (S.files shelf.old) result.done }
     // A certificate is said to prove nothing only to `check`, where nothing is refused, for the first of its faults.
     ensures not_proved { NotProvedIsTrue (command_of (texts words.now)) (S.files shelf.old) result.done }
@@ -96,22 +119,23 @@ pub fn run<S: Shelf, O: Sink>(
         IsSteady (S.read_faults shelf.old) (S.read_faults shelf.new) → IsSteady (S.put_faults shelf.old) (S.put_faults shelf.new) →
         IsSteady (O.faults out.old) (O.faults out.new) →
         Answers command (S.files shelf.old) result.done ⊎ (result.done ≡ Done.Memory) }
-    ensures text { IsWritten (texts words.now) (S.files shelf.old)
-        (counts (S.read_faults shelf.old) (S.read_faults_at shelf.old)) (counts (S.read_faults shelf.new) (S.read_faults_at shelf.new))
-        (O.written out.old) (O.written out.new) result.done }
+    ensures text { IsWritten (texts words.now)
+        (outside (S.files shelf.old) (counts (S.read_faults shelf.old) (S.read_faults_at shelf.old)) (S.put_faults shelf.old) (O.written out.old) (O.faults out.old))
+        (outside (S.files shelf.new) (counts (S.read_faults shelf.new) (S.read_faults_at shelf.new)) (S.put_faults shelf.new) (O.written out.new) (O.faults out.new)) result.done }
     ensures bound { IsBounded result.done }
     // What advice promises of accepted files, where no count of faults rose and there was memory.
     ensures headline { (files : Files) (asked : Asked) → S.files shelf.old ≡ Some files →
         command_of (texts words.now) ≡ Ok (asked_command asked) → IsAccepted files asked →
         IsSteady (S.read_faults shelf.old) (S.read_faults shelf.new) → IsSteady (S.put_faults shelf.old) (S.put_faults shelf.new) →
         IsSteady (O.faults out.old) (O.faults out.new) → result.done ≢ Done.Memory →
-        Headline (texts words.now) files asked (O.written out.old) result.status (S.files shelf.new) (O.written out.new) }
+        Headline (texts words.now) files asked
+        (outside (S.files shelf.old) (counts (S.read_faults shelf.old) (S.read_faults_at shelf.old)) (S.put_faults shelf.old) (O.written out.old) (O.faults out.old))
+        (outside (S.files shelf.new) (counts (S.read_faults shelf.new) (S.read_faults_at shelf.new)) (S.put_faults shelf.new) (O.written out.new) (O.faults out.new)) result.status result.done }
 
-    // No file changes but the one that advice puts its certificate into.
-    ensures files { LeavesFiles (command_of (texts words.now))
-        (counts (S.read_faults shelf.old) (S.read_faults_at shelf.old)) (counts (S.read_faults shelf.new) (S.read_faults_at shelf.new))
-        (outside (S.files shelf.old) (S.put_faults shelf.old) (O.written out.old) (O.faults out.old))
-        (outside (S.files shelf.new) (S.put_faults shelf.new) (O.written out.new) (O.faults out.new)) result.done }
+    // No file changes but those that a command puts: for advice, the one of its certificate.
+    ensures files { LeavesFiles (texts words.now)
+        (outside (S.files shelf.old) (counts (S.read_faults shelf.old) (S.read_faults_at shelf.old)) (S.put_faults shelf.old) (O.written out.old) (O.faults out.old))
+        (outside (S.files shelf.new) (counts (S.read_faults shelf.new) (S.read_faults_at shelf.new)) (S.put_faults shelf.new) (O.written out.new) (O.faults out.new)) result.done }
     ensures puts { S.put_faults shelf.old ≤ S.put_faults shelf.new }
     ensures reads { S.read_faults shelf.old ≤ S.read_faults shelf.new }
     ensures reads_at { (n : List ℕ) → S.read_faults_at shelf.old n ≤ S.read_faults_at shelf.new n }
@@ -121,8 +145,8 @@ pub fn run<S: Shelf, O: Sink>(
     texts_are_one();
     best_answers_are_proved();
     faults_exclude_proofs();
-    let reply = reply(alloc, words, shelf);
-    let done = give(shelf, out, reply);
+    checks_stand_alone();
+    let done = carry_out(alloc, words, shelf, out);
     Outcome {
         status: status(&done),
         done,

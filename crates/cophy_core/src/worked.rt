@@ -8,21 +8,21 @@ use std::alloc::Global;
 
 /// A file to be put, with its bytes.
 #[derive(Drop)]
-pub struct FilePut<'a> {
-    pub name: &'a str,
+pub struct FilePut {
+    pub name: String,
     pub bytes: Bytes,
 }
 
-/// An answer, and the files that are put for it.
+/// An answer, and the files that are put for it, in turn.
 #[derive(Drop)]
-pub(crate) struct Worked<'a> {
+pub(crate) struct Worked {
     pub done: Done,
-    pub puts: List<FilePut<'a>>,
+    pub puts: List<FilePut>,
 }
 
-impl<'a> Worked<'a> {
+impl Worked {
     /// An answer for which no file is put.
-    pub(crate) fn alone(alloc: Global, done: Done) -> Worked<'a>
+    pub(crate) fn alone(alloc: Global, done: Done) -> Worked
         ensures done { result.done ≡ done }
         ensures puts { plain_puts result.puts ≡ [] }
     {

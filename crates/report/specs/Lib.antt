@@ -1,3 +1,4 @@
 pub mod Paths
 pub mod Listings
 pub mod Texts
+pub mod Advices

@@ -29,6 +29,7 @@ use Rattle.report.specs.declared.done.Role.{Role}
 use Rattle.report.specs.declared.done.Role.TheVariants.{Catalogue, Workload, Third}
 use Rattle.report.specs.declared.done.WordFault.{WordFault}
 use Rattle.report.specs.declared.done.WordFault.TheVariants.{NoCommand, UnknownCommand, Missing, Extra, UnknownOption, Twice, BadNumber}
+use Rattle.report.specs.Advices.{advices, EachAdvice}
 use Rattle.report.specs.Listings.{candidate_lines, pick_lines}
 use Rattle.report.specs.Paths.{path_text}
 use Rattle.adv_base.specs.Settings.{TheSetting}
@@ -252,11 +253,9 @@ abbrev pub IsAdvice : Option TheSetting → Advice → Type 0
 IsAdvice None advice = ⊥
 IsAdvice (Some setting) advice = IsBoundedBy advice.answer.cost advice.answer.bound
 
--- Prices have a cost for each statement of their setting, candidates are of its catalogue, and advice has a bound of at
+-- Prices have a cost for each statement of their setting, candidates are of its catalogue, and each advice has a bound of at
 -- most its cost.
 abbrev pub FitsSetting : Option TheSetting → Done → Type 0
 FitsSetting setting (Priced prices) = length prices.costs ≡ length (statements_in setting)
 FitsSetting setting (Listed found) = AreNamedIn setting found
-FitsSetting setting (Advised advice) = IsAdvice setting advice
-FitsSetting setting (Benched bench) = IsAdvice setting bench.advice
-FitsSetting setting done = Unit {0}
+FitsSetting setting done = EachAdvice (IsAdvice setting) (advices done)

@@ -5,6 +5,7 @@ ghost use Rattle.bip_model.specs.StandsFor.{StandsFor};
 ghost use Rattle.adv_base.specs.Settings.{TheSetting, the_setting};
 ghost use Rattle.report.specs.Texts.{FitsSetting, IsBoundedBy};
 ghost use Rattle.certificate.specs.Answers as answers;
+ghost use Rattle.candidates.specs.Candidates.{AreCandidates};
 ghost use Rattle.tuning.specs.Refusals.{AreFew};
 ghost use Rattle.cophy_core.specs.Causes.{IsBounded};
 ghost use Rattle.cophy_core.specs.Endings.{plain_puts};
@@ -18,7 +19,6 @@ use adv_base::limits::MOST_CANDIDATES;
 use adv_base::{Config, List, NoMemory, Setting};
 use bip_model::{Answer, Fix, Programme, State, shown_bounds};
 use branch_bound::{Room, search};
-use candidates::candidates;
 use certificate::{best_answers_keep_limits, standing_programmes_are_in_order, write_cert};
 use report::{Advice, Done};
 use std::alloc::Global;
@@ -40,8 +40,8 @@ fn has_all_flags(config: &Config)
 }
 
 /// A file to be put, alone.
-fn one<'a>(alloc: Global, put: FilePut<'a>) -> Result<List<FilePut<'a>>, NoMemory>
-    ensures { IfOk result (λ puts. puts ≡ put.entry ∷ []) }
+fn one(alloc: Global, put: FilePut) -> Result<List<FilePut>, NoMemory>
+    ensures { IfOk result (λ puts. puts ≡ put ∷ []) }
 {
     let mut items = Vec::new(alloc);
     match items.push(put) {
@@ -51,31 +51,32 @@ fn one<'a>(alloc: Global, put: FilePut<'a>) -> Result<List<FilePut<'a>>, NoMemor
 }
 
 /// The certificate of an answer, to be put into a file of that name.
-fn one_put<'a>(
+fn one_put(
     alloc: Global,
     programme: &Programme,
     budget: u64,
     answer: &Answer,
-    name: &'a str,
-) -> Result<List<FilePut<'a>>, NoMemory>
+    name: &str,
+) -> Result<List<FilePut>, NoMemory>
     requires limits { answers.AnswerLimits programme.now budget answer.now }
     requires order { answers.InOrder programme.now }
     ensures { IfOk result (λ puts. (setting : TheSetting) → StandsFor setting programme.now →
-        spec.IsCertificatePut setting budget answer.now name.entry.now (plain_puts puts)) }
+        spec.IsCertificatePut setting budget answer.now name.now (plain_puts puts)) }
 {
     let bytes = write_cert(alloc, programme, budget, answer)?;
+    let name = String::from_str(alloc, name)?;
     let puts = one(alloc, FilePut { name, bytes })?;
     Ok(puts)
 }
 
 /// The certificate of an answer, to be put where a file is named for it.
-fn certified<'a>(
+fn certified(
     alloc: Global,
     programme: &Programme,
     budget: u64,
     answer: &Answer,
-    cert: Option<&'a str>,
-) -> Result<List<FilePut<'a>>, NoMemory>
+    cert: Option<&str>,
+) -> Result<List<FilePut>, NoMemory>
     requires limits { answers.AnswerLimits programme.now budget answer.now }
     requires order { answers.InOrder programme.now }
     ensures { IfOk result (λ puts. (setting : TheSetting) → StandsFor setting programme.now →
@@ -89,14 +90,16 @@ fn certified<'a>(
 
 /// A best set of candidates that together take at most `budget` pages, found by a search of at most so many nodes (branch
 /// and bound over CoPhy's programme, which is the setting's), with what the workload costs under it and a bound that no set
-/// within the budget undercuts; both are the same unless the nodes were spent.
+/// within the budget undercuts; both are the same unless the nodes were spent. `left_over` proposed indexes are no candidates.
 fn best_advice(
     alloc: Global,
     setting: &Setting<'_>,
     programme: &Programme,
+    left_over: u64,
     budget: u64,
     nodes: u32,
 ) -> Result<Advice, NoMemory>
+    requires found { AreCandidates setting.now.cat.now setting.now.statements.now setting.now.shapes.now left_over }
     requires stands { StandsFor (the_setting setting.now) programme.now }
     requires few { AreFew setting.now.cat.now setting.now.statements.now }
     requires budget { budget ≤ MOST_ROWS }
@@ -105,7 +108,6 @@ fn best_advice(
     ensures advice { IfOk result (spec.IsAdvice budget nodes (the_setting setting.now)) }
     ensures bounded { IfOk result (λ advice. IsBoundedBy advice.answer.cost advice.answer.bound) }
 {
-    let found = candidates(alloc, setting.cat, setting.statements)?;
     let root = free_root();
     let room = Room::new(alloc, programme, nodes)?;
     let answer = search(programme, &root, budget, nodes, room);
@@ -114,7 +116,7 @@ fn best_advice(
     Ok(Advice {
         budget,
         nodes,
-        left_over: found.left_over,
+        left_over,
         answer,
     })
 }
@@ -123,9 +125,11 @@ fn best_advice(
 pub(crate) fn advice_on(
     alloc: Global,
     setting: &Setting<'_>,
+    left_over: u64,
     budget: u64,
     nodes: u32,
 ) -> Result<Advice, Stop>
+    requires found { AreCandidates setting.now.cat.now setting.now.statements.now setting.now.shapes.now left_over }
     requires budget { budget ≤ MOST_ROWS }
     requires some { 1 ≤ nodes }
     requires nodes { nodes ≤ MOST_NODES }
@@ -134,18 +138,20 @@ pub(crate) fn advice_on(
     ensures stop { IfErr result (StopsAt (LacksProgramme (the_setting setting.now))) }
 {
     let programme = programme_of(alloc, setting)?;
-    let advice = best_advice(alloc, setting, &programme, budget, nodes)?;
+    let advice = best_advice(alloc, setting, &programme, left_over, budget, nodes)?;
     Ok(advice)
 }
 
 /// The answer with that advice. Where a file is named for it, the certificate that shows it is to be put there.
-pub(crate) fn advise<'a>(
+pub(crate) fn advise(
     alloc: Global,
     setting: &Setting<'_>,
+    left_over: u64,
     budget: u64,
     nodes: u32,
-    cert: Option<&'a str>,
-) -> Result<Worked<'a>, Stop>
+    cert: Option<&str>,
+) -> Result<Worked, Stop>
+    requires found { AreCandidates setting.now.cat.now setting.now.statements.now setting.now.shapes.now left_over }
     requires budget { budget ≤ MOST_ROWS }
     requires some { 1 ≤ nodes }
     requires nodes { nodes ≤ MOST_NODES }
@@ -156,7 +162,7 @@ pub(crate) fn advise<'a>(
     ensures stop { IfErr result (StopsAt (LacksProgramme (the_setting setting.now))) }
 {
     let programme = programme_of(alloc, setting)?;
-    let advice = best_advice(alloc, setting, &programme, budget, nodes)?;
+    let advice = best_advice(alloc, setting, &programme, left_over, budget, nodes)?;
     best_answers_keep_limits();
     standing_programmes_are_in_order();
     let puts = certified(alloc, &programme, budget, &advice.answer, cert)?;

@@ -3,6 +3,7 @@ ghost use Rattle.std.specs.Prelude.{◌≡◌, ◌≤◌, IfOk, IfErr, Some, len
 ghost use Rattle.adv_base.specs.Limits.Settings as settings;
 ghost use Rattle.adv_base.specs.declared.limits.TheConstants.{MOST_ROWS, MOST_SLOTS};
 ghost use Rattle.adv_base.specs.Settings.{the_setting};
+ghost use Rattle.candidates.specs.Candidates.{AreCandidates};
 ghost use Rattle.report.specs.Texts.{FitsSetting};
 ghost use Rattle.cophy_core.specs.Causes.{IsBounded};
 ghost use Rattle.cophy_core.specs.Stops.{StopsAt, LacksProgramme};
@@ -48,14 +49,20 @@ fn slots_in_all(setting: &Setting<'_>) -> u32
 
 /// What `advise` gives on the setting of a made workload with the nodes that it takes where no word says how many, with how
 /// large that is. Or the first refusal of `advise`.
-pub(crate) fn bench(alloc: Global, setting: &Setting<'_>, budget: u64) -> Result<Done, Stop>
-    requires { budget ≤ MOST_ROWS }
+pub(crate) fn bench(
+    alloc: Global,
+    setting: &Setting<'_>,
+    left_over: u64,
+    budget: u64,
+) -> Result<Done, Stop>
+    requires found { AreCandidates setting.now.cat.now setting.now.statements.now setting.now.shapes.now left_over }
+    requires budget { budget ≤ MOST_ROWS }
     ensures gives { IfOk result (spec.Gives budget (the_setting setting.now)) }
     ensures fits { IfOk result (FitsSetting (Some (the_setting setting.now))) }
     ensures bound { IfOk result IsBounded }
     ensures stop { IfErr result (StopsAt (LacksProgramme (the_setting setting.now))) }
 {
-    let advice = advice_on(alloc, setting, budget, DEFAULT_NODES)?;
+    let advice = advice_on(alloc, setting, left_over, budget, DEFAULT_NODES)?;
     Ok(Done::Benched(Bench {
         tables: table_count(setting.cat),
         statements: setting.statements.len() as u32,

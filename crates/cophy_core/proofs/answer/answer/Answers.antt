@@ -1,6 +1,7 @@
 use Rattle.std.proofs.Common.{sym, subst, rules}
 use Rattle.adv_base.specs.Settings.{TheSetting}
 use Rattle.adv_base.specs.Settings.{the_setting}
+use Rattle.candidates.specs.Candidates.{AreCandidates}
 use Rattle.cophy_core.specs.CommandLine.{plain_command, texts}
 use Rattle.cophy_core.specs.Files.{input, counts}
 use Rattle.cophy_core.specs.Endings.{plain_puts}
@@ -14,6 +15,10 @@ use Rattle.cophy_core.proofs.answer.answer.Goals as goal
 pub open-requires : goal.open-requires
 open-requires g c =
     rw c.bytes_at-2.ensures (second_short (plain_command c.args.command.now) _ c.in_ok-inputs.inputs c.requires c.in_ok-inputs.ensures.inputs)
+
+pub work-requires-clause-found : goal.work-requires-clause-found
+work-requires-clause-found g c =
+    subst (λ (s : TheSetting). AreCandidates s.cat s.statements s.shapes c.in_ok-opened.opened.left_over) (sym c.setting-setting.ensures) c.in_ok-opened.ensures.setting.candidates_are
 
 pub returns-in_err-opened-clause-stop : goal.returns-in_err-opened-clause-stop
 returns-in_err-opened-clause-stop g c =
@@ -52,5 +57,5 @@ returns-clause-reply g c =
     record {
       answers = work_gives command files inputs setting c.in_ok-opened.opened.left_over c.in_ok-worked.worked.done c.in_ok-inputs.ensures.inputs is c.in_ok-worked.ensures.gives;
       puts_are = work_puts command files (texts c.args.words.now) inputs setting c.in_ok-opened.opened.left_over c.in_ok-worked.worked.done (plain_puts c.in_ok-worked.worked.puts) c.in_ok-text.text c.in_ok-inputs.ensures.inputs is c.in_ok-worked.ensures.gives c.in_ok-worked.ensures.puts c.in_ok-text.ensures;
-      text_is = work_told command files (texts c.args.words.now) inputs setting c.in_ok-opened.opened.left_over c.in_ok-worked.worked.done c.in_ok-text.text c.in_ok-inputs.ensures.inputs is c.in_ok-worked.ensures.gives c.in_ok-text.ensures;
+      text_is = work_told command files (texts c.args.words.now) inputs setting c.in_ok-opened.opened.left_over c.in_ok-worked.worked.done c.in_ok-text.text c.in_ok-inputs.ensures.inputs is c.in_ok-text.ensures;
     }

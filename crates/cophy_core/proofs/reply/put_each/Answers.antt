@@ -1,4 +1,4 @@
-use Rattle.std.proofs.Common.{◌+◌, Option, take, drop, rules, sym, ap, subst, ◌∙◌, arith}
+use Rattle.std.proofs.Common.{◌+◌, Option, string_bytes, take, drop, rules, sym, ap, subst, ◌∙◌, arith}
 use Rattle.adv_shelf.specs.Shelf.{Files, IsPutInPart, put_file}
 use Rattle.cophy_core.specs.declared.worked.FilePut.{FilePut}
 use Rattle.cophy_core.specs.Endings.{Put, plain_puts, put_all, IsUnput}
@@ -7,7 +7,7 @@ use Rattle.cophy_core.proofs.Puts.{put_all-more, put_faulted}
 use Rattle.cophy_core.proofs.reply.put_each.Goals as goal
 
 abbrev seen : FilePut → Put
-seen put = record { name = put.name.now; bytes = put.bytes }
+seen put = record { name = string_bytes put.name; bytes = put.bytes }
 
 pub returns-in_err-put-clause-err : goal.returns-in_err-put-clause-err
 returns-in_err-put-clause-err g c =
@@ -27,7 +27,7 @@ returns-in_err-put-clause-err g c =
           inv.counts c.in_err-put.was
           (λ e. c.put.ensures.memory e ∙ inv.files_are)
           c.put.ensures.failed
-          (λ e. let part = rw c.as_slice.ensures at (c.put.ensures.in_part e) in subst (λ (fs : Option Files). IsPutInPart fs new file.name.now file.bytes) inv.files_are part);
+          (λ e. let part = rw (c.as_str.ensures.value, c.as_slice.ensures) at (c.put.ensures.in_part e) in subst (λ (fs : Option Files). IsPutInPart fs new (string_bytes file.name) file.bytes) inv.files_are part);
     } in
     search (rules, h)
 
@@ -38,9 +38,9 @@ puts-preserved g c =
     let i = c.puts.at in
     let inv = c.puts.invariant in
     let grown = map_more seen c.args.puts.now i file c.puts-test.true c.index-puts-at.is in
-    let put = rw c.as_slice.ensures at c.in_ok-put.ensures.ok in
+    let put = rw (c.as_str.ensures.value, c.as_slice.ensures) at c.in_ok-put.ensures.ok in
     record {
-      files_are = put ∙ (ap (λ (fs : Option Files). put_file fs file.name.now file.bytes) inv.files_are
+      files_are = put ∙ (ap (λ (fs : Option Files). put_file fs (string_bytes file.name) file.bytes) inv.files_are
           ∙ (sym (put_all-more old (plain_puts (take i c.args.puts.now)) (seen file)) ∙ ap (put_all old) (sym grown)));
       counts = omega (arith, inv.counts, c.in_ok-put.ensures.counts);
       reads = c.in_ok-put.ensures.reads ∙ inv.reads;

@@ -19,7 +19,7 @@ returns-clause-advice c =
     record {
       budget_is = refl;
       nodes_is = refl;
-      left_over_is = c.in_ok-found.ensures.left_over;
+      left_over_is = c.requires.found.rest;
       few = c.requires.few;
       flags = c.has_all_flags.ensures;
       best = best;

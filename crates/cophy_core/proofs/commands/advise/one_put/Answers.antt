@@ -6,5 +6,5 @@ pub returns : goal.returns
 returns c = λ setting stands. record {
   bytes = c.in_ok-bytes.bytes;
   certificate_is = record { programme = c.args.programme.now; stands = stands; is_text = c.in_ok-bytes.ensures };
-  puts_are = ap plain_puts c.in_ok-puts.ensures;
+  puts_are = rw (← c.in_ok-name.ensures.ok) (ap plain_puts c.in_ok-puts.ensures);
 }
