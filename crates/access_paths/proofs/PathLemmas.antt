@@ -28,44 +28,9 @@ kept : (b : Bool) (x : ℕ × IndexShape) (xs : List (ℕ × IndexShape)) (t : �
 kept true x xs t is = rw is refl
 kept false x xs t is = rw is refl
 
--- one candidate with its flag, before the rest
-numbered_from-cons : (t place : ℕ) (flag : Bool) (flags : List Bool) (x : IndexShape) (xs : List IndexShape) →
-    numbered_from t place (flag ∷ flags) (x ∷ xs) ≡ (if flag && (x.table == t) then (place + 1, x) ∷ [] else []) ++ numbered_from t (place + 1) flags xs
-numbered_from-cons t place true flags x xs = kept (x.table == t) (place + 1, x) (chosen flags (enumerate_from (place + 1 + 1) xs)) t refl
-numbered_from-cons t place false flags x xs = refl
-
 mapped : (b : Bool) (number : ℕ) (x : IndexShape) → map candidate_path (if b then (number, x) ∷ [] else []) ≡ (if b then Candidate number x ∷ [] else [])
 mapped true number x = refl
 mapped false number x = refl
-
--- a place, before the rest
-numbered_from-step : (t : ℕ) (flags : List Bool) (shapes : List IndexShape) (place : ℕ) (d : IndexShape) → place < length flags → place < length shapes →
-    map candidate_path (numbered_from t place (drop place flags) (drop place shapes))
-    ≡ (if get_or flags place false && ((get_or shapes place d).table == t) then Candidate (place + 1) (get_or shapes place d) ∷ [] else [])
-    ++ map candidate_path (numbered_from t (place + 1) (drop (place + 1) flags) (drop (place + 1) shapes))
-numbered_from-step t flags shapes place d flagged within =
-    let next : place + 1 ≡ suc place = omega arith in
-    let taken : Bool = get_or flags place false && ((get_or shapes place d).table == t) in
-    let here : List (ℕ × IndexShape) = if taken then (place + 1, get_or shapes place d) ∷ [] else [] in
-    let rest : List (ℕ × IndexShape) = numbered_from t (place + 1) (drop (place + 1) flags) (drop (place + 1) shapes) in
-    let behind : List (ℕ × IndexShape) = numbered_from t (place + 1) (drop (suc place) flags) (drop (suc place) shapes) in
-    let parts : numbered_from t place (drop place flags) (drop place shapes) ≡ here ++ behind =
-    rw (drop-cons flags place false flagged, drop-cons shapes place d within)
-    (numbered_from-cons t place (get_or flags place false) (drop (suc place) flags) (get_or shapes place d) (drop (suc place) shapes)) in
-    let same : behind ≡ rest = rw next refl in
-    ap (map candidate_path) (parts ∙ ap (λ (back : List (ℕ × IndexShape)). here ++ back) same) ∙ map-append candidate_path here rest
-    ∙ ap (λ (front : List Path). front ++ map candidate_path rest) (mapped taken (place + 1) (get_or shapes place d))
-
--- what was kept, the candidate of a place and those behind it
-pub add_place : (t : ℕ) (flags : List Bool) (shapes : List IndexShape) (place : ℕ) (d : IndexShape) (before after whole : List Path) → place < length flags → place < length shapes →
-    before ++ map candidate_path (numbered_from t place (drop place flags) (drop place shapes)) ≡ whole →
-    after ≡ before ++ (if get_or flags place false && ((get_or shapes place d).table == t) then Candidate (place + 1) (get_or shapes place d) ∷ [] else []) →
-    after ++ map candidate_path (numbered_from t (place + 1) (drop (place + 1) flags) (drop (place + 1) shapes)) ≡ whole
-add_place t flags shapes place d before after whole flagged within so_far added =
-    let here : List Path = if get_or flags place false && ((get_or shapes place d).table == t) then Candidate (place + 1) (get_or shapes place d) ∷ [] else [] in
-    let rest : List Path = map candidate_path (numbered_from t (place + 1) (drop (place + 1) flags) (drop (place + 1) shapes)) in
-    ap (λ (front : List Path). front ++ rest) added ∙ append_assoc before here rest
-    ∙ ap (λ (back : List Path). before ++ back) (sym (numbered_from-step t flags shapes place d flagged within)) ∙ so_far
 
 chosen-nil : {X : Type 0} (flags : List Bool) → chosen {X = X} flags [] ≡ []
 chosen-nil [] = refl
@@ -75,10 +40,6 @@ chosen-nil (flag ∷ flags) = refl
 pub numbered_from-past : (t place : ℕ) (flags : List Bool) (shapes : List IndexShape) → length shapes ≤ place → numbered_from t place (drop place flags) (drop place shapes) ≡ []
 numbered_from-past t place flags shapes past =
     rw (drop_all place shapes past) (ap (filter (λ (numbered : ℕ × IndexShape). numbered.1.table == t)) (chosen-nil (drop place flags)))
-
--- behind the last flag
-pub numbered_from-flagless : (t place : ℕ) (flags : List Bool) (shapes : List IndexShape) → length flags ≤ place → numbered_from t place (drop place flags) (drop place shapes) ≡ []
-numbered_from-flagless t place flags shapes past = rw (drop_all place flags past) refl
 
 -- ## The keys of paths
 

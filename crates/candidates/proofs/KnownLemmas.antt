@@ -22,12 +22,6 @@ left_out-short existing before p some few =
     let b : nat_lt MOST_KEYS (length p.1) ≡ false = grind (arith, nat_tests) in
     rw (a, b)
 
--- an empty list is left out
-pub with_proposal-empty : (existing before : List KeyList) (p : KeyList) → length p.1 ≡ 0 → with_proposal existing before p ≡ before
-with_proposal-empty existing before p none =
-    let a : (length p.1 == 0) ≡ true = grind (arith, nat_tests) in
-    rw a
-
 -- so is one that is too long
 pub with_proposal-long : (existing before : List KeyList) (p : KeyList) → MOST_KEYS < length p.1 → with_proposal existing before p ≡ before
 with_proposal-long existing before p long =

@@ -111,11 +111,6 @@ is_marked-any slot seen orders (Up s c ∷ (y ∷ ys)) m n own = sym (none-long 
 is_marked-any slot seen orders (Down s c ∷ ys) m n own = absurd (false≢true own)
 is_marked-any slot seen orders (Made k ∷ ys) m n own = absurd (false≢true own)
 
--- the test of an own list, without cases
-pub is_own_list-test : (slot : ℕ) (items : Order) → is_own_list slot items ≡ (not (length items == 0) && list_all (is_up_of slot) items)
-is_own_list-test slot [] = refl
-is_own_list-test slot (x ∷ xs) = grind (arith, nat_tests)
-
 add_order-test : (orders : List Order) (order : Order) → add_order orders order ≡ (if not (list_any (is_same_order order) orders) then orders ++ order ∷ [] else orders)
 add_order-test orders order =
     elim (cases_Bool (list_any (is_same_order order) orders)) [ inl h ↦ rw h refl | inr h ↦ rw h refl ]

@@ -37,11 +37,6 @@ pub merged_at : (ways : Ways) (rows : ℕ → List Cell) (cut : Cut) (left right
 merged_at ways rows cut left right merges heads f cost j g heads_is left_is right_is merges_is h =
     subst (λ hs. IsMergedBy hs (rows cut.left) (rows cut.right) cut.merge_price (merges_in ways cut) f cost j g) heads_is (subst (λ ms. IsMergedBy heads (rows cut.left) (rows cut.right) cut.merge_price ms f cost j g) merges_is (subst (λ l. IsMergedBy heads l (rows cut.right) cut.merge_price merges f cost j g) left_is (subst (λ r. IsMergedBy heads left r cut.merge_price merges f cost j g) right_is h)))
 
--- back to the rows at hand
-pub merged_from : (ways : Ways) (rows : ℕ → List Cell) (cut : Cut) (left right : List Cell) (merges : List Merge) (heads : List (Option Item)) (f cost : ℕ) → heads ≡ ways.heads.items → left ≡ rows cut.left → right ≡ rows cut.right → merges ≡ merges_in ways cut → IsMerged ways.heads.items (rows cut.left) (rows cut.right) cut.merge_price (merges_in ways cut) f cost → IsMerged heads left right cut.merge_price merges f cost
-merged_from ways rows cut left right merges heads f cost heads_is left_is right_is merges_is h =
-    subst (λ r. IsMerged heads left r cut.merge_price merges f cost) (sym right_is) (subst (λ l. IsMerged heads l (rows cut.right) cut.merge_price merges f cost) (sym left_is) (subst (λ ms. IsMerged heads (rows cut.left) (rows cut.right) cut.merge_price ms f cost) (sym merges_is) (subst (λ hs. IsMerged hs (rows cut.left) (rows cut.right) cut.merge_price (merges_in ways cut) f cost) (sym heads_is) h)))
-
 -- a join that was found is one of the task
 module _ (ways : Ways) (table : OfferTable) (rows : ℕ → List Cell) (set f : ℕ) (within : set < sets_of ways) (front_in : f < width ways) where
   cut_chosen : (k : ℕ) → k < length (cuts_of ways set) → (cost : ℕ) (choice : Choice) → IsCutChoice ways rows (cut_at (cuts_of ways set) k) f cost choice → IsChosen ways.task.now table (listed ways.task.now) ways.fronts.items rows set f cost choice

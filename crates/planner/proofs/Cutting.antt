@@ -13,33 +13,9 @@ use Rattle.planner.specs.Cuts.{link_merge, merges_of, no_cut, cut_at, cuts_at, i
 use Rattle.plan_model.specs.Costs.{hash_of, merge_of}
 use Rattle.planner.specs.inner.Cutting.{AddsCuts}
 
--- the merges of one link, then those of the rest
-pub merges_more : (link : Link) (links : List Link) (a b : ℕ) → merges_of (link ∷ links) a b ≡ merges_of (link ∷ []) a b ++ merges_of links a b
-merges_more link links a b =
-    elim (crosses_link a b link) as (λ t. cond t (link_merge link a b ∷ merges_of links a b) (merges_of links a b) ≡ cond t (link_merge link a b ∷ []) [] ++ merges_of links a b) [
-      | true ↦ refl
-      | false ↦ refl
-    ]
-
 pub merges_skip : (link : Link) (a b : ℕ) (merges : List Merge) → crosses_link a b link ≡ false → merges ≡ merges ++ merges_of (link ∷ []) a b
 merges_skip link a b merges e =
     sym (append-nil merges) ∙ ap (λ t. merges ++ cond t (link_merge link a b ∷ []) []) (sym e)
-
-pub merges_take : (link : Link) (a b : ℕ) → crosses_link a b link ≡ true → merges_of (link ∷ []) a b ≡ link_merge link a b ∷ []
-merges_take link a b e = ap (λ t. cond t (link_merge link a b ∷ []) []) e
-
--- one link more
-pub merges_step : (links : List Link) (a b i : ℕ) (old new all : List Merge) (d : Link) → i < length links → new ≡ old ++ merges_of (slice_index_or links i d ∷ []) a b → old ++ merges_of (drop i links) a b ≡ all → new ++ merges_of (drop (i + 1) links) a b ≡ all
-merges_step links a b i old new all d within is whole =
-    let rest : drop i links ≡ slice_index_or links i d ∷ drop (i + 1) links = drop_more links i d within in
-    ap (λ t. t ++ merges_of (drop (i + 1) links) a b) is
-    ∙ append_assoc old (merges_of (slice_index_or links i d ∷ []) a b) (merges_of (drop (i + 1) links) a b)
-    ∙ ap (λ t. old ++ t) (sym (merges_more (slice_index_or links i d) (drop (i + 1) links) a b) ∙ ap (λ t. merges_of t a b) (sym rest))
-    ∙ whole
-
-pub merges_end : (links : List Link) (a b i : ℕ) (new all : List Merge) → length links ≤ i → new ++ merges_of (drop i links) a b ≡ all → new ≡ all
-merges_end links a b i new all past whole =
-    sym (append-nil new) ∙ ap (λ t. new ++ merges_of t a b) (sym (drop_all i links past)) ∙ whole
 
 range_none : {X : Type 0} (xs : List X) (i j : ℕ) → j ≤ i → slice_range xs i j ≡ []
 range_none xs i j h = let none : j - i ≡ 0 = omega arith in ap (λ n. take n (drop i xs)) none
@@ -306,15 +282,3 @@ module _ (task : Task) (links : List Link) (n : ℕ) (cuts new_cuts : List Cut) 
                   ]
             ];
       }
-
-pub cuts_none : (task : Task) (links : List Link) → AreCuts task links [] [] (0 ∷ []) [] 0
-cuts_none task links =
-    record {
-      starts_count = omega arith;
-      covered_count = refl;
-      ends = refl;
-      rising = λ s h. absurd (omega arith);
-      sets = λ s h. absurd (omega arith);
-      slots = λ s one h within is. absurd (omega arith);
-      joined = λ s h off. absurd (omega arith);
-    }

@@ -19,21 +19,11 @@ use Rattle.planner.specs.declared.front.Link.{Link}
 use Rattle.planner.specs.Fronts.{asked, front_order, first_item, longer_front, is_need, needs_item, no_link, link_at, turned, listed, Ties, Joins, IsLink, AreHeadsApart, AreHeads, AreLinks, AreNeeded, AreNeeds}
 use Rattle.planner.specs.inner.Growing.{need_front, is_alike, is_same_link, turned_link, IsGrowing, AreFronts, IsAdded, IsKeeping}
 
-pub growing_none : (fronts : List Front) → IsGrowing fronts fronts
-growing_none fronts = record { longer = omega arith; keeps = λ k h. refl }
-
 pub growing_then : (x y z : List Front) → IsGrowing x y → IsGrowing y z → IsGrowing x z
 growing_then x y z s t =
     let a = s.longer in
     let b = t.longer in
     record { longer = omega arith; keeps = λ k h. t.keeps k (omega arith) ∙ s.keeps k h }
-
-pub growing_push : (x : List Front) (y : Front) → IsGrowing x (x ++ y ∷ [])
-growing_push x y =
-    record { longer = omega (arith, length_push x y); keeps = λ k h. get_or_append_left x (y ∷ []) Any k h }
-
-pub added_none : (fronts : List Front) (front : Front) → IsAdded fronts fronts front
-added_none fronts front = record { each = λ f past within. absurd (omega arith) }
 
 pub added_push : (x : List Front) (y : Front) → IsAdded x (x ++ y ∷ []) y
 added_push x y =
@@ -97,15 +87,6 @@ pub needed_more : (edges : List TaskEdge) (x y z : List Front) (k : ℕ) (edge :
 needed_more edges x y z k edge found g h a b n =
     let left : AreNeeded edges y = needed_step edges x y edge.left_need g a (λ item is. any_edge (needs_item item) edges k edge found (or_left (is_need item edge.left_need) (is_need item edge.right_need) (need_passes edge.left_need item is))) n in
     needed_step edges y z edge.right_need h b (λ item is. any_edge (needs_item item) edges k edge found (or_right (is_need item edge.left_need) (is_need item edge.right_need) (need_passes edge.right_need item is))) left
-
-start_needs : (f : ℕ) (item : Item) → f < 2 → ¬ (slice_index_or (Any ∷ Listed ∷ []) f Any ≡ Need item)
-start_needs zero item within is = cc
-start_needs (suc zero) item within is = cc
-start_needs (suc (suc f)) item within is = absurd (omega arith)
-
--- the first two fronts ask for no need
-pub needed_start : (edges : List TaskEdge) → AreNeeded edges (Any ∷ Listed ∷ [])
-needed_start edges = record { each = λ f item within is. absurd (start_needs f item within is) }
 
 ties_grow : (list : Order) (x y : List Front) (edge : TaskEdge) (link : Link) → IsGrowing x y → Ties list x edge link → Ties list y edge link
 ties_grow list x y edge link g t =
@@ -247,10 +228,6 @@ links_more list x y z edges old new k edge a b left right found a_is b_is g h le
                 } ∣₁
           ];
     }
-
-pub links_none : (list : Order) (fronts : List Front) (edges : List TaskEdge) → AreLinks list fronts edges [] 0
-links_none list fronts edges =
-    record { each = λ i within. absurd (omega arith); all = λ k edge within found. absurd (omega arith) }
 
 -- needs of two items have no order in common
 longer_none : (y z : Item) (x f : ℕ) (b : Bool) → is_same_item y z ≡ b → ¬ (y ≡ z) → cond b (Some f) None ≡ None

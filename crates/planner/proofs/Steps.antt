@@ -109,10 +109,6 @@ module _ (heads : List (Option Item)) (left right old new : List Cell) (price : 
             omega arith;
       }
 
--- laws of steps
-pub step_none : (width : ℕ) (Makes : ℕ → ℕ → Type 0) (row : List Cell) → IsStep width Makes row row
-step_none width Makes row = record { count = refl; lower = λ f. omega arith; made = λ f h. inl refl }
-
 pub step_then : (width : ℕ) (Makes : ℕ → ℕ → Type 0) (x y z : List Cell) → IsStep width Makes x y → IsStep width Makes y z → IsStep width Makes x z
 step_then width Makes x y z s t =
     record {
@@ -149,10 +145,3 @@ merges_fall heads left right price merges f cost less low h =
 
 pub hash_falls : (heads : List (Option Item)) (left right : List Cell) (price f cost less : ℕ) → less ≤ cost → HashBound heads left right price f cost → HashBound heads left right price f less
 hash_falls heads left right price f cost less low h = record { bound = λ none. let w = h.bound none in omega arith }
-
--- a cell that is read within a row
-pub cost_read : (row : List Cell) (i : ℕ) (d : Cell) → i < length row → (slice_index_or row i d).cost ≡ cost_at row i
-cost_read row i d h = ap (λ (x : Cell). x.cost) (get_or_default row i d blank h)
-
-pub any_read : (row : List Cell) (i : ℕ) (d : Cell) → i < length row → (slice_index_or row i d).any ≡ any_at row i
-any_read row i d h = ap (λ (x : Cell). x.any) (get_or_default row i d blank h)

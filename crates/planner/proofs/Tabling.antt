@@ -314,9 +314,6 @@ module _ (ways : Ways) (before table : OfferTable) (slot : ℕ) (alike : (s : �
   pub rows_stay : (rows : ℕ → List Cell) (n : ℕ) → AreRows ways before rows n → 2 ^ slot ≤ n → AreRows ways table rows (2 ^ slot)
   rows_stay rows n h most = record { each = λ s below. row_offers rows s (rows s) below (h.each s (omega arith)) }
 
-pub rows_none : (ways : Ways) (table : OfferTable) (rows : ℕ → List Cell) → AreRows ways table rows 0
-rows_none ways table rows = record { each = λ s below. absurd (omega arith) }
-
 -- another row, after one was written
 pub row_other : (w set s k : ℕ) (xs ys : List Cell) → k ≡ w → length ys ≡ w → set * w + w ≤ length xs → ¬ (s ≡ set) → row_of w (put_mid (set * w) k xs ys) s ≡ row_of w xs s
 row_other w set s k xs ys count len fits differ =

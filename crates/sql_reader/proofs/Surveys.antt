@@ -197,9 +197,6 @@ pub record IsSoFar (text : List ℕ) (survey : Survey) (rest : Ahead) : Type 0 w
   pub weight : or_first survey.bad_weight (bad_weight text rest.tokens) ≡ bad_weight text (ahead text 0).tokens
   pub start : or_first survey.start (token_start text rest.tokens survey.left) ≡ token_start text (ahead text 0).tokens 1000
 
-pub so_far_none : (text : List ℕ) → IsSoFar text surveyed.unseen (ahead text 0)
-so_far_none text = record { fault = refl; weight = refl; start = refl }
-
 first_if : (b : Bool) (place : ℕ) (later : Option ℕ) → or_first (if b then Some place else None) later ≡ (if b then Some place else later)
 first_if true place later = refl
 first_if false place later = refl

@@ -67,10 +67,6 @@ begins_same kinds [] (q ∷ qs) h = absurd h
 begins_same kinds (p ∷ ps) [] h = absurd h
 begins_same kinds (p ∷ ps) (q ∷ qs) h = ap (has kinds) h
 
-nil_same_head : (other : List Terminal) → SameHead [] other → other ≡ []
-nil_same_head [] h = refl
-nil_same_head (q ∷ qs) h = absurd h
-
 pub repeated_ends : {A : Type 0} (n : ℕ) (kinds : List TerminalKind) (turn : Reader A A) (a : A) (ps : List Terminal) → begins kinds ps ≡ false → repeated n kinds turn a ps ≡ Read a ps
 repeated_ends zero kinds turn a ps h = refl
 repeated_ends (suc n) kinds turn a ps h = rw h refl

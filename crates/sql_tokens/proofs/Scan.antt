@@ -8,18 +8,10 @@ pub further-further : (i : ℕ) (o : Option ℕ) → further i (further 1 o) ≡
 further-further i None = refl
 further-further i (Some n) = ap Some (omega arith)
 
-pub further-zero : (o : Option ℕ) → further 0 o ≡ o
-further-zero None = refl
-further-zero (Some n) = ap Some (omega arith)
-
 -- the end that was found last, or one behind `at`
 abbrev pub or_end : Option ℕ → ℕ → Option ℕ → Option ℕ
 or_end end at None = end
 or_end end at (Some n) = Some (at + n)
-
-pub or_end-zero : (o : Option ℕ) → or_end None 0 o ≡ o
-or_end-zero None = refl
-or_end-zero (Some n) = ap Some (omega arith)
 
 or_end-further : (e : Option ℕ) (i : ℕ) (o : Option ℕ) → or_end e i (further 1 o) ≡ or_end e (i + 1) o
 or_end-further e i None = refl
@@ -33,20 +25,12 @@ pub closing-other : (b : ℕ) (bs : List ℕ) → eqb b 39 ≡ false → closing
 closing-other b [] e = rw e refl
 closing-other b (c ∷ bs) e = rw e refl
 
-closing-last : (b : ℕ) (bs : List ℕ) → eqb b 39 ≡ true → begins (λ c. eqb c 39) bs ≡ false → closing (b ∷ bs) ≡ Some 1
-closing-last b [] e f = rw e refl
-closing-last b (c ∷ bs) e f = rw (e, f) refl
-
 pub closing-doubled : (b c : ℕ) (bs : List ℕ) → eqb b 39 ≡ true → eqb c 39 ≡ true → closing (b ∷ c ∷ bs) ≡ Some (further_or 1 2 (closing bs))
 closing-doubled b c bs e f = rw (e, f) refl
 
 -- a byte inside a text
 pub inside_step : (e : Option ℕ) (xs : List ℕ) (i : ℕ) → i < length xs → eqb (get_or xs i 0) 39 ≡ false → or_end e i (closing (drop i xs)) ≡ or_end e (i + 1) (closing (drop (i + 1) xs))
 inside_step e xs i l h = ap (λ ys. or_end e i (closing ys)) (drop_more xs i 0 l) ∙ (ap (or_end e i) (closing-other _ _ h) ∙ or_end-further e i (closing (drop (i + 1) xs)))
-
--- a quote that no quote follows
-pub last_step : (e : Option ℕ) (xs : List ℕ) (i : ℕ) → i < length xs → eqb (get_or xs i 0) 39 ≡ true → begins (λ c. eqb c 39) (drop (i + 1) xs) ≡ false → or_end e i (closing (drop i xs)) ≡ Some (i + 1)
-last_step e xs i l h f = ap (λ ys. or_end e i (closing ys)) (drop_more xs i 0 l) ∙ ap (or_end e i) (closing-last _ _ h f)
 
 begins-at : (p : ℕ → Bool) (xs : List ℕ) (i : ℕ) → begins p (drop i xs) ≡ true → i < length xs → p (get_or xs i 0) ≡ true
 begins-at p xs i h l = ap (begins p) (sym (drop_more xs i 0 l)) ∙ h
@@ -59,15 +43,8 @@ doubled_step e xs i l h f =
     ∙ (ap (or_end e i) (closing-doubled (get_or xs i 0) (get_or xs (i + 1) 0) (drop (i + 1 + 1) xs) h (begins-at (λ c. eqb c 39) xs (i + 1) f l))
     ∙ or_end-further_or e i (closing (drop (i + 1 + 1) xs))))
 
--- nothing is left
-pub end_step : (e : Option ℕ) (xs : List ℕ) (i : ℕ) → length xs ≤ i → or_end e i (closing (drop i xs)) ≡ e
-end_step e xs i l = ap (λ ys. or_end e i (closing ys)) (drop_all i xs l)
-
 pub comment_end-other : (b c : ℕ) (bs : List ℕ) → ends_comment b c ≡ false → comment_end (b ∷ c ∷ bs) ≡ further 1 (comment_end (c ∷ bs))
 comment_end-other b c bs e = rw e refl
-
-pub comment_end-here : (b c : ℕ) (bs : List ℕ) → ends_comment b c ≡ true → comment_end (b ∷ c ∷ bs) ≡ Some 2
-comment_end-here b c bs e = rw e refl
 
 comment_end-short : (bs : List ℕ) → length bs ≤ 1 → comment_end bs ≡ None
 comment_end-short [] l = refl
@@ -84,10 +61,6 @@ comment_step xs i l h =
     ∙ (ap (further i) (comment_end-other (get_or xs i 0) (get_or xs (i + 1) 0) (drop (i + 1 + 1) xs) h)
     ∙ (further-further i (comment_end (get_or xs (i + 1) 0 ∷ drop (i + 1 + 1) xs))
     ∙ ap (λ ys. further (i + 1) (comment_end ys)) (sym (drop_more xs (i + 1) 0 l))))
-
--- two bytes that end it
-pub comment_here : (xs : List ℕ) (i : ℕ) → i + 1 < length xs → ends_comment (get_or xs i 0) (get_or xs (i + 1) 0) ≡ true → further i (comment_end (drop i xs)) ≡ Some (i + 2)
-comment_here xs i l h = ap (λ ys. further i (comment_end ys)) (two xs i l) ∙ ap (further i) (comment_end-here (get_or xs i 0) (get_or xs (i + 1) 0) (drop (i + 1 + 1) xs) h)
 
 -- fewer than two bytes are left
 pub comment_none : (xs : List ℕ) (i : ℕ) → length xs ≤ i + 1 → i ≤ length xs → further i (comment_end (drop i xs)) ≡ None

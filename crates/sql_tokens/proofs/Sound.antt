@@ -106,10 +106,6 @@ abbrev pub CommentEnds : Option ℕ → List ℕ → Type 0
 CommentEnds None bs = Unit {0}
 CommentEnds (Some n) bs = CommentEnd n bs
 
-and_no : (a : Bool) → (a && false) ≡ false
-and_no true = refl
-and_no false = refl
-
 and_or_no : (a : Bool) → ((a && false) || false) ≡ false
 and_or_no true = refl
 and_or_no false = refl
