@@ -51,7 +51,13 @@ _cophy_pg() {
     esac
 }
 
-_cophy_lint() { _cophy_files "${COMP_WORDS[COMP_CWORD]}"; }
+_cophy_lint() {
+    local current="${COMP_WORDS[COMP_CWORD]}"
+    case "$current" in
+        -*) _cophy_words "--help --version" "$current" ;;
+        *) _cophy_files "$current" ;;
+    esac
+}
 
 complete -o filenames -F _cophy cophy
 complete -o filenames -F _cophy_pg cophy-pg

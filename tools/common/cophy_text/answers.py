@@ -5,15 +5,15 @@ import re
 from dataclasses import dataclass, field
 
 PAGE = 8192
-_PICK = re.compile(r"(?:pick )?(\d+) ([A-Za-z0-9_]+)\(([A-Za-z0-9_]+(?:, [A-Za-z0-9_]+)*)\) (\d+) pages\Z")
-_PRICE = re.compile(r"statement (\d+) weight (\d+) cost (\d+)\Z")
+_PICK = re.compile(r"(?:pick )?(\d{1,18}) ([A-Za-z0-9_]+)\(([A-Za-z0-9_]+(?:, [A-Za-z0-9_]+)*)\) (\d{1,30}) pages\Z")
+_PRICE = re.compile(r"statement (\d{1,18}) weight (\d{1,18}) cost (\d{1,60})\Z")
 _NUMBERS = {
-    "budget": re.compile(r"budget (\d+)\Z"),
-    "size": re.compile(r"size (\d+)\Z"),
-    "cost": re.compile(r"cost (\d+)\Z"),
-    "bound": re.compile(r"bound (-?\d+)\Z"),
-    "gap": re.compile(r"gap (\d+)\Z"),
-    "total": re.compile(r"total (\d+)\Z"),
+    "budget": re.compile(r"budget (\d{1,60})\Z"),
+    "size": re.compile(r"size (\d{1,60})\Z"),
+    "cost": re.compile(r"cost (\d{1,60})\Z"),
+    "bound": re.compile(r"bound (-?\d{1,60})\Z"),
+    "gap": re.compile(r"gap (\d{1,60})\Z"),
+    "total": re.compile(r"total (\d{1,60})\Z"),
 }
 
 

@@ -42,9 +42,17 @@ RANGES = {
     **{it: "a whole number from 0 to 1000000" for it in RATES},
 }
 OURS = "postgres"
-"""A key under which the export keeps what PostgreSQL calls a table or a column; `cophy` passes it over. A table's has its
-schema, its name, and words of these two."""
+"""A key under which the export keeps what PostgreSQL calls a table or a column; `cophy` passes it over, as it does the
+keys below. A table's has its schema, its name, and words of these two. A column's is empty where PostgreSQL has no such
+column."""
 PARTITIONED, NOT_ANALYSED = "partitioned", "never analysed"
+NO_KEY = "postgres_no_key"
+"""Why no B-tree index can have a column."""
+CHILDREN = "postgres_children"
+"""The tables that inherit from a table, each with its schema and its name."""
+TAKEN = "postgres_taken"
+"""Names of relations that the catalogue doesn't have, which no new index may have."""
+PASSED_OVER = frozenset((OURS, NO_KEY, CHILDREN, TAKEN))
 
 _STEP = re.compile(r"([a-z_]+)(?:\[(\d+)\])?")
 
@@ -76,7 +84,7 @@ def unknown_keys(catalogue: dict[str, Any]) -> Iterator[tuple[str, str]]:
 
 def _unknown(part: str, path: str, element: dict[str, Any]) -> Iterator[tuple[str, str]]:
     for key in element:
-        if key in KNOWN[part] or key == OURS:
+        if key in KNOWN[part] or key in PASSED_OVER:
             continue
         yield f"{path}{key}", _hint(part, key)
 

@@ -1,4 +1,4 @@
-"""The warnings. Each is a line with its place; none says that a file is refused."""
+"""Warnings of what is probably wrong, each with its place, and notes of what is a guess; none says that a file is refused."""
 from __future__ import annotations
 
 import tomllib
@@ -15,19 +15,40 @@ _LITERALS = ("whole", "decimal", "text")
 
 @dataclass(frozen=True)
 class Warning:
-    """A warning: where, and what."""
+    """What is probably wrong: where, and what."""
 
     place: str
     text: str
 
 
-def catalogue_warnings(content: bytes) -> tuple[list[Warning], dict[str, Any]]:
+@dataclass(frozen=True)
+class Note:
+    """A guess of the model: of which kind it is, and where it was made."""
+
+    kind: str
+    place: str
+
+
+Remark = Warning | Note
+
+
+def lines(remarks: list[Remark]) -> list[str]:
+    """A line for each warning, and after them one for each kind of note with all its places."""
+    places: dict[str, list[str]] = {}
+    for it in remarks:
+        if isinstance(it, Note):
+            places.setdefault(it.kind, []).append(it.place)
+    warnings = [f"{it.place}: {it.text}" for it in remarks if isinstance(it, Warning)]
+    return warnings + [f"note: {kind}: {'; '.join(listed)}" for kind, listed in places.items()]
+
+
+def catalogue_remarks(content: bytes) -> tuple[list[Remark], dict[str, Any]]:
     """What a catalogue says in vain or leaves out, and its document."""
     try:
         document = tomllib.loads(content.decode())
     except (ValueError, RecursionError) as fault:
         return [Warning("catalogue", f"not TOML: {_place(str(fault))}")], {}
-    found = [
+    found: list[Remark] = [
         Warning(path, f"means nothing and is passed over{': ' + hint if hint else ''}")
         for path, hint in keys.unknown_keys(document)
     ]
@@ -45,7 +66,7 @@ def _listed(parent: dict[str, Any], part: str) -> list[dict[str, Any]]:
     return [it for it in listed if isinstance(it, dict)] if isinstance(listed, list) else []
 
 
-def _table(path: str, table: dict[str, Any]) -> Iterator[Warning]:
+def _table(path: str, table: dict[str, Any]) -> Iterator[Remark]:
     name = str(table.get("name"))
     notes = table.get(keys.OURS)
     if isinstance(notes, list) and keys.NOT_ANALYSED in notes[2:]:
@@ -59,31 +80,28 @@ def _table(path: str, table: dict[str, Any]) -> Iterator[Warning]:
     }
     for number, column in enumerate(_listed(table, "column"), 1):
         yield from _column(f"{path}.column[{number}]", name, column, table, indexed)
-    for number, index in enumerate(_listed(table, "index"), 1):
+    for index in _listed(table, "index"):
         if isinstance(index.get("keys"), list) and len(index["keys"]) > 4:
-            yield Warning(
-                f"{path}.index[{number}]",
-                f"{index.get('name')!a} has {len(index['keys'])} keys: its size grows with each",
-            )
+            yield Note("an index with more than four keys grows with each", f"{name + '.' + str(index.get('name'))!a}")
 
 
 def _column(
     path: str, table: str, column: dict[str, Any], parent: dict[str, Any], indexed: set[str]
-) -> Iterator[Warning]:
+) -> Iterator[Remark]:
     name = f"{table}.{column.get('name')}"
     distinct, rows = column.get("distinct"), parent.get("rows")
     if distinct is None:
-        more = ", and it is a key of an index" if str(column.get("name")).lower() in indexed else ""
-        yield Warning(path, f"{name!a} has no distinct: an equality is taken to keep a tenth of the rows{more}")
+        more = " (a key of an index)" if str(column.get("name")).lower() in indexed else ""
+        yield Note("without distinct an equality is taken to keep a tenth of the rows", f"{name!a}{more}")
     elif isinstance(distinct, int) and isinstance(rows, int) and distinct > max(1, rows):
         yield Warning(path, f"{name!a} has more distinct values than its table has rows")
     if column.get("kind") in ("int", "date") and ("low" in column) != ("high" in column):
         yield Warning(path, f"{name!a} has one end alone, which counts for nothing without the other")
 
 
-def workload_warnings(content: bytes, document: dict[str, Any]) -> list[Warning]:
-    """Statements whose price is a guess, since their ranges are of parameters, and a workload without any."""
-    found, statement = [], list[Token]()
+def workload_remarks(content: bytes, document: dict[str, Any]) -> list[Remark]:
+    """Statements whose price is a guess, and a workload without any."""
+    found, statement = list[Remark](), list[Token]()
     kinds = _kinds(document)
     number = 0
     for token in [*tokens(content), Token("symbol", b";", len(content) + 1)]:
@@ -93,13 +111,11 @@ def workload_warnings(content: bytes, document: dict[str, Any]) -> list[Warning]
             statement.append(token)
         elif statement:
             number += 1
-            place = place_of(content, statement[0].place)
-            found += [
-                Warning(f"statement {number}, line {place.line}", it)
-                for it in dict.fromkeys(_statement(statement, kinds))
-            ]
+            found += _statement(
+                statement, kinds, f"statement {number}, line {place_of(content, statement[0].place).line}"
+            )
             statement = []
-    return found or ([Warning("workload", "it holds no statement: every total is 0")] if number == 0 else [])
+    return found if number else [Warning("workload", "it holds no statement: every total is 0")]
 
 
 def _kinds(document: dict[str, Any]) -> dict[str, set[str]]:
@@ -111,25 +127,37 @@ def _kinds(document: dict[str, Any]) -> dict[str, set[str]]:
     return found
 
 
-def _statement(listed: list[Token], kinds: dict[str, set[str]]) -> Iterator[str]:
+def _statement(listed: list[Token], kinds: dict[str, set[str]], place: str) -> Iterator[Remark]:
+    """What is said of a statement: of each kind of note once, with the columns that it is of."""
+    columns: dict[str, list[str]] = {}
     for at, token in enumerate(listed):
-        after = listed[at + 1] if at + 1 < len(listed) else None
-        column = _name(listed[at - 1]) if at else ""
-        if token.word == "BETWEEN" and after is not None and _is_parameter(after):
-            yield f"the range of {column!a} is of parameters, which is taken to keep a quarter of the rows"
-        elif token.text in _RANGES and after is not None and _is_parameter(after):
-            yield f"the bound of {column!a} is a parameter, which is taken to keep a third of the rows"
-        elif (
-            token.text in _RANGES
-            and after is not None
-            and after.kind in _LITERALS
-            and kinds.get(column.lower()) == {"text"}
-        ):
-            yield f"{column!a} is of kind text, so its bound is taken to keep a third of the rows"
-        elif token.word == "LIKE" and after is not None and after.kind == "text" and not after.text.startswith(b"'%"):
-            yield f"{column!a} LIKE a prefix: no index is taken to serve it, a tenth of the rows is kept"
-        elif token.word == "LIMIT":
-            yield "LIMIT costs and saves nothing: the whole statement is priced"
+        before, after = listed[at - 1] if at else None, listed[at + 1] if at + 1 < len(listed) else None
+        if after is None:
+            break
+        if token.word == "TOP" and after.text == b"(" and before is not None and before.word in ("SELECT", "DISTINCT"):
+            yield Warning(place, "TOP is read as a function, and the name behind it as an alias: write LIMIT")
+        column = _name(before) if before is not None else ""
+        kind = _guess(token, after, kinds.get(column.lower(), set()))
+        if kind:
+            columns.setdefault(kind, []).append(f"{column!a}" if token.word != "LIMIT" else "")
+    for kind, named in columns.items():
+        names = " and ".join(dict.fromkeys(it for it in named if it))
+        yield Note(kind, place + (f" ({names})" if names else ""))
+
+
+def _guess(token: Token, after: Token, kinds: set[str]) -> str | None:
+    """The kind of guess that a token stands for, by the token after it and the kinds of the column before it."""
+    if token.word == "LIMIT":
+        return "LIMIT costs and saves nothing, the whole statement is priced"
+    if token.word == "BETWEEN" and _is_parameter(after):
+        return "a range of parameters is taken to keep a quarter of the rows"
+    if token.text in _RANGES and _is_parameter(after):
+        return "a bound that is a parameter is taken to keep a third of the rows"
+    if token.text in _RANGES and after.kind in _LITERALS and kinds == {"text"}:
+        return "a bound of a column of kind text is taken to keep a third of the rows"
+    if token.word == "LIKE" and after.kind == "text" and not after.text.startswith(b"'%"):
+        return "LIKE with a prefix is taken to be served by no index, and to keep a tenth of the rows"
+    return None
 
 
 def _is_parameter(token: Token) -> bool:

@@ -5,30 +5,41 @@ import argparse
 import sys
 from pathlib import Path
 
-from cophy_lint.checks import catalogue_warnings, workload_warnings
+from cophy_lint.checks import Warning, catalogue_remarks, lines, workload_remarks
+from cophy_text import VERSION
+
+
+def parser() -> argparse.ArgumentParser:
+    """The words of the command."""
+    made = argparse.ArgumentParser(
+        prog="cophy-lint",
+        description="Warns of what cophy takes in silence and is probably wrong: keys of a catalogue that mean nothing, "
+        "tables without rows. Notes what is a guess: columns without distinct, ranges of parameters; a line for each kind "
+        "of note, with all its places. A file without warnings may still be refused.",
+        epilog="The status is 0 where there are no warnings, whatever is noted; 1 where there are some; 2 where a file "
+        "can't be read or the words are faulty.",
+    )
+    made.add_argument("catalogue", metavar="CATALOGUE")
+    made.add_argument("workload", metavar="WORKLOAD", nargs="?")
+    made.add_argument("--version", action="version", version=f"cophy-lint {VERSION}")
+    return made
 
 
 def main() -> int:
-    """Prints the warnings. The status is 0 where there are none, 1 where there are some, 2 where a file can't be read."""
-    parser = argparse.ArgumentParser(
-        prog="cophy-lint",
-        description="Warns of what cophy takes in silence: keys of a catalogue that mean nothing, columns without distinct, "
-        "tables without rows, and statements whose price is a guess. A file without warnings may still be refused.",
-    )
-    parser.add_argument("catalogue", metavar="CATALOGUE")
-    parser.add_argument("workload", metavar="WORKLOAD", nargs="?")
-    words = parser.parse_args()
+    """Prints the warnings and notes, and gives the status."""
+    words = parser().parse_args()
     try:
-        warnings, document = catalogue_warnings(Path(words.catalogue).read_bytes())
-        found = [(words.catalogue, it) for it in warnings]
+        remarks, document = catalogue_remarks(Path(words.catalogue).read_bytes())
+        found = [(words.catalogue, remarks)]
         if words.workload:
-            found += [(words.workload, it) for it in workload_warnings(Path(words.workload).read_bytes(), document)]
+            found.append((words.workload, workload_remarks(Path(words.workload).read_bytes(), document)))
     except OSError as fault:
         print(f"cophy-lint: {fault.filename}: {fault.strerror}", file=sys.stderr)
         return 2
-    for file, it in found:
-        print(f"{file}: {it.place}: {it.text}")
-    return 1 if found else 0
+    for file, remarks in found:
+        for line in lines(remarks):
+            print(f"{file}: {line}")
+    return 1 if any(isinstance(it, Warning) for _, remarks in found for it in remarks) else 0
 
 
 if __name__ == "__main__":

@@ -1,4 +1,4 @@
-"""Hints on what an answer of the program may come from, written to the caller's output as plain lines.
+"""Hints on what an answer of the program may come from, written to the standard error as plain lines.
 
 The program has already answered. Where it refused, its words are run once more to read the text, provided that all its
 files can be read twice. Nothing here changes an answer or a status, and a hint that can't be had is left out.
@@ -8,14 +8,15 @@ from __future__ import annotations
 import os
 import re
 import subprocess
-import sys
 import tomllib
 from collections.abc import Iterator
 from typing import Any
 
 from cophy_text import keys
 from cophy_text.tokens import Token, has_statement, place_of, tokens
-from cophy_wrapper.forms import byte_hint, token_hint
+from cophy_wrapper.forms import byte_hint, text_hint, token_hint
+from cophy_wrapper.outputs import unwritten
+from cophy_wrapper.progress import say
 
 ROLES = ("catalogue", "workload", "third file")
 FORMS = {
@@ -101,9 +102,11 @@ def _usage(call: Call) -> Iterator[str]:
 def _read_fault(call: Call, name: str) -> Iterator[str]:
     role = call.files.index(name) if name in call.files else -1
     what = f"{name} ({ROLES[role]})" if role >= 0 else name
-    if not os.path.lexists(name):
+    folder = os.path.dirname(name) or "."
+    if not os.path.lexists(folder):
+        yield f"{what}: there is no folder {folder}"
+    elif not os.path.lexists(name):
         yield f"{what}: there is no such file"
-        folder = os.path.dirname(name) or "."
         near = keys.nearest(os.path.basename(name), os.listdir(folder)) if os.path.isdir(folder) else None
         if near:
             yield f"{os.path.join(os.path.dirname(name), near)} is there"
@@ -148,6 +151,9 @@ def _name_hint(call: Call, fault: str, token: Token | None, before: list[Token])
         near = keys.nearest(name, [str(it.get("name")) for it in tables])
         return f"{name} is no table of {call.files[0]}" + (f"; did you mean {near}?" if near else "")
     if fault == "no column":
+        written = text_hint(before, token)
+        if written:
+            return written
         columns = {str(it.get("name")) for table in tables for it in table.get("column", []) if isinstance(it, dict)}
         near = keys.nearest(name, sorted(columns))
         if near and near.lower() == name.lower():
@@ -234,28 +240,28 @@ def text_again(program: str, words: list[str]) -> tuple[int, str]:
     return ran.returncode, ran.stdout.decode(errors="surrogateescape").split("\n", 1)[0]
 
 
-def main() -> int:
-    """Takes the status of the call, the program, and its words."""
-    status, program, words = int(sys.argv[1]), sys.argv[2], sys.argv[3:]
-    if status not in (0, 2, 3, 5) or (status == 0 and words[:1] == ["bench"]):
-        return 0
-    call = Call(status, words, "")
-    if any(
-        os.path.exists(it) and not os.path.isfile(it) and not os.path.isdir(it) and it != os.devnull
-        for it in call.files
-    ):
-        return 0
-    if status:
-        again, call.text = text_again(program, words)
-        if again != status:
-            return 0
-    for line in hints(call):
-        print(f"cophy: {line}", flush=True)
+def main(words: list[str]) -> int:
+    """Takes the status of the call, the program, and its words. The status is always 0."""
+    try:
+        for line in _lines(int(words[0]), words[1], words[2:]):
+            say(line)
+    except (OSError, LookupError, TypeError, ValueError):
+        pass
     return 0
 
 
-if __name__ == "__main__":
-    try:
-        sys.exit(main())
-    except (OSError, LookupError, TypeError, ValueError):
-        sys.exit(0)
+def _lines(status: int, program: str, words: list[str]) -> Iterator[str]:
+    if status == 4:
+        yield from unwritten(words)
+    call = Call(status, words, "")
+    if status not in (0, 2, 3, 5) or any(_is_read_once(it) for it in call.files):
+        return
+    if status:
+        again, call.text = text_again(program, words)
+        if again != status:
+            return
+    yield from hints(call)
+
+
+def _is_read_once(file: str) -> bool:
+    return os.path.exists(file) and not os.path.isfile(file) and not os.path.isdir(file) and file != os.devnull

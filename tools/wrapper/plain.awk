@@ -1,0 +1,20 @@
+# Whether each key of a catalogue means something, as far as that is seen line by line. The status is 1 where it isn't.
+BEGIN {
+    known[""] = " version postgres "
+    known["[rates]"] = " seq_page rand_page row_cpu sort_cpu merge_cpu hash_cpu group_cpu postgres "
+    known["[[table]]"] = " name rows pages postgres "
+    known["[[table.column]]"] = " name kind width distinct low high postgres "
+    known["[[table.index]]"] = " name keys unique clustered postgres "
+}
+{ sub(/^[ \t]+/, ""); sub(/[ \t\r]+$/, "") }
+/^(#|$)/ { next }
+/^\[/ {
+    part = $0
+    if (!(part in known)) exit 1
+    next
+}
+{
+    key = $0
+    sub(/[ \t]*=.*/, "", key)
+    if (!index(known[part], " " key " ")) exit 1
+}
