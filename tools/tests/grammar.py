@@ -74,6 +74,10 @@ class Reader:
         while self.takes(","):
             read()
 
+    def order(self) -> None:
+        self.expr()
+        self.takes("ASC", "DESC")
+
     def select(self) -> None:
         self.want("SELECT")
         self.takes("ALL", "DISTINCT")
@@ -100,7 +104,7 @@ class Reader:
                 self.test()
         if self.takes("ORDER"):
             self.want("BY")
-            self.listed(lambda: (self.expr(), self.takes("ASC", "DESC")))
+            self.listed(self.order)
         if self.takes("LIMIT"):
             self.count()
             if self.takes("OFFSET"):

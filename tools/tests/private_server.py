@@ -11,7 +11,7 @@ import tempfile
 import time
 from pathlib import Path
 
-PACKAGES = ("pglast",)
+PACKAGES = ("psycopg", "pglast")
 SETTINGS = (
     "listen_addresses=",
     "fsync=off",
@@ -19,14 +19,12 @@ SETTINGS = (
     "shared_preload_libraries=pg_stat_statements",
     "logging_collector=off",
     "shared_buffers=32MB",
-    "statement_timeout=60s",
+    "statement_timeout=600s",
 )
 
 
 def missing() -> str:
     """What is missing for tests with a server; nothing where all is there."""
-    if not any(map(importlib.util.find_spec, ("psycopg", "psycopg2"))):
-        return "python3-psycopg isn't installed"
     for it in PACKAGES:
         if importlib.util.find_spec(it) is None:
             return f"python3-{it} isn't installed"
@@ -68,9 +66,10 @@ class PrivateServer:
             "stdout": subprocess.DEVNULL,
             "stderr": subprocess.DEVNULL,
         }
-        if os.geteuid() == 0:
-            shutil.chown(self.folder, _user())
-            self.how["user"] = _user()
+        user = _user()
+        if os.geteuid() == 0 and user is not None:
+            shutil.chown(self.folder, user)
+            self.how["user"] = user
         self.folder.chmod(0o755)
         data = str(self.folder / "data")
         words = f"-D {data} -U cophy --auth=trust -E {encoding} --locale=C --no-sync".split()
@@ -81,7 +80,7 @@ class PrivateServer:
         self._wait()
 
     def _wait(self) -> None:
-        for _ in range(300):
+        for _ in range(600):
             if (self.folder / ".s.PGSQL.5432").exists() and self.psql("SELECT 1", check=False).returncode == 0:
                 return
             time.sleep(0.1)
@@ -96,7 +95,7 @@ class PrivateServer:
         """Runs a script of SQL."""
         words = [str(program("psql")), "-X", "-q", "-A", "-t", "-v", "ON_ERROR_STOP=1"]
         ran = subprocess.run(
-            words, input=text, text=True, capture_output=True, env=self.environment(database), check=False, timeout=120
+            words, input=text, text=True, capture_output=True, env=self.environment(database), check=False, timeout=300
         )
         if check and ran.returncode:
             raise RuntimeError(f"psql: {ran.stderr}")
@@ -110,7 +109,7 @@ class PrivateServer:
         """Ends the server and removes its folder."""
         self.process.terminate()
         try:
-            self.process.wait(20)
+            self.process.wait(60)
         except subprocess.TimeoutExpired:
             self.process.kill()
             self.process.wait()

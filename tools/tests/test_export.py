@@ -18,8 +18,10 @@ HERE = Path(__file__).resolve().parent
 ROOT = HERE.parents[1]
 TOOL = ROOT / "tools" / "pg" / "cophy-pg"
 DATA = HERE / "data"
+ADVISOR = ROOT / "tools" / "pg" / "advisor_role.sql"
 COPHY = Path(os.environ.get("COPHY_PROGRAM") or ROOT / "crates" / "cophy_cli" / "out" / "cophy_cli")
 MISSING = missing()
+WAYS: list[list[str]] = [[], ["--no-ranges"], ["--look-ups"], ["--sql", str(DATA / "forms.sql")]]
 
 
 @functools.cache
@@ -32,6 +34,7 @@ def shop() -> PrivateServer:
     atexit.register(server.stop)
     server.psql("CREATE DATABASE shop")
     server.psql((DATA / "shop.sql").read_text(), "shop")
+    server.psql(ADVISOR.read_text(), "shop")
     how = {"env": server.environment("shop"), "check": True, "capture_output": True, "timeout": 120}
     subprocess.run([str(program("pgbench")), "-i", "-q", "-s", "1"], **how)  # type: ignore[call-overload]
     server.psql("SELECT pg_stat_statements_reset()", "shop")
@@ -48,13 +51,13 @@ def called(server: PrivateServer, *words: str, database: str = "shop", **more: s
         capture_output=True,
         text=True,
         check=False,
-        timeout=120,
+        timeout=300,
     )
 
 
 def cost(catalogue: Path, workload: Path) -> tuple[int, str]:
     """The status and the text of the program on both files."""
-    ran = subprocess.run([COPHY, "cost", catalogue, workload], capture_output=True, text=True, check=False, timeout=120)
+    ran = subprocess.run([COPHY, "cost", catalogue, workload], capture_output=True, text=True, check=False, timeout=300)
     return ran.returncode, ran.stdout
 
 
@@ -93,7 +96,7 @@ class Export(unittest.TestCase):
         count = int(
             self.server.value(
                 "SELECT count(DISTINCT query) FROM pg_stat_statements WHERE dbid = (SELECT oid FROM pg_database WHERE "
-                "datname = 'shop')",
+                "datname = 'shop') AND query NOT LIKE '/* cophy-pg */%'",
                 "shop",
             )
         )
@@ -119,7 +122,7 @@ class Export(unittest.TestCase):
         self.assertLessEqual(reasons, allowed)
 
     def test_the_grammar_takes_what_is_written(self) -> None:
-        for more in ([], ["--no-ranges"], ["--look-ups"], ["--sql", str(DATA / "forms.sql")]):
+        for more in WAYS:
             with self.subTest(more=more):
                 self.export(*more)
                 tables = {name: [it["name"] for it in table["column"]] for name, table in self.catalogue().items()}  # type: ignore[attr-defined]
@@ -127,7 +130,7 @@ class Export(unittest.TestCase):
 
     @unittest.skipUnless(os.access(COPHY, os.X_OK), "the program isn't built: run rt ci, or set COPHY_PROGRAM")
     def test_the_program_takes_what_is_written(self) -> None:
-        for more in ([], ["--no-ranges"], ["--look-ups"], ["--sql", str(DATA / "forms.sql")]):
+        for more in WAYS:
             with self.subTest(more=more):
                 self.export(*more)
                 status, text = cost(*self.files[:2])
@@ -241,6 +244,9 @@ class Export(unittest.TestCase):
         self.addCleanup(self.server.psql, "REVOKE ALL ON customer FROM weak; DROP ROLE weak", "shop")
         ran = self.export("--sql", str(DATA / "forms.sql"), PGUSER="weak")
         self.assertIn("isn't a member of pg_read_all_stats", ran.stderr)
+        told = ran.stderr.split("there are no statistics of ")[1].split("\n")[0]
+        self.assertIn("'public'.'product'", told)
+        self.assertNotIn("'customer'", told)
         found = next(it for it in self.catalogue()["customer"]["column"] if it["name"] == "id")  # type: ignore[attr-defined]
         self.assertEqual(found["distinct"], 5000)
 
@@ -268,6 +274,30 @@ class Export(unittest.TestCase):
                 self.assertEqual([it for it in secrets if it in ran.stdout + ran.stderr], [])
                 self.assertNotIn("Traceback", ran.stderr)
                 self.assertFalse(self.files[0].exists())
+
+    def test_why_a_connection_fails_is_told(self) -> None:
+        self.server.psql(
+            "CREATE ROLE shut NOLOGIN; CREATE ROLE full LOGIN CONNECTION LIMIT 0; CREATE ROLE outside LOGIN"
+        )
+        self.server.psql("CREATE DATABASE closed")
+        self.server.psql("REVOKE CONNECT ON DATABASE closed FROM public")
+        here = f"host={self.server.folder}"
+        table = {
+            "host=nohost.invalid": "the host's name ",
+            f"{here}/none": "no server listens on that socket",
+            "host=127.0.0.1 port=1": "nothing listens there",
+            "service=none": "there is no such service",
+            "port=many": "the connection string can't be read",
+            f"{here} user=nobody": "the server knows no such user, or it may not log in",
+            f"{here} user=shut": "the server knows no such user, or it may not log in",
+            f"{here} user=full": "the server has no connection left",
+            f"{here} dbname=none": "the server knows no such database",
+            f"{here} user=outside dbname=closed": "the user may not connect to the database",
+        }
+        for dsn, why in table.items():
+            with self.subTest(dsn=dsn):
+                ran = called(self.server, "export", *map(str, self.files[:2]), "--dsn", dsn)
+                self.assertRegex(ran.stderr, rf"\Acophy-pg: {why}.*\n\Z")
 
     def test_odd_names_and_bytes_break_no_file(self) -> None:
         name = "odd \"'\\ \n[[table]] # \u00fc"
@@ -348,8 +378,9 @@ ANALYZE"""
         weights = [int(it) for it in re.findall(r"^-- weight (\d+)$", text, re.MULTILINE)]
         self.assertEqual((len(weights), max(weights)), (1000, 1000000))
         self.assertIn("calls were divided by 2.0", report)
-        self.assertEqual(report.count("skipped (calls"), 101)
-        self.assertIn("1 skipped (calls 1): beyond 1000 statements or 2000 sources: others cost more", report)
+        why = "beyond 1000 statements or 2000 sources: others cost more"
+        self.assertEqual(len(re.findall(rf"^  \d+ skipped \(line \d+, calls \d+\): {why}$", report, re.MULTILINE)), 101)
+        self.assertIn(f"  1 skipped (line 2, calls 1): {why}", report)
 
 
 if __name__ == "__main__":

@@ -33,7 +33,6 @@ class Lint(unittest.TestCase):
                 HEAD + COLUMN.replace("distinct", "distnct"),
                 "c: table[1].column[1].distnct: means nothing and is passed over: did you mean distinct?",
             ),
-            (HEAD + COLUMN.replace("distinct", "distnct"), "'t.c' has no distinct"),
             (
                 HEAD.replace("version = 1", "version = 1\nrand_page = 5") + COLUMN,
                 "c: rand_page: means nothing and is passed over: it belongs under [rates]",
@@ -58,21 +57,67 @@ class Lint(unittest.TestCase):
                 self.assertEqual(status, 1)
                 self.assertIn(warning, text)
 
-    def test_guesses_of_a_workload_are_told(self) -> None:
+    def test_a_guess_is_a_note_and_no_fault(self) -> None:
         table = [
             (
                 "SELECT c FROM t;\n\nSELECT c FROM t WHERE c BETWEEN ? AND ?",
-                "l: statement 2, line 3: the range of 'c' is of parameters",
+                "a range of parameters is taken to keep a quarter of the rows: statement 2, line 3 ('c')",
             ),
-            ("SELECT c FROM t WHERE c >= $1", "the bound of 'c' is a parameter"),
-            ("SELECT c FROM t WHERE t.x > 'q'", "'x' is of kind text"),
-            ("SELECT c FROM t WHERE x LIKE 'q%'", "LIKE a prefix"),
-            ("SELECT c FROM t LIMIT 5", "LIMIT costs and saves nothing"),
-            (" ; -- weight 5\n", "l: workload: it holds no statement"),
+            (
+                "SELECT c FROM t WHERE c >= $1",
+                "a bound that is a parameter is taken to keep a third of the rows: statement 1",
+            ),
+            ("SELECT c FROM t WHERE t.x > 'q'", "a bound of a column of kind text is taken"),
+            ("SELECT c FROM t WHERE x LIKE 'q%'", "LIKE with a prefix"),
+            (
+                "SELECT c FROM t LIMIT 5",
+                "LIMIT costs and saves nothing, the whole statement is priced: statement 1, line 1",
+            ),
         ]
-        for workload, warning in table:
+        for workload, note in table:
             with self.subTest(workload=workload):
-                self.assertIn(warning, self.linted(HEAD + COLUMN + TEXT, workload)[1])
+                status, text = self.linted(HEAD + COLUMN + TEXT, workload)
+                self.assertEqual((status, text.count("\n")), (0, 1))
+                self.assertTrue(text.startswith(f"l: note: {note}"), text)
+        for catalogue, note in (
+            (HEAD + COLUMN.replace("distinct = 50\n", ""), "an equality is taken to keep a tenth of the rows: 't.c'\n"),
+            (HEAD + COLUMN + '[[table.index]]\nname = "i"\nkeys = ["c", "c", "c", "c", "c"]\n', "four keys"),
+        ):
+            with self.subTest(catalogue=catalogue):
+                status, text = self.linted(catalogue)
+                self.assertEqual(status, 0)
+                self.assertIn(note, text)
+
+    def test_notes_of_a_kind_are_one_line(self) -> None:
+        statements = ["SELECT c FROM t WHERE c < ? AND x > ? LIMIT 5;", "SELECT c FROM t WHERE c > ? LIMIT 5;\n"] * 15
+        status, text = self.linted(HEAD + COLUMN + TEXT, "\n".join(statements))
+        self.assertEqual((status, text.count("\n")), (0, 2))
+        bounds, limits = text.splitlines()
+        self.assertIn("statement 1, line 1 ('c' and 'x'); statement 2, line 2 ('c'); statement 3, line 4 ('c'", bounds)
+        self.assertTrue(limits.endswith("statement 30, line 44"), limits)
+        self.assertEqual(limits.count("statement "), 31)
+
+    def test_warnings_come_first_and_give_the_status(self) -> None:
+        status, text = self.linted(HEAD + COLUMN.replace("distinct", "distnct"), "SELECT TOP (5) c FROM t LIMIT 5")
+        self.assertEqual(status, 1)
+        starts = [
+            "c: table[1].column[1].distnct: means",
+            "c: note: without",
+            "l: statement 1, line 1: TOP",
+            "l: note: LIMIT",
+        ]
+        for line, start in zip(text.splitlines(), starts, strict=True):
+            self.assertTrue(line.startswith(start), line)
+
+    def test_an_empty_workload_is_a_warning(self) -> None:
+        self.assertEqual(
+            self.linted(HEAD + COLUMN, " ; -- weight 5\n"),
+            (1, "l: workload: it holds no statement: every total is 0\n"),
+        )
+
+    def test_the_version_is_that_of_the_tools(self) -> None:
+        ran = subprocess.run([ROOT / "tools/lint/cophy-lint", "--version"], capture_output=True, text=True, check=True)
+        self.assertRegex(ran.stdout, r"\Acophy-lint \d+\.\d+\.\d+\n\Z")
 
 
 if __name__ == "__main__":

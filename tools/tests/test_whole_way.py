@@ -8,7 +8,7 @@ import unittest
 from pathlib import Path
 
 from cophy_text import answers
-from private_server import has_extension
+from private_server import PrivateServer, has_extension
 from test_export import COPHY, MISSING, called, shop
 
 QUERIES = """SELECT id, name FROM customer WHERE city = 'City 3';
@@ -23,6 +23,11 @@ UPDATE customer SET city = 'City 9' WHERE id = 12;
 class WholeWay(unittest.TestCase):
     """Each step takes what the one before it wrote."""
 
+    server: PrivateServer
+    folder: Path
+    files: list[str]
+    advice: answers.Advice
+
     @classmethod
     def setUpClass(cls) -> None:
         cls.server = shop()
@@ -31,7 +36,8 @@ class WholeWay(unittest.TestCase):
         cls.folder = Path(folder.name)
         (cls.folder / "queries.sql").write_text(QUERIES)
         cls.files = [str(cls.folder / it) for it in ("catalogue.toml", "workload.sql", "advice")]
-        ran = called(cls.server, "export", *cls.files[:2], "--sql", str(cls.folder / "queries.sql"))
+        words = ("export", *cls.files[:2], "--sql", str(cls.folder / "queries.sql"))
+        ran = called(cls.server, *words, PGUSER="cophy_advisor")
         assert ran.returncode == 0, ran.stderr
         told = subprocess.run(
             [str(COPHY), "advise", *cls.files[:2], "1000000"], capture_output=True, text=True, check=True, timeout=300
@@ -40,7 +46,7 @@ class WholeWay(unittest.TestCase):
         Path(cls.files[2]).write_text(told.stdout)
 
     def call(self, *words: str) -> str:
-        ran = called(self.server, *words)
+        ran = called(self.server, *words, PGUSER="cophy_advisor")
         self.assertEqual(ran.returncode, 0, ran.stderr)
         return ran.stdout
 
@@ -63,7 +69,6 @@ class WholeWay(unittest.TestCase):
 
     @unittest.skipUnless(has_extension("hypopg"), "postgresql-15-hypopg isn't installed")
     def test_the_server_takes_a_pick(self) -> None:
-        self.server.psql("CREATE EXTENSION IF NOT EXISTS hypopg", "shop")
         words = ("verify", *self.files, "--sql", str(self.folder / "queries.sql"), "--program", str(COPHY), "--json")
         found = json.loads(self.call(*words))
         self.assertEqual(len(found["picks"]), len(self.advice.picks))
@@ -79,7 +84,10 @@ class WholeWay(unittest.TestCase):
         costs = [it["cost"] for it in json.loads(self.call(*words))]
         self.assertEqual(len(costs), 4)
         self.assertEqual(costs, sorted(costs, reverse=True))
-        self.assertEqual(costs[0], json.loads(self.call("why", *self.files, "--program", str(COPHY), "--json"))["total_without_picks"])
+        self.assertEqual(
+            costs[0],
+            json.loads(self.call("why", *self.files, "--program", str(COPHY), "--json"))["total_without_picks"],
+        )
 
 
 if __name__ == "__main__":

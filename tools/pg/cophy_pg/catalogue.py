@@ -9,6 +9,8 @@ from cophy_text import keys
 from cophy_pg.rewrite.terms import day_number, text_of_number
 from cophy_pg.schema import Column, Index, Schema, Table
 
+KINDS = ("int", "text", "date")
+
 
 def toml_text(text: str) -> str:
     """A text of TOML in ASCII, whatever it holds."""
@@ -24,17 +26,26 @@ def toml_text(text: str) -> str:
     return "".join([*shown, '"'])
 
 
+def _toml_list(texts: list[str]) -> str:
+    return f"[{', '.join(map(toml_text, texts))}]"
+
+
 def catalogue_text(schema: Schema, rates: dict[str, int], head: list[str]) -> str:
     """The catalogue, with remarks as comments."""
-    lines = [*(f"# {it}" for it in head), "version = 1", "", "[rates]"]
+    lines = [*(f"# {it}" for it in head), "version = 1"]
+    if schema.taken:
+        lines.append(f"{keys.TAKEN} = {_toml_list(schema.taken)}")
+    lines += ["", "[rates]"]
     lines += [f"{name} = {rate}" for name, rate in rates.items()]
     for table in schema.tables.values():
         lines += ["", *(f"# {it}" for it in table.remarks), "[[table]]", f'name = "{table.shown}"']
         lines += [f"rows = {table.rows}", f"pages = {table.pages}"]
         notes = [keys.PARTITIONED] * table.is_partitioned + [keys.NOT_ANALYSED] * (not table.is_analysed)
         if notes or (table.schema, table.name) != ("public", table.shown):
-            lines.append(f"{keys.OURS} = [{', '.join(map(toml_text, (table.schema, table.name, *notes)))}]")
-        for column in table.columns.values():
+            lines.append(f"{keys.OURS} = {_toml_list([table.schema, table.name, *notes])}")
+        if table.children:
+            lines.append(f"{keys.CHILDREN} = [{', '.join(_toml_list([*it]) for it in table.children)}]")
+        for column in (*table.columns.values(), *table.spares):
             lines += ["", *_column(column)]
         for index in table.indexes:
             lines += ["", *_index(index, table)]
@@ -51,6 +62,8 @@ def _column(column: Column) -> list[str]:
             lines.append(f"{key} = {text}")
     if column.shown != column.name:
         lines.append(f"{keys.OURS} = {toml_text(column.name)}")
+    if column.no_key:
+        lines.append(f"{keys.NO_KEY} = {toml_text(column.no_key)}")
     return lines
 
 
@@ -68,29 +81,64 @@ def read_schema(content: bytes) -> Schema:
     """The schema of a catalogue that `cophy` takes, with the names that PostgreSQL knows where it has them."""
     try:
         document = tomllib.loads(content.decode())
-        tables = [_read_table(it) for it in document.get("table", [])]
+        tables = [_read_table(it) for it in _of(list, document.get("table", []))]
+        taken = _texts(document.get(keys.TAKEN, []))
     except (ValueError, TypeError, KeyError, AttributeError, RecursionError):
         raise NoCatalogue from None
     path = dict.fromkeys(["public", *(it.schema for it in tables)])
-    return Schema(tables, path)
+    schema = Schema(tables, path)
+    schema.taken = taken
+    return schema
+
+
+def _of(kind: type, value: Any) -> Any:
+    """A value, if it is of this type."""
+    if not isinstance(value, kind) or (kind is int and isinstance(value, bool)):
+        raise TypeError
+    return value
+
+
+def _texts(value: Any) -> list[str]:
+    return [_of(str, it) for it in _of(list, value)]
 
 
 def _read_table(element: dict[str, Any]) -> Table:
-    schema, name, *notes = element.get(keys.OURS, ("public", element["name"]))
-    table = Table(schema, name, element["name"], element["rows"], element["pages"])
+    shown = _of(str, element["name"])
+    schema, name, *notes = _texts(element.get(keys.OURS, ["public", shown]))
+    table = Table(schema, name, shown, _of(int, element["rows"]), _of(int, element["pages"]))
     table.is_partitioned, table.is_analysed = keys.PARTITIONED in notes, keys.NOT_ANALYSED not in notes
+    for it in _of(list, element.get(keys.CHILDREN, [])):
+        child_schema, child = _texts(it)
+        table.children.append((child_schema, child))
     by_shown: dict[str, str] = {}
-    for it in element["column"]:
-        column = Column(it.get(keys.OURS, it["name"]), it["name"], it["kind"], it["width"], it.get("distinct"))
-        if it["kind"] != "text":
-            column.low, column.high = _end(it.get("low")), _end(it.get("high"))
-        table.columns[column.name] = column
-        by_shown[column.shown.lower()] = column.name
-    for it in element.get("index", []):
-        names = [by_shown[key.lower()] for key in it["keys"]]
-        table.indexes.append(Index(it["name"], it["name"], names, it.get("unique", False), it.get("clustered", False)))
+    for it in _of(list, element["column"]):
+        column = _read_column(it)
+        if column.name:
+            table.columns[column.name] = column
+            by_shown[column.shown.lower()] = column.name
+        else:
+            table.spares.append(column)
+    for it in _of(list, element.get("index", [])):
+        names = [by_shown[key.lower()] for key in _texts(it["keys"])]
+        flags = (_of(bool, it.get(flag, False)) for flag in ("unique", "clustered"))
+        table.indexes.append(Index(_of(str, it["name"]), it["name"], names, *flags))
     return table
 
 
-def _end(value: Any) -> int | None:
-    return day_number(date.fromisoformat(value)) if isinstance(value, str) else value
+def _read_column(element: dict[str, Any]) -> Column:
+    shown, kind = _of(str, element["name"]), _of(str, element["kind"])
+    if kind not in KINDS:
+        raise ValueError
+    column = Column(_of(str, element.get(keys.OURS, shown)), shown, kind, _of(int, element["width"]))
+    column.no_key = _of(str, element.get(keys.NO_KEY, ""))
+    if "distinct" in element:
+        column.distinct = _of(int, element["distinct"])
+    if kind != "text":
+        column.low, column.high = _end(kind, element.get("low")), _end(kind, element.get("high"))
+    return column
+
+
+def _end(kind: str, value: Any) -> int | None:
+    if value is None:
+        return None
+    return day_number(date.fromisoformat(_of(str, value))) if kind == "date" else int(_of(int, value))

@@ -3,20 +3,31 @@ from __future__ import annotations
 
 import argparse
 import json
-import sys
-from pathlib import Path
+import re
+from dataclasses import dataclass
 from typing import Any
 
 from cophy_text.answers import Advice, Candidate, megabytes, read_advice
+from cophy_pg import files
 from cophy_pg.catalogue import read_schema
 from cophy_pg.schema import Schema, Table
-from cophy_pg.server import quoted_name
 
 LONGEST = 63
+_PLAIN = re.compile(r"[ -~]*\Z")
 
 
 class NoIndex(Exception):
     """A pick that isn't of this catalogue."""
+
+
+@dataclass
+class Made:
+    """A pick with the name of its index and the statements that make it, or why no index can be made."""
+
+    pick: Candidate
+    name: str = ""
+    statements: tuple[str, ...] = ()
+    why_not: str = ""
 
 
 def add_ddl(commands: argparse._SubParsersAction[argparse.ArgumentParser]) -> None:
@@ -25,7 +36,8 @@ def add_ddl(commands: argparse._SubParsersAction[argparse.ArgumentParser]) -> No
         "ddl",
         help="print the statements CREATE INDEX of an advice",
         description="Prints CREATE INDEX CONCURRENTLY for each pick of an advice, with PostgreSQL's own names. Each runs by "
-        "itself, outside a transaction; psql -f runs them in turn.",
+        "itself, outside a transaction; psql -f runs them in turn. A pick that PostgreSQL can't make is left out, with "
+        "the reason.",
     )
     parser.add_argument("catalogue", metavar="CATALOGUE", help="the catalogue that the advice is of")
     parser.add_argument("advice", metavar="ADVICE", help="what cophy advise printed; - for the standard input")
@@ -35,28 +47,72 @@ def add_ddl(commands: argparse._SubParsersAction[argparse.ArgumentParser]) -> No
 
 def advice_of(file: str) -> Advice:
     """The advice of a file, or of the standard input."""
-    return read_advice(sys.stdin.read() if file == "-" else Path(file).read_text(encoding="utf-8", errors="replace"))
+    return read_advice(files.read(file).decode(errors="replace"))
+
+
+def table_of(schema: Schema, pick: Candidate) -> Table:
+    """The table of a pick."""
+    table = next((it for it in schema.tables.values() if it.shown.lower() == pick.table.lower()), None)
+    if table is None:
+        raise NoIndex(f"the catalogue has no table {pick.table}: is this its advice?")
+    return table
 
 
 def names_of(schema: Schema, pick: Candidate) -> tuple[Table, list[str]]:
     """The table of a pick and PostgreSQL's names of its columns."""
-    table = next((it for it in schema.tables.values() if it.shown.lower() == pick.table.lower()), None)
-    if table is None:
-        raise NoIndex(f"the catalogue has no table {pick.table}: is this its advice?")
+    table = table_of(schema, pick)
     by_shown = {it.shown.lower(): it.name for it in table.columns.values()}
     if any(it.lower() not in by_shown for it in pick.columns):
         raise NoIndex(f"the table {pick.table} lacks a column of {pick.shown()}: is this its advice?")
     return table, [by_shown[it.lower()] for it in pick.columns]
 
 
-def create(schema: Schema, pick: Candidate, taken: set[str]) -> tuple[str, str]:
-    """The name of an index that is to be made, and the statement that makes it."""
+def why_not(schema: Schema, pick: Candidate) -> str:
+    """Why PostgreSQL can't make a pick; nothing where it can."""
+    table = table_of(schema, pick)
+    given = {it.lower() for it in pick.columns}
+    if given & {it.shown.lower() for it in table.spares}:
+        return "it has a column that stands for what no index holds"
+    columns = names_of(schema, pick)[1]
+    found = [it for it in columns if table.columns[it].no_key]
+    return "; ".join(f"no index can have {table.columns[it].shown}: {table.columns[it].no_key}" for it in found)
+
+
+def written_name(name: str) -> str:
+    """A name in PostgreSQL's quotes, in printable ASCII whatever it holds."""
+    if _PLAIN.match(name):
+        return '"' + name.replace('"', '""') + '"'
+    shown = []
+    for it in name:
+        code = ord(it)
+        if it in '"\\':
+            shown.append(it * 2)
+        else:
+            shown.append(it if 32 <= code < 127 else f"\\{code:04x}" if code < 0x10000 else f"\\+{code:06x}")
+    return 'U&"' + "".join(shown) + '"'
+
+
+def create(schema: Schema, pick: Candidate, taken: set[str]) -> Made:
+    """The index that is to be made; of a table that others inherit from, one for each of them too."""
+    why = why_not(schema, pick)
+    if why:
+        return Made(pick, why_not=why)
     table, columns = names_of(schema, pick)
     name = _free(f"{table.shown}_{'_'.join(pick.columns)}", taken)
-    where = f"{quoted_name(table.schema)}.{quoted_name(table.name)}"
-    listed = ", ".join(map(quoted_name, columns))
-    concurrently = "" if table.is_partitioned else "CONCURRENTLY "
-    return name, f"CREATE INDEX {concurrently}{quoted_name(name)} ON {where} ({listed});"
+    statements = [_statement(name, (table.schema, table.name), columns, table.is_partitioned)]
+    for child in table.children:
+        known = schema.tables.get(child)
+        if known is None or not any(it.keys == columns for it in known.indexes):
+            stem = known.shown if known is not None else re.sub(r"[^A-Za-z0-9_]", "_", child[1])
+            own = _free(f"{stem}_{'_'.join(pick.columns)}", taken)
+            statements.append(_statement(own, child, columns, False))
+    return Made(pick, name, tuple(statements))
+
+
+def _statement(name: str, where: tuple[str, str], columns: list[str], is_partitioned: bool) -> str:
+    listed, table = ", ".join(map(written_name, columns)), ".".join(map(written_name, where))
+    concurrently = "" if is_partitioned else "CONCURRENTLY "
+    return f"CREATE INDEX {concurrently}{written_name(name)} ON {table} ({listed});"
 
 
 def _free(stem: str, taken: set[str]) -> str:
@@ -72,30 +128,37 @@ def _free(stem: str, taken: set[str]) -> str:
 
 
 def taken_names(schema: Schema) -> set[str]:
-    """The names of all tables and indexes of a catalogue."""
+    """The names of all tables and indexes of a catalogue, and of what was left out of it."""
     tables = schema.tables.values()
-    return {it.name.lower() for it in tables} | {index.name.lower() for it in tables for index in it.indexes}
+    names = {it.name.lower() for it in tables} | {index.name.lower() for it in tables for index in it.indexes}
+    return names | {it.lower() for it in schema.taken}
 
 
 def ddl(words: argparse.Namespace) -> int:
     """Prints the statements."""
-    schema, advice = read_schema(Path(words.catalogue).read_bytes()), advice_of(words.advice)
+    schema, advice = read_schema(files.read(words.catalogue)), advice_of(words.advice)
     taken = taken_names(schema)
-    made = [(it, *create(schema, it, taken)) for it in advice.picks]
+    made = [create(schema, it, taken) for it in advice.picks]
     if words.json:
         print(json.dumps(_as_json(advice, made), indent=2))
         return 0
-    end = "the bound is reached: no other choice costs less" if advice.is_finished else "the search stopped early"
+    end = "the bound is reached: no other choice costs less" if advice.is_finished else "the bound isn't reached"
     print(
         f"-- budget {advice.budget} pages ({megabytes(advice.budget)}), size {advice.size} pages ({megabytes(advice.size)})"
     )
     print(f"-- cost {advice.cost}, bound {advice.bound}, gap {advice.gap}: {end}")
-    for pick, _, text in made:
-        print(f"\n-- pick {pick.number}: {pick.pages} pages ({megabytes(pick.pages)})\n{text}")
+    for it in made:
+        print(f"\n-- pick {it.pick.number}: {it.pick.pages} pages ({megabytes(it.pick.pages)})")
+        print("\n".join(it.statements) if not it.why_not else f"-- left out, {_comment(it.why_not)}")
     return 0
 
 
-def _as_json(advice: Advice, made: list[tuple[Candidate, str, str]]) -> dict[str, Any]:
+def _comment(text: str) -> str:
+    """A text of one line of printable ASCII."""
+    return "".join(it if 32 <= ord(it) < 127 else "?" for it in text)
+
+
+def _as_json(advice: Advice, made: list[Made]) -> dict[str, Any]:
     return {
         "budget": advice.budget,
         "size": advice.size,
@@ -105,13 +168,14 @@ def _as_json(advice: Advice, made: list[tuple[Candidate, str, str]]) -> dict[str
         "finished": advice.is_finished,
         "picks": [
             {
-                "number": it.number,
-                "table": it.table,
-                "columns": it.columns,
-                "pages": it.pages,
-                "name": name,
-                "statement": text,
+                "number": it.pick.number,
+                "table": it.pick.table,
+                "columns": it.pick.columns,
+                "pages": it.pick.pages,
+                "name": it.name or None,
+                "statement": "\n".join(it.statements) or None,
+                **({"left_out": it.why_not} if it.why_not else {}),
             }
-            for it, name, text in made
+            for it in made
         ],
     }

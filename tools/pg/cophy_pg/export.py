@@ -2,16 +2,18 @@
 from __future__ import annotations
 
 import argparse
-from pathlib import Path
 
-from cophy_pg import inputs
+from cophy_pg import files, inputs
 from cophy_pg.catalogue import catalogue_text, read_schema
 from cophy_pg.progress import Progress, say
 from cophy_pg.report import each, summary
 from cophy_pg.rewrite import Options, Rewriter
-from cophy_pg.server import Server, connected, reading, rights
-from cophy_pg.statistics import read_database
+from cophy_pg.server import Server, add_connection, connected, reading
+from cophy_pg.statistics import Found, read_database
 from cophy_pg.workload import Workload, made, mentioned
+
+HIDDEN = "<insufficient privilege>"
+"""What pg_stat_statements has in the place of a text that the role may not see."""
 
 
 def add_export(commands: argparse._SubParsersAction[argparse.ArgumentParser]) -> None:
@@ -19,15 +21,13 @@ def add_export(commands: argparse._SubParsersAction[argparse.ArgumentParser]) ->
     parser = commands.add_parser(
         "export",
         help="write a catalogue and a workload from a server",
-        description="Reads a database in one read-only transaction and writes a catalogue and a workload. The connection "
+        description="Reads a database in read-only transactions and writes a catalogue and a workload. The connection "
         "is that of psql's environment (PGHOST, PGDATABASE, PGSERVICE, ..), or of --dsn. The catalogue holds the least and "
         "the greatest value of columns, as PostgreSQL's statistics have them.",
     )
     parser.add_argument("catalogue", metavar="CATALOGUE", help="the file of the catalogue")
     parser.add_argument("workload", metavar="WORKLOAD", help="the file of the workload")
-    parser.add_argument(
-        "--dsn", default="", help="a connection string; better in PGSERVICE, since others may see words"
-    )
+    add_connection(parser)
     source = parser.add_mutually_exclusive_group()
     source.add_argument(
         "--sql", metavar="FILE", help="statements from a file of SQL, with weights in comments '-- weight N'"
@@ -74,49 +74,53 @@ def export(words: argparse.Namespace) -> int:
     """Reads the server and writes both files."""
     progress = Progress()
     given = None
+    files.check([words.catalogue, words.workload, words.report], [words.sql, words.log])
     if words.sql:
-        given = inputs.from_sql(Path(words.sql).read_bytes())
+        given = inputs.from_sql(files.read(words.sql))
     elif words.log:
-        given = inputs.from_log(Path(words.log).read_bytes())
-    with connected(words.dsn) as server, reading(server):
-        catalogue, workload, warnings = _exported(server, given, _options(words), progress)
-    Path(words.catalogue).write_text(catalogue, encoding="ascii")
-    _write(workload, warnings, words)
+        given = inputs.from_log(files.read(words.log))
+    with connected(words.dsn, words.timeout) as server:
+        listed, found, warnings, name = _read(server, given, progress)
+    workload = made(listed, Rewriter(found.schema, _options(words)), progress)
+    head = [f"The database {name!a}, exported by cophy-pg.", "A cost divided by 1000 is in the unit of EXPLAIN."]
+    catalogue = catalogue_text(found.schema, found.rates, head)
+    _write(workload, warnings, words, [files.File(words.catalogue, catalogue.encode("ascii"))])
     return 0
 
 
-def _exported(
-    server: Server, given: list[inputs.Input] | None, options: Options, progress: Progress
-) -> tuple[str, Workload, list[str]]:
+def _read(
+    server: Server, given: list[inputs.Input] | None, progress: Progress
+) -> tuple[list[inputs.Input], Found, list[str], str]:
+    """The statements, what the database is, what to warn of, and its name. No transaction is open when this returns."""
     progress("reading statements")
-    listed = inputs.from_server(server) if given is None else given
-    hidden = sum(it.text == "<insufficient privilege>" for it in listed)
+    with reading(server):
+        if given is None:
+            given = inputs.from_server(server)
+        else:
+            inputs.look_up(server, given)
+        name = str(server.value("SELECT pg_catalog.current_database()::text"))
+    listed = [it for it in given if it.text != HIDDEN]
     found = read_database(server, *mentioned(listed), progress)
-    warnings = [
-        f"the role isn't a member of {it}, so some statements or statistics may be missing" for it in rights(server)
-    ]
-    if hidden:
-        warnings.append(f"the texts of {hidden} statements of other users can't be read")
-    workload = made(
-        [it for it in listed if it.text != "<insufficient privilege>"], Rewriter(found.schema, options), progress
-    )
-    name = server.value("SELECT current_database()::text")
-    head = [f"The database {str(name)!a}, exported by cophy-pg.", "A cost divided by 1000 is in the unit of EXPLAIN."]
-    return catalogue_text(found.schema, found.rates, head), workload, [*warnings, *found.warnings]
+    hidden = len(given) - len(listed)
+    warnings = [f"the texts of {hidden} statements of other users can't be read"] if hidden else []
+    return listed, found, [*warnings, *found.warnings], name
 
 
 def rewrite(words: argparse.Namespace) -> int:
     """Rewrites a file over a catalogue."""
-    schema = read_schema(Path(words.catalogue).read_bytes())
-    workload = made(inputs.from_sql(Path(words.sql).read_bytes()), Rewriter(schema, _options(words)), Progress())
-    _write(workload, [], words)
+    files.check([words.workload, words.report], [words.catalogue, words.sql])
+    schema = read_schema(files.read(words.catalogue))
+    workload = made(inputs.from_sql(files.read(words.sql)), Rewriter(schema, _options(words)), Progress())
+    _write(workload, [], words, [])
     return 0
 
 
-def _write(workload: Workload, warnings: list[str], words: argparse.Namespace) -> None:
-    Path(words.workload).write_bytes(workload.text().encode(errors="replace"))
+def _write(workload: Workload, warnings: list[str], words: argparse.Namespace, others: list[files.File]) -> None:
+    """Writes all files together, and says what became of the statements."""
     told = [*(f"warning: {it}" for it in warnings), *summary(workload)]
+    listed = [*others, files.File(words.workload, workload.text().encode(errors="replace"))]
     if words.report:
-        Path(words.report).write_text("\n".join([*told, *each(workload)]) + "\n", encoding="ascii")
+        listed.append(files.File(words.report, ("\n".join([*told, *each(workload)]) + "\n").encode("ascii", "replace")))
+    files.write(listed)
     for it in told:
         say(it)

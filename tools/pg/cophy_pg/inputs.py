@@ -9,18 +9,16 @@ from collections.abc import Iterator
 from dataclasses import dataclass
 
 from pglast import parser
-from pglast.parser import ParseError, parse_sql
+from pglast.parser import ParseError
 
 from cophy_text.tokens import tokens
-from cophy_pg.server import Row, Server, ServerFault, quoted_name
+from cophy_pg.paths import path_set_by, read_paths
+from cophy_pg.pieces import pieces
+from cophy_pg.server import OWN, Row, Server, ServerFault, quoted_name, version_of
 
-_BACKSLASH = re.compile(r"^[ \t]*\\[^\n]*$", re.MULTILINE)
-_VARIABLE = re.compile(
-    r"(?<![:\w]):(?:'([A-Za-z_]\w*)'|\"([A-Za-z_]\w*)\"|([A-Za-z_]\w*))(?!:)|'[^']*'|\"[^\"]*\"|--[^\n]*|/\*.*?\*/",
-    re.DOTALL,
-)
 _LOGGED = re.compile(
-    r"(?:LOG|DEBUG\d?):\s+(?:duration: (?P<ms>[0-9.]+) ms\s+)?(?:statement|execute [^:]*|parse [^:]*|bind [^:]*): (?P<sql>.*)",
+    r"(?:LOG|DEBUG\d?):\s+(?:duration: (?P<ms>[0-9]{1,15}(?:\.[0-9]+)?) ms\s+)?"
+    r"(?:statement|execute [^:]*|(?P<part>parse|bind) [^:]*): (?P<sql>.*)",
     re.DOTALL,
 )
 _BEGINS = re.compile(
@@ -30,12 +28,16 @@ _BEGINS = re.compile(
 
 @dataclass
 class Input:
-    """A statement as it came: its text, how often it was called, its time in all, and the rows of one call."""
+    """A statement as it came: its text, how often it was called, its time in all, the rows of one call, the line of its
+    file, who called it, and the schemas in which its names are looked up."""
 
     text: str
     calls: int = 1
     seconds: float | None = None
     rows: float | None = None
+    line: int = 0
+    role: str = ""
+    path: tuple[str, ...] | None = None
 
 
 def from_server(server: Server) -> list[Input]:
@@ -56,15 +58,59 @@ def from_server(server: Server) -> list[Input]:
     time = "total_exec_time" if "total_exec_time" in names else "total_time"
     rows = _rows_of(
         server,
-        f"SELECT query, sum(calls)::int8, sum({time})::float8 / 1000, sum(rows)::float8 FROM {view} "
-        "WHERE dbid = (SELECT oid FROM pg_catalog.pg_database WHERE datname = current_database()) "
-        "GROUP BY query ORDER BY 3 DESC, 1",
+        f"SELECT query, r.rolname::text, sum(calls)::int8, sum({time})::float8 / 1000, sum(rows)::float8 FROM {view} s "
+        "LEFT JOIN pg_catalog.pg_roles r ON r.oid = s.userid "
+        "WHERE dbid = (SELECT oid FROM pg_catalog.pg_database WHERE datname = pg_catalog.current_database()) "
+        "GROUP BY 1, 2 ORDER BY 4 DESC, 1, 2",
     )
-    return [
-        Input(str(text), max(1, int(calls)), float(seconds), float(count) / max(1, int(calls)))
-        for text, calls, seconds, count in rows
-        if text is not None
-    ]
+    has_numbers = version_of(server) < 160000
+    paths = read_paths(server)
+    found: dict[tuple[str, tuple[str, ...]], Input] = {}
+    for text, role, calls, seconds, count in rows:
+        shown = within(str(text), float(count) > 0, has_numbers) if text is not None else None
+        if shown is not None:
+            path = paths.of(str(role or ""))
+            it = found.setdefault((shown, path), Input(shown, 0, 0.0, 0.0, role=str(role or ""), path=path))
+            it.calls += max(1, int(calls))
+            it.seconds = (it.seconds or 0.0) + float(seconds)
+            it.rows = (it.rows or 0.0) + float(count)
+    for it in found.values():
+        it.rows = (it.rows or 0.0) / it.calls
+    return [*found.values()]
+
+
+_EXPLAIN = re.compile(
+    r"\s*EXPLAIN\s+(?:\((?P<options>[^()]*)\)\s*)?(?:ANALY[ZS]E\s+)?(?:VERBOSE\s+)?(?P<sql>.*)",
+    re.IGNORECASE | re.DOTALL,
+)
+_PREPARE = re.compile(
+    r"\s*PREPARE\s+(?:\w+|\"[^\"]*\")\s*(?:\([^()]*\)\s*)?AS\s+(?P<sql>.*)", re.IGNORECASE | re.DOTALL
+)
+
+
+def within(text: str, gave_rows: bool, has_numbers: bool) -> str | None:
+    """The statement that a text of pg_stat_statements stands for; nothing where it is one of ours.
+
+    The text is the one in which a statement was first seen, so it may be within EXPLAIN or PREPARE though all calls are of
+    the statement itself. EXPLAIN's own entry gives no rows, and up to PostgreSQL 15 it has its literals, not numbers.
+    """
+    is_own = text.lstrip().startswith(OWN)
+    text = text.lstrip().removeprefix(OWN).lstrip() if is_own else text
+    found = _PREPARE.match(text) or _EXPLAIN.match(text)
+    if found is None:
+        return None if is_own else text
+    if found.re is _EXPLAIN and not gave_rows and not (has_numbers and re.search(r"\$\d", text)):
+        return None if is_own else text
+    return found["sql"]
+
+
+def look_up(server: Server, listed: list[Input]) -> None:
+    """Gives inputs whose role is known that role's path."""
+    roles = {it.role for it in listed if it.role}
+    paths = read_paths(server) if roles else None
+    for it in listed:
+        if paths is not None and it.role:
+            it.path = paths.of(it.role)
 
 
 def _rows_of(server: Server, query: str) -> list[Row]:
@@ -81,58 +127,22 @@ class NoInput(Exception):
 def from_sql(content: bytes) -> list[Input]:
     """The statements of a text, each with the weight of the last comment `-- weight N` before it.
 
-    Commands of psql are left out, and its variables are parameters.
+    Commands of psql are left out, and its variables are parameters. SET search_path holds for what comes after it.
     """
     text = content.decode(errors="replace").lstrip("\ufeff").replace("\0", " ")
-    pieces = _split(_BACKSLASH.sub("", text))
-    weight, listed = 1, []
-    for piece in pieces:
-        weights = [int(it.text) for it in tokens(piece.encode()) if it.kind == "weight"]
-        before = _leading(piece)
-        for it in before:
-            weight = it
-        listed.append(Input(_readable(piece), weight))
-        weight = weights[-1] if len(weights) > len(before) else 1
+    weight, path, listed = 1, None, list[Input]()
+    for piece in pieces(text):
+        weight = ([weight] + _weights(piece.before))[-1]
+        rows = float(piece.rows) if piece.rows is not None else None
+        listed.append(Input(piece.text, weight, rows=rows, line=piece.line, path=path))
+        weight = ([1] + _weights(piece.text))[-1]
+        if (given := path_set_by(piece.text)) is not None:
+            path = given or None
     return listed
 
 
-def _leading(piece: str) -> list[int]:
-    """The weights that stand before the first token of a statement."""
-    found = []
-    for it in tokens(piece.encode()):
-        if it.kind != "weight":
-            break
-        found.append(int(it.text))
-    return found
-
-
-def _split(text: str) -> list[str]:
-    """The statements of a text as the parser's own scanner cuts them, with the comments before each."""
-    found, begin = [], 0
-    try:
-        slices = parser.split(text, with_parser=False, only_slices=True)
-    except ParseError:
-        return [it for it in re.split(r";[ \t]*(?:\n|$)", text) if it.strip()]
-    for it in slices:
-        if it.stop > it.start:
-            found.append(text[begin : it.stop].lstrip(";"))
-        begin = it.stop
-    return found
-
-
-def _readable(text: str) -> str:
-    """A statement with psql's variables as parameters, where it can't be parsed with them."""
-    try:
-        parse_sql(text)
-        return text
-    except ParseError:
-        names: dict[str, int] = {}
-
-        def numbered(found: re.Match[str]) -> str:
-            name = found[1] or found[2] or found[3]
-            return f"${names.setdefault(name, len(names) + 1)}" if name else found[0]
-
-        return _VARIABLE.sub(numbered, text)
+def _weights(text: str) -> list[int]:
+    return [min(int(it.text[:18]), 10**9) for it in tokens(text.encode()) if it.kind == "weight"]
 
 
 def from_log(content: bytes) -> list[Input]:
@@ -140,54 +150,66 @@ def from_log(content: bytes) -> list[Input]:
     text = content.decode(errors="replace").replace("\0", " ")
     first = text.lstrip()[:1]
     messages = _json_messages(text) if first == "{" else _csv_messages(text) if _is_csv(text) else _plain_messages(text)
-    forms: dict[str, Input] = {}
-    for message in messages:
+    forms: dict[tuple[str, str], Input] = {}
+    for role, message in messages:
         found = _LOGGED.search(message)
-        if found is None or re.match(r".*(parse|bind) [^:]*: ", message[: found.start("sql")], re.DOTALL):
+        if found is None or found["part"]:
             continue
         sql, seconds = found["sql"].strip(), float(found["ms"]) / 1000 if found["ms"] else None
+        if sql.startswith(OWN):
+            continue
         try:
             form = parser.fingerprint(sql)
-        except ParseError:
+        except (ParseError, ValueError):
             form = sql
-        known = forms.setdefault(form, Input(sql, 0, None))
+        known = forms.setdefault((form, role), Input(sql, 0, None, role=role))
         known.calls += 1
         if seconds is not None:
             known.seconds = (known.seconds or 0.0) + seconds
     return list(forms.values())
 
 
-def _plain_messages(text: str) -> Iterator[str]:
-    """Messages of the format stderr: a line with its severity, and lines that begin with a tab."""
+def _plain_messages(text: str) -> Iterator[tuple[str, str]]:
+    """Messages of the format stderr, whose role isn't known: a line with its severity, and lines that begin with a tab."""
     held: list[str] = []
     for line in text.split("\n"):
         if _BEGINS.match(line) and not line.startswith("\t"):
             if held:
-                yield "\n".join(held)
+                yield "", "\n".join(held)
             held = [line]
         elif held:
             held.append(line.removeprefix("\t"))
     if held:
-        yield "\n".join(held)
+        yield "", "\n".join(held)
 
 
 def _is_csv(text: str) -> bool:
-    row: list[str] = next(csv.reader(io.StringIO(text[:100000])), [])
+    try:
+        row: list[str] = next(csv.reader(io.StringIO(text[:100000])), [])
+    except csv.Error:
+        return False
     return len(row) >= 14 and row[11] in ("LOG", "ERROR", "FATAL", "PANIC", "WARNING", "NOTICE", "INFO", "DEBUG")
 
 
-def _csv_messages(text: str) -> Iterator[str]:
+def _csv_messages(text: str) -> Iterator[tuple[str, str]]:
     csv.field_size_limit(2**30)
-    for row in csv.reader(io.StringIO(text)):
+    rows = csv.reader(io.StringIO(text))
+    while True:
+        try:
+            row = next(rows, None)
+        except csv.Error:
+            continue
+        if row is None:
+            return
         if len(row) >= 14:
-            yield f"{row[11]}:  {row[13]}"
+            yield row[1], f"{row[11]}:  {row[13]}"
 
 
-def _json_messages(text: str) -> Iterator[str]:
+def _json_messages(text: str) -> Iterator[tuple[str, str]]:
     for line in text.splitlines():
         try:
             entry = json.loads(line)
-        except ValueError:
+        except (ValueError, RecursionError):
             continue
         if isinstance(entry, dict):
-            yield f"{entry.get('error_severity', '')}:  {entry.get('message', '')}"
+            yield str(entry.get("user", "")), f"{entry.get('error_severity', '')}:  {entry.get('message', '')}"

@@ -2,11 +2,16 @@
 from __future__ import annotations
 
 import argparse
+import io
+import os
+import signal
 import sys
+from typing import Any
 
 from cophy_pg.catalogue import NoCatalogue
 from cophy_pg.ddl import NoIndex, add_ddl
 from cophy_pg.export import add_export, add_rewrite
+from cophy_pg.files import ENDS, NoFile
 from cophy_pg.inputs import NoInput
 from cophy_pg.program import ProgramFault
 from cophy_pg.progress import say
@@ -22,18 +27,50 @@ def main() -> int:
     commands = parser.add_subparsers(required=True, metavar="COMMAND")
     for add in (add_export, add_rewrite, add_ddl, add_verify, add_why, add_curve):
         add(commands)
+    for stream in (sys.stdout, sys.stderr):
+        if isinstance(stream, io.TextIOWrapper):
+            stream.reconfigure(errors="backslashreplace")
+    for it in ENDS:
+        signal.signal(it, _end)
     words = parser.parse_args()
     try:
+        status = _run(words)
+        sys.stdout.flush()
+        return status
+    except BrokenPipeError:
+        # Who reads has enough. What is left of the output goes nowhere, so that nothing more is said of it.
+        os.dup2(os.open(os.devnull, os.O_WRONLY), sys.stdout.fileno())
+        return 1
+    except OSError as fault:
+        os.dup2(os.open(os.devnull, os.O_WRONLY), sys.stdout.fileno())
+        say(f"the standard output: {fault.strerror}")
+        return 1
+    except Ended as ended:
+        return 128 + int(ended.args[0])
+
+
+def _run(words: argparse.Namespace) -> int:
+    try:
         return int(words.run(words))
-    except (ServerFault, NoInput, NoAnswer, NoIndex, ProgramFault) as fault:
+    except (ServerFault, NoInput, NoAnswer, NoIndex, NoFile, ProgramFault) as fault:
         say(str(fault))
     except NoCatalogue:
         say("the catalogue can't be read: cophy says where its fault is")
+    except BrokenPipeError:
+        raise
     except OSError as fault:
-        say(f"{fault.filename}: {fault.strerror}" if fault.filename else str(fault.strerror))
-    except KeyboardInterrupt:
-        return 130
+        if not fault.filename:
+            raise
+        say(f"{fault.filename}: {fault.strerror}")
     return 1
+
+
+class Ended(BaseException):
+    """A signal that ends the program, by its number; what was begun is taken back on the way out."""
+
+
+def _end(number: int, frame: Any) -> None:
+    raise Ended(number)
 
 
 if __name__ == "__main__":

@@ -6,6 +6,7 @@ from collections.abc import Iterable
 from cophy_pg.rewrite import CHANGES
 from cophy_pg.workload import Record, Workload
 
+MOST_LINES = 20
 EFFECTS = {
     "same": "the model has no notion that tells both forms apart",
     "near": "the model would price the forms differently",
@@ -47,14 +48,21 @@ def summary(workload: Workload) -> list[str]:
         )
     for name in shown:
         lines.append(f"  {CHANGES[name].effect}  {shares.of(counts[name])}  {name}: {CHANGES[name].text}")
+    return lines + _skipped(shares, records)
+
+
+def _skipped(shares: Shares, records: list[Record]) -> list[str]:
+    """The reasons why inputs were skipped, with the lines of a file's."""
     reasons: dict[str, list[Record]] = {}
     for it in records:
         if it.found.skipped:
-            reasons.setdefault(it.found.skipped, []).append(it)
-    if reasons:
-        lines.append("skipped")
+            reasons.setdefault(it.found.skipped.split(", at character ")[0], []).append(it)
+    lines = ["skipped"] if reasons else []
     for why, listed in sorted(reasons.items(), key=lambda it: (-len(it[1]), it[0])):
-        lines.append(f"        {shares.of(listed)}  {why}")
+        numbers = [str(it.input.line) for it in listed if it.input.line]
+        more = ", .." if len(numbers) > MOST_LINES else ""
+        where = f" (line {', '.join(numbers[:MOST_LINES])}{more})" if numbers else ""
+        lines.append(f"        {shares.of(listed)}  {why}{where}")
     return lines
 
 
@@ -63,7 +71,10 @@ def each(workload: Workload) -> list[str]:
     lines = ["each statement, in the order of the input"]
     for number, it in enumerate(workload.records, 1):
         found = it.found
-        calls = f"calls {it.input.calls}" + (f", {it.input.seconds:.3f} s" if it.input.seconds is not None else "")
+        line = f"line {it.input.line}, " if it.input.line else ""
+        calls = f"{line}calls {it.input.calls}" + (
+            f", {it.input.seconds:.3f} s" if it.input.seconds is not None else ""
+        )
         if found.skipped:
             lines.append(f"  {number} skipped ({calls}): {found.skipped}")
             continue

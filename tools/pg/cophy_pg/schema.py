@@ -8,6 +8,8 @@ from dataclasses import dataclass, field
 from cophy_text.tokens import RESERVED
 
 LONGEST_NAME = 64
+MOST_KEYS = 8
+SPARES = MOST_KEYS
 _NAME = re.compile(r"[A-Za-z_][A-Za-z0-9_]{0,63}\Z")
 
 
@@ -16,6 +18,7 @@ class Column:
     """A column: its name in PostgreSQL and in the catalogue, and its statistics, of which each may be unknown.
 
     `low` and `high` are whole numbers: values of a column of kind `int`, days since 1970-01-01 of one of kind `date`.
+    `no_key` says why no index can have the column, and is empty where one can.
     """
 
     name: str
@@ -26,6 +29,7 @@ class Column:
     low: int | None = None
     high: int | None = None
     type: str = ""
+    no_key: str = ""
 
     def has_range(self) -> bool:
         """Whether a literal of this column can be priced by its place between low and high."""
@@ -45,7 +49,12 @@ class Index:
 
 @dataclass(eq=False)
 class Table:
-    """A table, a materialized view or a partitioned table as a whole; `columns` goes by PostgreSQL's names."""
+    """A table, a materialized view or a partitioned table as a whole; `columns` goes by PostgreSQL's names.
+
+    A table with a column that no index can have also has `spares` in the catalogue, which PostgreSQL doesn't have: a
+    statement that needs such a column needs more of them than an index has keys, so that no index covers it. `children`
+    are the tables that inherit from it.
+    """
 
     schema: str
     name: str
@@ -58,25 +67,42 @@ class Table:
     is_partitioned: bool = False
     oid: int = 0
     remarks: list[str] = field(default_factory=list)
+    spares: list[Column] = field(default_factory=list)
+    children: list[tuple[str, str]] = field(default_factory=list)
+
+    def add_spares(self) -> None:
+        """Adds the spare columns, where some column needs them."""
+        if not self.spares and any(it.no_key for it in self.columns.values()):
+            taken = {it.shown.lower() for it in self.columns.values()}
+            shown = (cleaned(f"no_index_{number}", taken) for number in range(1, SPARES + 1))
+            self.spares = [Column("", it, width=1, distinct=1) for it in shown]
+
+    def spares_for(self, needed: Iterable[Column]) -> list[Column]:
+        """The spare columns that a statement needs beside those of the table that it needs itself."""
+        found = set(map(id, needed))
+        if not any(it.no_key for it in self.columns.values() if id(it) in found):
+            return []
+        return self.spares[: max(0, MOST_KEYS + 1 - len(found))]
 
 
 class Schema:
-    """The tables of a database, found as PostgreSQL finds them."""
+    """The tables of a database, found as PostgreSQL finds them. `taken` are names of other relations."""
 
     def __init__(self, tables: Iterable[Table], path: Iterable[str] = ("public",)) -> None:
         self.tables = {(it.schema, it.name): it for it in tables}
         self.path = [*path]
+        self.taken: list[str] = []
         self.views: dict[tuple[str, str], str] = {}
         self.parents: dict[tuple[str, str], tuple[str, str]] = {}
         self.left_out: dict[tuple[str, str], str] = {}
         self.aggregates: frozenset[str] = frozenset()
 
-    def key_of(self, schema: str | None, name: str) -> tuple[str, str] | None:
+    def key_of(self, schema: str | None, name: str, path: Iterable[str] | None = None) -> tuple[str, str] | None:
         """The schema and the name of a table or a view; without a schema the path decides, and then a single match."""
         known = [*self.tables, *self.views, *self.parents, *self.left_out]
         if schema is not None:
             return (schema, name) if (schema, name) in known else None
-        for it in self.path:
+        for it in self.path if path is None else path:
             if (it, name) in known:
                 return it, name
         others = {it for it in known if it[1] == name}

@@ -2,57 +2,22 @@
 from __future__ import annotations
 
 import math
-from collections.abc import Callable
+from collections.abc import Callable, Iterable
 from dataclasses import dataclass
 from datetime import date
 from decimal import Decimal, InvalidOperation
 from typing import Any
 
+from cophy_pg import catalogs, indexes
+from cophy_pg.keyable import WIDEST, Lengths, Orders, Part, Stored
 from cophy_pg.rewrite.terms import day_number
-from cophy_pg.schema import Column, Index, Schema, Table, cleaned
-from cophy_pg.server import Row, Server
+from cophy_pg.schema import SPARES, Column, Schema, Table, cleaned
+from cophy_pg.server import Row, Server, ServerFault, reading, rights
 
-MOST_TABLES, MOST_COLUMNS, MOST_INDEXES, MOST_KEYS = 200, 200, 1000, 8
-MOST_NUMBER, MOST_ROWS, WIDEST = 10**18, 10**12, 1000
+MOST_TABLES, MOST_COLUMNS = 200, 200
+MOST_NUMBER, MOST_ROWS = 10**18, 10**12
 INTS = frozenset(("int2", "int4", "int8", "numeric", "float4", "float8", "oid"))
 DATES = frozenset(("date", "timestamp", "timestamptz"))
-ORDERED = 0.95
-"""From this correlation on the rows of a table count as lying in the order of a column."""
-_OWN = "n.nspname NOT IN ('pg_catalog', 'information_schema') AND n.nspname !~ '^pg_(toast|temp_)'"
-
-_TABLES = f"""
-SELECT c.oid::int8, n.nspname::text, c.relname::text, c.relkind::text, c.reltuples::float8, c.relpages::int8,
-       CASE WHEN c.relkind IN ('r', 'm') THEN pg_relation_size(c.oid) / current_setting('block_size')::int8 ELSE 0 END,
-       CASE WHEN c.relispartition THEN pg_partition_root(c.oid)::oid::int8 END,
-       CASE WHEN c.relkind IN ('v') THEN pg_get_viewdef(c.oid) END
-FROM pg_catalog.pg_class c JOIN pg_catalog.pg_namespace n ON n.oid = c.relnamespace
-WHERE c.relkind IN ('r', 'm', 'p', 'v', 'f') AND {_OWN}
-ORDER BY n.nspname, c.relname"""
-_COLUMNS = f"""
-SELECT a.attrelid::int8, a.attnum::int4, a.attname::text, coalesce(b.typname, t.typname)::text, t.typlen::int4,
-       a.atttypmod::int4
-FROM pg_catalog.pg_attribute a JOIN pg_catalog.pg_class c ON c.oid = a.attrelid
-JOIN pg_catalog.pg_namespace n ON n.oid = c.relnamespace JOIN pg_catalog.pg_type t ON t.oid = a.atttypid
-LEFT JOIN pg_catalog.pg_type b ON t.typtype = 'd' AND b.oid = t.typbasetype
-WHERE a.attnum > 0 AND NOT a.attisdropped AND c.relkind IN ('r', 'm', 'p') AND NOT c.relispartition AND {_OWN}
-ORDER BY a.attrelid, a.attnum"""
-_STATS = f"""
-SELECT c.oid::int8, s.attname::text, s.n_distinct::float8, s.avg_width::int4, s.correlation::float8,
-       CASE WHEN coalesce(b.typname, t.typname) = ANY(%s) THEN s.most_common_vals::text::text[] END,
-       CASE WHEN coalesce(b.typname, t.typname) = ANY(%s) THEN s.histogram_bounds::text::text[] END
-FROM pg_catalog.pg_stats s JOIN pg_catalog.pg_namespace n ON n.nspname = s.schemaname
-JOIN pg_catalog.pg_class c ON c.relnamespace = n.oid AND c.relname = s.tablename
-JOIN pg_catalog.pg_attribute a ON a.attrelid = c.oid AND a.attname = s.attname
-JOIN pg_catalog.pg_type t ON t.oid = a.atttypid
-LEFT JOIN pg_catalog.pg_type b ON t.typtype = 'd' AND b.oid = t.typbasetype
-WHERE s.inherited = (c.relkind = 'p') AND NOT c.relispartition AND {_OWN}"""
-_INDEXES = f"""
-SELECT i.indrelid::int8, x.relname::text, m.amname::text, i.indisunique, i.indisvalid AND i.indisready,
-       i.indpred IS NOT NULL, i.indexprs IS NOT NULL, i.indnkeyatts::int4, i.indkey::int2[]::int4[]
-FROM pg_catalog.pg_index i JOIN pg_catalog.pg_class x ON x.oid = i.indexrelid JOIN pg_catalog.pg_am m ON m.oid = x.relam
-JOIN pg_catalog.pg_class c ON c.oid = i.indrelid JOIN pg_catalog.pg_namespace n ON n.oid = c.relnamespace
-WHERE NOT c.relispartition AND {_OWN}
-ORDER BY i.indrelid, x.relname"""
 
 Progress = Callable[[str], None]
 
@@ -66,32 +31,60 @@ class Found:
     warnings: list[str]
 
 
+@dataclass
+class Relation:
+    """A table, a view or a foreign table as the server has it. The sizes, in pages and in bytes, are those of today;
+    they are None where the relation is locked."""
+
+    oid: int
+    schema: str
+    name: str
+    kind: str
+    tuples: float
+    counted_pages: int
+    root: int | None
+    stays_in_line: bool
+    pages: int | None = None
+    out_of_line: int | None = None
+
+    def key(self) -> tuple[str, str]:
+        return self.schema, self.name
+
+    def part(self) -> Part:
+        return Part(self.schema, self.name, self.kind, self.pages, self.out_of_line, self.stays_in_line)
+
+
 def read_database(server: Server, named: set[str], words: set[str], progress: Progress) -> Found:
-    """Reads the tables that the workload names first, and of wide ones the columns that it names first."""
-    progress("reading tables")
-    rows = server.rows(_TABLES)
-    warnings: list[str] = []
-    reader = Reader(rows, named, words, warnings)
-    progress(f"reading columns and statistics of {len(reader.tables)} tables")
-    reader.add_columns(server.rows(_COLUMNS))
+    """Reads the tables that the workload names first, and of wide ones the columns that it names first. How long values are
+    is read last, since code of others that runs then may end the connection."""
     kinds = [*INTS, *DATES]
-    reader.add_statistics(server.rows(_STATS, (kinds, kinds)))
-    progress("reading indexes")
-    reader.add_indexes(server.rows(_INDEXES))
-    path = [str(it) for it in server.value("SELECT current_schemas(false)::text[]") or ()]
+    with reading(server):
+        progress("reading tables")
+        reader = Reader(server, words)
+        reader.choose({*named})
+        progress(f"reading columns and statistics of {len(reader.tables)} tables")
+        reader.add_columns(server.rows(catalogs.COLUMNS))
+        reader.add_statistics(server.rows(catalogs.STATS, (kinds, kinds)))
+        progress("reading indexes")
+        listed = reader.given_indexes(server.rows(catalogs.INDEXES))
+        names = [str(it[0]) for it in server.rows(catalogs.NAMES)]
+        orders = Orders(server, reader.tables)
+        aggregates = server.rows("SELECT DISTINCT proname::text FROM pg_catalog.pg_proc WHERE prokind = 'a'")
+        path, rates = server.own_path(), read_rates(server)
+        warnings = rights(server, [oid for oid, it in reader.tables.items() if it.columns])
+    progress("reading how long values are")
+    reader.mark_columns(Lengths(server, orders, reader.warnings.append), listed)
+    reader.add_indexes(listed)
     schema = Schema([it for it in reader.tables.values() if it.columns], path)
-    schema.views, schema.left_out = reader.views, reader.left_out
-    schema.parents = reader.parents
-    schema.aggregates = frozenset(
-        str(it[0]) for it in server.rows("SELECT DISTINCT proname::text FROM pg_catalog.pg_proc WHERE prokind = 'a'")
-    )
-    return Found(schema, read_rates(server), warnings)
+    schema.views, schema.left_out, schema.parents = reader.views, reader.left_out, reader.parents
+    schema.taken, schema.aggregates = reader.taken_names(names), frozenset(str(it[0]) for it in aggregates)
+    return Found(schema, rates, [*warnings, *reader.warnings])
 
 
 def read_rates(server: Server) -> dict[str, int]:
     """The rates that make a cost, divided by 1000, one of EXPLAIN's."""
     cost = {
-        name: float(server.value("SELECT current_setting(%s)", (name,)))
+        name: float(server.value("SELECT pg_catalog.current_setting(%s)", (name,)))
         for name in ("seq_page_cost", "random_page_cost", "cpu_tuple_cost", "cpu_operator_cost")
     }
     page = 1000 / cost["seq_page_cost"] if cost["seq_page_cost"] > 0 else 1000.0
@@ -105,46 +98,99 @@ def read_rates(server: Server) -> dict[str, int]:
         "hash_cpu": 3.2 * operator,
         "group_cpu": 2 * operator,
     }
-    return {name: min(1_000_000, max(0, round(rate))) for name, rate in rates.items()}
+    return {name: within(rate, 0, 1_000_000) for name, rate in rates.items()}
 
 
 class Reader:
     """Puts the rows of the server's catalogs together."""
 
-    def __init__(self, rows: list[Row], named: set[str], words: set[str], warnings: list[str]) -> None:
-        self.words, self.warnings = words, warnings
-        self.views = {(str(it[1]), str(it[2])): str(it[8]) for it in rows if it[3] == "v" and it[8]}
+    def __init__(self, server: Server, words: set[str]) -> None:
+        self.server, self.words = server, words
+        self.warnings: list[str] = []
+        self.views: dict[tuple[str, str], str] = {}
         self.left_out: dict[tuple[str, str], str] = {}
         self.parents: dict[tuple[str, str], tuple[str, str]] = {}
         self.tables: dict[int, Table] = {}
+        self.relations: dict[int, Relation] = {}
+        self.children: dict[int, list[int]] = {}
+        self.parts: dict[int, list[Relation]] = {}
+        self.stored: dict[int, list[Stored]] = {}
         self.numbers: dict[int, dict[int, str]] = {}
         self.correlations: dict[int, dict[str, float]] = {}
-        self.density: dict[int, list[Row]] = {}
-        self._choose(rows, named)
 
-    def _choose(self, rows: list[Row], named: set[str]) -> None:
-        keys = {int(it[0]): (str(it[1]), str(it[2])) for it in rows}
-        for it in rows:
-            if it[7] is not None and int(it[7]) in keys:
-                self.parents[keys[int(it[0])]] = keys[int(it[7])]
-                self.density.setdefault(int(it[7]), []).append(it)
-            elif it[3] == "f":
-                self.left_out[keys[int(it[0])]] = "a foreign table"
-        roots = [it for it in rows if it[7] is None and it[3] in ("r", "m", "p")]
-        for it in roots:
-            if it[3] != "p":
-                self.density[int(it[0])] = [it]
+    def choose(self, named: set[str]) -> None:
+        """Reads which relations there are, and chooses the tables of the catalogue."""
+        for row in self.server.rows(catalogs.TABLES):
+            oid, schema, name, kind, tuples, pages, root, stays = row
+            root = int(root) if root is not None else None
+            it = Relation(int(oid), str(schema), str(name), str(kind), float(tuples), int(pages), root, bool(stays))
+            self.relations[it.oid] = it
+        self._inherit()
+        self._measure()
+        self._read_views()
+        for it in self.relations.values():
+            if it.root is not None and it.root in self.relations:
+                self.parents[it.key()] = self.relations[it.root].key()
+                if it.kind == "r":
+                    self.parts.setdefault(it.root, []).append(it)
+            elif it.kind == "f":
+                self.left_out[it.key()] = "a foreign table"
         named |= {root[1] for child, root in self.parents.items() if child[1] in named}
-        roots.sort(key=lambda it: (it[2] not in named, -sum(int(leaf[6]) for leaf in self.density.get(int(it[0]), []))))
+        roots = [it for it in self.relations.values() if it.root is None and it.kind in ("r", "m", "p")]
+        for it in roots:
+            if it.kind != "p":
+                listed = [self.relations[oid] for oid in self.descendants(it.oid)]
+                self.parts[it.oid] = [it, *(child for child in listed if child.kind == "r")]
+        roots.sort(key=lambda it: (it.name not in named, -sum(part.pages or 0 for part in self.parts.get(it.oid, ()))))
         for it in roots[MOST_TABLES:]:
             self.left_out[
-                keys[int(it[0])]
+                it.key()
             ] = f"only {MOST_TABLES} tables are kept, those that the workload names and the largest"
+        self._name(roots[:MOST_TABLES])
+
+    def _name(self, roots: list[Relation]) -> None:
         taken: set[str] = set()
-        for it in sorted(roots[:MOST_TABLES], key=lambda it: (str(it[1]) != "public", str(it[1]), str(it[2]))):
-            schema, name = keys[int(it[0])]
-            shown = cleaned(name, taken, "" if schema == "public" else schema)
-            self.tables[int(it[0])] = Table(schema, name, shown, oid=int(it[0]), is_partitioned=it[3] == "p")
+        for it in sorted(roots, key=lambda it: (it.schema != "public", it.schema, it.name)):
+            shown = cleaned(it.name, taken, "" if it.schema == "public" else it.schema)
+            table = Table(it.schema, it.name, shown, oid=it.oid, is_partitioned=it.kind == "p")
+            table.children = [part.key() for part in self.parts.get(it.oid, ()) if part is not it and it.kind == "r"]
+            self.tables[it.oid] = table
+
+    def _inherit(self) -> None:
+        for parent, child in self.server.rows(catalogs.INHERITS):
+            if int(parent) in self.relations and int(child) in self.relations:
+                self.children.setdefault(int(parent), []).append(int(child))
+
+    def descendants(self, oid: int) -> list[int]:
+        """The tables that inherit from a table, directly or not."""
+        found: dict[int, None] = {}
+        waiting = [*self.children.get(oid, ())]
+        while waiting:
+            one = waiting.pop(0)
+            if one not in found:
+                found[one] = None
+                waiting += self.children.get(one, ())
+        return [*found]
+
+    def _measure(self) -> None:
+        listed = [it.oid for it in self.relations.values() if it.kind in ("r", "m")]
+        rows, faults = self.server.each(catalogs.SIZES, listed)
+        for oid, pages, out_of_line in rows:
+            if pages is not None:
+                self.relations[int(oid)].pages, self.relations[int(oid)].out_of_line = int(pages), int(out_of_line)
+        self._tell(faults, "its pages are those of its last ANALYZE")
+
+    def _read_views(self) -> None:
+        views = {it.oid: it for it in self.relations.values() if it.kind == "v"}
+        rows, faults = self.server.each(catalogs.VIEWS, [*views])
+        self.views = {views[int(oid)].key(): str(text) for oid, text in rows if text}
+        self.left_out |= {views[oid].key(): "a view that couldn't be read" for oid in faults}
+        self._tell(faults, "the view isn't known")
+
+    def _tell(self, faults: dict[int, ServerFault], lost: str) -> None:
+        for oid, fault in faults.items():
+            schema, name = self.relations[oid].key()
+            self.warnings.append(f"{schema!a}.{name!a}: {fault.shown()}, so {lost}")
 
     def add_columns(self, rows: list[Row]) -> None:
         """Adds the columns, with the widths of their types."""
@@ -154,111 +200,110 @@ class Reader:
         for oid, table in self.tables.items():
             listed = by_table.get(oid, [])
             if len(listed) > MOST_COLUMNS:
+                self._tell_left_out(table, len(listed) - MOST_COLUMNS)
                 listed.sort(key=lambda it: (it[2] not in self.words, it[1]))
-                self.warnings.append(
-                    f"{table.shown}: {len(listed) - MOST_COLUMNS} columns over {MOST_COLUMNS} are left out"
-                )
                 listed = sorted(listed[:MOST_COLUMNS], key=lambda it: int(it[1]))
             taken: set[str] = set()
-            for _, number, name, kind, length, modifier in listed:
+            for _, number, name, kind, length, modifier, base, storage, is_virtual in listed:
                 shown = cleaned(str(name), taken)
                 width = length if length > 0 else min(32, modifier - 4) if modifier > 4 else 32
                 kinds = "int" if kind in INTS else "date" if kind in DATES else "text"
-                table.columns[str(name)] = Column(str(name), shown, kinds, min(WIDEST, max(1, width)), type=str(kind))
+                column = Column(str(name), shown, kinds, min(WIDEST, max(1, width)), type=str(kind))
+                table.columns[str(name)] = column
                 self.numbers.setdefault(oid, {})[int(number)] = str(name)
+                stored = Stored(
+                    column, int(base), str(kind), int(length), int(modifier), str(storage), bool(is_virtual)
+                )
+                self.stored.setdefault(oid, []).append(stored)
             self._count_rows(oid, table)
         self.left_out |= {(it.schema, it.name): "it has no column" for it in self.tables.values() if not it.columns}
+
+    def _tell_left_out(self, table: Table, count: int) -> None:
+        self.warnings.append(f"{table.shown}: {count} columns over {MOST_COLUMNS} are left out")
 
     def _count_rows(self, oid: int, table: Table) -> None:
         """Rows as the planner takes them: so many a page at the last ANALYZE, over the pages of today."""
         width = sum(it.width for it in table.columns.values())
         rows, pages = 0.0, 0
-        for leaf in self.density.get(oid, []):
-            if leaf[3] == "p":
-                continue
-            counted, counted_pages, now = float(leaf[4]), int(leaf[5]), int(leaf[6])
-            if counted < 0 or (counted_pages == 0 and now > 0):
+        for it in self.parts.get(oid, ()):
+            now = it.counted_pages if it.pages is None else it.pages
+            if it.tuples < 0 or (it.counted_pages == 0 and now > 0):
                 table.is_analysed = False
                 rows += now * ((8192 - 24) // (((width + 7) // 8) * 8 + 28) if now else 0)
-            elif counted_pages > 0:
-                rows += counted / counted_pages * now
+            elif it.counted_pages > 0:
+                rows += it.tuples / it.counted_pages * now
             pages += now
         table.rows, table.pages = min(MOST_ROWS, round(rows)), min(MOST_ROWS, pages)
         if not table.is_analysed and table.columns:
             self.warnings.append(f"{table.shown} was never analysed: run ANALYZE, its numbers are guesses")
 
     def add_statistics(self, rows: list[Row]) -> None:
-        """Adds distinct values, widths and ends."""
-        for oid, name, distinct, width, correlation, common, bounds in rows:
+        """Adds distinct values, widths and ends; of a table with parts, those over all of them."""
+        for oid, name, distinct, width, correlation, common, bounds, inherited in rows:
             table = self.tables.get(int(oid))
             column = table.columns.get(str(name)) if table else None
-            if table is None or column is None:
+            if table is None or column is None or (inherited and not (table.is_partitioned or table.children)):
                 continue
             column.width = min(WIDEST, max(1, int(width)))
             count = distinct if distinct > 0 else -distinct * table.rows
-            column.distinct = min(MOST_ROWS, max(1, round(count))) if distinct else None
+            column.distinct = within(count, 1, MOST_ROWS) if distinct else None
             column.low, column.high = ends(column.kind, [*(common or ()), *(bounds or ())])
-            if correlation is not None:
+            if correlation is not None and not table.children:
                 self.correlations.setdefault(int(oid), {})[str(name)] = float(correlation)
 
-    def add_indexes(self, rows: list[Row]) -> None:
-        """Adds btree indexes of whole columns; each other index leaves a remark at its table."""
-        taken: dict[int, set[str]] = {}
-        for oid, name, method, unique, valid, partial, expressions, count, keys in rows:
-            table = self.tables.get(int(oid))
-            if table is None:
-                continue
-            columns = [self.numbers.get(int(oid), {}).get(int(it)) for it in keys]
-            why = (
-                "not of kind btree"
-                if method != "btree"
-                else "not valid"
-                if not valid
-                else "partial"
-                if partial
-                else "over an expression"
-                if expressions
-                else "over a column that is left out"
-                if None in columns
-                else f"of more than {MOST_KEYS} columns"
-                if len({*columns}) > MOST_KEYS
-                else ""
-            )
-            if why:
-                table.remarks.append(f"index {str(name)!a} is left out: it is {why}")
-                continue
-            whole = [*dict.fromkeys(str(it) for it in columns)]
-            included = len(whole) > int(count)
-            shown = cleaned(str(name), taken.setdefault(int(oid), set()))
-            table.indexes.append(Index(str(name), shown, whole, bool(unique) and not included))
-            self._add_unique(table, whole[: int(count)], bool(unique))
-        self._limit_indexes()
+    def given_indexes(self, rows: list[Row]) -> dict[int, list[indexes.Given]]:
+        """The indexes of the tables as the server has them."""
+        found: dict[int, list[indexes.Given]] = {}
+        for row in rows:
+            if int(row[0]) in self.tables:
+                found.setdefault(int(row[0]), []).append(indexes.given(row, self.numbers.get(int(row[0]), {})))
+        return found
+
+    def mark_columns(self, lengths: Lengths, listed: dict[int, list[indexes.Given]]) -> None:
+        """Marks the columns that no index can have, and makes room for the columns that stand for them."""
         for oid, table in self.tables.items():
-            self._mark_clustered(table, self.correlations.get(oid, {}))
+            parts = [it.part() for it in self.parts.get(oid, ())]
+            lengths.mark(table, self.stored.get(oid, []), parts, indexes.fitting(listed.get(oid, [])))
+            table.add_spares()
+            over = len(table.columns) + len(table.spares) - MOST_COLUMNS
+            if over > 0:
+                self._tell_left_out(table, over)
+                order = [*table.columns]
+                unnamed = sorted(order, key=lambda name: (name in self.words, -order.index(name)))
+                for name in unnamed[:over]:
+                    del table.columns[name]
+            for column in table.columns.values():
+                if column.no_key:
+                    table.remarks.append(f"no index can have {column.shown}: {column.no_key}")
 
-    @staticmethod
-    def _add_unique(table: Table, keys: list[str], unique: bool) -> None:
-        """A column that is unique by itself has as many values as rows, where nothing else is known."""
-        column = table.columns[keys[0]]
-        if unique and len(keys) == 1 and column.distinct is None:
-            column.distinct = max(1, table.rows)
+    def add_indexes(self, listed: dict[int, list[indexes.Given]]) -> None:
+        """Adds the indexes."""
+        for oid, table in self.tables.items():
+            for it in listed.get(oid, ()):
+                it.columns = [name if name in table.columns else None for name in it.columns]
+            indexes.add_indexes(table, listed.get(oid, []))
+        for oid in self._parents_last():
+            children = [self.tables.get(it) for it in self.descendants(oid) if self.relations[it].kind == "r"]
+            if children and not self.tables[oid].is_partitioned:
+                indexes.keep_shared(self.tables[oid], children)
+        indexes.limit_indexes([*self.tables.values()])
+        for oid, table in self.tables.items():
+            indexes.mark_clustered(table, self.correlations.get(oid, {}))
 
-    def _limit_indexes(self) -> None:
-        room = MOST_INDEXES
-        for table in sorted(self.tables.values(), key=lambda it: -it.pages):
-            for it in table.indexes[room:]:
-                table.remarks.append(
-                    f"index {it.name!a} is left out: only {MOST_INDEXES} are kept, those of the largest tables"
-                )
-            del table.indexes[room:]
-            room -= len(table.indexes)
+    def _parents_last(self) -> Iterable[int]:
+        return sorted(self.tables, key=lambda oid: len(self.descendants(oid)))
 
-    @staticmethod
-    def _mark_clustered(table: Table, correlations: dict[str, float]) -> None:
-        """The index along whose leading column the rows lie, if there is one."""
-        best = max(table.indexes, key=lambda it: correlations.get(it.keys[0], 0.0), default=None)
-        if best is not None and correlations.get(best.keys[0], 0.0) >= ORDERED:
-            best.clustered = True
+    def taken_names(self, names: list[str]) -> list[str]:
+        """Of the names of relations those that a new index's could be."""
+        known = {it.name for it in self.tables.values()}
+        known |= {index.name for table in self.tables.values() for index in table.indexes}
+        stems = tuple(it.shown.lower()[:50] for it in self.tables.values())
+        return [it for it in dict.fromkeys(names) if it not in known and it.lower().startswith(stems)]
+
+
+def within(number: float, least: int, most: int) -> int:
+    """The nearest whole number between two; the owner of a table may set its numbers to what is none, or has no end."""
+    return least if math.isnan(number) else round(min(most, max(least, number)))
 
 
 def ends(kind: str, values: list[Any]) -> tuple[int | None, int | None]:

@@ -3,41 +3,40 @@ from __future__ import annotations
 
 import argparse
 import json
-import re
-from dataclasses import dataclass, field
-from pathlib import Path
+from dataclasses import dataclass
 from typing import Any
 
-from cophy_text.answers import Advice, Candidate, NoAnswer, Prices, explained
-from cophy_pg import inputs
+from cophy_text.answers import Advice, NoAnswer, Prices, explained
+from cophy_pg import files, inputs
 from cophy_pg.catalogue import read_schema
-from cophy_pg.ddl import advice_of, names_of
+from cophy_pg.ddl import advice_of
+from cophy_pg.explain import Columns, Explainer, NoStatement, add_names, statement_of
+from cophy_pg.outcomes import Outcome, Verdict, outcomes, texts_in, unmatched
+from cophy_pg.picks import index_names, make
 from cophy_pg.program import Program, ProgramFault, add_program
 from cophy_pg.progress import Progress, say
 from cophy_pg.schema import Schema
-from cophy_pg.server import Server, ServerFault, connected, quoted_name, version_of
+from cophy_pg.server import Server, ServerFault, add_connection, connected, reading
+from cophy_pg.trust import Names, functions_of_users, refuse_owner, refuse_powers, resolved
 from cophy_pg.workload import form_of, forms_in
-
-_PARAMETER = re.compile(r"\$(\d+)")
-_TYPED = re.compile(r"\b(date|timestamp|timestamptz|time|interval)\s+(\$\d+)", re.IGNORECASE)
-_EXTRACT = re.compile(r"\bextract\s*\(\s*\$\d+\s+from\b", re.IGNORECASE)
 
 
 @dataclass
-class Verdict:
-    """A statement's estimate without and with the picks, and the picks that its plan takes; none where it can't be
-    explained."""
+class Judged:
+    """What the planner says: of each statement, of each pick, and which functions of users it may have run."""
 
-    number: int
-    calls: int
-    written: list[int]
-    before: float | None = None
-    after: float | None = None
-    taken: list[int] = field(default_factory=list)
+    verdicts: list[Verdict]
+    outcomes: list[Outcome]
+    functions: list[str]
 
-    def saved(self) -> float:
-        """What one call saves by PostgreSQL's estimate."""
-        return self.before - self.after if self.before is not None and self.after is not None else 0.0
+    def sums(self) -> tuple[int, float, float]:
+        """How many statements are explained on both sides, and their weighted estimates without and with the picks."""
+        known = [it for it in self.verdicts if it.before is not None and it.after is not None]
+        return (
+            len(known),
+            sum(it.calls * (it.before or 0.0) for it in known),
+            sum(it.calls * (it.after or 0.0) for it in known),
+        )
 
 
 def add_verify(commands: argparse._SubParsersAction[argparse.ArgumentParser]) -> None:
@@ -47,166 +46,203 @@ def add_verify(commands: argparse._SubParsersAction[argparse.ArgumentParser]) ->
         help="ask PostgreSQL's planner about an advice",
         description="Makes the picks as hypothetical indexes (extension hypopg) in one session, explains the statements "
         "without and with them, and says which statements take which pick and what is saved by PostgreSQL's estimate and by "
-        "ours. Nothing is executed and nothing is made.",
+        "ours. Nothing is executed and nothing is made; of a statement that writes, what it reads is explained. PostgreSQL "
+        "may run functions of users while it plans, so a role without any power is asked for.",
     )
     parser.add_argument("catalogue", metavar="CATALOGUE")
     parser.add_argument("workload", metavar="WORKLOAD", help="the workload that export wrote")
     parser.add_argument("advice", metavar="ADVICE", help="what cophy advise printed; - for the standard input")
-    parser.add_argument("--dsn", default="", help="a connection string; else psql's environment")
+    add_connection(parser)
     source = parser.add_mutually_exclusive_group()
     source.add_argument("--sql", metavar="FILE", help="the statements as export took them from a file of SQL")
     source.add_argument("--log", metavar="FILE", help="the statements as export took them from a log")
+    parser.add_argument(
+        "--i-trust-the-statements",
+        action="store_true",
+        dest="is_trusted",
+        help="explain them as a superuser or an owner too: functions of users may then do all that the role may",
+    )
+    parser.add_argument(
+        "--advice",
+        metavar="FILE",
+        dest="advice_file",
+        help="write the advice without the picks that nothing takes and those that are there already",
+    )
+    parser.add_argument(
+        "--rules", metavar="FILE", help="write a line 'never TABLE(COLUMN, COLUMN)' for each pick that nothing takes"
+    )
     parser.add_argument("--json", action="store_true", help="print JSON instead")
     add_program(parser)
     parser.set_defaults(run=verify)
 
 
-class Explainer:
-    """Explains statements on a server, with parameters where they have some."""
-
-    def __init__(self, server: Server) -> None:
-        self.server, self.version = server, version_of(server)
-
-    def explain(self, text: str) -> Any:
-        """The plan of a statement; nothing where the server doesn't explain it."""
-        text = _EXTRACT.sub("extract(year FROM", _TYPED.sub(r"\2::\1", text)).rstrip().rstrip(";")
-        count = max(map(int, _PARAMETER.findall(text)), default=0)
-        try:
-            if count == 0:
-                return self._plan(f"EXPLAIN (FORMAT JSON) {text}")
-            if self.version >= 160000:
-                return self._plan(f"EXPLAIN (GENERIC_PLAN, FORMAT JSON) {text}")
-            return self._prepared(text, count)
-        except ServerFault:
-            return None
-
-    def _prepared(self, text: str, count: int) -> Any:
-        self.server.rows("SET plan_cache_mode TO force_generic_plan")
-        self.server.rows(f"PREPARE cophy_pg_verified AS {text}")
-        try:
-            return self._plan(f"EXPLAIN (FORMAT JSON) EXECUTE cophy_pg_verified ({', '.join(['NULL'] * count)})")
-        finally:
-            self.server.rows("DEALLOCATE cophy_pg_verified")
-
-    def _plan(self, query: str) -> Any:
-        found = self.server.rows(query)[0][0]
-        return (json.loads(found) if isinstance(found, str) else found)[0]["Plan"]
-
-
-def index_names(plan: Any) -> set[str]:
-    """The names of all indexes that a plan takes."""
-    found = {str(plan["Index Name"])} if "Index Name" in plan else set()
-    return found.union(*(index_names(it) for it in plan.get("Plans", ())))
-
-
-def make(server: Server, schema: Schema, picks: list[Candidate]) -> dict[str, int]:
-    """Makes the picks as hypothetical indexes; the number of the pick for each name."""
-    where = server.value(
-        "SELECT n.nspname::text FROM pg_catalog.pg_extension e JOIN pg_catalog.pg_namespace n "
-        "ON n.oid = e.extnamespace WHERE e.extname = 'hypopg'"
-    )
-    if where is None:
-        raise ServerFault(
-            "the extension hypopg isn't there: CREATE EXTENSION hypopg makes it, and changes nothing else"
-        )
-    made = {}
-    server.rows(f"SELECT {quoted_name(where)}.hypopg_reset()")
-    for it in picks:
-        table, columns = names_of(schema, it)
-        listed = ", ".join(map(quoted_name, columns))
-        text = f"CREATE INDEX ON {quoted_name(table.schema)}.{quoted_name(table.name)} ({listed})"
-        rows = server.rows(f"SELECT indexname::text FROM {quoted_name(where)}.hypopg_create_index(%s)", (text,))
-        made.update({str(row[0]): it.number for row in rows})
-    return made
-
-
 def judge(
-    server: Server,
-    schema: Schema,
-    advice: Advice,
-    listed: list[inputs.Input],
-    forms: dict[str, list[int]],
-    progress: Progress,
-) -> list[Verdict]:
-    """Explains the statements of the workload without and with the picks."""
-    explainer = Explainer(server)
-    found = [
-        Verdict(at, it.calls, forms[form]) for at, it in enumerate(listed, 1) if (form := form_of(it.text)) in forms
-    ]
+    server: Server, schema: Schema, advice: Advice, found: list[Verdict], is_trusted: bool, progress: Progress
+) -> tuple[list[Outcome], list[str]]:
+    """Explains statements without and with the picks, and fills their verdicts."""
+    names: dict[tuple[str, ...] | None, Names] = {}
     for it in found:
-        progress(f"explaining statement {it.number} of {len(listed)}")
-        plan = explainer.explain(listed[it.number - 1].text)
-        it.before = float(plan["Total Cost"]) if plan else None
-    names = make(server, schema, advice.picks)
-    for it in found:
-        progress(f"explaining statement {it.number} of {len(listed)} with the picks")
-        plan = explainer.explain(listed[it.number - 1].text) if it.before is not None else None
-        if plan:
-            it.after = float(plan["Total Cost"])
-            it.taken = sorted({names[name] for name in index_names(plan) if name in names})
-    return found
+        try:
+            it.statement = statement_of(it.input.text, it.input.path)
+            add_names(names.setdefault(it.input.path, Names()), it.statement.tree)
+        except NoStatement as fault:
+            it.fault = str(fault)
+    with reading(server, "READ COMMITTED"):
+        numbers = {path: resolved(server, it.tables, path) for path, it in names.items()}
+        for it in found:
+            if it.statement is not None:
+                it.statement.numbers = numbers[it.statement.path]
+        tables, every = {number for it in numbers.values() for number in it.values()}, Names.of(names.values())
+        if not is_trusted:
+            refuse_owner(server, every, tables)
+        functions = functions_of_users(server, every, tables)
+        if functions:
+            say(f"PostgreSQL may run these functions of users while it plans: {'; '.join(functions)}")
+        explainer = Explainer(server, Columns.read(server, tables))
+        for it in found:
+            progress(f"explaining {it.shown()}")
+            _explain(explainer, it, {}, False)
+        listed, made = make(server, schema, advice)
+        for it in found:
+            progress(f"explaining {it.shown()} with the picks")
+            _explain(explainer, it, made, True)
+    return listed, functions
 
 
-def ours(words: argparse.Namespace, advice: Advice) -> tuple[Prices, Prices] | None:
-    """Our own prices without and with the picks; nothing where the program doesn't give them."""
+def _explain(explainer: Explainer, verdict: Verdict, made: dict[str, int], is_after: bool) -> None:
+    """Fills one side of a verdict; a fault on either side is the verdict's."""
+    if verdict.statement is None or verdict.fault:
+        return
+    if verdict.statement.is_empty:
+        verdict.before = verdict.after = 0.0
+        return
+    try:
+        plan = explainer.explain(verdict.statement)
+    except ServerFault as fault:
+        if explainer.server.is_lost():
+            raise ServerFault(f"the connection was lost at {verdict.shown()}", fault.code) from None
+        verdict.fault = fault.shown()
+        return
+    if is_after:
+        verdict.after = float(plan["Total Cost"])
+        verdict.taken = sorted({made[name] for name in index_names(plan) if name in made})
+    else:
+        verdict.before = float(plan["Total Cost"])
+
+
+def ours(words: argparse.Namespace, *picks: list[int]) -> list[Prices] | None:
+    """Our own prices under sets of picks; nothing where the program doesn't give them."""
     program = Program(words.program, words.catalogue, words.workload)
     try:
-        return program.whatif(()), program.whatif(it.number for it in advice.picks)
-    except (ProgramFault, NoAnswer) as fault:
+        return [program.whatif(it) for it in picks]
+    except (ProgramFault, NoAnswer, OSError) as fault:
         say(f"our own estimates are left out: {fault}")
         return None
 
 
 def verify(words: argparse.Namespace) -> int:
     """Prints what the planner says."""
-    schema, advice, progress = read_schema(Path(words.catalogue).read_bytes()), advice_of(words.advice), Progress()
-    forms = forms_in(Path(words.workload).read_text(encoding="utf-8", errors="replace"))
-    with connected(words.dsn) as server:
-        server.rows("SET default_transaction_read_only TO on")
-        if words.sql or words.log:
-            content = Path(words.sql or words.log).read_bytes()
-            listed = inputs.from_sql(content) if words.sql else inputs.from_log(content)
-        else:
-            listed = inputs.from_server(server)
-        found = judge(server, schema, advice, listed, forms, progress)
-    prices = ours(words, advice)
+    files.check([words.rules, words.advice_file], [words.catalogue, words.workload, words.advice, words.sql, words.log])
+    schema, advice, progress = read_schema(files.read(words.catalogue)), advice_of(words.advice), Progress()
+    workload = files.read(words.workload).decode(errors="replace")
+    with connected(words.dsn, words.timeout) as server:
+        if not words.is_trusted:
+            with reading(server):
+                refuse_powers(server)
+        listed, forms = _statements(server, words), forms_in(workload)
+        found = [Verdict(at, it, forms[form]) for at, it in enumerate(listed, 1) if (form := form_of(it.text)) in forms]
+        picks, functions = judge(server, schema, advice, found, words.is_trusted, progress)
+    outcomes(picks, found, texts_in(workload), unmatched(forms, found))
+    judged = Judged(found, picks, functions)
+    kept = [it.pick.number for it in picks if it.name != "not taken" and not it.exists]
+    prices = ours(words, [], [it.number for it in advice.picks], kept)
     if words.json:
-        print(json.dumps(_as_json(advice, found, prices), indent=2))
+        print(json.dumps(_as_json(judged, prices), indent=2))
     else:
-        _print(advice, found, prices)
+        _print(judged, prices)
+    return _write(words, advice, judged, kept, prices)
+
+
+def _statements(server: Server, words: argparse.Namespace) -> list[inputs.Input]:
+    given = None
+    if words.sql:
+        given = inputs.from_sql(files.read(words.sql))
+    elif words.log:
+        given = inputs.from_log(files.read(words.log))
+    with reading(server):
+        if given is None:
+            return inputs.from_server(server)
+        inputs.look_up(server, given)
+        return given
+
+
+def _write(
+    words: argparse.Namespace, advice: Advice, judged: Judged, kept: list[int], prices: list[Prices] | None
+) -> int:
+    """Writes what is asked for. Without our own prices, what an advice costs isn't known."""
+    written = []
+    if words.rules:
+        never = [f"never {it.pick.shown()}\n" for it in judged.outcomes if it.name == "not taken" and not it.exists]
+        written.append(files.File(words.rules, "".join(never).encode("ascii"), False))
+    if words.advice_file and prices is not None:
+        text = _advice_text(advice, kept, prices[2].total)
+        written.append(files.File(words.advice_file, text.encode("ascii"), False))
+    files.write(written)
+    if words.advice_file and prices is None:
+        say("no advice is written, since its cost isn't known")
+        return 1
     return 0
 
 
-def our_saving(verdict: Verdict, prices: tuple[Prices, Prices] | None) -> float | None:
+def _advice_text(advice: Advice, kept: list[int], cost: int) -> str:
+    """An advice of fewer picks. Its bound is that of the advice, which no set of picks undercuts."""
+    picks = [it for it in advice.picks if it.number in kept]
+    lines = [f"budget {advice.budget}", *(f"pick {it.number} {it.shown()} {it.pages} pages" for it in picks)]
+    lines += [f"size {sum(it.pages for it in picks)}", f"cost {cost}", f"bound {advice.bound}"]
+    lines += [f"gap {cost - advice.bound}", f"nodes {advice.nodes}", "finished" if cost == advice.bound else "stopped"]
+    return "\n".join(lines) + "\n"
+
+
+def our_saving(verdict: Verdict, prices: list[Prices] | None) -> float | None:
     """What one call saves by our estimate, in the unit of EXPLAIN."""
     if prices is None:
         return None
-    before, after = (sum(it.statements[at].cost for at in verdict.written if at in it.statements) for it in prices)
+    before, after = (sum(it.statements[at].cost for at in verdict.written if at in it.statements) for it in prices[:2])
     return explained(before - after)
 
 
-def _print(advice: Advice, found: list[Verdict], prices: tuple[Prices, Prices] | None) -> None:
-    known = [it for it in found if it.after is not None]
-    before, after = sum(it.calls * (it.before or 0) for it in known), sum(it.calls * (it.after or 0) for it in known)
-    print(f"PostgreSQL's estimate for {len(known)} statements: {before:.0f} without the picks, {after:.0f} with them")
-    for pick in advice.picks:
-        users = [it for it in known if pick.number in it.taken]
-        verdict = f"taken by {len(users)} statements" if users else "taken by no statement"
-        print(f"\npick {pick.number} {pick.shown()}: {verdict}")
+def _print(judged: Judged, prices: list[Prices] | None) -> None:
+    for outcome in judged.outcomes:
+        print(f"pick {outcome.pick.number} {outcome.pick.shown()}: {outcome.shown()}")
+        users = [it for it in judged.verdicts if outcome.pick.number in it.taken]
         for it in sorted(users, key=lambda it: -it.calls * it.saved()):
             own = our_saving(it, prices)
             shown = f", ours {own:.1f}" if own is not None else ""
             costs = f"a call costs {it.before:.1f}, then {it.after:.1f}, saves {it.saved():.1f}{shown}"
-            print(f"  input {it.number:4d} (calls {it.calls}): {costs}")
-    worse = [it for it in known if it.saved() < -0.005 * max(1.0, it.before or 0)]
-    for it in worse:
-        print(f"input {it.number}: a call costs more with the picks: {it.before:.1f}, then {it.after:.1f}")
-    lost = [it.number for it in found if it.after is None]
-    if lost:
-        print(f"\nnot explained by the server: inputs {', '.join(map(str, lost))}")
+            print(f"  {it.shown()} (calls {it.calls}): {costs}")
+        for why, numbers in outcome.reasons.items():
+            print(f"  {why}" + (f": {numbers}" if numbers else ""))
+        print()
+    for it in judged.verdicts:
+        if it.saved() < -0.005 * max(1.0, it.before or 0):
+            print(f"{it.shown()}: a call costs more with the picks: {it.before:.1f}, then {it.after:.1f}")
+        if it.fault:
+            print(f"{it.shown()}: not explained: {it.fault}")
+    print(_verdict(judged))
 
 
-def _as_json(advice: Advice, found: list[Verdict], prices: tuple[Prices, Prices] | None) -> dict[str, Any]:
+def _verdict(judged: Judged) -> str:
+    """The last line."""
+    number, before, after = judged.sums()
+    counts = {name: sum(it.name == name for it in judged.outcomes) for name in ("taken", "not taken", "unknown")}
+    exist = sum(bool(it.exists) for it in judged.outcomes)
+    text = f"verdict: of {len(judged.outcomes)} picks {counts['taken']} taken, {counts['not taken']} not taken, "
+    text += f"{counts['unknown']} unknown" + (f", {exist} there already" if exist else "")
+    share = f" ({100 * (after - before) / before:+.1f} %)" if before else ""
+    return f"{text}; PostgreSQL's estimate for {number} statements: {before:.0f} without, {after:.0f} with them{share}"
+
+
+def _as_json(judged: Judged, prices: list[Prices] | None) -> dict[str, Any]:
     statements = [
         {
             "input": it.number,
@@ -215,12 +251,29 @@ def _as_json(advice: Advice, found: list[Verdict], prices: tuple[Prices, Prices]
             "before": it.before,
             "after": it.after,
             "picks": it.taken,
+            "fault": it.fault or None,
             "ours": our_saving(it, prices),
         }
-        for it in found
+        for it in judged.verdicts
     ]
     picks = [
-        {"number": it.number, "index": it.shown(), "taken_by": [v.number for v in found if it.number in v.taken]}
-        for it in advice.picks
+        {
+            "number": it.pick.number,
+            "index": it.pick.shown(),
+            "outcome": it.name,
+            "taken_by": [v.number for v in judged.verdicts if it.pick.number in v.taken],
+            "reasons": it.reasons,
+            "exists": it.exists or None,
+        }
+        for it in judged.outcomes
     ]
-    return {"picks": picks, "statements": statements}
+    number, before, after = judged.sums()
+    return {
+        "verdict": _verdict(judged).removeprefix("verdict: "),
+        "explained": number,
+        "before": before,
+        "after": after,
+        "functions": judged.functions,
+        "picks": picks,
+        "statements": statements,
+    }

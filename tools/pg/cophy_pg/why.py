@@ -2,14 +2,21 @@
 from __future__ import annotations
 
 import argparse
+import io
 import json
+import os
+import re
 from dataclasses import dataclass
-from pathlib import Path
 
 from cophy_text.answers import Advice, Candidate, Prices, megabytes
-from cophy_pg.ddl import advice_of
+from cophy_pg import files
+from cophy_pg.catalogue import NoCatalogue, read_schema
+from cophy_pg.ddl import NoIndex, advice_of, why_not
 from cophy_pg.program import Program, add_program
 from cophy_pg.progress import Progress, say
+
+
+MOST_PAGES, MOST_STEPS = 10**12, 1000
 
 
 @dataclass
@@ -58,6 +65,7 @@ def reasons(program: Program, advice: Advice, progress: Progress) -> tuple[Price
 def why(words: argparse.Namespace) -> int:
     """Prints the table."""
     advice = advice_of(words.advice)
+    unmade = _unmade(words.catalogue, advice)
     none, all_, found = reasons(Program(words.program, words.catalogue, words.workload), advice, Progress())
     if words.json:
         picks = [
@@ -68,6 +76,7 @@ def why(words: argparse.Namespace) -> int:
                 "total_without": it.total_without,
                 "saves": it.total_without - all_.total,
                 "statements": {str(at): change for at, change in it.changes.items()},
+                **({"left_out": unmade[it.pick.number]} if it.pick.number in unmade else {}),
             }
             for it in found
         ]
@@ -77,6 +86,8 @@ def why(words: argparse.Namespace) -> int:
     for it in found:
         saves = it.total_without - all_.total
         print(f"\npick {it.pick.number} {it.pick.shown()}, {it.pick.pages} pages ({megabytes(it.pick.pages)})")
+        if it.pick.number in unmade:
+            print(f"  PostgreSQL can't make it: {unmade[it.pick.number]}")
         print(
             f"  without it the workload costs {it.total_without}, {saves} more ({_share(it.total_without, all_.total)})"
         )
@@ -84,6 +95,15 @@ def why(words: argparse.Namespace) -> int:
             for number, change in listed:
                 print(f"  statement {number:4d} {kind} {abs(change)}")
     return 0
+
+
+def _unmade(catalogue: str, advice: Advice) -> dict[int, str]:
+    """The picks that PostgreSQL can't make, by their numbers, with the reasons; none where the catalogue isn't there."""
+    try:
+        schema = read_schema(files.read(catalogue))
+        return {it.number: why for it in advice.picks if (why := why_not(schema, it))}
+    except (files.NoFile, NoCatalogue, NoIndex):
+        return {}
 
 
 def _sorted(reason: Reason, sign: int) -> list[tuple[int, int]]:
@@ -105,26 +125,49 @@ def add_curve(commands: argparse._SubParsersAction[argparse.ArgumentParser]) -> 
     )
     parser.add_argument("catalogue", metavar="CATALOGUE")
     parser.add_argument("workload", metavar="WORKLOAD")
-    parser.add_argument("--budgets", metavar="B,B,..", help="budgets in pages")
-    parser.add_argument("--steps", type=int, default=8, metavar="N", help="how many budgets above 0 (8)")
-    parser.add_argument("--nodes", type=int, metavar="N", help="the node budget of each search")
+    parser.add_argument("--budgets", type=numbers, metavar="B,B,..", help="budgets in pages, at most 1000")
+    parser.add_argument("--steps", type=step_count, default=8, metavar="N", help="how many budgets above 0 (8)")
+    parser.add_argument("--nodes", type=whole, metavar="N", help="the node budget of each search")
     parser.add_argument("--png", metavar="FILE", help="draw the curve")
     parser.add_argument("--json", action="store_true", help="print JSON instead of the table")
     add_program(parser)
     parser.set_defaults(run=curve)
 
 
+def whole(text: str) -> int:
+    """A whole number of pages or nodes."""
+    if re.fullmatch(r"[0-9]{1,13}", text) is None or int(text) > MOST_PAGES:
+        raise argparse.ArgumentTypeError(f"{text[:40]!a} is no whole number from 0 to {MOST_PAGES}")
+    return int(text)
+
+
+def numbers(text: str) -> list[int]:
+    """Whole numbers with commas between them, in order and without repeats."""
+    found = sorted({whole(it.strip()) for it in text.split(",")})
+    if len(found) > MOST_STEPS:
+        raise argparse.ArgumentTypeError(f"these are more than {MOST_STEPS} budgets")
+    return found
+
+
+def step_count(text: str) -> int:
+    """How many budgets there are."""
+    if not 1 <= whole(text) <= MOST_STEPS:
+        raise argparse.ArgumentTypeError(f"{text} isn't from 1 to {MOST_STEPS}")
+    return whole(text)
+
+
 def budgets_of(words: argparse.Namespace, program: Program) -> list[int]:
     """The budgets that are asked for."""
-    if words.budgets:
-        return sorted({int(it) for it in words.budgets.split(",")})
-    most = program.advise(10**12, words.nodes).size
-    return sorted({round(most * it / max(1, words.steps)) for it in range(words.steps + 1)})
+    if words.budgets is not None:
+        return list(words.budgets)
+    most = program.advise(MOST_PAGES, words.nodes).size
+    return sorted({round(most * it / words.steps) for it in range(words.steps + 1)})
 
 
 def curve(words: argparse.Namespace) -> int:
     """Prints the table and draws the curve."""
-    program, progress, found = Program(words.program, words.catalogue, words.workload), Progress(), []
+    program, progress, found = Program(words.program, words.catalogue, words.workload), Progress(), list[Advice]()
+    files.check([words.png], [words.catalogue, words.workload])
     for budget in budgets_of(words, program):
         progress(f"advising for {budget} pages")
         found.append(program.advise(budget, words.nodes))
@@ -149,7 +192,10 @@ def curve(words: argparse.Namespace) -> int:
 
 def draw(found: list[Advice], file: str) -> None:
     """Draws cost and bound over the budget."""
+    here = os.getcwd()
     try:
+        # In the current folder it would take its settings from a file there.
+        os.chdir("/")
         import matplotlib
 
         matplotlib.use("Agg")
@@ -157,6 +203,8 @@ def draw(found: list[Advice], file: str) -> None:
     except ImportError:
         say("no curve is drawn: python3-matplotlib isn't installed")
         return
+    finally:
+        os.chdir(here)
     figure, axes = pyplot.subplots(figsize=(8, 5))
     axes.step(
         [it.budget for it in found],
@@ -178,5 +226,7 @@ def draw(found: list[Advice], file: str) -> None:
     axes.grid(alpha=0.3)
     axes.legend()
     figure.tight_layout()
-    figure.savefig(Path(file), dpi=120)
+    image = io.BytesIO()
+    figure.savefig(image, format="png", dpi=120)
     pyplot.close(figure)
+    files.write([files.File(file, image.getvalue(), is_private=False)])

@@ -4,12 +4,13 @@ from __future__ import annotations
 from collections.abc import Callable
 from dataclasses import dataclass, field
 
-from pglast import ast, parse_sql
+from pglast import ast
 from pglast.parser import ParseError, fingerprint
 
 from cophy_pg.inputs import Input
 from cophy_pg.rewrite import Rewriter, Rewritten
 from cophy_pg.rewrite.expressions import nodes_of
+from cophy_pg.rewrite.parse import parsed
 
 FROM = "from"
 MOST_STATEMENTS, MOST_SLOTS, MOST_WEIGHT, MOST_BYTES = 1000, 2000, 10**6, 16777216
@@ -48,7 +49,7 @@ def form_of(text: str) -> str:
     """PostgreSQL's fingerprint of a statement, which its literals don't change."""
     try:
         return str(fingerprint(text))
-    except ParseError:
+    except (ParseError, ValueError):
         return "none"
 
 
@@ -67,8 +68,8 @@ def mentioned(inputs: list[Input]) -> tuple[set[str], set[str]]:
     words: set[str] = set()
     for it in inputs:
         try:
-            nodes = list(nodes_of(parse_sql(it.text)))
-        except (ParseError, RecursionError):
+            nodes = list(nodes_of(parsed(it.text)))
+        except (ParseError, RecursionError, ValueError):
             continue
         for node in nodes:
             if isinstance(node, ast.RangeVar):
@@ -82,7 +83,7 @@ def made(inputs: list[Input], rewriter: Rewriter, progress: Callable[[str], None
     """Rewrites each input; statements that come out the same are taken together."""
     records = []
     for number, it in enumerate(inputs, 1):
-        records.append(Record(it, rewriter.rewrite(it.text, it.rows)))
+        records.append(Record(it, rewriter.rewrite(it.text, it.rows, it.path)))
         if number % 100 == 0:
             progress(f"rewriting statement {number} of {len(inputs)}")
     by_worth = sorted(records, key=lambda it: (-(it.input.seconds or 0.0), -it.input.calls))
@@ -99,9 +100,9 @@ def made(inputs: list[Input], rewriter: Rewriter, progress: Callable[[str], None
     return workload
 
 
-def _within_limits(records: list[Record]) -> dict[str, int]:
+def _within_limits(records: list[Record]) -> dict[str, float]:
     """The calls of each statement that is kept. What is beyond a limit is skipped, input by input."""
-    calls: dict[str, int] = {}
+    calls: dict[str, float] = {}
     slots = size = 0
     for record in records:
         new = [it for it in record.found.statements if it not in calls]
@@ -114,5 +115,5 @@ def _within_limits(records: list[Record]) -> dict[str, int]:
             continue
         slots, size = slots + more, size + length
         for it in record.found.statements:
-            calls[it] = calls.get(it, 0) + record.input.calls
+            calls[it] = calls.get(it, 0) + record.input.calls * record.found.times.get(it, 1.0)
     return calls

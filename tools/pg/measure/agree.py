@@ -1,4 +1,4 @@
-#!/usr/bin/python3
+#!/usr/bin/python3 -IB
 """Compares `cophy` with PostgreSQL's planner: of queries with one index each, does the plan take it, and what does it cost?
 
 The server that psql's environment names has the tables of tpch.sql and the extension hypopg. The index is hypothetical
@@ -14,16 +14,16 @@ import subprocess
 import sys
 from pathlib import Path
 
-sys.dont_write_bytecode = True
 HERE = Path(__file__).resolve().parent
 sys.path[:0] = [str(HERE.parent), str(HERE.parents[1] / "common")]
 
 from cophy_pg.catalogue import catalogue_text  # noqa: E402
+from cophy_pg.explain import Columns, Explainer, statement_of  # noqa: E402
+from cophy_pg.picks import home_of, hypothetical, index_names  # noqa: E402
 from cophy_pg.rewrite import Options, Rewriter  # noqa: E402
 from cophy_pg.schema import Index  # noqa: E402
-from cophy_pg.server import connected  # noqa: E402
+from cophy_pg.server import connected, reading  # noqa: E402
 from cophy_pg.statistics import read_database  # noqa: E402
-from cophy_pg.verify import Explainer, index_names  # noqa: E402
 
 PAIR = re.compile(r"-- index (\w+) (.*)\n(.*);\n")
 SETTINGS = [(page, look_ups) for page in ("4", "1.1") for look_ups in (False, True)]
@@ -39,18 +39,14 @@ def prepare(folder: Path) -> None:
     for number, (page, look_ups) in enumerate(SETTINGS):
         with connected() as server:
             server.rows(f"SET random_page_cost TO {page}")
-            found, explainer = read_database(server, set(), set(), lambda _: None), Explainer(server)
-            said = []
+            found, said = read_database(server, set(), set(), lambda _: None), []
             for at, (table, columns, query) in enumerate(pairs()):
-                server.rows("SELECT hypopg_reset()")
-                names = server.rows(
-                    "SELECT indexname FROM hypopg_create_index(%s)",
-                    (f"CREATE INDEX ON {table} ({', '.join(columns)})",),
-                )
-                plan = explainer.explain(query)
-                said.append(f"{int(str(names[0][0]) in index_names(plan))} {plan['Total Cost']}")
-                case = folder / f"{number}-{at}"
                 home = found.schema.tables[("public", table)]
+                with reading(server):
+                    name = hypothetical(server, home_of(server), home, columns)
+                    plan = Explainer(server, Columns()).explain(statement_of(query))
+                said.append(f"{int(name in index_names(plan))} {plan['Total Cost']}")
+                case = folder / f"{number}-{at}"
                 home.indexes.append(Index("tried", "tried", columns))
                 case.with_suffix(".toml").write_text(catalogue_text(found.schema, found.rates, []))
                 home.indexes.pop()

@@ -181,8 +181,18 @@ def where_text(block: Block, printer: Printer) -> list[str]:
     """The line of WHERE, if there is one; columns that only have to stay needed stand last."""
     mentioned = set(block.mentions())
     texts = [it.text(printer) for it in block.conditions]
-    texts += [f"{printer.column(it)} IS NOT NULL" for it in block.needed if it not in mentioned]
+    needed = [*(it for it in block.needed if it not in mentioned), *spares(block)]
+    texts += [f"{printer.column(it)} IS NOT NULL" for it in needed]
     return ["WHERE " + " AND ".join(dict.fromkeys(texts))] if texts else []
+
+
+def spares(block: Block) -> Iterator[Col]:
+    """The spare columns of slots that no index may cover; a star mentions all of them."""
+    needed = {*block.mentions(), *block.needed}
+    for slot in block.slots:
+        if not any(isinstance(it, Rows) and it.slot is slot for it in block.items):
+            for column in slot.table.spares_for(it.column for it in needed if it.slot is slot):
+                yield Col(slot, column)
 
 
 def _items(block: Block, printer: Printer) -> list[str]:

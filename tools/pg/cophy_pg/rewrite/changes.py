@@ -65,13 +65,15 @@ system column|near|ctid, xmin and their like are left out
 returning|same|RETURNING is left out
 on conflict|less|ON CONFLICT is left out: an update that it makes isn't priced
 default|same|DEFAULT is ?
-insert select|near|INSERT .. SELECT is a statement for the query and an INSERT of as many rows as a call wrote
+insert select|near|INSERT .. SELECT is a statement for the query and INSERTs of as many rows as a call wrote
+copy|near|COPY into a table is INSERTs of as many rows as a call wrote, COPY out of one is its query
 update from|near|a join of UPDATE or DELETE is a statement of its own, and its column is looked up for the rows of a call
 inner statement|same|a statement within DECLARE, PREPARE or CREATE TABLE AS stands for itself
 source dropped|near|of more than 8 sources small ones that hang on one other are left out
 bounds|near|a lower and an upper bound of a column are one BETWEEN
 parameter range|near|a range of parameters is a literal range of 0.5 % of the column, as PostgreSQL's generic plan takes it
 looked up|near|a column that a nested loop would look up is IN as many items as the outer side has rows
+no index|near|a column that no index can have: a test of it is LIKE, no list to join, group or order by has it, no index covers it
 alias|same|an alias that a workload can't have gets another name
 """
 

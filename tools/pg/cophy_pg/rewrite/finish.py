@@ -3,8 +3,8 @@ from __future__ import annotations
 
 from collections.abc import Callable, Iterable
 
-from cophy_pg.rewrite.block import MOST_SLOTS, Block, Condition, Test, Tie
-from cophy_pg.rewrite.terms import Col, Slot, Value, day_number, text_of_number
+from cophy_pg.rewrite.block import MOST_SLOTS, Block, Condition, Test, Tie, spares
+from cophy_pg.rewrite.terms import ANY, Col, Mix, Slot, Term, Value, day_number, text_of_number
 from cophy_pg.schema import Column
 
 Note = Callable[[str], None]
@@ -13,6 +13,8 @@ GENERIC_PART = 200
 NARROWEST = 20
 """From this length on a column's range has whole numbers for a small share of it."""
 MOST_LOOKED_UP = 1000
+SEARCHED = frozenset(("=", "IN", "<", "<=", ">", ">=", "BETWEEN"))
+"""The tests by which an index is searched."""
 
 
 def number_of(column: Column, value: Value) -> int | None:
@@ -31,6 +33,35 @@ def is_parameter(value: Value) -> bool:
 def is_wide(column: Column) -> bool:
     """Whether a small share of a column's range can be written as a literal range."""
     return column.has_range() and column.high - column.low >= NARROWEST  # type: ignore[operator]
+
+
+def without_keys(block: Block, note: Note) -> None:
+    """Takes columns that no index can have from all places that would make them keys of one; they stay needed."""
+    if next(spares(block), None):
+        note("no index")
+    for it in [*block.conditions]:
+        if isinstance(it, Test) and it.form in SEARCHED and it.col.column.no_key:
+            note("no index")
+            block.conditions[block.conditions.index(it)] = Test(it.col, "LIKE", (ANY,))
+        elif isinstance(it, Tie) and it.left.slot is not it.right.slot and any(c.column.no_key for c in it.columns()):
+            note("no index")
+            block.conditions.remove(it)
+            block.need(it.columns())
+    for col in [it for it in block.group or () if it.column.no_key]:
+        note("no index")
+        block.need([col])
+        block.group = [it for it in block.group or () if it != col]
+    block.order = [(_made(it, note), down) for it, down in block.order]
+    if block.distinct:
+        block.items = [_made(it, note) for it in block.items]
+
+
+def _made(term: Term, note: Note) -> Term:
+    """A term of a list; a column that no index can have as an expression, whose order no index gives."""
+    if not isinstance(term, Col) or not term.column.no_key:
+        return term
+    note("no index")
+    return Mix((term,))
 
 
 def join_bounds(block: Block, note: Note) -> None:

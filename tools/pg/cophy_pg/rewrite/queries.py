@@ -133,7 +133,7 @@ class Queries:
         if node.schemaname is not None:
             self.note("schema")
         schema = self.rewriter.schema
-        key = schema.key_of(node.schemaname, node.relname)
+        key = schema.key_of(node.schemaname, node.relname, self.rewriter.path)
         if node.schemaname in CATALOGS or (key is None and node.relname.startswith(("pg_", "_pg_"))):
             raise Skip("a query of the database's own catalogs")
         if key in schema.views:
@@ -336,6 +336,14 @@ class Queries:
         if not isinstance(node, ast.ParamRef):
             self.note("limit")
         return "?"
+
+
+def copied(node: Any) -> Any:
+    """The query of a COPY of a table's rows or of some of its columns."""
+    fields = [it.sval for it in node.attlist or ()]
+    shown = [ast.ColumnRef(fields=(ast.String(it),)) for it in fields] or [ast.ColumnRef(fields=(ast.A_Star(),))]
+    targets = tuple(ast.ResTarget(val=it) for it in shown)
+    return ast.SelectStmt(targetList=targets, fromClause=(node.relation,), op=SetOperation.SETOP_NONE)
 
 
 def is_simple(tree: Any) -> bool:

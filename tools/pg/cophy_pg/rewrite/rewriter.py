@@ -1,18 +1,19 @@
 """Rewrites one statement after another."""
 from __future__ import annotations
 
-import sys
+from collections.abc import Iterable
 from dataclasses import dataclass, field
 from typing import Any
 
-from pglast import ast, parse_sql
+from pglast import ast
 from pglast.parser import ParseError
 
 from cophy_pg.rewrite import finish
 from cophy_pg.rewrite.block import Block, Tie, select_text
 from cophy_pg.rewrite.conditions import Conditions
 from cophy_pg.rewrite.expressions import Expressions, named_tables
-from cophy_pg.rewrite.queries import Queries, Skip, is_simple
+from cophy_pg.rewrite.parse import parsed
+from cophy_pg.rewrite.queries import Queries, Skip, copied, is_simple
 from cophy_pg.rewrite.scope import NoSuchColumn, Scope
 from cophy_pg.rewrite.terms import Col, Rows, columns
 from cophy_pg.rewrite.writes import Writes
@@ -24,7 +25,6 @@ WORDS = {
     ast.VariableSetStmt: "SET",
     ast.VariableShowStmt: "SHOW",
     ast.ExplainStmt: "EXPLAIN",
-    ast.CopyStmt: "COPY",
     ast.VacuumStmt: "VACUUM or ANALYZE",
     ast.CallStmt: "CALL",
     ast.FetchStmt: "FETCH of a cursor",
@@ -40,7 +40,10 @@ WORDS = {
     ast.NotifyStmt: "NOTIFY",
     ast.DiscardStmt: "DISCARD",
 }
-DEEPEST_PARSE = 20000
+
+
+MOST_SOURCES = 64
+"""Of more sources than these, small ones aren't left out one by one."""
 
 
 @dataclass(frozen=True)
@@ -53,12 +56,14 @@ class Options:
 
 @dataclass
 class Rewritten:
-    """A statement after the rewriting: the statements that stand for it, what was changed, or why it was skipped."""
+    """A statement after the rewriting: the statements that stand for it, what was changed, or why it was skipped. `times`
+    says how often one call runs a statement, where that isn't once."""
 
     statements: list[str] = field(default_factory=list)
     changes: list[str] = field(default_factory=list)
     skipped: str = ""
     slots: dict[str, int] = field(default_factory=dict)
+    times: dict[str, float] = field(default_factory=dict)
 
     @property
     def outcome(self) -> str:
@@ -73,14 +78,15 @@ class Rewriter:
         self.expressions, self.queries, self.writes = Expressions(self), Queries(self), Writes(self)
         self.found = Rewritten()
         self.rows: float | None = None
+        self.path: Iterable[str] | None = None
         self.named: list[str] = []
         self.no_joins = 0
         self._views: dict[tuple[str, str], Any] = {}
 
-    def rewrite(self, text: str, rows: float | None = None) -> Rewritten:
-        """Rewrites the text of one statement; `rows` are those that one call gave or changed, where that is known."""
-        sys.setrecursionlimit(max(sys.getrecursionlimit(), DEEPEST_PARSE))
-        self.found, self.rows, self.no_joins = Rewritten(), rows, 0
+    def rewrite(self, text: str, rows: float | None = None, path: Iterable[str] | None = None) -> Rewritten:
+        """Rewrites the text of one statement; `rows` are those that one call gave or changed, where that is known, and
+        `path` the schemas in which its names are looked up, if they aren't the schema's own."""
+        self.found, self.rows, self.path, self.no_joins = Rewritten(), rows, path, 0
         try:
             self._parsed(text)
         except Skip as why:
@@ -89,7 +95,7 @@ class Rewriter:
             return Rewritten(skipped=f"no source has the column {str(name)!a}")
         except RecursionError:
             return Rewritten(skipped="it nests too deep")
-        except (AttributeError, LookupError, TypeError, ValueError, AssertionError):
+        except (AttributeError, LookupError, TypeError, ValueError, AssertionError, ParseError):
             return Rewritten(skipped="the rewriter doesn't know a form in it")
         if not self.found.statements:
             return Rewritten(skipped="it reads no table")
@@ -97,7 +103,7 @@ class Rewriter:
 
     def _parsed(self, text: str) -> None:
         try:
-            trees = parse_sql(text)
+            trees = parsed(text)
         except ParseError as fault:
             place = fault.args[1] if len(fault.args) > 1 else None
             raise Skip(
@@ -123,6 +129,12 @@ class Rewriter:
             self.writes.update(node, outer)
         elif isinstance(node, ast.DeleteStmt):
             self.writes.delete(node, outer)
+        elif isinstance(node, ast.CopyStmt):
+            self.note("copy")
+            if node.is_from:
+                self.writes.copy(node)
+            else:
+                self.statement(node.query or copied(node), outer)
         else:
             raise Skip(WORDS.get(type(node), "a command that defines or manages something"))
 
@@ -131,16 +143,17 @@ class Rewriter:
         if change not in self.found.changes:
             self.found.changes.append(change)
 
-    def add(self, text: str, slots: int = 1) -> None:
-        """Adds a statement, once, with the number of its sources."""
+    def add(self, text: str, slots: int = 1, times: float = 1.0) -> None:
+        """Adds a statement, once, with the number of its sources, and how often one call runs it."""
         if text not in self.found.statements:
             self.found.statements.append(text)
             self.found.slots[text] = slots
+            self.found.times[text] = times
 
     def view(self, key: tuple[str, str]) -> Any:
         """The query of a view."""
         if key not in self._views:
-            tree = parse_sql(self.schema.views[key])[0].stmt
+            tree = parsed(self.schema.views[key])[0].stmt
             self._views[key] = tree
             self.named += named_tables(tree)
         return self._views[key]
@@ -175,7 +188,8 @@ class Rewriter:
         return False
 
     def bound(self, block: Block) -> None:
-        """Applies the options to the conditions of a block."""
+        """Keeps columns that no index can have from being keys, and applies the options to the conditions of a block."""
+        finish.without_keys(block, self.note)
         if self.options.ranges:
             finish.join_bounds(block, self.note)
         if self.options.look_ups:
@@ -183,6 +197,8 @@ class Rewriter:
 
     def finish(self, block: Block) -> None:
         """Writes a SELECT, as several where its sources are apart or one kept within 8 sources."""
+        if len(block.slots) > MOST_SOURCES:
+            raise Skip(f"it has more than {MOST_SOURCES} sources")
         self.bound(block)
         groups = block.groups()
         if len(groups) > 1:

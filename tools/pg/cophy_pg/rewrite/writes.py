@@ -11,13 +11,14 @@ from cophy_pg.rewrite.finish import only
 from cophy_pg.rewrite.queries import Skip
 from cophy_pg.rewrite.scope import Scope
 from cophy_pg.rewrite.terms import ANY, Call, Printer, Slot, Term, Value, columns, is_value, mixed
-from cophy_pg.schema import quoted
+from cophy_pg.schema import Table, quoted
 
 if TYPE_CHECKING:
     from cophy_pg.rewrite.rewriter import Rewriter
 
 LONG_ROWS = 20
 MOST_ROWS = 1000
+LEAST = 0.001
 
 
 class Writes:
@@ -47,25 +48,45 @@ class Writes:
         if node.returningList:
             self.note("returning")
         listed = [it.name for it in node.cols or () if it.name in table.columns]
-        rows = self._rows(node.selectStmt, scope)
+        rows, times = self._rows(node.selectStmt, scope)
         if len(listed) != len(node.cols or ()) or any(len(it) != len(listed) for it in rows if listed):
             listed, rows = [], [["?"] for _ in rows]
         if len(rows) > LONG_ROWS:
             listed, rows = [], [["?"] for _ in rows]
+        self._add_insert(table, listed, rows, times)
+
+    def copy(self, node: Any) -> None:
+        """COPY into a table, which is an INSERT of as many rows as it wrote."""
+        table = self._target(node, Scope(Block()))[1].table
+        rows, times = self.written()
+        self._add_insert(table, [], [["?"]] * rows, times)
+
+    def _add_insert(self, table: Table, listed: list[str], rows: list[list[str]], times: float) -> None:
         names = ", ".join(quoted(table.columns[it].shown) for it in listed)
         shown = ", ".join(f"({', '.join(it)})" for it in rows)
-        self.rewriter.add(f"INSERT INTO {quoted(table.shown)}{f' ({names})' if names else ''}\nVALUES {shown}")
+        text = f"INSERT INTO {quoted(table.shown)}{f' ({names})' if names else ''}\nVALUES {shown}"
+        self.rewriter.add(text, times=times)
 
-    def _rows(self, node: Any, scope: Scope) -> list[list[str]]:
+    def _rows(self, node: Any, scope: Scope) -> tuple[list[list[str]], float]:
+        """The rows of an INSERT, and how often one call inserts as many."""
         if node is None:
             self.note("default")
-            return [["?"]]
+            return [["?"]], 1.0
         if node.valuesLists:
-            return [[self._value(it, scope) for it in row] for row in node.valuesLists]
+            return [[self._value(it, scope) for it in row] for row in node.valuesLists], 1.0
         self.note("insert select")
         if node.fromClause or node.larg:
             self.rewriter.queries.select(node, scope, scope.common)
-        return [["?"]] * self.rows_of_call(1)
+        rows, times = self.written()
+        return [["?"]] * rows, times
+
+    def written(self) -> tuple[int, float]:
+        """As many rows as an INSERT may have, and how often one call wrote them."""
+        rows = self.rewriter.rows
+        if rows is None:
+            return 1, 1.0
+        count = min(MOST_ROWS, max(1, round(rows)))
+        return count, max(rows, LEAST) / count
 
     def _value(self, node: Any, scope: Scope) -> str:
         term = self.rewriter.expressions.term(node, Scope(None, scope))
@@ -137,6 +158,7 @@ class Writes:
         alone.group, alone.having, alone.order = None, [], []
         self.rewriter.finish(block)
         self.rewriter.bound(alone)
+        tied = [it for it in tied if not it.column.no_key]
         if tied and not any(isinstance(it, Test) and it.form in ("=", "IN") for it in alone.conditions):
             alone.conditions.append(Test(tied[0], "IN", (ANY,) * self.rows_of_call(10)))
         return alone

@@ -1,0 +1,72 @@
+-- Makes the role cophy_advisor with the rights that `cophy-pg export` and `cophy-pg verify` need and no others, and the
+-- extension hypopg in a schema of its own. To be run as a superuser, once in each database:
+--
+--     psql -X -d DATABASE -f advisor_role.sql
+--     psql -X -d DATABASE -v tables=granted -f advisor_role.sql
+--
+-- The second form lets the role read no table. Then grant it USAGE of the schemas and SELECT of the tables whose statements
+-- are to be looked at; it is right where the tables of several applications, which mustn't read each other's, stand in one
+-- database. The role has no password: \password cophy_advisor gives it one. Statements are read with the role's own path:
+-- where the application has another than the database, ALTER ROLE cophy_advisor SET search_path gives it that.
+\set ON_ERROR_STOP on
+\if :{?tables} \else
+    \set tables all
+\endif
+SET search_path TO pg_catalog, pg_temp;
+SELECT NOT EXISTS (SELECT FROM pg_catalog.pg_roles WHERE rolname = 'cophy_advisor') AS is_new,
+       :'tables' = 'all' AS reads_all,
+       current_setting('server_version_num')::int >= 140000 AS has_read_all \gset
+BEGIN;
+
+-- A function that another role may change would run here with a superuser's rights.
+DO $$
+BEGIN
+    IF EXISTS (SELECT FROM pg_catalog.pg_event_trigger e JOIN pg_catalog.pg_proc p ON p.oid = e.evtfoid
+               JOIN pg_catalog.pg_roles r ON r.oid = p.proowner WHERE e.evtenabled <> 'D' AND NOT r.rolsuper) THEN
+        RAISE EXCEPTION 'an event trigger runs a function that no superuser owns';
+    END IF;
+END $$;
+
+\if :is_new
+    CREATE ROLE cophy_advisor LOGIN;
+\endif
+ALTER ROLE cophy_advisor NOSUPERUSER NOCREATEDB NOCREATEROLE NOREPLICATION NOBYPASSRLS CONNECTION LIMIT 4;
+ALTER ROLE cophy_advisor SET default_transaction_read_only TO on;
+GRANT CONNECT ON DATABASE :"DBNAME" TO cophy_advisor;
+-- The statements of all roles in pg_stat_statements.
+GRANT pg_read_all_stats TO cophy_advisor;
+-- EXPLAIN asks for the right to read a table, and the views of statistics do.
+\if :reads_all
+    \if :has_read_all
+        GRANT pg_read_all_data TO cophy_advisor;
+    \else
+        DO $$
+        DECLARE
+            name text;
+        BEGIN
+            FOR name IN SELECT nspname FROM pg_catalog.pg_namespace WHERE nspname !~ '^pg_' AND nspname <> 'information_schema'
+            LOOP
+                EXECUTE format('GRANT USAGE ON SCHEMA %I TO cophy_advisor', name);
+                EXECUTE format('GRANT SELECT ON ALL TABLES IN SCHEMA %I TO cophy_advisor', name);
+            END LOOP;
+        END $$;
+    \endif
+\endif
+
+-- A schema that nobody else may rename or put functions into.
+DO $$
+BEGIN
+    IF EXISTS (SELECT FROM pg_catalog.pg_extension WHERE extname = 'hypopg') THEN
+        RAISE NOTICE 'the extension hypopg is there, and stays in its schema';
+    ELSIF NOT EXISTS (SELECT FROM pg_catalog.pg_available_extensions WHERE name = 'hypopg') THEN
+        RAISE NOTICE 'the extension hypopg is not installed here, so that verify will not run';
+    ELSE
+        CREATE SCHEMA hypopg;
+        CREATE EXTENSION hypopg SCHEMA hypopg;
+    END IF;
+END $$;
+SELECT n.nspname AS home FROM pg_catalog.pg_extension e JOIN pg_catalog.pg_namespace n ON n.oid = e.extnamespace
+WHERE e.extname = 'hypopg'
+UNION ALL SELECT 'pg_catalog' LIMIT 1 \gset
+GRANT USAGE ON SCHEMA :"home" TO cophy_advisor;
+COMMIT;

@@ -1,0 +1,199 @@
+"""Which columns a B-tree index can have: those whose type has an order and whose values fit in an entry."""
+from __future__ import annotations
+
+from collections.abc import Callable, Iterable
+from dataclasses import dataclass
+
+from cophy_pg import catalogs
+from cophy_pg.schema import Column, Table
+from cophy_pg.server import Row, Server, ServerFault, quoted_name, reading, version_of
+from cophy_pg.trust import may_plan
+
+LONGEST_ENTRY = 2600
+"""An entry has at most a third of a page, 2704 bytes, with its header and the gaps between its columns."""
+SAMPLED_PAGES, SAMPLED_PARTS = 500, 8
+SHORT = 100
+"""Where no value is out of line and none is longer than this on average, the table isn't sampled."""
+WIDEST = 1000
+WAITED, MOST_WAITS = ("55P03", "57014"), 5
+"""After so many samples that weren't given in time, be it for a lock or for a function of an index, none is taken any more."""
+TEXTS = frozenset(("text", "varchar", "bpchar", "bytea"))
+
+
+@dataclass
+class Stored:
+    """How a column is stored: its type's number and name, its length or -1, its modifier, its storage, and whether it
+    isn't stored at all, but made by an expression, which may call what users made."""
+
+    column: Column
+    type: int
+    name: str
+    length: int
+    modifier: int
+    storage: str
+    is_virtual: bool = False
+
+    def most(self) -> int | None:
+        """The most bytes that a value may have; nothing where its type has no limit."""
+        if self.length > 0:
+            return self.length
+        if self.name in ("varchar", "bpchar") and self.modifier > 4:
+            return (self.modifier - 4) * 4 + 4
+        if self.name in ("bit", "varbit") and self.modifier > 0:
+            return self.modifier // 8 + 9
+        if self.name == "numeric" and self.modifier > 4:
+            return (((self.modifier - 4) >> 16) & 0xFFFF) // 2 + 12
+        return None
+
+    def is_open(self) -> bool:
+        """Whether a value may be too long for an entry, as far as its type says."""
+        most = self.most()
+        return most is None or most > LONGEST_ENTRY
+
+    def bytes_of(self) -> str:
+        """What SQL says of a value's length, without the call of any function that a user made."""
+        name = quoted_name(self.column.name)
+        return f"pg_catalog.{'octet_length' if self.name in TEXTS else 'pg_column_size'}({name})"
+
+
+@dataclass
+class Part:
+    """A table that holds rows: its names, its pages, the bytes of its values out of line, and whether long values may
+    stay in line; each number is None where the table is locked."""
+
+    schema: str
+    name: str
+    kind: str
+    pages: int | None
+    out_of_line: int | None
+    stays_in_line: bool = False
+
+
+class Orders:
+    """Which types have an order, by their numbers."""
+
+    def __init__(self, server: Server, tables: Iterable[int]) -> None:
+        before_14 = version_of(server) < 140000
+        query = catalogs.ORDERS.replace(*catalogs.BEFORE_14) if before_14 else catalogs.ORDERS
+        rows = server.rows(query, ([*tables],))
+        self.types = {int(it[0]): it for it in rows}
+
+    def why_not(self, number: int) -> str:
+        """Why a type has no order; nothing where it has one."""
+        waiting, seen = [number], set[int]()
+        while waiting:
+            one = waiting.pop()
+            if one in seen or one not in self.types:
+                continue
+            seen.add(one)
+            _, name, kind, parts, has_class = self.types[one]
+            if has_class or kind in ("e", "r", "m"):
+                continue
+            if parts is None:
+                return f"the type {name} has no order"
+            waiting += map(int, reversed(parts))
+        return ""
+
+
+class Lengths:
+    """Reads how long the values of a table's columns are, and marks the columns that no index can have."""
+
+    def __init__(self, server: Server, orders: Orders, warn: Callable[[str], None]) -> None:
+        self.server, self.orders, self.warn = server, orders, warn
+        self.faults = 0
+
+    def mark(self, table: Table, stored: list[Stored], parts: list[Part], indexed: set[str]) -> None:
+        """Marks columns of a table; those in `indexed` are keys of a B-tree index, so their values fit."""
+        for it in stored:
+            why = self.orders.why_not(it.type)
+            most = it.most()
+            if not why and it.length > 0 and most is not None and most > LONGEST_ENTRY:
+                why = "its values take more than a third of a page"
+            it.column.no_key = "it isn't stored" if it.is_virtual else why
+        varying = [it for it in stored if it.length < 0 and not it.is_virtual]
+        if varying and self._is_long(table, varying, parts):
+            self._sample(table, varying, parts, indexed)
+
+    @staticmethod
+    def _is_long(table: Table, varying: list[Stored], parts: list[Part]) -> bool:
+        """Whether long values may be there."""
+        return (
+            not table.is_analysed
+            or any(it.stays_in_line or it.out_of_line is None or it.out_of_line > 0 for it in parts)
+            or any(it.is_open() and (it.storage in "pm" or it.column.width > SHORT) for it in varying)
+        )
+
+    def _sample(self, table: Table, varying: list[Stored], parts: list[Part], indexed: set[str]) -> None:
+        shown = [f"avg({it.bytes_of()})::float8, max({it.bytes_of()})::int8" for it in varying]
+        found = self._read(parts, ", ".join(["count(*)::int8", *shown]))
+        if found is None:
+            self._unread(table, varying, parts, indexed)
+            return
+        longest: dict[str, int] = {}
+        for at, it in enumerate(varying):
+            means = [(int(row[0]), float(row[1 + 2 * at])) for row in found if row[1 + 2 * at] is not None]
+            longest[it.column.name] = max(
+                (int(row[2 + 2 * at]) for row in found if row[2 + 2 * at] is not None), default=0
+            )
+            count = sum(rows for rows, _ in means)
+            if count:
+                it.column.width = min(WIDEST, max(1, round(sum(rows * mean for rows, mean in means) / count)))
+        for it in varying:
+            is_known = it.column.name in indexed or not it.is_open()
+            if not it.column.no_key and not is_known and longest[it.column.name] > LONGEST_ENTRY // 2:
+                self._mark_long(it)
+        self._mark_together(varying, parts, longest)
+
+    @staticmethod
+    def _mark_long(it: Stored) -> None:
+        it.column.no_key = "its values may exceed a third of a page"
+
+    def _mark_together(self, varying: list[Stored], parts: list[Part], longest: dict[str, int]) -> None:
+        """Marks the longest columns until all others of a row fit in one entry."""
+        while True:
+            left = [it for it in varying if not it.column.no_key]
+            if sum(longest[it.column.name] for it in left) <= LONGEST_ENTRY:
+                return
+            sums = " + ".join(f"coalesce({it.bytes_of()}, 0)" for it in left)
+            found = self._read(parts, f"max({sums})::int8")
+            if found is None or all(it[0] is None or int(it[0]) <= LONGEST_ENTRY for it in found):
+                return
+            self._mark_long(max(left, key=lambda it: longest[it.column.name]))
+
+    def _unread(self, table: Table, varying: list[Stored], parts: list[Part], indexed: set[str]) -> None:
+        """What can't be read may be long where something is out of line, and isn't where nothing is."""
+        if all(it.out_of_line == 0 and not it.stays_in_line for it in parts):
+            return
+        listed = [it for it in varying if it.is_open() and not it.column.no_key and it.column.name not in indexed]
+        for it in listed:
+            it.column.width = WIDEST
+            self._mark_long(it)
+        if listed:
+            names = ", ".join(it.column.shown for it in listed)
+            self.warn(f"{table.shown} can't be read: its columns {names} may have long values, so no index has them")
+
+    def _read(self, parts: list[Part], listed: str) -> list[Row] | None:
+        """A row of a sample of each of the largest parts; nothing where one can't be read."""
+        chosen = sorted(parts, key=lambda it: -(it.pages or 0))[:SAMPLED_PARTS]
+        if not chosen:
+            return []
+        if self.faults >= MOST_WAITS or self.server.is_lost():
+            return None
+        found = []
+        for it in chosen:
+            share = min(100.0, 100 * SAMPLED_PAGES / len(chosen) / max(1, it.pages or 1))
+            where = f"{quoted_name(it.schema)}.{quoted_name(it.name)}"
+            query = f"SELECT {listed} FROM ONLY {where} TABLESAMPLE pg_catalog.system ({share:.6f}) REPEATABLE (0)"
+            try:
+                with reading(self.server, "READ COMMITTED"):
+                    if not may_plan(self.server, it.schema, it.name):
+                        return None
+                    found += self.server.rows(query)
+            except ServerFault as fault:
+                if self.server.is_lost():
+                    self.warn(
+                        f"the connection was lost at a sample of {it.schema!a}.{it.name!a}, so no table after it has one"
+                    )
+                self.faults += fault.code in WAITED
+                return None
+        return found

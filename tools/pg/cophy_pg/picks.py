@@ -1,0 +1,93 @@
+"""The picks of an advice on the server: as hypothetical indexes, or as those that are there already."""
+from __future__ import annotations
+
+from contextlib import suppress
+from typing import Any
+
+from cophy_text.answers import Advice
+from cophy_pg.ddl import names_of, why_not
+from cophy_pg.outcomes import Outcome
+from cophy_pg.schema import Schema, Table
+from cophy_pg.server import Server, ServerFault, quoted_name
+
+_INDEXES = """
+SELECT n.nspname::text, x.relname::text, i.indnkeyatts::int4,
+    ARRAY(SELECT a.attname::text FROM unnest(i.indkey::int2[]) WITH ORDINALITY k(number, at)
+        JOIN pg_catalog.pg_attribute a ON a.attrelid = i.indrelid AND a.attnum = k.number ORDER BY k.at)
+FROM pg_catalog.pg_index i JOIN pg_catalog.pg_class x ON x.oid = i.indexrelid
+JOIN pg_catalog.pg_namespace n ON n.oid = x.relnamespace JOIN pg_catalog.pg_am m ON m.oid = x.relam
+JOIN pg_catalog.pg_class c ON c.oid = i.indrelid JOIN pg_catalog.pg_namespace s ON s.oid = c.relnamespace
+WHERE s.nspname = %s AND c.relname = %s AND m.amname = 'btree' AND i.indisvalid AND i.indisready
+    AND i.indpred IS NULL AND i.indexprs IS NULL
+ORDER BY 1, 2"""
+
+_HYPOPG = """
+SELECT n.nspname::text FROM pg_catalog.pg_extension e
+JOIN pg_catalog.pg_namespace n ON n.oid = e.extnamespace
+JOIN pg_catalog.pg_depend d ON d.refclassid = 'pg_catalog.pg_extension'::regclass AND d.refobjid = e.oid AND d.deptype = 'e'
+JOIN pg_catalog.pg_proc p ON d.classid = 'pg_catalog.pg_proc'::regclass AND p.oid = d.objid AND p.pronamespace = n.oid
+WHERE e.extname = 'hypopg' AND p.proname = 'hypopg_create_index'"""
+
+
+def index_names(plan: Any) -> set[str]:
+    """The names of all indexes that a plan takes."""
+    found = {str(plan["Index Name"])} if "Index Name" in plan else set()
+    return found.union(*(index_names(it) for it in plan.get("Plans", ())))
+
+
+def home_of(server: Server) -> str:
+    """The schema of hypopg, as it is written; what was made in the session before is gone."""
+    found = server.value(_HYPOPG)
+    if found is None:
+        raise ServerFault(
+            "the extension hypopg isn't there: tools/pg/advisor_role.sql makes it, and it changes nothing else"
+        )
+    home = quoted_name(found)
+    # Others may have made a second function of that name there, by which the call isn't unique.
+    with suppress(ServerFault), server.savepoint():
+        server.rows(f"SELECT {home}.hypopg_reset()")
+    return home
+
+
+def hypothetical(server: Server, home: str, table: Table, columns: list[str]) -> str:
+    """Makes a hypothetical index; its name in plans."""
+    listed = ", ".join(map(quoted_name, columns))
+    text = f"CREATE INDEX ON {quoted_name(table.schema)}.{quoted_name(table.name)} ({listed})"
+    with server.savepoint():
+        return str(server.value(f"SELECT indexname::text FROM {home}.hypopg_create_index(%s::text)", (text,)))
+
+
+def make(server: Server, schema: Schema, advice: Advice) -> tuple[list[Outcome], dict[str, int]]:
+    """Makes the picks as hypothetical indexes, without those that are there already: an outcome for each pick, and the
+    number of the pick for each index that stands for one."""
+    home, found, made = home_of(server), [], {}
+    for it in advice.picks:
+        outcome = Outcome(it)
+        found.append(outcome)
+        if why := why_not(schema, it):
+            outcome.reasons[f"it can't be made: {why}"] = ""
+            continue
+        table, columns = names_of(schema, it)
+        try:
+            name = _there(server, table, columns, outcome) or hypothetical(server, home, table, columns)
+            for child in table.children:
+                made[hypothetical(server, home, Table(*child, ""), columns)] = it.number
+        except ServerFault as fault:
+            if server.is_lost():
+                raise
+            outcome.reasons[f"it can't be made: {fault.shown()}"] = ""
+        else:
+            made[name] = it.number
+    return found, made
+
+
+def _there(server: Server, table: Table, columns: list[str], outcome: Outcome) -> str | None:
+    """The name of an index over these columns alone; another that begins with them is noted."""
+    for schema, name, count, keys in server.rows(_INDEXES, (table.schema, table.name)):
+        if keys[: len(columns)] == columns and len(columns) <= int(count):
+            shown = f"{str(schema)!a}.{str(name)!a}"
+            if len(keys) == len(columns):
+                outcome.exists = shown
+                return str(name)
+            outcome.begins = outcome.begins or shown
+    return None

@@ -1,0 +1,178 @@
+"""Whose code may run while statements are explained: the powers of the role, what it owns, and functions of users.
+
+PostgreSQL's planner runs functions: it folds those that are immutable, and asks for the values of stable ones, of
+operators, and of functions below types, in a statement as well as in views, indexes, constraints and policies of its tables.
+"""
+from __future__ import annotations
+
+from collections.abc import Iterable, Sequence
+from dataclasses import dataclass, field, fields
+
+from cophy_pg.server import Server, ServerFault, quoted_name
+
+POWERS = (
+    "pg_execute_server_program",
+    "pg_write_server_files",
+    "pg_read_server_files",
+    "pg_write_all_data",
+    "pg_signal_backend",
+)
+"""Roles whose rights reach beyond a read-only transaction, or beyond the database."""
+COMPARISONS = frozenset(("=", "<>", "<", "<=", ">", ">="))
+
+_POWER = """
+SELECT CASE WHEN r.rolsuper THEN '' ELSE r.rolname::text END
+FROM pg_catalog.pg_roles r
+WHERE (r.rolsuper OR r.rolreplication OR r.rolname = ANY(%s))
+    AND (pg_catalog.pg_has_role(session_user, r.oid, 'MEMBER') OR pg_catalog.pg_has_role(current_user, r.oid, 'MEMBER'))
+ORDER BY r.rolsuper DESC, r.rolname LIMIT 1"""
+
+_OWNS = """
+SELECT pg_catalog.pg_has_role(session_user, c.relowner, 'MEMBER')
+FROM pg_catalog.pg_class c JOIN pg_catalog.pg_namespace n ON n.oid = c.relnamespace WHERE n.nspname = %s AND c.relname = %s"""
+
+# Asked in the path of statements, so each name has its schema, and there is no operator.
+_RESOLVED = """
+SELECT pg_catalog.to_regclass(name)::pg_catalog.oid::pg_catalog.int8 FROM pg_catalog.unnest(%s::pg_catalog.text[]) AS name"""
+
+_REACHED = """
+WITH RECURSIVE reached(oid) AS (
+    SELECT unnest(%(tables)s::oid[])
+    UNION
+    SELECT more.oid FROM reached r CROSS JOIN LATERAL (
+        SELECT d.refobjid FROM pg_catalog.pg_rewrite w JOIN pg_catalog.pg_depend d
+            ON d.classid = 'pg_catalog.pg_rewrite'::regclass AND d.objid = w.oid WHERE w.ev_class = r.oid
+            AND d.refclassid = 'pg_catalog.pg_class'::regclass
+        UNION ALL
+        SELECT d.refobjid FROM pg_catalog.pg_policy p JOIN pg_catalog.pg_depend d
+            ON d.classid = 'pg_catalog.pg_policy'::regclass AND d.objid = p.oid WHERE p.polrelid = r.oid
+            AND d.refclassid = 'pg_catalog.pg_class'::regclass
+        UNION ALL
+        SELECT i.inhrelid FROM pg_catalog.pg_inherits i WHERE i.inhparent = r.oid) more(oid)
+), parts(classid, objid) AS (
+    SELECT 'pg_catalog.pg_class'::regclass::oid, oid FROM reached
+    UNION ALL SELECT 'pg_catalog.pg_class'::regclass, indexrelid FROM pg_catalog.pg_index JOIN reached r ON r.oid = indrelid
+    UNION ALL SELECT 'pg_catalog.pg_rewrite'::regclass, w.oid FROM pg_catalog.pg_rewrite w JOIN reached r ON r.oid = ev_class
+    UNION ALL SELECT 'pg_catalog.pg_policy'::regclass, p.oid FROM pg_catalog.pg_policy p JOIN reached r ON r.oid = polrelid
+    UNION ALL SELECT 'pg_catalog.pg_constraint'::regclass, c.oid
+        FROM pg_catalog.pg_constraint c JOIN reached r ON r.oid = conrelid
+    UNION ALL SELECT 'pg_catalog.pg_attrdef'::regclass, a.oid FROM pg_catalog.pg_attrdef a JOIN reached r ON r.oid = adrelid
+    UNION ALL SELECT 'pg_catalog.pg_statistic_ext'::regclass, s.oid
+        FROM pg_catalog.pg_statistic_ext s JOIN reached r ON r.oid = stxrelid
+), types(oid) AS (
+    SELECT atttypid FROM pg_catalog.pg_attribute JOIN reached r ON r.oid = attrelid WHERE attnum > 0 AND atttypid <> 0
+    UNION SELECT refobjid FROM pg_catalog.pg_depend NATURAL JOIN parts WHERE refclassid = 'pg_catalog.pg_type'::regclass
+    UNION SELECT oid FROM pg_catalog.pg_type WHERE typname = ANY(%(types)s)
+    UNION SELECT more.oid FROM types y JOIN pg_catalog.pg_type t ON t.oid = y.oid
+        CROSS JOIN LATERAL (VALUES (t.typbasetype), (t.typelem)) more(oid) WHERE more.oid <> 0
+), all_parts AS (
+    SELECT classid, objid FROM parts
+    UNION ALL SELECT 'pg_catalog.pg_type'::regclass, oid FROM types
+    UNION ALL SELECT 'pg_catalog.pg_constraint'::regclass, c.oid FROM pg_catalog.pg_constraint c JOIN types t ON t.oid = contypid
+), used AS (
+    SELECT DISTINCT refclassid, refobjid FROM pg_catalog.pg_depend NATURAL JOIN all_parts
+), operators AS (
+    SELECT o.oid, o.oprcom, o.oprnegate FROM pg_catalog.pg_operator o WHERE o.oprname = ANY(%(operators)s)
+        OR o.oid IN (SELECT refobjid FROM used WHERE refclassid = 'pg_catalog.pg_operator'::regclass)
+), functions(oid) AS (
+    SELECT refobjid FROM used WHERE refclassid = 'pg_catalog.pg_proc'::regclass
+    UNION SELECT o.oprcode FROM pg_catalog.pg_operator o JOIN operators m ON o.oid IN (m.oid, m.oprcom, m.oprnegate)
+    UNION SELECT castfunc FROM pg_catalog.pg_cast WHERE castfunc <> 0
+    UNION SELECT oid FROM pg_catalog.pg_proc WHERE proname = ANY(%(functions)s)
+        OR pronargs = 1 AND proname = ANY(%(columns)s)
+)"""
+
+_FUNCTIONS = f"""{_REACHED}
+SELECT n.nspname::text, p.proname::text, pg_catalog.pg_get_function_identity_arguments(p.oid), w.rolname::text,
+    pg_catalog.pg_has_role(session_user, p.proowner, 'MEMBER')
+FROM functions f JOIN pg_catalog.pg_proc p ON p.oid = f.oid JOIN pg_catalog.pg_namespace n ON n.oid = p.pronamespace
+JOIN pg_catalog.pg_roles w ON w.oid = p.proowner JOIN pg_catalog.pg_language l ON l.oid = p.prolang
+WHERE l.lanname NOT IN ('internal', 'c') AND n.nspname NOT IN ('pg_catalog', 'information_schema') AND NOT (w.rolsuper AND EXISTS (
+    SELECT FROM pg_catalog.pg_depend d WHERE d.classid = 'pg_catalog.pg_proc'::regclass AND d.objid = p.oid
+        AND d.deptype = 'e'))
+ORDER BY 1, 2, 3"""
+
+_OWNED = f"""{_REACHED}
+SELECT n.nspname::text, c.relname::text
+FROM reached r JOIN pg_catalog.pg_class c ON c.oid = r.oid JOIN pg_catalog.pg_namespace n ON n.oid = c.relnamespace
+WHERE pg_catalog.pg_has_role(session_user, c.relowner, 'MEMBER') ORDER BY 1, 2 LIMIT 1"""
+
+
+class NotTrusted(ServerFault):
+    """Why statements aren't explained with this role."""
+
+    def __init__(self, why: str) -> None:
+        super().__init__(
+            f"verify doesn't explain statements as {why}, since PostgreSQL runs functions of users while it plans: "
+            "tools/pg/advisor_role.sql makes a role for it; with --i-trust-the-statements it does"
+        )
+
+
+@dataclass
+class Names:
+    """What statements name: tables with their schema, where they have one, and the rest by the last part of the name."""
+
+    tables: set[tuple[str | None, str]] = field(default_factory=set)
+    functions: set[str] = field(default_factory=set)
+    operators: set[str] = field(default_factory=lambda: {*COMPARISONS})
+    columns: set[str] = field(default_factory=set)
+    types: set[str] = field(default_factory=set)
+
+    @staticmethod
+    def of(several: Iterable[Names]) -> Names:
+        """What any of several names."""
+        found = Names()
+        for it in several:
+            for part in fields(Names):
+                getattr(found, part.name).update(getattr(it, part.name))
+        return found
+
+
+def refuse_powers(server: Server) -> None:
+    """Refuses a role with a power that code could use in a read-only transaction."""
+    found = server.value(_POWER, ([*POWERS],))
+    if found is not None:
+        raise NotTrusted(f"a member of {found}" if found else "a superuser")
+
+
+def may_plan(server: Server, schema: str, table: str) -> bool:
+    """Whether a query over a table is planned with rights to read alone. Planning it may run functions of the table's
+    indexes, constraints and statistics, whatever the query asks for."""
+    return server.value(_POWER, ([*POWERS],)) is None and server.value(_OWNS, (schema, table)) is False
+
+
+def refuse_owner(server: Server, names: Names, tables: Iterable[int]) -> None:
+    """Refuses a role that owns a table, a view or a function of what is explained."""
+    values = _values(names, tables)
+    owned = server.rows(_OWNED, values) or [it[:2] for it in server.rows(_FUNCTIONS, values) if it[4]]
+    if owned:
+        raise NotTrusted(f"the owner of {'.'.join(map(ascii, owned[0]))}")
+
+
+def functions_of_users(server: Server, names: Names, tables: Iterable[int]) -> list[str]:
+    """The functions of users that may run while statements with these names are planned, each with its owner. It errs to
+    too many: of functions of one name all are told."""
+    rows = server.rows(_FUNCTIONS, _values(names, tables))
+    return [f"{_plain(f'{schema}.{name}({given})')} of {_plain(owner)}" for schema, name, given, owner, _ in rows]
+
+
+def resolved(
+    server: Server, names: Iterable[tuple[str | None, str]], path: Sequence[str] | None
+) -> dict[tuple[str | None, str], int]:
+    """The numbers of the tables and views that names stand for, as a path or else the role's own has it."""
+    listed = [*names]
+    texts = [".".join(quoted_name(part) for part in it if part is not None) for it in listed]
+    with server.savepoint():
+        server.use_path(path)
+        rows = server.rows(_RESOLVED, (texts,))
+    return {name: int(row[0]) for name, row in zip(listed, rows, strict=True) if row[0] is not None}
+
+
+def _values(names: Names, tables: Iterable[int]) -> dict[str, list[object]]:
+    listed: dict[str, list[object]] = {"tables": [*tables]}
+    return listed | {it: [*getattr(names, it)] for it in ("functions", "operators", "columns", "types")}
+
+
+def _plain(text: str) -> str:
+    """A text of the database in printable ASCII."""
+    return ascii(text)[1:-1]
