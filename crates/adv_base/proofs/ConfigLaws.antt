@@ -1,9 +1,16 @@
 -- Laws of configurations, as sets of candidates.
-use Rattle.std.proofs.Common.{◌≡◌, ◌∙◌, ℕ, zero, suc, ◌+◌, ◌-◌, ◌<◌, ◌≤◌, ◌==◌, Bool, true, false, List, [], ◌∷◌, length, get_or, replicate, refl, ap, arith}
+use Rattle.std.proofs.Common.{◌≡◌, ◌∙◌, ℕ, zero, suc, ◌+◌, ◌-◌, ◌<◌, ◌≤◌, ◌==◌, Bool, true, false, List, [], ◌∷◌, length, get_or, map, replicate, refl, ap, arith}
+use Rattle.std.specs.Prelude.{sum, sum_by, slice_get, slice_index_or}
+use Rattle.std.specs.Option.{option_map_or}
 use Rattle.std.proofs.lemmas.Bool.{ne_eqb}
+use Rattle.std.proofs.lemmas.List.Sums.{sum-map}
+use Rattle.adv_base.specs.declared.catalogue.Catalogue.{Catalogue}
+use Rattle.adv_base.specs.declared.catalogue.index.IndexShape.{IndexShape}
+use Rattle.adv_base.specs.declared.setting.Config.{Config}
 use Rattle.adv_base.specs.declared.limits.TheConstants.{MOST_CANDIDATES}
-use Rattle.adv_base.specs.Configs.{chosen, has_candidate}
+use Rattle.adv_base.specs.Configs.{chosen, has_candidate, candidates_in, config_pages, candidate_pages}
 use Rattle.adv_base.specs.Nodes.{flags_from, config_of}
+use Rattle.adv_base.specs.Sizes.{shape_pages}
 
 -- nothing is chosen where no flag is on
 pub chosen-none : {X : Type 0} (n : ℕ) (xs : List X) → chosen (replicate n false) xs ≡ []
@@ -33,3 +40,25 @@ config_of-has has a some few =
     let counted : (a == 0) ≡ false = ne_eqb a 0 (omega arith) in
     let same : 1 + (a - 1) ≡ a = omega arith in
     rw counted (flags_from-at has 1 MOST_CANDIDATES (a - 1) (omega arith) ∙ ap has same)
+
+-- ## Pages
+
+pub chosen-map : {X Y : Type 0} (f : X → Y) (flags : List Bool) (xs : List X) → chosen flags (map f xs) ≡ map f (chosen flags xs)
+chosen-map f [] xs = refl
+chosen-map f (flag ∷ flags) [] = refl
+chosen-map f (true ∷ flags) (x ∷ xs) = ap (λ ys. f x ∷ ys) (chosen-map f flags xs)
+chosen-map f (false ∷ flags) (x ∷ xs) = chosen-map f flags xs
+
+pub slice-map : {X : Type 0} (f : X → ℕ) (xs : List X) (i : ℕ) → slice_index_or (map f xs) i 0 ≡ option_map_or f (slice_get xs i) 0
+slice-map f [] i = refl
+slice-map f (x ∷ xs) zero = refl
+slice-map f (x ∷ xs) (suc i) = slice-map f xs i
+
+-- the pages of a configuration are the sum of those of its shapes
+pub pages-by-shape : (cat : Catalogue) (shapes : List IndexShape) (config : Config) → config_pages cat shapes config ≡ sum_by (shape_pages cat) (candidates_in shapes config)
+pages-by-shape cat shapes config =
+    ap sum (chosen-map (shape_pages cat) config.on shapes) ∙ sum-map (shape_pages cat) (candidates_in shapes config)
+
+-- the pages of a candidate are those of its shape
+pub size-by-shape : (cat : Catalogue) (shapes : List IndexShape) (a : ℕ) → candidate_pages cat shapes a ≡ option_map_or (shape_pages cat) (slice_get shapes (a - 1)) 0
+size-by-shape cat shapes a = slice-map (shape_pages cat) shapes (a - 1)

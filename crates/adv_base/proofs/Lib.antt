@@ -3,6 +3,7 @@ pub mod DayLemmas
 pub mod Digits
 pub mod Firsts
 pub mod LineLaws
+pub mod ShareLaws
 pub mod RowBounds
 pub mod ItemLaws
 pub mod Begins

@@ -1,6 +1,6 @@
 -- Laws of the definitions, for callers: each part is from 1 to 10^9, each number of rows from 1 to 10^12.
 use Rattle.std.proofs.Common.{ℕ, zero, suc, ◌*◌, ◌≤◌, List, [], ◌∷◌, length, map, refl, arith, min, max}
-use Rattle.std.specs.Prelude.{Bool, true, false, fold, if◌then◌else◌, Option, Some, None, ℤ}
+use Rattle.std.specs.Prelude.{Bool, true, false, fold, if◌then◌else◌, ◌-◌, Option, Some, None, ℤ}
 use Rattle.std.specs.Option.{option_map_or}
 use Rattle.std.proofs.Math.Nat.{mul-le-mul}
 use Rattle.adv_base.specs.declared.catalogue.Catalogue.{Catalogue}
@@ -16,10 +16,12 @@ use Rattle.adv_base.specs.declared.workload.predicate.Value.TheVariants.{Number,
 use Rattle.adv_base.specs.declared.limits.TheConstants.{MOST_ROWS, WHOLE}
 use Rattle.adv_base.specs.Limits.Tests.{TestLimits}
 use Rattle.adv_base.specs.Lookups.{slot_table, slot_distinct, table_distinct}
-use Rattle.adv_base.specs.Parts.{equal_part, tied_part, range_part, above_part, below_part, between_part, test_part, column_test_part, table_pred_part, pred_part, edge_part}
+use Rattle.adv_base.specs.Parts.{equal_part, tied_part, range_part, shared_part, above_part, below_part, between_part, test_part, column_test_part, table_pred_part, pred_part, edge_part}
 use Rattle.adv_base.specs.Rows.{AreRows, table_rows, slot_preds, filtered_rows, edges_back, rows_below, set_rows}
 use Rattle.adv_base.specs.Sets.{has_slot}
 use Rattle.adv_base.specs.Sums.{clamped_part, times_part, capped}
+use Rattle.adv_base.specs.Shares.{share}
+use Rattle.adv_base.proofs.ShareLaws.{share-most}
 use Rattle.adv_base.proofs.SumLemmas.{times_part-bounds}
 
 -- a selectivity: a part of 10^9, at least 1
@@ -57,16 +59,27 @@ a_third = record { least = omega arith; most = omega arith }
 a_quarter : IsPart 250000000
 a_quarter = record { least = omega arith; most = omega arith }
 
+either-bounds : (b : Bool) (shared ranged : ℕ) → shared ≤ WHOLE → IsPart ranged → IsPart (if b then ranged else max 1 shared)
+either-bounds true shared ranged most is = is
+either-bounds false shared ranged most is = record { least = omega arith; most = omega arith }
+
+shared_part-bounds : (bounds : List ℤ) (shared ranged : ℕ) → shared ≤ WHOLE → IsPart ranged → IsPart (shared_part bounds shared ranged)
+shared_part-bounds bounds shared ranged most is = either-bounds _ shared ranged most is
+
 above_part-bounds : (column : Column) (v : Value) → IsPart (above_part column v)
-above_part-bounds column (Number v) = range_part-bounds column.low column.high _ _ a_third
+above_part-bounds column (Number v) =
+    shared_part-bounds column.bounds (WHOLE - share column.bounds v) _ (omega arith) (range_part-bounds column.low column.high _ _ a_third)
 above_part-bounds column Plain = a_third
 
 below_part-bounds : (column : Column) (v : Value) → IsPart (below_part column v)
-below_part-bounds column (Number v) = range_part-bounds column.low column.high _ _ a_third
+below_part-bounds column (Number v) =
+    shared_part-bounds column.bounds (share column.bounds v) _ (share-most column.bounds v) (range_part-bounds column.low column.high _ _ a_third)
 below_part-bounds column Plain = a_third
 
 between_part-bounds : (column : Column) (v w : Value) → IsPart (between_part column v w)
-between_part-bounds column (Number v) (Number w) = range_part-bounds column.low column.high _ _ a_quarter
+between_part-bounds column (Number v) (Number w) =
+    let most : share column.bounds w ≤ WHOLE = share-most column.bounds w in
+    shared_part-bounds column.bounds (share column.bounds w - share column.bounds v) _ (omega arith) (range_part-bounds column.low column.high _ _ a_quarter)
 between_part-bounds column (Number v) Plain = a_quarter
 between_part-bounds column Plain (Number w) = a_quarter
 between_part-bounds column Plain Plain = a_quarter

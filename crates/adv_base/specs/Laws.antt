@@ -1,9 +1,9 @@
--- Laws of access paths and their prices, of every configuration of any candidates.
-use Rattle.std.specs.Prelude.{ℕ, ◌+◌, ◌≤◌, List}
+-- Laws of selectivities, and of access paths and their prices, of every configuration of any candidates.
+use Rattle.std.specs.Prelude.{ℕ, ◌+◌, ◌≤◌, ℤ, ◌≤ℤ◌, List}
 use Rattle.adv_base.specs.declared.catalogue.Catalogue.{Catalogue}
 use Rattle.adv_base.specs.declared.catalogue.index.IndexShape.{IndexShape}
 use Rattle.adv_base.specs.declared.catalogue.table.Table.{Table}
-use Rattle.adv_base.specs.declared.limits.TheConstants.{MOST_TABLE_PRICE, MOST_INDEX_PRICE, MOST_RENT}
+use Rattle.adv_base.specs.declared.limits.TheConstants.{WHOLE, MOST_TABLE_PRICE, MOST_INDEX_PRICE, MOST_RENT}
 use Rattle.adv_base.specs.declared.setting.Config.{Config}
 use Rattle.adv_base.specs.declared.workload.block.Block.{Block}
 use Rattle.adv_base.specs.declared.workload.parts.Slot.{Slot}
@@ -11,6 +11,15 @@ use Rattle.adv_base.specs.Access.{table_price, index_price}
 use Rattle.adv_base.specs.Named.{NamesBlock}
 use Rattle.adv_base.specs.OfferTables.{OfferTableLimits, PricesWithin, BeginsWithTables}
 use Rattle.adv_base.specs.Offers.{offers, charged_offers}
+use Rattle.adv_base.specs.Shares.{share}
+
+-- by any ends the share of the rows at most a value never falls as the value rises
+abbrev pub SharesRise : Type 0
+SharesRise = (ends : List ℤ) (v w : ℤ) → v ≤ℤ w → share ends v ≤ share ends w
+
+-- and is at most the whole
+abbrev pub SharesAreParts : Type 0
+SharesAreParts = (ends : List ℤ) (v : ℤ) → share ends v ≤ WHOLE
 
 -- to read a whole table costs at most MOST_TABLE_PRICE
 abbrev pub TablePricesAreBounded : Type 0

@@ -1,4 +1,5 @@
 pub mod Sums
+pub mod Shares
 pub mod Sets
 pub mod Items
 pub mod Predicates

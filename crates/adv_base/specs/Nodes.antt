@@ -1,12 +1,10 @@
 -- Nodes of a search for a configuration: each candidate is in, out or free. Candidates are numbered from 1.
-use Rattle.std.specs.Prelude.{◌≡◌, ℕ, zero, suc, ◌+◌, ◌-◌, nat_le, Bool, true, false, not, ◌&&◌, ◌||◌, List, [], ◌∷◌, slice_get}
-use Rattle.std.specs.Option.{option_map_or}
+use Rattle.std.specs.Prelude.{◌≡◌, ℕ, zero, suc, Bool, true, false, not, ◌&&◌, ◌||◌, List, [], ◌∷◌}
 use Rattle.adv_base.specs.declared.catalogue.Catalogue.{Catalogue}
 use Rattle.adv_base.specs.declared.catalogue.index.IndexShape.{IndexShape}
 use Rattle.adv_base.specs.declared.limits.TheConstants.{MOST_CANDIDATES}
 use Rattle.adv_base.specs.declared.setting.Config.{Config}
-use Rattle.adv_base.specs.Configs.{has_candidate, config_pages}
-use Rattle.adv_base.specs.Sizes.{shape_pages}
+use Rattle.adv_base.specs.Configs.{has_candidate, Space, fits_beside, space_of}
 
 -- the candidates that are in, and those that are out
 pub record Node : Type 0 where
@@ -16,18 +14,13 @@ pub record Node : Type 0 where
 abbrev pub is_free : Node → ℕ → Bool
 is_free node a = not (has_candidate node.inside a) && not (has_candidate node.outside a)
 
--- the pages of one candidate
-abbrev pub candidate_pages : Catalogue → List IndexShape → ℕ → ℕ
-candidate_pages cat shapes a = option_map_or (shape_pages cat) (slice_get shapes (a - 1)) 0
-
--- a free candidate is open where it fits the budget together with those that are in
-abbrev pub is_open : Catalogue → List IndexShape → ℕ → Node → ℕ → Bool
-is_open cat shapes budget node a =
-    is_free node a && nat_le (config_pages cat shapes node.inside + candidate_pages cat shapes a) budget
+-- a free candidate is open where it fits together with those that are in
+abbrev pub is_open_in : Space → Node → ℕ → Bool
+is_open_in space node a = is_free node a && fits_beside space node.inside a
 
 -- a candidate is available where it is in or open
-abbrev pub is_available : Catalogue → List IndexShape → ℕ → Node → ℕ → Bool
-is_available cat shapes budget node a = has_candidate node.inside a || is_open cat shapes budget node a
+abbrev pub is_available_in : Space → Node → ℕ → Bool
+is_available_in space node a = has_candidate node.inside a || is_open_in space node a
 
 -- the flags of n candidates from a on
 unfoldable pub flags_from : (ℕ → Bool) → ℕ → ℕ → List Bool
@@ -39,8 +32,18 @@ unfoldable pub config_of : (ℕ → Bool) → Config
 config_of has = record { on = flags_from has 1 MOST_CANDIDATES }
 
 -- the configuration of all candidates that are available at a node
+abbrev pub available_in : Space → Node → Config
+available_in space node = config_of (is_available_in space node)
+
+-- the same over a catalogue
+abbrev pub is_open : Catalogue → List IndexShape → ℕ → Node → ℕ → Bool
+is_open cat shapes budget = is_open_in (space_of cat shapes budget)
+
+abbrev pub is_available : Catalogue → List IndexShape → ℕ → Node → ℕ → Bool
+is_available cat shapes budget = is_available_in (space_of cat shapes budget)
+
 abbrev pub available : Catalogue → List IndexShape → ℕ → Node → Config
-available cat shapes budget node = config_of (is_available cat shapes budget node)
+available cat shapes budget = available_in (space_of cat shapes budget)
 
 -- a configuration is below a node where it holds what is in, and nothing that is out
 pub record IsBelow (node : Node) (config : Config) : Type 0 where

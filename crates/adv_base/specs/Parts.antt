@@ -1,5 +1,5 @@
 -- Selectivities, as parts of 10^9: a table of factors in the manner of System R's, with this project's numbers.
-use Rattle.std.specs.Prelude.{ℕ, ◌*◌, ◌-◌, min, max, nat_lt, if◌then◌else◌, ℤ, Option, Some, None, slice_get}
+use Rattle.std.specs.Prelude.{ℕ, ◌*◌, ◌-◌, ◌==◌, min, max, nat_lt, if◌then◌else◌, ℤ, List, length, Option, Some, None, slice_get}
 use Rattle.std.specs.Int.{int_min, int_max}
 use Rattle.adv_base.specs.declared.catalogue.Catalogue.{Catalogue}
 use Rattle.adv_base.specs.declared.catalogue.column.Column.{Column}
@@ -13,6 +13,7 @@ use Rattle.adv_base.specs.declared.workload.predicate.Value.{Value}
 use Rattle.adv_base.specs.declared.workload.predicate.Value.TheVariants.{Number, Plain}
 use Rattle.adv_base.specs.declared.limits.TheConstants.{WHOLE}
 use Rattle.adv_base.specs.Sums.{clamped_part, height}
+use Rattle.adv_base.specs.Shares.{share}
 use Rattle.adv_base.specs.Lookups.{table_distinct, slot_distinct, slot_table}
 
 -- `c = value`: one of the distinct values, or a tenth where their number is unknown
@@ -32,20 +33,26 @@ range_part (Some low) (Some high) share unknown =
     if nat_lt 0 (height high low) then clamped_part (WHOLE * share low high) (height high low) else unknown
 range_part low high share unknown = unknown
 
--- `c > v`, `c >= v`: the share of the range above v; a third where that isn't known
+-- by the shares of a histogram, at least 1; by the range where there is none
+abbrev pub shared_part : List ℤ → ℕ → ℕ → ℕ
+shared_part bounds shared ranged = if length bounds == 0 then ranged else max 1 shared
+
+-- `c > v`, `c >= v`: the share of the rows above v, or of the range; a third where neither is known
 abbrev pub above_part : Column → Value → ℕ
-above_part column (Number v) = range_part column.low column.high (λ low high. height high v) 333333334
+above_part column (Number v) = shared_part column.bounds (WHOLE - share column.bounds v)
+    (range_part column.low column.high (λ low high. height high v) 333333334)
 above_part column Plain = 333333334
 
--- `c < v`, `c <= v`: the share of the range below v; a third where that isn't known
+-- `c < v`, `c <= v`: the share of the rows below v, or of the range; a third where neither is known
 abbrev pub below_part : Column → Value → ℕ
-below_part column (Number v) = range_part column.low column.high (λ low high. height v low) 333333334
+below_part column (Number v) = shared_part column.bounds (share column.bounds v)
+    (range_part column.low column.high (λ low high. height v low) 333333334)
 below_part column Plain = 333333334
 
--- `c BETWEEN v AND w`: the share of the range from v to w; a quarter where that isn't known
+-- `c BETWEEN v AND w`: the share of the rows from v to w, or of the range; a quarter where neither is known
 abbrev pub between_part : Column → Value → Value → ℕ
-between_part column (Number v) (Number w) =
-    range_part column.low column.high (λ low high. height (int_min w high) (int_max v low)) 250000000
+between_part column (Number v) (Number w) = shared_part column.bounds (share column.bounds w - share column.bounds v)
+    (range_part column.low column.high (λ low high. height (int_min w high) (int_max v low)) 250000000)
 between_part column v w = 250000000
 
 -- each kind of test, on a column of a table

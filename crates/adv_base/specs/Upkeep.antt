@@ -11,6 +11,7 @@ use Rattle.adv_base.specs.declared.workload.block.Block.{Block}
 use Rattle.adv_base.specs.Configs.{candidates_in}
 use Rattle.adv_base.specs.Lookups.{table_at}
 use Rattle.adv_base.specs.Rows.{filtered_rows}
+use Rattle.adv_base.specs.Settings.{TheSetting}
 use Rattle.adv_base.specs.Sizes.{index_levels}
 
 -- the block's one slot is on the index's table
@@ -58,3 +59,13 @@ kept_upkeep cat work = sum_by (λ table. sum_by (λ index. upkeep cat work index
 -- the upkeep of a configuration's candidates
 unfoldable pub config_upkeep : Catalogue → List IndexShape → Config → Work → ℕ
 config_upkeep cat shapes config work = sum_by (upkeep cat work) (candidates_in shapes config)
+
+-- ## By weight
+
+-- the sum of weight times upkeep of an index
+abbrev pub weighted_upkeep : TheSetting → IndexShape → ℕ
+weighted_upkeep setting shape = sum_by (λ statement. statement.weight * upkeep setting.cat statement.work shape) setting.statements
+
+-- the same of the indexes that exist
+abbrev pub weighted_kept : TheSetting → ℕ
+weighted_kept setting = sum_by (λ statement. statement.weight * kept_upkeep setting.cat statement.work) setting.statements

@@ -44,7 +44,7 @@ pub use catalogue::table::Table;
 pub use days::day_of;
 pub use decimal::{push_decimal, read_number};
 pub use items::is_own_list;
-pub use laws::offers_keep_limits;
+pub use laws::{offers_keep_limits, shares_rise};
 pub use lines::first_line;
 pub use list::{Bytes, List, Name};
 pub use lookups::{slot_table, table_at, table_column};

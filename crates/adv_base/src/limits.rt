@@ -21,6 +21,8 @@ pub const MOST_WEIGHT: u32 = 1_000_000;
 pub const MOST_END: i64 = 1_000_000_000_000_000_000;
 /// The bytes of a column's values.
 pub const MOST_WIDTH: u16 = 1000;
+/// The ends of a column's histogram: those of 256 buckets.
+pub const MOST_BOUNDS: usize = 257;
 /// The tables of a catalogue.
 pub const MOST_TABLES: usize = 200;
 /// The columns of a table.

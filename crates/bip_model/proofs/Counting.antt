@@ -9,9 +9,9 @@ use Rattle.std.proofs.lemmas.Int.{ints}
 use Rattle.std.proofs.lemmas.List.{length-append, length-set}
 use Rattle.adv_base.specs.declared.limits.TheConstants.{MOST_CANDIDATES}
 use Rattle.adv_base.specs.declared.setting.Config.{Config}
-use Rattle.adv_base.specs.Configs.{has_candidate, config_pages, IsConfigOf, Fits}
+use Rattle.adv_base.specs.Configs.{has_candidate, config_pages, candidate_pages, IsConfigOf, Fits}
 use Rattle.adv_base.specs.Nodes as nodes
-use Rattle.adv_base.specs.Nodes.{is_free, candidate_pages}
+use Rattle.adv_base.specs.Nodes.{is_free}
 use Rattle.adv_base.specs.Settings.{TheSetting, KeepsLimits}
 use Rattle.plan_model.specs.Lagrangian.{TheMultipliers, IsLagrangian}
 use Rattle.plan_model.specs.Useful.{IsUseful, AreUseful}

@@ -1,40 +1,30 @@
 -- In a programme that stands for a setting, pages, open candidates and useful candidates are the setting's.
-use Rattle.std.proofs.Common.{◌≡◌, ◌∙◌, ℕ, zero, suc, ◌+◌, ◌-◌, ◌&&◌, List, [], ◌∷◌, sum, refl, sym, ap, subst, arith}
-use Rattle.std.specs.Prelude.{Option, Some, None, nat_le, slice_get, slice_index_or}
+use Rattle.std.proofs.Common.{◌≡◌, ◌∙◌, ℕ, zero, suc, ◌+◌, List, [], ◌∷◌, refl, sym, ap, subst, arith}
+use Rattle.std.specs.Prelude.{Option, Some, None, slice_get}
 use Rattle.adv_base.specs.declared.setting.Config.{Config}
 use Rattle.adv_base.specs.declared.workload.Statement.{Statement}
 use Rattle.adv_base.specs.declared.workload.block.Block.{Block}
-use Rattle.adv_base.specs.Configs.{config_pages, candidates_in, chosen}
-use Rattle.adv_base.specs.Nodes as nodes
+use Rattle.adv_base.specs.Configs.{Space, space_of, config_pages, candidate_pages, pages_in, size_in}
 use Rattle.adv_base.specs.Settings.{TheSetting}
-use Rattle.adv_base.specs.Sizes.{shape_pages}
 use Rattle.plan_model.specs.Totals.{block_of}
-use Rattle.plan_model.proofs.Sums.{sum-total}
 use Rattle.bip_model.specs.declared.programme.Programme.{Programme}
-use Rattle.bip_model.specs.Candidates as candidates
-use Rattle.bip_model.specs.Candidates.{size_of, pages_of}
 use Rattle.bip_model.specs.StandsFor.{AreEach, Blocked, blocked_in, blocked_from, StandsFor}
-use Rattle.bip_model.proofs.Lists.{map-or}
-use Rattle.bip_model.proofs.Totalling.{chosen-sum}
+use Rattle.bip_model.specs.Views.{space_in}
 
--- ## Pages, and what is open
+-- ## Space
 
-pub pages-same : (setting : TheSetting) (programme : Programme) (config : Config) → StandsFor setting programme → config_pages setting.cat setting.shapes config ≡ pages_of programme config
-pages-same setting programme config stands =
-    sum-total (shape_pages setting.cat) (candidates_in setting.shapes config)
-    ∙ sym (chosen-sum (shape_pages setting.cat) config.on setting.shapes)
-    ∙ ap (λ (sizes : List ℕ). sum (chosen config.on sizes)) (sym stands.sizes_are)
+abbrev with_sizes : ℕ → List ℕ → Space
+with_sizes budget sizes = record { sizes = sizes; budget = budget }
 
-pub size-same : (setting : TheSetting) (programme : Programme) (a : ℕ) → StandsFor setting programme → nodes.candidate_pages setting.cat setting.shapes a ≡ size_of programme a
-size-same setting programme a stands =
-    map-or (shape_pages setting.cat) setting.shapes (a - 1) ∙ ap (λ (sizes : List ℕ). slice_index_or sizes (a - 1) 0) (sym stands.sizes_are)
+pub space-same : (setting : TheSetting) (programme : Programme) (budget : ℕ) → StandsFor setting programme → space_of setting.cat setting.shapes budget ≡ space_in programme budget
+space-same setting programme budget stands =
+    ap (with_sizes budget) (sym stands.sizes_are)
 
-pub open-same : (setting : TheSetting) (programme : Programme) (budget : ℕ) (node : nodes.Node) (a : ℕ) → StandsFor setting programme →
-    nodes.is_open setting.cat setting.shapes budget node a ≡ candidates.is_open programme budget node a
-open-same setting programme budget node a stands =
-    let both : config_pages setting.cat setting.shapes node.inside + nodes.candidate_pages setting.cat setting.shapes a ≡ pages_of programme node.inside + size_of programme a =
-    omega (arith, pages-same setting programme node.inside stands, size-same setting programme a stands) in
-    ap (λ (n : ℕ). nodes.is_free node a && nat_le n budget) both
+pub pages-same : (setting : TheSetting) (programme : Programme) (config : Config) → StandsFor setting programme → config_pages setting.cat setting.shapes config ≡ pages_in programme.sizes config
+pages-same setting programme config stands = ap (λ (sizes : List ℕ). pages_in sizes config) (sym stands.sizes_are)
+
+pub size-same : (setting : TheSetting) (programme : Programme) (a : ℕ) → StandsFor setting programme → candidate_pages setting.cat setting.shapes a ≡ size_in programme.sizes a
+size-same setting programme a stands = ap (λ (sizes : List ℕ). size_in sizes a) (sym stands.sizes_are)
 
 -- ## Statements with a block
 

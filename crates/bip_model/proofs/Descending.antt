@@ -8,12 +8,13 @@ use Rattle.std.proofs.lemmas.Option.{slice_get_within}
 use Rattle.adv_base.specs.declared.catalogue.Catalogue.{Catalogue}
 use Rattle.adv_base.specs.declared.catalogue.index.IndexShape.{IndexShape}
 use Rattle.adv_base.specs.declared.setting.Config.{Config}
-use Rattle.adv_base.specs.Configs.{has_candidate, config_pages, candidates_in, chosen, IsConfigOf, Fits}
+use Rattle.adv_base.specs.Configs.{has_candidate, config_pages, candidate_pages, candidates_in, chosen, IsConfigOf, Fits}
 use Rattle.adv_base.specs.Laws.{IsRent}
 use Rattle.adv_base.specs.Nodes as nodes
-use Rattle.adv_base.specs.Nodes.{is_free, is_open, candidate_pages}
+use Rattle.adv_base.specs.Nodes.{is_free, is_open}
 use Rattle.adv_base.specs.Settings.{TheSetting}
 use Rattle.adv_base.specs.Sizes.{shape_pages}
+use Rattle.adv_base.proofs.ConfigLaws.{pages-by-shape, size-by-shape}
 use Rattle.plan_model.specs.Lagrangian.{TheMultipliers, IsLagrangian}
 use Rattle.plan_model.specs.Useful.{IsUseful}
 use Rattle.plan_model.proofs.Renting.{flag-of}
@@ -133,10 +134,11 @@ chosen-more f (false ∷ flags) (x ∷ xs) (suc i) = let rest = chosen-more f fl
 
 pub pages-with : (cat : Catalogue) (shapes : List IndexShape) (config : Config) (a : ℕ) → config_pages cat shapes (with_candidate config a) ≤ config_pages cat shapes config + candidate_pages cat shapes a
 pages-with cat shapes config a =
-    let before = sum-total (shape_pages cat) (candidates_in shapes config) in
-    let after = sum-total (shape_pages cat) (candidates_in shapes (with_candidate config a)) in
+    let before = pages-by-shape cat shapes config ∙ sum-total (shape_pages cat) (candidates_in shapes config) in
+    let after = pages-by-shape cat shapes (with_candidate config a) ∙ sum-total (shape_pages cat) (candidates_in shapes (with_candidate config a)) in
+    let own = size-by-shape cat shapes a in
     let more = chosen-more (shape_pages cat) config.on shapes (a - 1) in
-    omega (arith, before, after, more)
+    omega (arith, before, after, own, more)
 
 pub open-fits : (setting : TheSetting) (budget : ℕ) (node : nodes.Node) (a : ℕ) → nodes.is_open setting.cat setting.shapes budget node a ≡ true → Fits setting.cat setting.shapes (with_candidate node.inside a) budget
 open-fits setting budget node a open' =

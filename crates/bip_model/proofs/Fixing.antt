@@ -15,11 +15,11 @@ use Rattle.adv_base.specs.declared.workload.Work.{Work}
 use Rattle.adv_base.specs.declared.workload.Work.TheVariants.{Select, Update, Delete, Insert}
 use Rattle.adv_base.specs.declared.workload.block.Block.{Block}
 use Rattle.adv_base.specs.declared.workload.parts.Slot.{Slot}
-use Rattle.adv_base.specs.Configs.{has_candidate, config_pages}
+use Rattle.adv_base.specs.Configs.{has_candidate, config_pages, candidate_pages}
 use Rattle.adv_base.specs.Laws.{IsRent}
 use Rattle.adv_base.specs.Lookups.{table_at}
 use Rattle.adv_base.specs.Nodes as nodes
-use Rattle.adv_base.specs.Nodes.{is_free, is_open, is_available, candidate_pages, available}
+use Rattle.adv_base.specs.Nodes.{is_free, is_open, is_available, available}
 use Rattle.adv_base.specs.Offers.{Offer, Heap, Existing, candidate_path, numbered_on, paths_on, charged_path_offer, charged_offers_on, charged_offers_of, charged_offers}
 use Rattle.adv_base.specs.Settings.{TheSetting}
 use Rattle.adv_base.proofs.OfferBounds.{charged-limits}

@@ -16,3 +16,4 @@ pub mod Counting
 pub mod Exploring
 pub mod Sharing
 pub mod Places
+pub mod Spaces

@@ -2,7 +2,6 @@
 use Rattle.std.proofs.Common.{◌≡◌, ◌∙◌, inl, inr, ℕ, zero, suc, ◌+◌, ◌-◌, ◌<◌, ◌≤◌, ◌==◌, Bool, true, cond, ◌&&◌, List, [], ◌∷◌, ◌++◌, length, map, All, refl, sym, ap, subst, arith}
 use Rattle.std.specs.Prelude.{Option, Some, None, nat_le, slice_get}
 use Rattle.std.specs.List.{enumerate_from, list_any}
-use Rattle.std.specs.Option.{option_map_or}
 use Rattle.std.proofs.lemmas.Bool.{cases_lt, eq-eqb, eqb-true, false≢true, or_cases, or_left, or_right, and_parts, and_from, leb-true, le-leb, ltb-true, lt-ltb}
 use Rattle.std.proofs.lemmas.List.{length-map, length-append}
 use Rattle.std.proofs.lemmas.Map.Keys.{any_passes_from_place}
@@ -12,7 +11,6 @@ use Rattle.adv_base.specs.declared.catalogue.table.Table.{Table}
 use Rattle.adv_base.specs.declared.workload.block.Block.{Block}
 use Rattle.adv_base.specs.declared.workload.parts.Slot.{Slot}
 use Rattle.adv_base.specs.Items.{Order, BeginsWith, is_same_order}
-use Rattle.adv_base.specs.Nodes.{candidate_pages}
 use Rattle.adv_base.specs.Offers.{Offer, offers, index_offer}
 use Rattle.adv_base.specs.Settings.{TheSetting}
 use Rattle.adv_base.specs.Sizes.{shape_pages}
@@ -29,8 +27,10 @@ use Rattle.bip_model.specs.declared.grant.Grant.{Grant}
 use Rattle.bip_model.specs.declared.slot_part.SlotPart.{SlotPart}
 use Rattle.bip_model.specs.declared.part.Part.{Part}
 use Rattle.bip_model.specs.declared.programme.Programme.{Programme}
-use Rattle.bip_model.specs.Candidates.{size_of, is_cheaper, has_cheaper, helps_slot, helps_part, is_useful, useful_below}
+use Rattle.adv_base.specs.Configs.{candidate_pages, size_in}
+use Rattle.bip_model.specs.Candidates.{is_cheaper, has_cheaper, helps_slot, helps_part, is_useful, useful_below}
 use Rattle.bip_model.specs.StandsFor.{given, least_given, candidates_on, IsGrant, IsSlotPart, Blocked, IsPart, blocked_from, StandsFor}
+use Rattle.bip_model.proofs.Spaces.{size-found}
 use Rattle.bip_model.proofs.Deciding.{size-same, blocked-from, from-blocked, each-right, each-left}
 use Rattle.bip_model.proofs.Fixing.{Has, mapped-at}
 use Rattle.bip_model.proofs.Least.{least-made, least-most}
@@ -131,7 +131,7 @@ slot-cheaper setting block task task_is s slot own n grant slot_found is grant_i
 
 pub useful-from : (setting : TheSetting) (programme : Programme) (budget a : ℕ) → StandsFor setting programme → is_useful programme budget a ≡ true → IsUseful setting budget a
 useful-from setting programme budget a stands e =
-    let parts = and_parts (nat_le (size_of programme a) budget) (list_any (helps_part a) programme.parts) e in
+    let parts = and_parts (nat_le (size_in programme.sizes a) budget) (list_any (helps_part a) programme.parts) e in
     let in_part = any-found (helps_part a) programme.parts parts.1 in
     let part : Part = in_part.element in
     let in_slot = any-found (helps_slot a) part.slots in_part.passes in
@@ -154,8 +154,8 @@ useful-from setting programme budget a stands e =
           let numbered = numbered-is 1 setting.shapes listed.0.number n listed.0.found in
           let same : n.0 ≡ a = sym granted.holds.candidate_is ∙ eqb-true grant.candidate a tests.0 in
           let found : slice_get setting.shapes (a - 1) ≡ Some n.1 = ap (λ (k : ℕ). slice_get setting.shapes (k - 1)) (sym same) ∙ numbered.found in
-          let pages : candidate_pages setting.cat setting.shapes a ≡ shape_pages setting.cat n.1 = ap (λ (o : Option IndexShape). option_map_or (shape_pages setting.cat) o 0) found in
-          let fits : size_of programme a ≤ budget = leb-true (size_of programme a) budget parts.0 in
+          let pages : candidate_pages setting.cat setting.shapes a ≡ shape_pages setting.cat n.1 = size-found setting.cat setting.shapes a n.1 found in
+          let fits : size_in programme.sizes a ≤ budget = leb-true (size_in programme.sizes a) budget parts.0 in
           record {
             some = omega (arith, numbered.least, same);
             shape = n.1;
@@ -240,13 +240,13 @@ useful-to setting programme budget a stands u =
     let part : Part = paired.element in
     let is : IsPart setting blocked part = paired.holds in
     let cheap : IsCheaper setting blocked.block u.slot u.shape = subst (λ (b : Block). IsCheaper setting b u.slot u.shape) (sym at'.block_is) u.cheaper in
-    let pages : candidate_pages setting.cat setting.shapes a ≡ shape_pages setting.cat u.shape = ap (λ (o : Option IndexShape). option_map_or (shape_pages setting.cat) o 0) u.found in
-    let fits : size_of programme a ≤ budget = omega (arith, u.fits, pages, size-same setting programme a stands) in
+    let pages : candidate_pages setting.cat setting.shapes a ≡ shape_pages setting.cat u.shape = size-found setting.cat setting.shapes a u.shape u.found in
+    let fits : size_in programme.sizes a ≤ budget = omega (arith, u.fits, pages, size-same setting programme a stands) in
     elim (slice_get_cases part.slots u.slot).1 [
       | inr past ↦ absurd (omega (arith, past.0, slice_get_within blocked.block.slots u.slot cheap.slot cheap.slot_found, is.slots_count))
       | inl own ↦
           let slot_is : IsSlotPart setting blocked.block is.task u.slot cheap.slot own.0 = is.slots_are u.slot cheap.slot own.0 cheap.slot_found own.2 in
-          and_from (nat_le (size_of programme a) budget) (list_any (helps_part a) programme.parts) (le-leb (size_of programme a) budget fits)
+          and_from (nat_le (size_in programme.sizes a) budget) (list_any (helps_part a) programme.parts) (le-leb (size_in programme.sizes a) budget fits)
           (any_passes_from_place (helps_part a) programme.parts at'.place part paired.found
           (any_passes_from_place (helps_slot a) part.slots u.slot own.0 own.2 (helps setting blocked.block is.task is.task_is u.slot a u.shape own.0 cheap slot_is u.some u.found)))
     ]

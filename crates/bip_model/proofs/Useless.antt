@@ -13,12 +13,12 @@ use Rattle.adv_base.specs.declared.setting.Config.{Config}
 use Rattle.adv_base.specs.declared.workload.Statement.{Statement}
 use Rattle.adv_base.specs.declared.workload.block.Block.{Block}
 use Rattle.adv_base.specs.declared.workload.parts.Slot.{Slot}
-use Rattle.adv_base.specs.Configs.{has_candidate, config_pages}
+use Rattle.adv_base.specs.Configs.{has_candidate, config_pages, candidate_pages}
 use Rattle.adv_base.specs.Items.{Order, BeginsWith, is_same_order}
 use Rattle.adv_base.specs.Lookups.{table_at}
 use Rattle.adv_base.specs.Named.{NamesBlock}
 use Rattle.adv_base.specs.Nodes as nodes
-use Rattle.adv_base.specs.Nodes.{flags_from, config_of, is_free, is_open, is_available, candidate_pages, available}
+use Rattle.adv_base.specs.Nodes.{flags_from, config_of, is_free, is_open, is_available, available}
 use Rattle.adv_base.specs.Offers.{Offer, OfferTable, numbered_on, index_offer, offers}
 use Rattle.adv_base.specs.OfferTables.{price_at, order_at}
 use Rattle.adv_base.specs.Settings.{TheSetting}
@@ -36,6 +36,7 @@ use Rattle.plan_model.proofs.Decomposing.{core}
 use Rattle.plan_model.proofs.Renting.{flag-of}
 use Rattle.bip_model.specs.Laws.{NoneUseful}
 use Rattle.bip_model.specs.StandsFor.{candidates_on}
+use Rattle.bip_model.proofs.Spaces.{size-found}
 use Rattle.bip_model.proofs.Fixing.{Has, image-of, mapped-at}
 use Rattle.bip_model.proofs.Standing.{chosen-on, offers-split}
 use Rattle.bip_model.proofs.Lists.{front-of, back-of}
@@ -171,7 +172,7 @@ cheaper-useful : (setting : TheSetting) (budget : ℕ) (node : nodes.Node) (bloc
 cheaper-useful setting budget node block task s slot table n i best of' task_is slot_found table_found found on_table open' among gives dearer =
     let numbered = numbered-is 1 setting.shapes i n found in
     let fits = and_parts (is_free node n.0) (nat_le (config_pages setting.cat setting.shapes node.inside + candidate_pages setting.cat setting.shapes n.0) budget) open' in
-    let pages : candidate_pages setting.cat setting.shapes n.0 ≡ shape_pages setting.cat n.1 = ap (λ (o : Option IndexShape). option_map_or (shape_pages setting.cat) o 0) numbered.found in
+    let pages : candidate_pages setting.cat setting.shapes n.0 ≡ shape_pages setting.cat n.1 = size-found setting.cat setting.shapes n.0 n.1 numbered.found in
     let room : config_pages setting.cat setting.shapes node.inside + candidate_pages setting.cat setting.shapes n.0 ≤ budget = le-of (config_pages setting.cat setting.shapes node.inside + candidate_pages setting.cat setting.shapes n.0) budget fits.1 in
     record {
       some = numbered.least;

@@ -29,6 +29,18 @@ PartCostIsLeast =
     (setting : TheSetting) (blocked : Blocked) (part : Part) (config : Config) → NamesBlock setting.cat blocked.block → IsPart setting blocked part →
     IsBlockCost setting.cat setting.shapes config blocked.block (part_cost part config)
 
+-- a cost is a configuration's total in each setting that a programme stands for
+abbrev pub IsTotalInEach : Programme → Config → ℕ → Type 0
+IsTotalInEach programme config cost =
+    (setting : TheSetting) → KeepsLimits setting → StandsFor setting programme →
+    IsTotal setting.cat setting.shapes config setting.statements cost
+
+-- and that of a least plan for each block that a part is of
+abbrev pub IsBlockCostInEach : Part → Config → ℕ → Type 0
+IsBlockCostInEach part config cost =
+    (setting : TheSetting) (blocked : Blocked) → NamesBlock setting.cat blocked.block → IsPart setting blocked part →
+    IsBlockCost setting.cat setting.shapes config blocked.block cost
+
 -- What a tree shows below a node is at most the total of every fitting configuration below it; so is the least of the
 -- Lagrangian values of its bounded leaves.
 abbrev pub TreesBound : Type 0

@@ -3,3 +3,4 @@ pub mod Grants
 pub mod SlotParts
 pub mod Parts
 pub mod Programmes
+pub mod Spaces

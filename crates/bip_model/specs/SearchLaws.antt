@@ -1,8 +1,7 @@
 -- Theorems that a search over a programme stands on.
 use Rattle.std.specs.Prelude.{◌≡◌, ◌↔◌, ℕ, ◌+◌, ◌^◌, ◌≤◌, true, List, length, Some, slice_get, ℤ, pos, ◌≤ℤ◌, ◌<ℤ◌}
 use Rattle.adv_base.specs.declared.limits.TheConstants.{MOST_CANDIDATES}
-use Rattle.adv_base.specs.declared.setting.Config.{Config}
-use Rattle.adv_base.specs.Configs.{config_pages, IsConfigOf, Fits}
+use Rattle.adv_base.specs.Configs.{space_of, IsConfigOf, Fits}
 use Rattle.adv_base.specs.Nodes as nodes
 use Rattle.adv_base.specs.Settings.{TheSetting, KeepsLimits}
 use Rattle.plan_model.specs.Lagrangian.{TheMultipliers, IsLagrangian}
@@ -15,21 +14,15 @@ use Rattle.bip_model.specs.Laws.{RentsWithin}
 use Rattle.bip_model.specs.StandsFor.{StandsFor}
 use Rattle.bip_model.specs.Trees.{Tree}
 use Rattle.bip_model.specs.Uses.{multipliers_in, AreMultipliersIn}
-use Rattle.bip_model.specs.Views.{multipliers_of, AreMultipliers}
+use Rattle.bip_model.specs.Views.{space_in, multipliers_of, AreMultipliers}
 
 -- ## What a programme decides
 
--- the pages of a configuration
-abbrev pub PagesAreDecided : Type 0
-PagesAreDecided =
-    (setting : TheSetting) (programme : Programme) (config : Config) → StandsFor setting programme →
-    config_pages setting.cat setting.shapes config ≡ candidates.pages_of programme config
-
--- which candidates are open at a node
-abbrev pub OpenIsDecided : Type 0
-OpenIsDecided =
-    (setting : TheSetting) (programme : Programme) (budget : ℕ) (node : nodes.Node) (a : ℕ) → StandsFor setting programme →
-    nodes.is_open setting.cat setting.shapes budget node a ≡ candidates.is_open programme budget node a
+-- the space: so the pages of a configuration, whether it fits, and which candidates are open or available at a node
+abbrev pub SpaceIsDecided : Type 0
+SpaceIsDecided =
+    (setting : TheSetting) (programme : Programme) (budget : ℕ) → StandsFor setting programme →
+    space_of setting.cat setting.shapes budget ≡ space_in programme budget
 
 -- which are useful, and how many
 abbrev pub UsefulIsDecided : Type 0

@@ -1,16 +1,25 @@
--- Nodes and multipliers, as the definitions of plan_model see them.
-use Rattle.std.specs.Prelude.{◌≡◌, ℕ, suc, ◌==◌, ◌≤◌, Bool, true, false, ◌&&◌, if◌then◌else◌, List, [], ◌∷◌, ◌++◌, length, map, All}
+-- Space, nodes and multipliers, as the definitions of adv_base and plan_model see them.
+use Rattle.std.specs.Prelude.{◌≡◌, ℕ, zero, suc, ◌-◌, ◌==◌, ◌≤◌, Bool, true, false, ◌&&◌, if◌then◌else◌, List, [], ◌∷◌, ◌++◌, length, map, slice_index_or, slice_set, All}
 use Rattle.adv_base.specs.declared.limits.TheConstants.{MOST_PAGE_PRICE, MOST_RENT}
+use Rattle.adv_base.specs.Configs as configs
 use Rattle.adv_base.specs.Nodes as nodes
 use Rattle.plan_model.specs.Lagrangian.{TheMultipliers}
 use Rattle.bip_model.specs.declared.fix.Fix.{Fix}
 use Rattle.bip_model.specs.declared.fix.State.{State}
-use Rattle.bip_model.specs.declared.fix.State.TheVariants.{In, Out}
+use Rattle.bip_model.specs.declared.fix.State.TheVariants.{Free, In, Out}
 use Rattle.bip_model.specs.declared.slot_part.SlotPart.{SlotPart}
 use Rattle.bip_model.specs.declared.part.Part.{Part}
 use Rattle.bip_model.specs.declared.programme.Programme.{Programme}
 use Rattle.bip_model.specs.declared.multipliers.Multipliers.{Multipliers}
+use Rattle.bip_model.specs.declared.space.Space.{Space}
 use Rattle.bip_model.specs.Values.{grant_count}
+
+abbrev pub the_space : Space → configs.Space
+the_space space = record { sizes = space.sizes.now; budget = space.budget }
+
+-- the space of a programme's candidates
+abbrev pub space_in : Programme → ℕ → configs.Space
+space_in programme budget = record { sizes = programme.sizes; budget = budget }
 
 abbrev pub is_in : State → Bool
 is_in In = true
@@ -23,6 +32,19 @@ is_out state = false
 -- the node of a fix
 abbrev pub node_of : Fix → nodes.Node
 node_of fix = record { inside = record { on = map is_in fix.state }; outside = record { on = map is_out fix.state } }
+
+-- what a node makes of the candidate at a place, from 0; one that there can't be is free
+abbrev pub state_at : Fix → ℕ → State
+state_at fix i = slice_index_or fix.state i Free
+
+-- the same by the candidate's number, from 1
+abbrev pub state_of : Fix → ℕ → State
+state_of fix zero = Free
+state_of fix (suc i) = state_at fix i
+
+-- a fix with the state of one candidate written, which is numbered from 1
+abbrev pub with_state : Fix → ℕ → State → Fix
+with_state fix a state = record { state = slice_set fix.state (a - 1) state }
 
 -- where a grant stands: the number of its statement, from 1, of its slot, from 0, and of its candidate, from 1
 pub record Place : Type 0 where

@@ -2,6 +2,7 @@
 ghost use Rattle.std.specs.Prelude.{◌≡◌, if◌then◌else◌, ℕ, ◌*◌, ◌<◌, ◌≤◌, All, length, min, sum, sum_by, slice_index_or};
 ghost use Rattle.adv_base.specs.Configs as configs;
 ghost use Rattle.adv_base.specs.declared.limits.TheConstants.{MOST_CANDIDATES, MOST_SLOTS, MOST_STATEMENTS, MOST_UPKEEP, MOST_WEIGHT};
+ghost use Rattle.bip_model.specs.Laws as laws;
 ghost use Rattle.bip_model.specs.Values as values;
 ghost use Rattle.bip_model.specs.Words as words;
 
@@ -76,6 +77,7 @@ fn plan_cost(part: &Part, config: &Config, rows: &mut Rows) -> u128
 /// templates (INUM's) of the internal cost and, for each slot, the least price of the needed order, of what exists and of
 /// the chosen grants. It has no weight and no upkeep. Takes no memory.
 pub fn part_cost(part: &Part, config: &Config) -> u128
+    ensures least { laws.IsBlockCostInEach part.now config.now result }
     ensures exact { result ≡ values.part_cost part.now config.now }
     ensures most { result ≤ values.MOST_PLAN }
 {
@@ -123,7 +125,8 @@ fn weighted_plans(parts: &[Part], config: &Config) -> u128
 /// workload. Takes no memory.
 #[tactic(auto, unfolding(crate::specs::Values::value))]
 pub fn value(programme: &Programme, config: &Config) -> u128
-    ensures { result ≡ values.value programme.now config.now }
+    ensures total { laws.IsTotalInEach programme.now config.now result }
+    ensures exact { result ≡ values.value programme.now config.now }
 {
     programme.kept
         + chosen_upkeep(programme.upkeep.as_slice(), config)

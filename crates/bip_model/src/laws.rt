@@ -1,7 +1,7 @@
 //! Laws of programmes and of trees, each proved of all settings: that a programme tells what each configuration costs, and
 //! that a tree with its multipliers bounds what every fitting configuration costs; and what a search may rely on.
 ghost use Rattle.bip_model.specs.Laws.{ValueIsTotal, PartCostIsLeast, TreesBound, ProofsBound, FreeProofsBound, OutNeverLowers, InNeverLowers, NoneUsefulIsTotal};
-ghost use Rattle.bip_model.specs.SearchLaws.{PagesAreDecided, OpenIsDecided, UsefulIsDecided, UsefulAreCounted, GrantsAreUses, LimitsAreThose, ValuesNeverFall, NodesFit, TreesStaySmall};
+ghost use Rattle.bip_model.specs.SearchLaws.{SpaceIsDecided, UsefulIsDecided, UsefulAreCounted, GrantsAreUses, LimitsAreThose, ValuesNeverFall, NodesFit, TreesStaySmall};
 
 /// Of a programme that stands for a setting, `value` is the total of the workload under every configuration, and
 /// `part_cost` the cost of a least plan of the part's block.
@@ -31,11 +31,10 @@ pub fn none_useful_is_total()
     ensures { NoneUsefulIsTotal }
 {}
 
-/// A programme that stands for a setting tells the pages of a configuration, which candidates are open at a node, which are
-/// useful, and how many; and its multipliers are multipliers of the setting's uses of candidates.
+/// A programme that stands for a setting tells the space of its candidates, and so what fits, is open and is available;
+/// which are useful, and how many; and its multipliers are multipliers of the setting's uses of candidates.
 pub fn programme_decides()
-    ensures pages { PagesAreDecided }
-    ensures open { OpenIsDecided }
+    ensures space { SpaceIsDecided }
     ensures useful { UsefulIsDecided }
     ensures count { UsefulAreCounted }
     ensures multipliers { GrantsAreUses }

@@ -29,6 +29,7 @@ mod part;
 mod programme;
 mod rows;
 mod slot_part;
+mod space;
 
 pub use answer::{Answer, Node};
 pub use costs::{part_cost, value};
@@ -43,3 +44,4 @@ pub use part::Part;
 pub use programme::Programme;
 pub use rows::{NO_PRICE, NO_ROWS, Row, Rows, cost_by_rows, lesser, word};
 pub use slot_part::SlotPart;
+pub use space::Space;

@@ -4,6 +4,7 @@
 //! Sizes are in pages of 8192 bytes, upkeep in thousandths of a page read. The definitions that the contracts cite stand in `adv_base`.
 //!
 //! In go `adv_base`'s `Catalogue`, `IndexShape`, `Config` and `Statement`; out come numbers, and no memory is taken.
+//! `Figures` has the numbers of all candidates of a setting, found once.
 //!
 //! ```rust
 //! // One candidate, on a column of 4 bytes of a table of 1000 rows: two pages of leaves, and one above them.
@@ -17,9 +18,11 @@
 #![tactic(auto)]
 
 mod budget;
+mod figures;
 mod size;
 mod writes;
 
 pub use budget::{config_pages, fits};
+pub use figures::Figures;
 pub use size::{index_pages, pages};
 pub use writes::{config_upkeep, kept_upkeep, upkeep};

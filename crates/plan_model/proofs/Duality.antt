@@ -15,14 +15,14 @@ use Rattle.adv_base.specs.declared.workload.Work.{Work}
 use Rattle.adv_base.specs.declared.workload.Work.TheVariants.{Select, Update, Delete, Insert}
 use Rattle.adv_base.specs.declared.workload.block.Block.{Block}
 use Rattle.adv_base.specs.declared.workload.parts.Slot.{Slot}
-use Rattle.adv_base.specs.Configs.{chosen, candidates_in, config_pages, has_candidate, IsConfigOf, Fits}
-use Rattle.adv_base.specs.Nodes.{Node, is_free, is_open, is_available, candidate_pages, available, IsBelow}
+use Rattle.adv_base.specs.Configs.{chosen, candidates_in, config_pages, candidate_pages, has_candidate, IsConfigOf, Fits}
+use Rattle.adv_base.specs.Nodes.{Node, is_free, is_open, is_available, available, IsBelow}
 use Rattle.adv_base.specs.Offers.{offers, numbered_in, numbered_on}
 use Rattle.adv_base.specs.OfferTables.{OfferTableLimits}
 use Rattle.adv_base.specs.Settings.{TheSetting}
 use Rattle.adv_base.specs.Sizes.{shape_pages}
 use Rattle.adv_base.specs.Upkeep.{upkeep, kept_upkeep, config_upkeep}
-use Rattle.adv_base.proofs.ConfigLaws.{config_of-has}
+use Rattle.adv_base.proofs.ConfigLaws.{config_of-has, pages-by-shape, size-by-shape}
 use Rattle.plan_model.specs.Exchange.{sum_below}
 use Rattle.plan_model.specs.Totals.{block_of, IsPlanCost, AreCosts, weighted_sum, IsTotal, OffersKeepLimits}
 use Rattle.plan_model.specs.Lagrangian.{TheMultipliers, IsRentedPlan, AreRentedPlans, weighted_upkeep, weighted_kept, slot_rents, weighted_rents, sum_rents, rents_at, IsWithin, candidate_cost, candidate_rents, costs_inside, earnings, IsRoundedUp, IsLagrangian, IsAtMost}
@@ -162,7 +162,8 @@ flags-are config i = ap (has_candidate config) (omega arith) ∙ flag-of config 
 
 pub pages-passing : (cat : Catalogue) (shapes : List IndexShape) (config : Config) → config_pages cat shapes config ≡ passing (has_candidate config) (λ k shape. shape_pages cat shape) 1 shapes
 pages-passing cat shapes config =
-    sum-total (shape_pages cat) (chosen config.on shapes)
+    pages-by-shape cat shapes config
+    ∙ sum-total (shape_pages cat) (chosen config.on shapes)
     ∙ chosen-passing (has_candidate config) (shape_pages cat) 1 config.on shapes (flags-are config)
 
 pub flag-found : (flags : List Bool) (i : ℕ) → slice_index_or flags i false ≡ true → slice_get flags i ≡ Some true
@@ -193,7 +194,8 @@ opens setting budget node config i fits is below on lacks =
     let found = shape-at setting.shapes i (shape-found setting.shapes config i is on) in
     let place : suc i - 1 ≡ i = omega arith in
     let pages : candidate_pages setting.cat setting.shapes (suc i) ≡ shape_pages setting.cat found.0 =
-    ap (λ (n : ℕ). option_map_or (shape_pages setting.cat) (slice_get setting.shapes n) 0) place ∙ ap (λ (o : Option IndexShape). option_map_or (shape_pages setting.cat) o 0) found.1 in
+    size-by-shape setting.cat setting.shapes (suc i)
+    ∙ ap (λ (n : ℕ). option_map_or (shape_pages setting.cat) (slice_get setting.shapes n) 0) place ∙ ap (λ (o : Option IndexShape). option_map_or (shape_pages setting.cat) o 0) found.1 in
     let next : suc i ≡ 1 + i = omega arith in
     let more : passing (has_candidate node.inside) (λ k shape. shape_pages setting.cat shape) 1 setting.shapes + shape_pages setting.cat found.0 ≤ passing (has_candidate config) (λ k shape. shape_pages setting.cat shape) 1 setting.shapes =
     passing-one_more (has_candidate node.inside) (has_candidate config) (λ k shape. shape_pages setting.cat shape) 1 i found.0 setting.shapes below.holds found.1

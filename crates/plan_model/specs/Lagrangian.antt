@@ -16,7 +16,7 @@ use Rattle.adv_base.specs.Offers.{offers, charged_offers, numbered_on}
 use Rattle.adv_base.specs.OfferTables.{OfferTableLimits}
 use Rattle.adv_base.specs.Settings.{TheSetting}
 use Rattle.adv_base.specs.Sizes.{shape_pages}
-use Rattle.adv_base.specs.Upkeep.{upkeep, kept_upkeep}
+pub use Rattle.adv_base.specs.Upkeep.{weighted_upkeep, weighted_kept}
 use Rattle.plan_model.specs.declared.task.Task.{Task}
 use Rattle.plan_model.specs.BlockTask.{IsTaskOf}
 use Rattle.plan_model.specs.Least.{Least}
@@ -80,14 +80,6 @@ AreRentedPlans setting config rent q (statement ∷ statements) (cost ∷ costs)
 AreRentedPlans setting config rent q statements costs = ⊥
 
 -- ## What a candidate costs and earns
-
--- the sum of weight times upkeep of an index
-abbrev pub weighted_upkeep : TheSetting → IndexShape → ℕ
-weighted_upkeep setting shape = sum_by (λ statement. statement.weight * upkeep setting.cat statement.work shape) setting.statements
-
--- the same of the indexes that exist
-abbrev pub weighted_kept : TheSetting → ℕ
-weighted_kept setting = sum_by (λ statement. statement.weight * kept_upkeep setting.cat statement.work) setting.statements
 
 -- the rents of the slots on a table, from slot s on
 abbrev pub slot_rents : (ℕ → ℕ) → ℕ → ℕ → List Slot → ℕ

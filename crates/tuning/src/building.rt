@@ -11,9 +11,9 @@ ghost use Rattle.tuning.specs.inner.Parts as inner;
 
 use crate::fault::TuneFault;
 use crate::parts::part;
-use crate::sums::{sizes, upkeeps, weighted_kept};
 use adv_base::{List, Setting, Statement};
 use bip_model::{Part, Programme};
+use hypo_indexes::Figures;
 use std::alloc::Global;
 
 /// Puts a part at the end.
@@ -75,13 +75,11 @@ pub fn programme(alloc: Global, setting: &Setting<'_>) -> Result<Programme, Tune
     ensures fault { IfErr result (refusals.IsCause (the_setting setting.now)) }
 {
     let parts = parts_of(alloc, setting)?;
-    let sizes = sizes(alloc, setting)?;
-    let upkeep = upkeeps(alloc, setting)?;
-    let kept = weighted_kept(setting);
+    let figures = Figures::new(alloc, setting)?;
     Ok(Programme {
-        sizes,
-        upkeep,
-        kept,
+        sizes: figures.sizes,
+        upkeep: figures.upkeep,
+        kept: figures.kept,
         parts,
     })
 }

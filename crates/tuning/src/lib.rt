@@ -24,7 +24,6 @@ mod building;
 mod fault;
 mod laws;
 mod parts;
-mod sums;
 
 pub use building::programme;
 pub use fault::TuneFault;

@@ -1,7 +1,7 @@
 //! Columns with their statistics.
 ghost use Rattle.adv_base.specs.Limits.Numbers.{ColumnLimits};
 
-use crate::list::Name;
+use crate::list::{List, Name};
 
 /// What values a column holds.
 #[derive(Clone, Copy, Debug, PartialEq, Eq)]
@@ -12,7 +12,9 @@ pub enum Kind {
 }
 
 /// A column. `width` is in bytes, from 1 to 1000; `distinct` counts its different values, from 1 to 10^12, where it
-/// is known; `low` and `high` are the ends of its values, as numbers or as days since 1970-01-01.
+/// is known; `low` and `high` are the ends of its values, as numbers or as days since 1970-01-01. `bounds` has the ends of
+/// an equi-depth histogram, in the same numbers: none, or 2 to 257, none below the one before. Between each two
+/// neighbours lie as many rows, and an end that stands more than once is a value that fills buckets.
 #[derive(Debug, Drop)]
 pub struct Column {
     pub name: Name,
@@ -21,5 +23,6 @@ pub struct Column {
     pub distinct: Option<u64>,
     pub low: Option<i64>,
     pub high: Option<i64>,
-    pub ghost limits: { ColumnLimits width distinct low high },
+    pub bounds: List<i64>,
+    pub ghost limits: { ColumnLimits width distinct low high bounds },
 }

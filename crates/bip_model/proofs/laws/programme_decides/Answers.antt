@@ -1,13 +1,10 @@
-use Rattle.bip_model.proofs.Deciding.{pages-same, open-same}
+use Rattle.bip_model.proofs.Deciding.{space-same}
 use Rattle.bip_model.proofs.Usefulness.{useful-from, useful-to, useful-counted}
 use Rattle.bip_model.proofs.Using.{multipliers-used, multipliers-kept}
 use Rattle.bip_model.proofs.laws.programme_decides.Goals as goal
 
-pub returns-clause-pages : goal.returns-clause-pages
-returns-clause-pages c = pages-same
-
-pub returns-clause-open : goal.returns-clause-open
-returns-clause-open c = open-same
+pub returns-clause-space : goal.returns-clause-space
+returns-clause-space c = space-same
 
 pub returns-clause-useful : goal.returns-clause-useful
 returns-clause-useful c = λ setting programme budget a stands. (useful-from setting programme budget a stands, useful-to setting programme budget a stands)

@@ -19,16 +19,16 @@ invariant_of-result c =
     let setting : TheSetting = the_setting now in
     let parts = c.in_ok-parts.parts in
     let are = subst (λ (statements : List Statement). AreEach (IsPart setting) (blocked_from 1 statements) parts) (take-length now.statements.now) c.in_ok-parts.ensures.parts.parts_are in
-    let sizes : length c.in_ok-sizes.sizes ≡ length now.shapes.now = ap length c.in_ok-sizes.ensures.exact ∙ length-map now.shapes.now (shape_pages now.cat.now) in
-    let upkeeps : length c.in_ok-upkeep.upkeep ≡ length now.shapes.now = ap length c.in_ok-upkeep.ensures.exact ∙ length-map now.shapes.now (weighted_upkeep setting) in
+    let sizes : length c.in_ok-figures.figures.sizes ≡ length now.shapes.now = ap length c.in_ok-figures.ensures.sizes_are ∙ length-map now.shapes.now (shape_pages now.cat.now) in
+    let upkeeps : length c.in_ok-figures.figures.upkeep ≡ length now.shapes.now = ap length c.in_ok-figures.ensures.upkeep_is ∙ length-map now.shapes.now (weighted_upkeep setting) in
     record {
       limits =
           record {
             sizes_most = omega (arith, sizes, now.limits.shapes_most);
-            pages_most = c.in_ok-sizes.ensures.most;
+            pages_most = c.in_ok-figures.ensures.sizes_most;
             upkeep_each = omega (arith, sizes, upkeeps);
-            upkeep_most = c.in_ok-upkeep.ensures.most;
-            kept_most = c.weighted_kept-kept.ensures.most;
+            upkeep_most = c.in_ok-figures.ensures.upkeep_most;
+            kept_most = c.in_ok-figures.ensures.kept_most;
             parts_most = omega (arith, parts-few setting now.statements.now parts are, now.limits.statements_most);
             candidates = subst (λ (n : ℕ). All (GrantsWithin n) parts) (sym sizes) (all-within setting (blocked_from 1 now.statements.now) parts are);
           };
@@ -41,9 +41,9 @@ returns-clause-total c = λ config.
     let parts = c.in_ok-parts.parts in
     value-total setting _ config now.limits
     (record {
-      sizes_are = c.in_ok-sizes.ensures.exact;
-      upkeep_is = c.in_ok-upkeep.ensures.exact;
-      kept_is = c.weighted_kept-kept.ensures.exact;
+      sizes_are = c.in_ok-figures.ensures.sizes_are;
+      upkeep_is = c.in_ok-figures.ensures.upkeep_is;
+      kept_is = c.in_ok-figures.ensures.kept_is;
       parts_are = subst (λ (statements : List Statement). AreEach (IsPart setting) (blocked_from 1 statements) parts) (take-length now.statements.now) c.in_ok-parts.ensures.parts.parts_are;
     })
 
