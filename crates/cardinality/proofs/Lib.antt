@@ -1,3 +1,4 @@
 pub mod Folds
 pub mod RowLemmas
 pub mod TableLemmas
+pub mod Bisections

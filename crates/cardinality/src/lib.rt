@@ -22,6 +22,7 @@ mod groups;
 mod parts;
 mod range;
 mod rows;
+mod shares;
 mod sums;
 mod table;
 #[cfg(test)]

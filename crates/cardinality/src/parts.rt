@@ -1,13 +1,16 @@
 //! Selectivities, as parts of 10^9.
 ghost use Rattle.std.specs.Prelude.{◌≡◌, ℕ, ◌<◌, ◌≤◌, ◌*◌, length, Contains, Some};
+ghost use Rattle.std.specs.Int.{int_min, int_max};
 ghost use Rattle.std.specs.Option.{ForSome};
 ghost use Rattle.adv_base.specs.declared.workload.predicate.Test.TheVariants.{Same, OneOf};
 ghost use Rattle.adv_base.specs.Named.{NamesBlock};
 ghost use Rattle.adv_base.specs.Lookups as lookup;
 ghost use Rattle.adv_base.specs.Parts as part;
+ghost use Rattle.adv_base.specs.Sums.{height as height_of};
 ghost use Rattle.adv_base.specs.declared.limits.TheConstants.{MOST_ROWS, WHOLE};
 
 use crate::range::Range;
+use crate::shares::share;
 use crate::sums::{clamped_part, height};
 use adv_base::limits::WHOLE;
 use adv_base::{
@@ -62,6 +65,9 @@ fn above_part(column: &Column, value: Value) -> u64
     let Value::Number(number) = value else {
         return A_THIRD;
     };
+    if !column.bounds.is_empty() {
+        return (WHOLE - share(column.bounds.as_slice(), number)).max(1);
+    }
     match Range::of(column) {
         None => A_THIRD,
         Some(range) => range.share(height(range.high, number)),
@@ -77,9 +83,24 @@ fn below_part(column: &Column, value: Value) -> u64
     let Value::Number(number) = value else {
         return A_THIRD;
     };
+    if !column.bounds.is_empty() {
+        return share(column.bounds.as_slice(), number).max(1);
+    }
     match Range::of(column) {
         None => A_THIRD,
         Some(range) => range.share(height(number, range.low)),
+    }
+}
+
+/// The part of a column's range from `first` to `last`.
+fn spanned_part(column: &Column, first: i64, last: i64) -> u64
+    ensures exact { result ≡ part.range_part column.now.low column.now.high (λ low high. height_of (int_min last high) (int_max first low)) 250000000 }
+    ensures least { 1 ≤ result }
+    ensures most { result ≤ WHOLE }
+{
+    match Range::of(column) {
+        None => A_QUARTER,
+        Some(range) => range.share(height(last.min(range.high), first.max(range.low))),
     }
 }
 
@@ -95,10 +116,11 @@ fn between_part(column: &Column, from: Value, to: Value) -> u64
     let Value::Number(last) = to else {
         return A_QUARTER;
     };
-    match Range::of(column) {
-        None => A_QUARTER,
-        Some(range) => range.share(height(last.min(range.high), first.max(range.low))),
+    if !column.bounds.is_empty() {
+        let ends = column.bounds.as_slice();
+        return share(ends, last).saturating_sub(share(ends, first)).max(1);
     }
+    spanned_part(column, first, last)
 }
 
 /// Any test of a column of the table.
@@ -124,7 +146,7 @@ pub fn test_part(table: &Table, column: &Column, test: Test) -> u64
 }
 
 /// The part of its slot's rows that a predicate of the block keeps, of 10^9: by the number of distinct values of its
-/// column, or by the share of the column's range that it spans; a fixed part where the statistics don't tell.
+/// column, or by the share of its histogram or of its range that it spans; a fixed part where the statistics don't tell.
 #[tactic(auto, unfolding(adv_base::specs::Parts::pred_part))]
 pub fn part_of(cat: &Catalogue, block: &Block, pred: &Pred) -> u64
     requires named { NamesBlock cat.now block.now }

@@ -9,29 +9,32 @@ use adv_base::{Test, Value};
 use std::test::Fail;
 
 /// Statistics with a number of distinct values.
-fn counted(distinct: u64) -> Statistics {
+fn counted(distinct: u64) -> Statistics<'static> {
     Statistics {
         distinct: Some(distinct),
         low: None,
         high: None,
+        bounds: &[],
     }
 }
 
 /// Statistics with the ends of the values.
-fn ranged(low: i64, high: i64) -> Statistics {
+fn ranged(low: i64, high: i64) -> Statistics<'static> {
     Statistics {
         distinct: None,
         low: Some(low),
         high: Some(high),
+        bounds: &[],
     }
 }
 
 /// Statistics that tell nothing.
-fn unknown() -> Statistics {
+fn unknown() -> Statistics<'static> {
     Statistics {
         distinct: None,
         low: None,
         high: None,
+        bounds: &[],
     }
 }
 
@@ -42,6 +45,7 @@ fn the_table_of_factors(rt: HostRuntime) -> Result<(), Fail> {
         distinct: Some(10),
         low: Some(0),
         high: None,
+        bounds: &[],
     };
     let cases = [
         (counted(1000), Test::Equal, 1000000),
@@ -100,6 +104,73 @@ fn the_table_of_factors(rt: HostRuntime) -> Result<(), Fail> {
         let got = statistics.part(rt.alloc(), *test).ok_or("a case")?;
         assert_eq!(rt; got, *part, "{test:?} of {statistics:?}");
         assert_eq!(rt; slow_part(*statistics, *test), *part, "slow {test:?}");
+    }
+    Ok(())
+}
+
+/// Statistics with a histogram, and a range that counts for nothing beside it.
+fn shared(bounds: &[i64]) -> Statistics<'_> {
+    Statistics {
+        distinct: None,
+        low: Some(0),
+        high: Some(1000),
+        bounds,
+    }
+}
+
+#[test]
+fn the_shares_of_histograms(rt: HostRuntime) -> Result<(), Fail> {
+    let at = |n: i64| Value::Number(n);
+    let skewed = shared(&[0, 10, 20, 1000]);
+    let repeated = shared(&[0, 0, 0, 10]);
+    let thirds = shared(&[0, 3]);
+    let inner = shared(&[0, 5, 5, 10]);
+    let point = shared(&[5, 5]);
+    let widest = shared(&[-1000000000000000000, 1000000000000000000]);
+    let cases = [
+        (skewed, Test::Below(at(15)), 500000000),
+        (skewed, Test::Above(at(20)), 333333334),
+        (skewed, Test::Between(at(5), at(10)), 166666667),
+        (repeated, Test::Below(at(-1)), 1),
+        (repeated, Test::Below(at(0)), 1),
+        (repeated, Test::Below(at(1)), 700000000),
+        (repeated, Test::Below(at(5)), 833333333),
+        (repeated, Test::Below(at(10)), 1000000000),
+        (repeated, Test::Below(at(11)), 1000000000),
+        (repeated, Test::Below(Value::Plain), 333333334),
+        (repeated, Test::Above(at(-1)), 1000000000),
+        (repeated, Test::Above(at(0)), 1000000000),
+        (repeated, Test::Above(at(5)), 166666667),
+        (repeated, Test::Above(at(10)), 1),
+        (repeated, Test::Above(at(11)), 1),
+        (repeated, Test::Above(Value::Plain), 333333334),
+        (repeated, Test::Between(at(0), at(5)), 833333333),
+        (repeated, Test::Between(at(5), at(0)), 1),
+        (repeated, Test::Between(at(5), at(5)), 1),
+        (repeated, Test::Between(at(-5), at(20)), 1000000000),
+        (repeated, Test::Between(at(-9), at(-5)), 1),
+        (repeated, Test::Between(at(11), at(20)), 1),
+        (repeated, Test::Between(at(5), Value::Plain), 250000000),
+        (repeated, Test::Between(Value::Plain, at(5)), 250000000),
+        (repeated, Test::Equal, 100000000),
+        (thirds, Test::Below(at(1)), 333333333),
+        (thirds, Test::Below(at(2)), 666666666),
+        (thirds, Test::Above(at(1)), 666666667),
+        (thirds, Test::Between(at(1), at(2)), 333333333),
+        (inner, Test::Below(at(4)), 266666666),
+        (inner, Test::Below(at(5)), 666666666),
+        (inner, Test::Below(at(6)), 733333333),
+        (point, Test::Below(at(5)), 1),
+        (point, Test::Below(at(6)), 1000000000),
+        (point, Test::Above(at(5)), 1000000000),
+        (point, Test::Above(at(6)), 1),
+        (widest, Test::Below(at(0)), 500000000),
+        (widest, Test::Below(at(-999999999999999999)), 1),
+        (widest, Test::Above(at(999999999999999999)), 1),
+    ];
+    for (statistics, test, part) in cases.iter() {
+        let got = statistics.part(rt.alloc(), *test).ok_or("a case")?;
+        assert_eq!(rt; got, *part, "{test:?} of {statistics:?}");
     }
     Ok(())
 }

@@ -51,9 +51,9 @@ pub known-same : (m n : ℕ) (indexes : List Index) → m ≡ n → All (λ inde
 known-same m n indexes same known = subst (λ (j : ℕ). All (λ (index : Index). All (λ (k : ℕ). k < j) index.shape.keys) indexes) same known
 
 -- the next table, by what a loop keeps of those before it
-pub next_table-is : (before : ℕ) (names : List (List ℕ)) (xs : List Table) (d : Data) → before ≡ index_count (plain_tables xs) → names ≡ table_names (plain_tables xs)
-    → next_table (plain_tables xs) d ≡ table_at before names d
-next_table-is before names xs d b n = rw (b, n) refl
+pub next_table-is : (version before : ℕ) (names : List (List ℕ)) (xs : List Table) (d : Data) → before ≡ index_count (plain_tables xs) → names ≡ table_names (plain_tables xs)
+    → next_table version (plain_tables xs) d ≡ table_at version before names d
+next_table-is version before names xs d b n = rw (b, n) refl
 
 -- the indexes of each table name it, where the first is table n
 abbrev pub AreOwnFrom : ℕ → List Table → Type 0

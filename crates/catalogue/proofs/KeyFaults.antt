@@ -1,22 +1,22 @@
 -- No key answers that there is no document.
 use Rattle.std.proofs.Common.{◌≡◌, ◌≢◌, ℕ, ◌+◌, length, Bool, true, false, ℤ, pos, negsuc, List, [], ◌∷◌, ◌++◌, Option, Some, None, Result, Ok, Err, refl, sym, ap, ◌∙◌}
-use Rattle.std.specs.Prelude.{codes, not, ◌&&◌, nat_eq}
+use Rattle.std.specs.Prelude.{codes, not, ◌&&◌, nat_eq, nat_lt, if◌then◌else◌}
 use Rattle.std.specs.List.{list_any}
 use Rattle.toml.specs.Data.{Data, Items, no_items, item, Members, get_member, as_integer, as_str, as_bool, as_array, as_table}
-use Rattle.adv_base.specs.declared.limits.TheConstants.{MOST_ROWS, MOST_RATE, MOST_WIDTH, MOST_TABLES, MOST_COLUMNS, MOST_KEYS}
+use Rattle.adv_base.specs.declared.limits.TheConstants.{MOST_ROWS, MOST_RATE, MOST_WIDTH, MOST_BOUNDS, MOST_TABLES, MOST_COLUMNS, MOST_KEYS}
 use Rattle.adv_base.specs.declared.catalogue.column.Kind.{Kind}
 use Rattle.adv_base.specs.declared.catalogue.column.Kind.TheVariants.{Int, Text, Date}
 use Rattle.catalogue.specs.declared.fault.CatFault.{CatFault}
 use Rattle.catalogue.specs.declared.fault.CatFault.TheVariants.{Memory, NotToml, Missing, WrongKind, OutOfRange, TwoNames, UnknownName}
 use Rattle.catalogue.specs.declared.fault.KeyField.{KeyField}
-use Rattle.catalogue.specs.declared.fault.KeyField.TheVariants.{Itself, Version, SeqPage, RandPage, RowCpu, SortCpu, MergeCpu, HashCpu, GroupCpu, Name, Rows, Pages, Columns, Indexes, Kind as KindKey, Width, Distinct, Low, High, Keys, Unique, Clustered}
+use Rattle.catalogue.specs.declared.fault.KeyField.TheVariants.{Itself, Version, SeqPage, RandPage, RowCpu, SortCpu, MergeCpu, HashCpu, GroupCpu, Name, Rows, Pages, MayCluster, Columns, Indexes, Kind as KindKey, Width, Distinct, Low, High, Bounds, Keys, Unique, Clustered}
 use Rattle.catalogue.specs.declared.fault.KeyPath.{KeyPath}
-use Rattle.catalogue.specs.Paths.{whole_path, rates_path, table_path, column_path, index_path, key_column_path}
-use Rattle.catalogue.specs.Catalogue.{rate, access_rates, operator_rates, rates_of, default_rates, end_of, not_below, column_names, statistics_of, column_at, next_column, columns_of, key_column, next_key, key_columns_of, flag, clustered, index_keys, shape_of, index_at, index_names, has_clustered, index_count, table_names, next_index, indexes_of, size_of, parts_of, table_at, next_table, tables_of, catalogue_of, document, catalogue_in}
+use Rattle.catalogue.specs.Paths.{whole_path, rates_path, table_path, column_path, bound_path, index_path, key_column_path}
+use Rattle.catalogue.specs.Catalogue.{rate, access_rates, operator_rates, rates_of, default_rates, end_of, not_below, column_names, range_of, rises, next_bound, bounds_in, given_bounds, column_at, next_column, columns_of, key_column, next_key, key_columns_of, flag, clustered, index_keys, shape_of, index_at, index_names, has_clustered, index_count, table_names, next_index, indexes_of, size_of, may_cluster_of, parts_of, table_at, next_table, tables_of, catalogue_of, document, catalogue_in}
 use Rattle.adv_base.specs.declared.catalogue.Catalogue.{Catalogue}
 use Rattle.adv_base.specs.Readings.{◌>>=◌, or_fault, where_holds}
 use Rattle.catalogue.specs.Content.{PlainRates, PlainCatalogue, plain_catalogue}
-use Rattle.catalogue.specs.Values.{Rule, natural_within, natural, end_number, text, end_day, boolean, keys_of, elements, elements_within, column_kind, name, folded, new_name, Gives, read_each}
+use Rattle.catalogue.specs.Values.{Rule, natural_within, natural, end_number, text, end_day, end_value, boolean, keys_of, elements, elements_within, column_kind, name, folded, new_name, Gives, read_each}
 use Rattle.catalogue.specs.Keys.{number_of, needed, optional, read_if_there, given_or}
 
 -- what was read isn't that there is no document
@@ -49,6 +49,10 @@ or-keys e (Some x) other = ok-keys x
 where-keys : {A : Type 0} (e : CatFault) (b : Bool) (x : A) → e ≢ NotToml → IsOfKeys (where_holds e b x)
 where-keys e true x other = ok-keys x
 where-keys e false x other = err-keys e other
+
+if-keys : {A : Type 0} (b : Bool) (x : A) (read : Result A CatFault) → IsOfKeys read → IsOfKeys (if b then found x else read)
+if-keys true x read h = ok-keys x
+if-keys false x read h = h
 
 missing : (path : KeyPath) → Missing path ≢ NotToml
 missing path q = absurd cc
@@ -103,6 +107,11 @@ text-keys path d = or-keys (WrongKind path) (as_str d) (kind path)
 end_day-keys : Keeps end_day
 end_day-keys path d = bind-keys _ _ (text-keys path d) (λ w. or-keys (OutOfRange path) _ (range path))
 
+end_value-keys : (kind : Kind) → Keeps (end_value kind)
+end_value-keys Int path d = end_number-keys path d
+end_value-keys Date path d = end_day-keys path d
+end_value-keys Text path d = err-keys (WrongKind path) (kind path)
+
 boolean-keys : Keeps boolean
 boolean-keys path d = or-keys (WrongKind path) (as_bool d) (kind path)
 
@@ -149,8 +158,8 @@ rates_of-keys path d =
     bind-keys _ _ (access_rates-keys default_rates keys) (λ rates. operator_rates-keys rates keys))
 
 end_of-keys : (kind : Kind) (key : List ℕ) (path : KeyPath) (keys : Members) → IsOfKeys (end_of kind key path keys)
-end_of-keys Int key path keys = optional-keys key path end_number keys end_number-keys
-end_of-keys Date key path keys = optional-keys key path end_day keys end_day-keys
+end_of-keys Int key path keys = optional-keys key path (end_value Int) keys (end_value-keys Int)
+end_of-keys Date key path keys = optional-keys key path (end_value Date) keys (end_value-keys Date)
 end_of-keys Text key path keys = ok-keys None
 
 not_below-keys : (low : Option ℤ) (path : KeyPath) (high : Option ℤ) → IsOfKeys (not_below low path high)
@@ -159,26 +168,41 @@ not_below-keys (Some low) path None = ok-keys None
 not_below-keys None path (Some high) = ok-keys (Some high)
 not_below-keys None path None = ok-keys None
 
-statistics_of-keys : (at : KeyField → KeyPath) (kind : Kind) (keys : Members) → IsOfKeys (statistics_of at kind keys)
-unfolding statistics_of
-statistics_of-keys at kind keys =
-    bind-keys _ _ (needed-keys (codes "width") (at Width) (natural 1 MOST_WIDTH) keys (natural-keys 1 MOST_WIDTH)) (λ width.
-    bind-keys _ _ (optional-keys (codes "distinct") (at Distinct) (natural 1 MOST_ROWS) keys (natural-keys 1 MOST_ROWS)) (λ distinct.
+range_of-keys : (at : KeyField → KeyPath) (kind : Kind) (keys : Members) → IsOfKeys (range_of at kind keys)
+unfolding range_of
+range_of-keys at kind keys =
     bind-keys _ _ (end_of-keys kind (codes "low") (at Low) keys) (λ low.
     bind-keys _ _ (end_of-keys kind (codes "high") (at High) keys) (λ high.
-    bind-keys _ _ (not_below-keys low (at High) high) (λ end. ok-keys _)))))
+    bind-keys _ _ (not_below-keys low (at High) high) (λ end. ok-keys _)))
 
-column_at-keys : (t : ℕ) (earlier : List (List ℕ)) (d : Data) → IsOfKeys (column_at t earlier d)
+next_bound-keys : (t c : ℕ) (kind : Kind) (earlier : List ℤ) (d : Data) → IsOfKeys (next_bound t c kind earlier d)
+next_bound-keys t c kind earlier d =
+    let path : KeyPath = bound_path t c (length earlier + 1) in
+    bind-keys _ _ (end_value-keys kind path d) (λ z. where-keys (OutOfRange path) (rises earlier z) z (range path))
+
+bounds_in-keys : (t c : ℕ) (kind : Kind) → Keeps (bounds_in t c kind)
+bounds_in-keys t c kind path d = bind-keys _ _ (elements_within-keys 2 MOST_BOUNDS path d) (λ items. each-keys (next_bound t c kind) [] items (next_bound-keys t c kind))
+
+given_bounds-keys : (t c : ℕ) (kind : Kind) (keys : Members) → IsOfKeys (given_bounds t c kind keys)
+given_bounds-keys t c Int keys = given-keys [] (codes "bounds") (column_path t c Bounds) (bounds_in t c Int) keys (bounds_in-keys t c Int)
+given_bounds-keys t c Date keys = given-keys [] (codes "bounds") (column_path t c Bounds) (bounds_in t c Date) keys (bounds_in-keys t c Date)
+given_bounds-keys t c Text keys = ok-keys []
+
+column_at-keys : (version t : ℕ) (earlier : List (List ℕ)) (d : Data) → IsOfKeys (column_at version t earlier d)
 unfolding column_at
-column_at-keys t earlier d =
+column_at-keys version t earlier d =
     let at : KeyField → KeyPath = column_path t (length earlier + 1) in
     bind-keys _ _ (keys_of-keys (at Itself) d) (λ keys.
     bind-keys _ _ (needed-keys (codes "name") (at Name) (new_name earlier) keys (new_name-keys earlier)) (λ name.
     bind-keys _ _ (needed-keys (codes "kind") (at KindKey) column_kind keys column_kind-keys) (λ kind.
-    bind-keys _ _ (statistics_of-keys at kind keys) (λ found. ok-keys _))))
+    bind-keys _ _ (needed-keys (codes "width") (at Width) (natural 1 MOST_WIDTH) keys (natural-keys 1 MOST_WIDTH)) (λ width.
+    bind-keys _ _ (optional-keys (codes "distinct") (at Distinct) (natural 1 MOST_ROWS) keys (natural-keys 1 MOST_ROWS)) (λ distinct.
+    bind-keys _ _ (range_of-keys at kind keys) (λ range.
+    bind-keys _ _ (if-keys (nat_lt version 2) [] (given_bounds t (length earlier + 1) kind keys) (given_bounds-keys t (length earlier + 1) kind keys)) (λ bounds. ok-keys _)))))))
 
-columns_of-keys : (t : ℕ) → Keeps (columns_of t)
-columns_of-keys t path d = bind-keys _ _ (elements_within-keys 1 MOST_COLUMNS path d) (λ items. each-keys (next_column t) [] items (λ front x. column_at-keys t (column_names front) x))
+columns_of-keys : (version t : ℕ) → Keeps (columns_of version t)
+columns_of-keys version t path d =
+    bind-keys _ _ (elements_within-keys 1 MOST_COLUMNS path d) (λ items. each-keys (next_column version t) [] items (λ front x. column_at-keys version t (column_names front) x))
 
 key_column-keys : (columns : List (List ℕ)) (earlier : List ℕ) → Keeps (key_column columns earlier)
 key_column-keys columns earlier path d =
@@ -223,31 +247,36 @@ size_of-keys t keys =
     bind-keys _ _ (needed-keys (codes "rows") (table_path t Rows) (natural 0 MOST_ROWS) keys (natural-keys 0 MOST_ROWS)) (λ rows.
     bind-keys _ _ (needed-keys (codes "pages") (table_path t Pages) (natural 0 MOST_ROWS) keys (natural-keys 0 MOST_ROWS)) (λ pages. ok-keys _))
 
-parts_of-keys : (t before : ℕ) (keys : Members) → IsOfKeys (parts_of t before keys)
+may_cluster_of-keys : (version t : ℕ) (keys : Members) → IsOfKeys (may_cluster_of version t keys)
+may_cluster_of-keys version t keys =
+    if-keys (nat_lt version 2) false (flag (codes "may_cluster") (table_path t MayCluster) keys) (flag-keys (codes "may_cluster") (table_path t MayCluster) keys)
+
+parts_of-keys : (version t before : ℕ) (keys : Members) → IsOfKeys (parts_of version t before keys)
 unfolding parts_of
-parts_of-keys t before keys =
-    bind-keys _ _ (needed-keys (codes "column") (table_path t Columns) (columns_of t) keys (columns_of-keys t)) (λ columns.
+parts_of-keys version t before keys =
+    bind-keys _ _ (needed-keys (codes "column") (table_path t Columns) (columns_of version t) keys (columns_of-keys version t)) (λ columns.
     bind-keys _ _ (given-keys [] (codes "index") (table_path t Indexes) (indexes_of t (column_names columns) before) keys (indexes_of-keys t (column_names columns) before)) (λ indexes. ok-keys _))
 
-table_at-keys : (before : ℕ) (earlier : List (List ℕ)) (d : Data) → IsOfKeys (table_at before earlier d)
+table_at-keys : (version before : ℕ) (earlier : List (List ℕ)) (d : Data) → IsOfKeys (table_at version before earlier d)
 unfolding table_at
-table_at-keys before earlier d =
+table_at-keys version before earlier d =
     let t : ℕ = length earlier + 1 in
     let at : KeyField → KeyPath = table_path t in
     bind-keys _ _ (keys_of-keys (at Itself) d) (λ keys.
     bind-keys _ _ (needed-keys (codes "name") (at Name) (new_name earlier) keys (new_name-keys earlier)) (λ name.
     bind-keys _ _ (size_of-keys t keys) (λ size.
-    bind-keys _ _ (parts_of-keys t before keys) (λ parts. ok-keys _))))
+    bind-keys _ _ (may_cluster_of-keys version t keys) (λ may_cluster.
+    bind-keys _ _ (parts_of-keys version t before keys) (λ parts. ok-keys _)))))
 
-tables_of-keys : Keeps tables_of
-tables_of-keys path d = bind-keys _ _ (elements_within-keys 0 MOST_TABLES path d) (λ items. each-keys next_table [] items (λ front x. table_at-keys (index_count front) (table_names front) x))
+tables_of-keys : (version : ℕ) → Keeps (tables_of version)
+tables_of-keys version path d = bind-keys _ _ (elements_within-keys 0 MOST_TABLES path d) (λ items. each-keys (next_table version) [] items (λ front x. table_at-keys version (index_count front) (table_names front) x))
 
 catalogue_of-keys : (keys : Members) → IsOfKeys (catalogue_of keys)
 unfolding catalogue_of
 catalogue_of-keys keys =
-    bind-keys _ _ (needed-keys (codes "version") (whole_path Version) (natural 1 1) keys (natural-keys 1 1)) (λ version.
+    bind-keys _ _ (needed-keys (codes "version") (whole_path Version) (natural 1 2) keys (natural-keys 1 2)) (λ version.
     bind-keys _ _ (given-keys default_rates (codes "rates") (rates_path Itself) rates_of keys rates_of-keys) (λ rates.
-    bind-keys _ _ (given-keys [] (codes "table") (table_path 0 Itself) tables_of keys tables_of-keys) (λ tables.
+    bind-keys _ _ (given-keys [] (codes "table") (table_path 0 Itself) (tables_of version) keys (tables_of-keys version)) (λ tables.
     ok-keys {A = PlainCatalogue} (record { rates = rates; tables = tables }))))
 
 no_document : (found : Option Members) → (or_fault NotToml found >>= catalogue_of) ≡ Err NotToml → found ≡ None

@@ -1,22 +1,23 @@
 -- The keys of a catalogue with their kinds and ranges, in the order in which they are checked: one line is one key.
-use Rattle.std.specs.Prelude.{ℕ, ◌+◌, ◌-◌, Bool, false, not, ◌&&◌, nat_eq, nat_lt, int_le, if◌then◌else◌, ℤ, List, [], length, map, sum_by, codes, Result, Ok, Option, Some, None}
+use Rattle.std.specs.Prelude.{ℕ, ◌+◌, ◌-◌, Bool, false, not, ◌&&◌, ◌||◌, ◌==◌, nat_eq, nat_lt, int_le, if◌then◌else◌, ℤ, List, [], length, map, sum_by, codes, Result, Ok, Option, Some, None}
 use Rattle.std.specs.List.{list_any}
 use Rattle.std.specs.Str.{is_utf8}
 use Rattle.toml.specs.Data.{Data, Members}
 use Rattle.toml.specs.Parse.{parse_document}
-use Rattle.adv_base.specs.declared.limits.TheConstants.{MOST_ROWS, MOST_RATE, MOST_WIDTH, MOST_TABLES, MOST_COLUMNS, MOST_INDEXES, MOST_KEYS}
+use Rattle.adv_base.specs.declared.limits.TheConstants.{MOST_ROWS, MOST_RATE, MOST_WIDTH, MOST_BOUNDS, MOST_TABLES, MOST_COLUMNS, MOST_INDEXES, MOST_KEYS}
 use Rattle.adv_base.specs.declared.catalogue.column.Kind.{Kind}
-use Rattle.adv_base.specs.declared.catalogue.column.Kind.TheVariants.{Int, Text, Date}
+use Rattle.adv_base.specs.declared.catalogue.column.Kind.TheVariants.{Text}
 use Rattle.adv_base.specs.Readings.{◌>>=◌, or_fault, where_holds}
+use Rattle.adv_base.specs.Shares.{end_at}
 use Rattle.catalogue.specs.declared.fault.CatFault.{CatFault}
 use Rattle.catalogue.specs.declared.fault.CatFault.TheVariants.{NotToml, OutOfRange, TwoNames, UnknownName}
 use Rattle.catalogue.specs.declared.fault.KeyField.{KeyField}
-use Rattle.catalogue.specs.declared.fault.KeyField.TheVariants.{Itself, Version, SeqPage, RandPage, RowCpu, SortCpu, MergeCpu, HashCpu, GroupCpu, Name, Rows, Pages, Columns, Indexes, Kind as KindKey, Width, Distinct, Low, High, Keys, Unique, Clustered}
+use Rattle.catalogue.specs.declared.fault.KeyField.TheVariants.{Itself, Version, SeqPage, RandPage, RowCpu, SortCpu, MergeCpu, HashCpu, GroupCpu, Name, Rows, Pages, MayCluster, Columns, Indexes, Kind as KindKey, Width, Distinct, Low, High, Bounds, Keys, Unique, Clustered}
 use Rattle.catalogue.specs.declared.fault.KeyPath.{KeyPath}
-use Rattle.catalogue.specs.Content.{PlainStatistics, PlainColumn, PlainShape, PlainIndex, PlainTable, PlainRates, PlainCatalogue}
+use Rattle.catalogue.specs.Content.{PlainColumn, PlainShape, PlainIndex, PlainTable, PlainRates, PlainCatalogue}
 use Rattle.catalogue.specs.Keys.{needed, optional, given_or, number_of}
-use Rattle.catalogue.specs.Paths.{whole_path, rates_path, table_path, column_path, index_path, key_column_path}
-use Rattle.catalogue.specs.Values.{Rule, natural, end_number, end_day, text, boolean, keys_of, elements, elements_within, column_kind, folded, new_name, read_each}
+use Rattle.catalogue.specs.Paths.{whole_path, rates_path, table_path, column_path, bound_path, index_path, key_column_path}
+use Rattle.catalogue.specs.Values.{Rule, natural, end_value, text, boolean, keys_of, elements, elements_within, column_kind, folded, new_name, read_each}
 
 -- a rate, or its default
 abbrev pub rate : List ℕ → KeyField → ℕ → Members → Result ℕ CatFault
@@ -51,45 +52,68 @@ rates_of path d = do
 
 -- an end of a column's values, by the column's kind: whatever a column of texts has there is passed over
 abbrev pub end_of : Kind → List ℕ → KeyPath → Members → Result (Option ℤ) CatFault
-end_of Int key path keys = optional key path end_number keys
-end_of Date key path keys = optional key path end_day keys
 end_of Text key path keys = Ok None
+end_of kind key path keys = optional key path (end_value kind) keys
 
 -- the upper end, which isn't below the lower one
 abbrev pub not_below : Option ℤ → KeyPath → Option ℤ → Result (Option ℤ) CatFault
 not_below (Some low) path (Some high) = where_holds (OutOfRange path) (int_le low high) (Some high)
 not_below low path high = Ok high
 
--- what a column of a kind says of its values, at the paths of its keys
-unfoldable pub statistics_of : (KeyField → KeyPath) → Kind → Members → Result PlainStatistics CatFault
-statistics_of at kind keys = do
-  width ← needed (codes "width") (at Width) (natural 1 MOST_WIDTH) keys
-  distinct ← optional (codes "distinct") (at Distinct) (natural 1 MOST_ROWS) keys
+-- both ends of the values of a column of a kind, at the paths of its keys
+unfoldable pub range_of : (KeyField → KeyPath) → Kind → Members → Result (Option ℤ × Option ℤ) CatFault
+range_of at kind keys = do
   low ← end_of kind (codes "low") (at Low) keys
   high ← end_of kind (codes "high") (at High) keys
   end ← not_below low (at High) high
-  Ok (record { width = width; distinct = distinct; low = low; high = end })
+  Ok (low, end)
+
+-- an end isn't below the last of the earlier ones
+abbrev pub rises : List ℤ → ℤ → Bool
+rises earlier z = length earlier == 0 || int_le (end_at earlier (length earlier - 1)) z
+
+-- the end of the histogram of column c of table t behind the earlier ones
+abbrev pub next_bound : ℕ → ℕ → Kind → List ℤ → Data → Result ℤ CatFault
+next_bound t c kind earlier d =
+    let path = bound_path t c (length earlier + 1) in do
+      z ← end_value kind path d
+      where_holds (OutOfRange path) (rises earlier z) z
+
+abbrev pub bounds_in : ℕ → ℕ → Kind → Rule (List ℤ)
+bounds_in t c kind path d = elements_within 2 MOST_BOUNDS path d >>= read_each (next_bound t c kind) []
+
+-- the ends of a column's histogram, by the column's kind: whatever a column of texts has there is passed over
+abbrev pub given_bounds : ℕ → ℕ → Kind → Members → Result (List ℤ) CatFault
+given_bounds t c Text keys = Ok []
+given_bounds t c kind keys = given_or [] (codes "bounds") (column_path t c Bounds) (bounds_in t c kind) keys
+
+-- version 1 has none
+abbrev pub bounds_of : ℕ → ℕ → ℕ → Kind → Members → Result (List ℤ) CatFault
+bounds_of version t c kind keys = if nat_lt version 2 then Ok [] else given_bounds t c kind keys
 
 -- a column of table t, behind those that have the earlier names
-unfoldable pub column_at : ℕ → List (List ℕ) → Data → Result PlainColumn CatFault
-column_at t earlier d =
+unfoldable pub column_at : ℕ → ℕ → List (List ℕ) → Data → Result PlainColumn CatFault
+column_at version t earlier d =
     let c = length earlier + 1 in do
       keys ← keys_of (column_path t c Itself) d
       name ← needed (codes "name") (column_path t c Name) (new_name earlier) keys
       kind ← needed (codes "kind") (column_path t c KindKey) column_kind keys
-      found ← statistics_of (column_path t c) kind keys
-      Ok (record { name = name; kind = kind; width = found.width; distinct = found.distinct; low = found.low; high = found.high })
+      width ← needed (codes "width") (column_path t c Width) (natural 1 MOST_WIDTH) keys
+      distinct ← optional (codes "distinct") (column_path t c Distinct) (natural 1 MOST_ROWS) keys
+      range ← range_of (column_path t c) kind keys
+      bounds ← bounds_of version t c kind keys
+      Ok (record { name = name; kind = kind; width = width; distinct = distinct; low = range.0; high = range.1; bounds = bounds })
 
 -- the names by which columns are known
 abbrev pub column_names : List PlainColumn → List (List ℕ)
 column_names columns = map (λ column. folded column.name) columns
 
 -- the column of table t behind the earlier ones
-abbrev pub next_column : ℕ → List PlainColumn → Data → Result PlainColumn CatFault
-next_column t earlier d = column_at t (column_names earlier) d
+abbrev pub next_column : ℕ → ℕ → List PlainColumn → Data → Result PlainColumn CatFault
+next_column version t earlier d = column_at version t (column_names earlier) d
 
-abbrev pub columns_of : ℕ → Rule (List PlainColumn)
-columns_of t path d = elements_within 1 MOST_COLUMNS path d >>= read_each (next_column t) []
+abbrev pub columns_of : ℕ → ℕ → Rule (List PlainColumn)
+columns_of version t path d = elements_within 1 MOST_COLUMNS path d >>= read_each (next_column version t) []
 
 -- a key column by its number; one that the table doesn't have can't be an earlier one
 abbrev pub key_column : List (List ℕ) → List ℕ → Rule ℕ
@@ -162,22 +186,27 @@ size_of t keys = do
   pages ← needed (codes "pages") (table_path t Pages) (natural 0 MOST_ROWS) keys
   Ok (rows, pages)
 
+-- whether table t may be clustered anew; version 1 passes the key over
+abbrev pub may_cluster_of : ℕ → ℕ → Members → Result Bool CatFault
+may_cluster_of version t keys = if nat_lt version 2 then Ok false else flag (codes "may_cluster") (table_path t MayCluster) keys
+
 -- the columns and the indexes of table t, before which there are that many indexes
-unfoldable pub parts_of : ℕ → ℕ → Members → Result (List PlainColumn × List PlainIndex) CatFault
-parts_of t before keys = do
-  columns ← needed (codes "column") (table_path t Columns) (columns_of t) keys
+unfoldable pub parts_of : ℕ → ℕ → ℕ → Members → Result (List PlainColumn × List PlainIndex) CatFault
+parts_of version t before keys = do
+  columns ← needed (codes "column") (table_path t Columns) (columns_of version t) keys
   indexes ← given_or [] (codes "index") (table_path t Indexes) (indexes_of t (column_names columns) before) keys
   Ok (columns, indexes)
 
 -- a table behind those that have the earlier names, before which there are that many indexes
-unfoldable pub table_at : ℕ → List (List ℕ) → Data → Result PlainTable CatFault
-table_at before earlier d =
+unfoldable pub table_at : ℕ → ℕ → List (List ℕ) → Data → Result PlainTable CatFault
+table_at version before earlier d =
     let t = length earlier + 1 in do
       keys ← keys_of (table_path t Itself) d
       name ← needed (codes "name") (table_path t Name) (new_name earlier) keys
       size ← size_of t keys
-      parts ← parts_of t before keys
-      Ok (record { name = name; rows = size.0; pages = size.1; columns = parts.0; indexes = parts.1 })
+      may_cluster ← may_cluster_of version t keys
+      parts ← parts_of version t before keys
+      Ok (record { name = name; rows = size.0; pages = size.1; may_cluster = may_cluster; columns = parts.0; indexes = parts.1 })
 
 abbrev pub table_names : List PlainTable → List (List ℕ)
 table_names tables = map (λ table. folded table.name) tables
@@ -187,18 +216,18 @@ abbrev pub index_count : List PlainTable → ℕ
 index_count tables = sum_by (λ table. length table.indexes) tables
 
 -- the table behind the earlier ones
-abbrev pub next_table : List PlainTable → Data → Result PlainTable CatFault
-next_table earlier d = table_at (index_count earlier) (table_names earlier) d
+abbrev pub next_table : ℕ → List PlainTable → Data → Result PlainTable CatFault
+next_table version earlier d = table_at version (index_count earlier) (table_names earlier) d
 
-abbrev pub tables_of : Rule (List PlainTable)
-tables_of path d = elements_within 0 MOST_TABLES path d >>= read_each next_table []
+abbrev pub tables_of : ℕ → Rule (List PlainTable)
+tables_of version path d = elements_within 0 MOST_TABLES path d >>= read_each (next_table version) []
 
 -- the catalogue of a document
 unfoldable pub catalogue_of : Members → Result PlainCatalogue CatFault
 catalogue_of keys = do
-  version ← needed (codes "version") (whole_path Version) (natural 1 1) keys
+  version ← needed (codes "version") (whole_path Version) (natural 1 2) keys
   rates ← given_or default_rates (codes "rates") (rates_path Itself) rates_of keys
-  tables ← given_or [] (codes "table") (table_path 0 Itself) tables_of keys
+  tables ← given_or [] (codes "table") (table_path 0 Itself) (tables_of version) keys
   Ok (record { rates = rates; tables = tables })
 
 -- the document that bytes hold, where they are UTF-8 and a document

@@ -7,14 +7,6 @@ use Rattle.adv_base.specs.declared.catalogue.index.Index.{Index}
 use Rattle.adv_base.specs.declared.catalogue.index.IndexShape.{IndexShape}
 use Rattle.adv_base.specs.declared.catalogue.rates.Rates.{Rates}
 use Rattle.adv_base.specs.declared.catalogue.table.Table.{Table}
-use Rattle.catalogue.specs.declared.statistics.Statistics.{Statistics}
-
--- what a column says of its values
-pub record PlainStatistics : Type 0 where
-  pub width : ℕ
-  pub distinct : Option ℕ
-  pub low : Option ℤ
-  pub high : Option ℤ
 
 pub record PlainColumn : Type 0 where
   pub name : List ℕ
@@ -23,6 +15,7 @@ pub record PlainColumn : Type 0 where
   pub distinct : Option ℕ
   pub low : Option ℤ
   pub high : Option ℤ
+  pub bounds : List ℤ
 
 -- an index's shape names the table that holds it and its key columns by their numbers from 0
 pub record PlainShape : Type 0 where
@@ -43,6 +36,7 @@ pub record PlainTable : Type 0 where
   pub name : List ℕ
   pub rows : ℕ
   pub pages : ℕ
+  pub may_cluster : Bool
   pub columns : List PlainColumn
   pub indexes : List PlainIndex
 
@@ -59,11 +53,8 @@ pub record PlainCatalogue : Type 0 where
   pub rates : PlainRates
   pub tables : List PlainTable
 
-abbrev pub plain_statistics : Statistics → PlainStatistics
-plain_statistics x = record { width = x.width; distinct = x.distinct; low = x.low; high = x.high }
-
 abbrev pub plain_column : Column → PlainColumn
-plain_column x = record { name = x.name; kind = x.kind; width = x.width; distinct = x.distinct; low = x.low; high = x.high }
+plain_column x = record { name = x.name; kind = x.kind; width = x.width; distinct = x.distinct; low = x.low; high = x.high; bounds = x.bounds }
 
 abbrev pub plain_shape : IndexShape → PlainShape
 plain_shape x = record { table = x.table; keys = x.keys; unique = x.unique; clustered = x.clustered }
@@ -78,7 +69,7 @@ abbrev pub plain_indexes : List Index → List PlainIndex
 plain_indexes xs = map plain_index xs
 
 abbrev pub plain_table : Table → PlainTable
-plain_table x = record { name = x.name; rows = x.rows; pages = x.pages; columns = plain_columns x.columns; indexes = plain_indexes x.indexes }
+plain_table x = record { name = x.name; rows = x.rows; pages = x.pages; may_cluster = x.may_cluster; columns = plain_columns x.columns; indexes = plain_indexes x.indexes }
 
 abbrev pub plain_tables : List Table → List PlainTable
 plain_tables xs = map plain_table xs

@@ -1,7 +1,7 @@
 -- The paths of keys. Numbers count from 1, and 0 is none.
 use Rattle.std.specs.Prelude.{ℕ}
 use Rattle.catalogue.specs.declared.fault.KeyField.{KeyField}
-use Rattle.catalogue.specs.declared.fault.KeyField.TheVariants.{Keys}
+use Rattle.catalogue.specs.declared.fault.KeyField.TheVariants.{Bounds, Keys}
 use Rattle.catalogue.specs.declared.fault.KeyPart.TheVariants as part
 use Rattle.catalogue.specs.declared.fault.KeyPath.{KeyPath}
 
@@ -20,6 +20,10 @@ table_path t key = record { table = t; part = part.Table; item = 0; field = key;
 -- a key of a table's column, or the column
 abbrev pub column_path : ℕ → ℕ → KeyField → KeyPath
 column_path t c key = record { table = t; part = part.Column; item = c; field = key; at = 0 }
+
+-- one end of a column's histogram
+abbrev pub bound_path : ℕ → ℕ → ℕ → KeyPath
+bound_path t c k = record { table = t; part = part.Column; item = c; field = Bounds; at = k }
 
 -- a key of a table's index, or the index
 abbrev pub index_path : ℕ → ℕ → KeyField → KeyPath

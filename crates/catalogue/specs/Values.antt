@@ -46,6 +46,12 @@ end_day path d = do
   written ← text path d
   or_fault (OutOfRange path) (day_number written)
 
+-- an end of a column's values, by the column's kind; no value is an end of texts
+abbrev pub end_value : Kind → Rule ℤ
+end_value Int path d = end_number path d
+end_value Date path d = end_day path d
+end_value Text path d = Err (WrongKind path)
+
 abbrev pub boolean : Rule Bool
 boolean path d = or_fault (WrongKind path) (as_bool d)
 

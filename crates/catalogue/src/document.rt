@@ -60,9 +60,10 @@ fn given_rates(keys: &Table) -> Result<Rates, CatFault>
 fn catalogue(alloc: Global, keys: &Table) -> Result<Catalogue, CatFault>
     ensures { Gives plain_catalogue result (rows.catalogue_of (table_view keys.now)) }
 {
-    keys::needed_natural(keys, "version", whole_path(KeyField::Version), 1, 1)?;
+    let path = whole_path(KeyField::Version);
+    let version = keys::needed_natural(keys, "version", path, 1, 2)?;
     let rates = given_rates(keys)?;
-    let tables = tables(alloc, keys)?;
+    let tables = tables(alloc, version, keys)?;
     Ok(Catalogue { rates, tables })
 }
 
@@ -78,8 +79,8 @@ fn catalogue_of_file(alloc: Global, bytes: &[u8]) -> Result<Catalogue, CatFault>
 /// The catalogue that a TOML text describes.
 ///
 /// The keys are checked in order: `version`, `rates` with its keys, and `table`; of each table the element, `name`,
-/// `rows`, `pages`, `column` with each column, and `index` with each index. The first fault is answered with its path;
-/// of one key, what is missing comes before a wrong kind, that before a value out of range, that before a name that
+/// `rows`, `pages`, `may_cluster`, `column` with each column, and `index` with each index. Version 2 alone has
+/// `may_cluster`, and `bounds` as a column's last key. The first fault is answered with its path; of one key, what is missing comes before a wrong kind, that before a value out of range, that before a name that
 /// stands twice, and that before an unknown name. Keys that have no meaning here are passed over.
 ///
 /// `NotToml` comes exactly where the bytes are no UTF-8 or no document of TOML 1.1, as the crate `toml` reads it, and `Memory` where memory runs out.

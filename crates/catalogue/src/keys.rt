@@ -126,18 +126,14 @@ pub fn end(keys: &Table, key: &str, path: KeyPath, kind: Kind) -> Result<Option<
     ensures exact { Gives (λ o. o) result (table.end_of kind key.now path (table_view keys.now)) }
     ensures within { IfOk result (λ o. ForSome o EndLimits) }
 {
-    let Some(value) = value_at(keys, key) else {
+    if let Kind::Text = kind {
         return Ok(None);
-    };
-    match kind {
-        Kind::Int => {
-            let number = values::end_number(value, path)?;
-            Ok(Some(number))
+    }
+    match value_at(keys, key) {
+        Some(value) => {
+            let end = values::end_value(value, path, kind)?;
+            Ok(Some(end))
         }
-        Kind::Date => {
-            let day = values::end_day(value, path)?;
-            Ok(Some(day))
-        }
-        Kind::Text => Ok(None),
+        None => Ok(None),
     }
 }

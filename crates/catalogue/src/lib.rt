@@ -22,6 +22,7 @@
 //! ```
 #![tactic(auto)]
 
+mod bounds;
 mod columns;
 mod document;
 mod fault;
@@ -29,9 +30,8 @@ mod indexes;
 mod keys;
 mod names;
 mod paths;
+mod ranges;
 mod rates;
-mod spread;
-mod statistics;
 mod tables;
 mod values;
 

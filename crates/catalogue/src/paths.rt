@@ -56,6 +56,19 @@ pub fn column_path(table: u32, column: u32, field: KeyField) -> KeyPath
     }
 }
 
+/// The path of one end of a column's histogram.
+pub fn bound_path(table: u32, column: u32, at: u32) -> KeyPath
+    ensures { result ≡ paths.bound_path table column at }
+{
+    KeyPath {
+        table,
+        part: KeyPart::Column,
+        item: column,
+        field: KeyField::Bounds,
+        at,
+    }
+}
+
 /// The path of a key of a table's index of this number, or of the index.
 pub fn index_path(table: u32, index: u32, field: KeyField) -> KeyPath
     ensures { result ≡ paths.index_path table index field }

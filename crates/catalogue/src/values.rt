@@ -29,7 +29,7 @@ pub fn natural(value: &Value, path: KeyPath, low: u64, high: u64) -> Result<u64,
 }
 
 /// A number that a column may hold at an end of its values, from -10^18 to 10^18.
-pub fn end_number(value: &Value, path: KeyPath) -> Result<i64, CatFault>
+fn end_number(value: &Value, path: KeyPath) -> Result<i64, CatFault>
     ensures exact { result ≡ values.end_number path (view value.now) }
     ensures within { IfOk result EndLimits }
 {
@@ -53,7 +53,7 @@ pub fn text<'a>(value: &'a Value, path: KeyPath) -> Result<&'a str, CatFault>
 }
 
 /// A date as text, `yyyy-mm-dd`, by its number of days since 1970-01-01.
-pub fn end_day(value: &Value, path: KeyPath) -> Result<i64, CatFault>
+fn end_day(value: &Value, path: KeyPath) -> Result<i64, CatFault>
     ensures exact { result ≡ values.end_day path (view value.now) }
     ensures within { IfOk result EndLimits }
 {
@@ -63,6 +63,18 @@ pub fn end_day(value: &Value, path: KeyPath) -> Result<i64, CatFault>
     match day_of(text.as_bytes()) {
         Some(day) => Ok(day),
         None => Err(CatFault::OutOfRange(path)),
+    }
+}
+
+/// An end of a column's values, by the column's kind. No value is an end of texts.
+pub fn end_value(value: &Value, path: KeyPath, kind: Kind) -> Result<i64, CatFault>
+    ensures exact { result ≡ values.end_value kind path (view value.now) }
+    ensures within { IfOk result EndLimits }
+{
+    match kind {
+        Kind::Int => end_number(value, path),
+        Kind::Date => end_day(value, path),
+        Kind::Text => Err(CatFault::WrongKind(path)),
     }
 }
 

@@ -39,6 +39,11 @@ const KEYS: &str = r#"0 Whole 0 Version 0|integer|missing||version = @
 1 Table 0 Indexes 0|array|accepted|version = 1~[[table]]~name = "t"~rows = 1~pages = 1~column = [{ name = "c", kind = "int", width = 4 }]~|index = @
 1 Index 1 Unique 0|boolean|accepted|version = 1~[[table]]~name = "t"~rows = 1~pages = 1~column = [{ name = "c", kind = "int", width = 4 }]~[[table.index]]~name = "i"~keys = ["c"]~|unique = @
 1 Index 1 Clustered 0|boolean|accepted|version = 1~[[table]]~name = "t"~rows = 1~pages = 1~column = [{ name = "c", kind = "int", width = 4 }]~[[table.index]]~name = "i"~keys = ["c"]~|clustered = @
+1 Table 0 MayCluster 0|boolean|accepted|version = 2~[[table]]~name = "t"~rows = 1~pages = 1~column = [{ name = "c", kind = "int", width = 4 }]~|may_cluster = @
+1 Column 1 Bounds 0|array|accepted|version = 2~[[table]]~name = "t"~rows = 1~pages = 1~[[table.column]]~name = "c"~kind = "int"~width = 4~|bounds = @
+1 Column 1 Bounds 0|array|accepted|version = 2~[[table]]~name = "t"~rows = 1~pages = 1~[[table.column]]~name = "c"~kind = "date"~width = 4~|bounds = @
+1 Column 1 Bounds 2|integer||version = 2~[[table]]~name = "t"~rows = 1~pages = 1~[[table.column]]~name = "c"~kind = "int"~width = 4~|bounds = [1, @]
+1 Column 1 Bounds 1|text||version = 2~[[table]]~name = "t"~rows = 1~pages = 1~[[table.column]]~name = "c"~kind = "date"~width = 4~|bounds = [@, "2000-01-01"]
 1 Table 0 Itself 0|table||version = 1~|table = [@]
 1 Column 2 Itself 0|table||version = 1~[[table]]~name = "t"~rows = 1~pages = 1~|column = [{ name = "c", kind = "int", width = 4 }, @]
 1 Index 1 Itself 0|table||version = 1~[[table]]~name = "t"~rows = 1~pages = 1~column = [{ name = "c", kind = "int", width = 4 }]~|index = [@]
@@ -54,7 +59,7 @@ array|[7]
 table|{ x = 7 }"#;
 
 /// Ranges: the path, the text before the key, the key, values in its range, and values outside of it.
-const RANGES: &str = r#"0 Whole 0 Version 0||version|1;1|0;2
+const RANGES: &str = r#"0 Whole 0 Version 0||version|1;2|0;3
 0 Rates 0 SeqPage 0|version = 1~[rates]~|seq_page|0;1000000|-1;1000001
 0 Rates 0 RandPage 0|version = 1~[rates]~|rand_page|0;1000000|-1;1000001
 0 Rates 0 RowCpu 0|version = 1~[rates]~|row_cpu|0;1000000|-1;1000001
@@ -73,6 +78,10 @@ const RANGES: &str = r#"0 Whole 0 Version 0||version|1;1|0;2
 1 Column 1 High 0|version = 1~[[table]]~name = "t"~rows = 1~pages = 1~[[table.column]]~name = "c"~kind = "int"~width = 4~low = 5~|high|5;1000000000000000000|4;1000000000000000001
 1 Column 1 Low 0|version = 1~[[table]]~name = "t"~rows = 1~pages = 1~[[table.column]]~name = "c"~kind = "date"~width = 4~|low|"0000-01-01";"9999-12-31"|"2001-02-29";"2000-1-01"
 1 Column 1 High 0|version = 1~[[table]]~name = "t"~rows = 1~pages = 1~[[table.column]]~name = "c"~kind = "date"~width = 4~low = "2000-02-29"~|high|"2000-02-29";"9999-12-31"|"2000-02-28";"2000-13-01"
+1 Column 1 Bounds 0|version = 2~[[table]]~name = "t"~rows = 1~pages = 1~[[table.column]]~name = "c"~kind = "int"~width = 4~|bounds|[0, 0];[-5, 0, 0, 9]|[];[0]
+1 Column 1 Bounds 2|version = 2~[[table]]~name = "t"~rows = 1~pages = 1~[[table.column]]~name = "c"~kind = "int"~width = 4~|bounds|[5, 5];[-1000000000000000000, 1000000000000000000]|[5, 4];[5, 1000000000000000001]
+1 Column 1 Bounds 1|version = 2~[[table]]~name = "t"~rows = 1~pages = 1~[[table.column]]~name = "c"~kind = "date"~width = 4~|bounds|["0000-01-01", "9999-12-31"];["2000-02-29", "2000-02-29"]|["2001-02-29", "2002-01-01"];["2000-1-01", "2002-01-01"]
+1 Column 1 Bounds 3|version = 2~[[table]]~name = "t"~rows = 1~pages = 1~[[table.column]]~name = "c"~kind = "date"~width = 4~|bounds|["2000-02-29", "2000-03-01", "2000-03-01"];["0000-01-01", "1969-12-31", "1970-01-01"]|["2000-02-29", "2000-03-01", "2000-02-29"];["2000-02-29", "2000-03-01", "2000-02-30"]
 1 Index 1 Name 0|version = 1~[[table]]~name = "t"~rows = 1~pages = 1~column = [{ name = "c", kind = "int", width = 4 }]~[[table.index]]~keys = ["c"]~|name|"i";"i_1"|"i-1";"é""#;
 
 /// Whole texts behind what is answered: the catalogue, or the first fault.
@@ -93,8 +102,19 @@ name twice 1 Index 1 Keys 2|version = 1~[[table]]~name = "t"~rows = 1~pages = 1~
 unknown name 1 Index 1 Keys 2|version = 1~[[table]]~name = "t"~rows = 1~pages = 1~column = [{ name = "c", kind = "int", width = 4 }]~index = [{ name = "i", keys = ["C", "d"] }]~
 unknown name 1 Index 1 Keys 1|version = 1~[[table]]~name = "t"~rows = 1~pages = 1~column = [{ name = "c", kind = "int", width = 4 }]~index = [{ name = "i", keys = ["a b"] }]~
 out of range 1 Index 2 Clustered 0|version = 1~[[table]]~name = "t"~rows = 1~pages = 1~column = [{ name = "c", kind = "int", width = 4 }]~index = [{ name = "i", keys = ["c"], clustered = true }, { name = "j", keys = ["c"], clustered = true }]~
-out of range 0 Whole 0 Version 0|version = 2~rates = 7~
-out of range 0 Whole 0 Version 0|rates = 7~version = 2~
+out of range 0 Whole 0 Version 0|version = 3~rates = 7~
+out of range 0 Whole 0 Version 0|rates = 7~version = 3~
+1000 4000 10 5 5 8 5~t 1 1~c Int 4 None None None~|version = 1~[[table]]~name = "t"~rows = 1~pages = 1~may_cluster = 7~column = [{ name = "c", kind = "int", width = 4, bounds = 7 }]~
+1000 4000 10 5 5 8 5~t 1 1 may cluster~c Int 4 None Some(5) Some(6) 0 10 20 1000~d Int 4 None None None~|version = 2~[[table]]~name = "t"~rows = 1~pages = 1~may_cluster = true~column = [{ name = "c", kind = "int", width = 4, bounds = [0, 10, 20, 1000], low = 5, high = 6 }, { name = "d", kind = "int", width = 4 }]~
+1000 4000 10 5 5 8 5~t 1 1~c Date 4 None None None -1 0 0 10957~d Text 4 None None None~|version = 2~[[table]]~name = "t"~rows = 1~pages = 1~may_cluster = false~column = [{ name = "c", kind = "date", width = 4, bounds = ["1969-12-31", "1970-01-01", "1970-01-01", "2000-01-01"] }, { name = "d", kind = "text", width = 4, bounds = 7 }]~
+out of range 1 Table 0 Pages 0|version = 2~[[table]]~may_cluster = 7~name = "t"~rows = 1~pages = -1~
+wrong kind 1 Table 0 MayCluster 0|version = 2~[[table]]~name = "t"~rows = 1~pages = 1~may_cluster = 7~column = 7~
+out of range 1 Column 1 High 0|version = 2~[[table]]~name = "t"~rows = 1~pages = 1~column = [{ name = "c", kind = "int", width = 4, bounds = 7, low = 5, high = 4 }]~
+wrong kind 1 Column 1 Bounds 0|version = 2~[[table]]~name = "t"~rows = 1~pages = 1~column = [{ bounds = 7, name = "c", kind = "int", width = 4 }, 7]~
+out of range 1 Column 1 Bounds 0|version = 2~[[table]]~name = "t"~rows = 1~pages = 1~column = [{ name = "c", kind = "int", width = 4, bounds = ["x"] }]~
+out of range 1 Column 1 Bounds 2|version = 2~[[table]]~name = "t"~rows = 1~pages = 1~column = [{ name = "c", kind = "int", width = 4, bounds = [5, 4, "x"] }, 7]~
+wrong kind 1 Column 1 Bounds 2|version = 2~[[table]]~name = "t"~rows = 1~pages = 1~column = [{ name = "c", kind = "int", width = 4, bounds = [5, "x", 4] }, 7]~
+out of range 1 Column 1 Bounds 3|version = 2~[[table]]~name = "t"~rows = 1~pages = 1~column = [{ name = "c", kind = "int", width = 4, bounds = [0, 20, 10] }]~
 out of range 0 Rates 0 RandPage 0|version = 1~[rates]~merge_cpu = 1.0~rand_page = -1~
 out of range 0 Rates 0 RandPage 0|version = 1~[rates]~rand_page = -1~merge_cpu = 1.0~
 wrong kind 0 Rates 0 MergeCpu 0|version = 1~table = [7]~rates = { merge_cpu = 1.0 }~
@@ -242,5 +262,24 @@ fn lengths_of_lists(rt: HostRuntime) {
             wanted,
             "{tables} tables, {columns} columns, {indexes} indexes, {keys} keys"
         );
+    }
+}
+
+#[test]
+fn lengths_of_histograms(rt: HostRuntime) {
+    let alloc = rt.alloc();
+    let front =
+        r#"version = 2~[[table]]~name = "t"~rows = 1~pages = 1~column = [{ name = "c", kind = "int", width = 4, bounds = ["#;
+    for (ends, wanted) in [
+        (2, "accepted"),
+        (257, "accepted"),
+        (258, "out of range 1 Column 1 Bounds 0"),
+    ] {
+        let mut text = String::from_str(alloc, front).expect(&rt, "memory");
+        for end in 0..ends {
+            write!(text, "{end}, ").expect(&rt, "memory");
+        }
+        text.push_str("] }]~").expect(&rt, "memory");
+        judge(&rt, alloc, text.as_str(), wanted);
     }
 }

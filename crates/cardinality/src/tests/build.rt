@@ -1,7 +1,7 @@
 //! Catalogues and blocks for tests.
 ghost use Rattle.std.specs.Prelude.{◌≡◌, ℕ, ◌<◌, ◌≤◌, IsTrue, IfSome, length};
 ghost use Rattle.std.specs.Option.{ForSome};
-ghost use Rattle.adv_base.specs.Limits.Numbers.{EndLimits};
+ghost use Rattle.adv_base.specs.Limits.Numbers.{BoundsLimits, EndLimits};
 ghost use Rattle.adv_base.specs.declared.workload.predicate.Test.TheVariants.{Same, OneOf};
 ghost use Rattle.adv_base.specs.declared.limits.TheConstants.{MOST_ROWS};
 
@@ -11,10 +11,11 @@ use std::alloc::Global;
 
 /// What is known of a column's values.
 #[derive(Clone, Copy, Debug)]
-pub struct Statistics {
+pub struct Statistics<'a> {
     pub distinct: Option<u64>,
     pub low: Option<i64>,
     pub high: Option<i64>,
+    pub bounds: &'a [i64],
 }
 
 /// A name without bytes.
@@ -45,6 +46,21 @@ fn is_end(end: Option<i64>) -> bool
     }
 }
 
+/// Whether the ends of a histogram keep their limits.
+fn are_bounds(ends: &[i64]) -> bool
+    ensures { IsTrue result → BoundsLimits ends.now }
+{
+    if ends.len() == 1 || ends.len() > 257 {
+        return false;
+    }
+    for i in 0..ends.len() {
+        if !is_end(Some(ends[i])) || (i > 0 && ends[i - 1] > ends[i]) {
+            return false;
+        }
+    }
+    true
+}
+
 /// Whether a test is of one column, and with some item where it has items.
 fn is_alone(test: Test) -> bool
     ensures same { IsTrue result → (other : ℕ) → test ≡ Same other → other < 0 }
@@ -57,10 +73,17 @@ fn is_alone(test: Test) -> bool
     }
 }
 
-impl Statistics {
+impl Statistics<'_> {
     /// A column of eight bytes with these statistics, where they keep the limits.
     pub fn column(self, alloc: Global) -> Option<Column> {
-        if is_count(self.distinct) && is_end(self.low) && is_end(self.high) {
+        let bounds = List {
+            items: Vec::from_slice(alloc, self.bounds).ok()?,
+        };
+        if is_count(self.distinct)
+            && is_end(self.low)
+            && is_end(self.high)
+            && are_bounds(bounds.as_slice())
+        {
             Some(Column {
                 name: no_name(alloc),
                 kind: Kind::Int,
@@ -68,6 +91,7 @@ impl Statistics {
                 distinct: self.distinct,
                 low: self.low,
                 high: self.high,
+                bounds,
             })
         } else {
             None
@@ -87,7 +111,7 @@ impl Statistics {
 }
 
 /// A table of this number of rows with two columns.
-pub fn table(alloc: Global, rows: u64, columns: [Statistics; 2]) -> Option<Table>
+pub fn table(alloc: Global, rows: u64, columns: [Statistics<'_>; 2]) -> Option<Table>
     ensures { IfSome result (λ table. (length table.columns ≡ 2) × (length table.indexes ≡ 0)) }
 {
     let items = Vec::from_array(
@@ -102,6 +126,7 @@ pub fn table(alloc: Global, rows: u64, columns: [Statistics; 2]) -> Option<Table
         name: no_name(alloc),
         rows,
         pages: 1,
+        may_cluster: false,
         columns: List { items },
         indexes: List::new(alloc),
     })

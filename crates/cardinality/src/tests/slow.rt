@@ -29,7 +29,7 @@ fn slow_length(low: i64, high: i64, from: i64, to: i64) -> u64 {
     length
 }
 
-fn slow_equal(statistics: Statistics) -> u64 {
+fn slow_equal(statistics: Statistics<'_>) -> u64 {
     match statistics.distinct {
         Some(d) => slow_quotient(1, d),
         None => 100000000,
@@ -37,7 +37,12 @@ fn slow_equal(statistics: Statistics) -> u64 {
 }
 
 /// The share of the range's whole numbers that lie from `from` up to below `to`.
-fn slow_share(statistics: Statistics, from: Option<Value>, to: Option<Value>, unknown: u64) -> u64 {
+fn slow_share(
+    statistics: Statistics<'_>,
+    from: Option<Value>,
+    to: Option<Value>,
+    unknown: u64,
+) -> u64 {
     let (Some(low), Some(high)) = (statistics.low, statistics.high) else {
         return unknown;
     };
@@ -59,7 +64,7 @@ fn slow_share(statistics: Statistics, from: Option<Value>, to: Option<Value>, un
 }
 
 /// The part of a test of one column.
-pub fn slow_part(statistics: Statistics, test: Test) -> u64 {
+pub fn slow_part(statistics: Statistics<'_>, test: Test) -> u64 {
     match test {
         Test::Equal => slow_equal(statistics),
         Test::NotEqual => 1000000000u64.wrapping_sub(slow_equal(statistics)).max(1),

@@ -18,9 +18,13 @@ fn push_column(alloc: Global, out: &mut String, column: &Column) -> Result<(), A
     push_name(alloc, out, column.name.as_slice())?;
     write!(
         out,
-        " {:?} {} {:?} {:?} {:?}~",
+        " {:?} {} {:?} {:?} {:?}",
         column.kind, column.width, column.distinct, column.low, column.high
-    )
+    )?;
+    for end in column.bounds.as_slice() {
+        write!(out, " {end}")?;
+    }
+    out.push_str("~")
 }
 
 /// Writes an index.
@@ -43,7 +47,11 @@ fn push_index(alloc: Global, out: &mut String, index: &Index) -> Result<(), Allo
 /// Writes a table.
 fn push_table(alloc: Global, out: &mut String, table: &Table) -> Result<(), AllocError> {
     push_name(alloc, out, table.name.as_slice())?;
-    write!(out, " {} {}~", table.rows, table.pages)?;
+    write!(out, " {} {}", table.rows, table.pages)?;
+    if table.may_cluster {
+        out.push_str(" may cluster")?;
+    }
+    out.push_str("~")?;
     for column in table.columns.as_slice() {
         push_column(alloc, out, column)?;
     }

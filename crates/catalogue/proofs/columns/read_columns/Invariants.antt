@@ -7,7 +7,7 @@ use Rattle.catalogue.proofs.columns.read_columns.Given as goal
 
 abbrev pub invariant-loop-value : goal.invariant-loop-value
 invariant-loop-value l = record {
-  read : read_each (next_column l.table) (plain_columns l.columns) (items_view (drop l.value-index l.items)) ≡ read_each (next_column l.table) [] (items_view l.items);
+  read : read_each (next_column l.version l.table) (plain_columns l.columns) (items_view (drop l.value-index l.items)) ≡ read_each (next_column l.version l.table) [] (items_view l.items);
   names : l.names ≡ column_names (plain_columns l.columns);
   count : length l.columns ≡ l.value-index;
 }

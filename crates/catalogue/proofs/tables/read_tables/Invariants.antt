@@ -8,7 +8,7 @@ use Rattle.catalogue.proofs.tables.read_tables.Given as goal
 
 abbrev pub invariant-loop-value : goal.invariant-loop-value
 invariant-loop-value l = record {
-  read : read_each next_table (plain_tables l.tables) (items_view (drop l.value-index l.items)) ≡ read_each next_table [] (items_view l.items);
+  read : read_each (next_table l.version) (plain_tables l.tables) (items_view (drop l.value-index l.items)) ≡ read_each (next_table l.version) [] (items_view l.items);
   names : l.names ≡ table_names (plain_tables l.tables);
   indexes : l.before ≡ index_count (plain_tables l.tables);
   room : l.before ≤ 1000;
