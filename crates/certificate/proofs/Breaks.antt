@@ -2,8 +2,8 @@
 use Rattle.std.proofs.Common.{◌≡◌, ◌∙◌, ℕ, suc, ◌+◌, List, [], ◌∷◌, ◌++◌, length, sym, ap, subst, refl, arith, length-append}
 use Rattle.adv_base.specs.Numbers.{BeginsWithLine}
 use Rattle.certificate.specs.Certificates.{BreaksAt, GoesOn}
-use Rattle.certificate.specs.declared.draft.Draft.{Draft}
-use Rattle.certificate.specs.declared.draft.Stage.TheVariants as stages
+use Rattle.certificate.specs.inner.Outlines.{Draft}
+use Rattle.certificate.specs.declared.stage.Stage.TheVariants as stages
 use Rattle.certificate.specs.inner.Steps.{StepAt}
 use Rattle.certificate.proofs.StepLaws.{all-more}
 use Rattle.certificate.proofs.Keeps.{run-more, fits-step}

@@ -10,10 +10,10 @@ use Rattle.certificate.specs.Texts.{set_line, entry_line, tree_line, node_line, 
 use Rattle.certificate.specs.declared.cert.Cert.{Cert}
 use Rattle.certificate.specs.declared.cert.Entry.{Entry}
 use Rattle.certificate.specs.declared.cert.SparseSet.{SparseSet}
-use Rattle.certificate.specs.declared.draft.Draft.{Draft}
-use Rattle.certificate.specs.declared.draft.Stage.{Stage}
-use Rattle.certificate.specs.declared.draft.Stage.TheVariants as stages
-use Rattle.certificate.specs.declared.draft.TheConstants.{FIRST_PLACE, LAST_PLACE}
+use Rattle.certificate.specs.inner.Outlines.{Draft}
+use Rattle.certificate.specs.declared.stage.Stage.{Stage}
+use Rattle.certificate.specs.declared.stage.Stage.TheVariants as stages
+use Rattle.certificate.specs.declared.outline.TheConstants.{FIRST_PLACE, LAST_PLACE}
 use Rattle.certificate.specs.inner.Steps.{start, trees_after, closed, with_set, with_entry, StepAt, BodyStep, NodeStep}
 use Rattle.certificate.specs.inner.Runs.{Run}
 
@@ -29,7 +29,7 @@ trees-next (suc t) (Branch a) ns h = let more : suc (suc t) ≡ suc t + 1 = omeg
 trees-next (suc t) (Bounded k) ns h = let fewer : t ≡ suc t - 1 = omega arith in subst (λ (k : ℕ). AreTrees k ns) fewer h
 trees-next (suc t) Overfull ns h = let fewer : t ≡ suc t - 1 = omega arith in subst (λ (k : ℕ). AreTrees k ns) fewer h
 
-trees-few : (t : ℕ) (ns : List Node) → AreTrees t ns → t ≤ length ns
+pub trees-few : (t : ℕ) (ns : List Node) → AreTrees t ns → t ≤ length ns
 trees-few zero [] h = omega arith
 trees-few (suc t) [] h = absurd h
 trees-few zero (n ∷ ns) h = absurd h

@@ -3,9 +3,9 @@ use Rattle.std.proofs.Common.{◌≡◌, ◌∙◌, ℕ, zero, suc, ◌<◌, ◌
 use Rattle.std.specs.Prelude.{ℤ}
 use Rattle.bip_model.specs.declared.answer.Node.{Node}
 use Rattle.certificate.specs.declared.cert.Entry.{Entry}
-use Rattle.certificate.specs.declared.draft.Draft.{Draft}
-use Rattle.certificate.specs.declared.draft.Stage.{Stage}
-use Rattle.certificate.specs.declared.draft.Stage.TheVariants as stages
+use Rattle.certificate.specs.inner.Outlines.{Draft}
+use Rattle.certificate.specs.declared.stage.Stage.{Stage}
+use Rattle.certificate.specs.declared.stage.Stage.TheVariants as stages
 use Rattle.certificate.specs.inner.Steps.{trees_after, with_set, with_entry, StepAt, BodyStep, NodeStep}
 use Rattle.certificate.specs.inner.Drafts.{DraftFits}
 use Rattle.certificate.specs.inner.Runs.{Run}

@@ -6,10 +6,10 @@ use Rattle.bip_model.specs.declared.answer.Node.{Node}
 use Rattle.bip_model.specs.declared.answer.Node.TheVariants.{Branch, Bounded, Overfull}
 use Rattle.certificate.specs.Limits.{NodeLimits, CertLimits, entry_place}
 use Rattle.certificate.specs.Texts.{sets_lines, tree_line, node_line, end_line, head_lines, cert_lines}
-use Rattle.certificate.specs.declared.draft.Draft.{Draft}
-use Rattle.certificate.specs.declared.draft.Stage.{Stage}
-use Rattle.certificate.specs.declared.draft.Stage.TheVariants as stages
-use Rattle.certificate.specs.declared.draft.TheConstants.{FIRST_PLACE}
+use Rattle.certificate.specs.inner.Outlines.{Draft}
+use Rattle.certificate.specs.declared.stage.Stage.{Stage}
+use Rattle.certificate.specs.declared.stage.Stage.TheVariants as stages
+use Rattle.certificate.specs.declared.outline.TheConstants.{FIRST_PLACE}
 use Rattle.certificate.specs.inner.Steps.{trees_after, closed, closed_by, with_set, with_entry, StepAt, BodyStep, NodeStep}
 use Rattle.certificate.specs.inner.Drafts.{Leave, HeadFits, BodyFits, TreeFits, IsFresh, IsBody, IsTree, StageFits, DraftFits, cert_of}
 use Rattle.certificate.specs.inner.Runs.{lines_at, Run}

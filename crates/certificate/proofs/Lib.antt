@@ -20,3 +20,8 @@ pub mod Places
 pub mod InOrder
 pub mod Best
 pub mod Sizes
+pub mod Short
+pub mod Reached
+pub mod Counting
+pub mod Heads
+pub mod Readings

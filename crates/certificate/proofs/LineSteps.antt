@@ -6,10 +6,10 @@ use Rattle.certificate.specs.Limits.{entry_place}
 use Rattle.certificate.specs.Texts.{sets_line, set_line, entry_line, tree_line, node_line, head_lines, set_lines, sets_lines}
 use Rattle.certificate.specs.declared.cert.Entry.{Entry}
 use Rattle.certificate.specs.declared.cert.SparseSet.{SparseSet}
-use Rattle.certificate.specs.declared.draft.Draft.{Draft}
-use Rattle.certificate.specs.declared.draft.Stage.{Stage}
-use Rattle.certificate.specs.declared.draft.Stage.TheVariants as stages
-use Rattle.certificate.specs.declared.draft.TheConstants.{FIRST_PLACE}
+use Rattle.certificate.specs.inner.Outlines.{Draft}
+use Rattle.certificate.specs.declared.stage.Stage.{Stage}
+use Rattle.certificate.specs.declared.stage.Stage.TheVariants as stages
+use Rattle.certificate.specs.declared.outline.TheConstants.{FIRST_PLACE}
 use Rattle.certificate.specs.inner.Steps.{trees_after, closed, closed_by, with_set, with_entry, StepAt, BodyStep, NodeStep}
 use Rattle.certificate.specs.inner.Drafts.{IsFresh, IsBody, StageFits, DraftFits}
 use Rattle.certificate.specs.inner.Runs.{begun_lines, head_of, tree_of, lines_at}

@@ -21,7 +21,7 @@ parted (line ∷ lines) (suc count) most =
     let rest = parted lines count (omega (arith, most)) in
     record { front = line ∷ rest.front; back = rest.back; are = ap (λ (ls : List (List ℕ)). line ∷ ls) rest.are; count_is = ap suc rest.count_is }
 
-all-before : {X : Type 0} (P : X → Type 0) (xs ys : List X) → AllByRecursion P (xs ++ ys) → AllByRecursion P xs
+pub all-before : {X : Type 0} (P : X → Type 0) (xs ys : List X) → AllByRecursion P (xs ++ ys) → AllByRecursion P xs
 all-before P [] ys h = tt
 all-before P (x ∷ xs) ys h = (h.0, all-before P xs ys h.1)
 

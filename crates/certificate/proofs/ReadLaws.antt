@@ -6,8 +6,8 @@ use Rattle.adv_base.specs.Numbers.{BeginsWithLine}
 use Rattle.certificate.specs.Certificates.{IsCertificate, IsLine, GoesOn}
 use Rattle.certificate.specs.Limits.{CertLimits}
 use Rattle.certificate.specs.Texts.{text_of, cert_lines}
-use Rattle.certificate.specs.declared.draft.Draft.{Draft}
-use Rattle.certificate.specs.declared.draft.Stage.TheVariants as stages
+use Rattle.certificate.specs.inner.Outlines.{Draft}
+use Rattle.certificate.specs.declared.stage.Stage.TheVariants as stages
 use Rattle.certificate.specs.inner.Drafts.{DraftFits, cert_of}
 use Rattle.certificate.specs.inner.Runs.{lines_at, Run}
 use Rattle.certificate.specs.inner.Steps.{start}
@@ -35,7 +35,7 @@ start-fits = record {
   stage = record { sets = refl; sets_left = refl; entries_left = refl; tree = refl; trees_left = refl };
 }
 
-start-lines : lines_at start.stage start ≡ []
+pub start-lines : lines_at start.stage start ≡ []
 unfolding start
 start-lines = refl
 

@@ -17,19 +17,19 @@ use Rattle.certificate.proofs.ReadLaws.{text-append}
 -- ## Words and lines
 
 -- a line in front of lines
-line-front : (line : List ℕ) (lines : List (List ℕ)) → length (text_of (line ∷ lines)) ≡ length line + 1 + length (text_of lines)
+pub line-front : (line : List ℕ) (lines : List (List ℕ)) → length (text_of (line ∷ lines)) ≡ length line + 1 + length (text_of lines)
 line-front line lines = let both = length-append line (10 ∷ text_of lines) in omega (arith, both)
 
-lines-both : (xs ys : List (List ℕ)) → length (text_of (xs ++ ys)) ≡ length (text_of xs) + length (text_of ys)
+pub lines-both : (xs ys : List (List ℕ)) → length (text_of (xs ++ ys)) ≡ length (text_of xs) + length (text_of ys)
 lines-both xs ys = ap (λ (t : List ℕ). length t) (text-append xs ys) ∙ length-append (text_of xs) (text_of ys)
 
 -- ## The lines before those of the sets
 
-title-size : length title_line ≡ 19
+pub title-size : length title_line ≡ 19
 unfolding title_line
 title-size = refl
 
-budget-size : (pages : ℕ) → pages ≤ 1000000000000 → length (budget_line pages) ≤ 20
+pub budget-size : (pages : ℕ) → pages ≤ 1000000000000 → length (budget_line pages) ≤ 20
 unfolding budget_line
 budget-size pages most = let digits = length-decimal-le_wide 13 pages (omega arith) (omega (arith, most)) (omega (arith, most)) in omega (arith, digits)
 
@@ -47,20 +47,20 @@ words-size least (n ∷ ns) rise =
     let both = length-append (word n) (words ns) in
     omega (arith, digits, both, words-size (n + 1) ns rise.2)
 
-config-size : (numbers : List ℕ) → Rise 1 numbers → length (config_line numbers) ≤ 1030
+pub config-size : (numbers : List ℕ) → Rise 1 numbers → length (config_line numbers) ≤ 1030
 unfolding config_line
 config-size numbers rise = omega (arith, words-size 1 numbers rise, rise-count 1 numbers (omega arith) rise)
 
-cost-size : (cost : ℕ) → cost < 2 ^ 127 → length (cost_line cost) ≤ 44
+pub cost-size : (cost : ℕ) → cost < 2 ^ 127 → length (cost_line cost) ≤ 44
 unfolding cost_line
 cost-size cost small = let digits = length-decimal-le_wide 39 cost (omega arith) (omega (arith, small)) (omega (arith, small)) in omega (arith, digits)
 
-bound-size : (bound : ℤ) → IsSmall bound → length (bound_line bound) ≤ 46
+pub bound-size : (bound : ℤ) → IsSmall bound → length (bound_line bound) ≤ 46
 unfolding bound_line
 bound-size (pos n) small = let digits = length-decimal-le_wide 39 n (omega arith) (omega (arith, small)) (omega (arith, small)) in omega (arith, digits)
 bound-size (negsuc n) small = let digits = length-decimal-le_wide 39 (suc n) (omega arith) (omega (arith, small)) (omega (arith, small)) in omega (arith, digits)
 
-sets-size : (count : ℕ) → count ≤ 16 → length (sets_line count) ≤ 7
+pub sets-size : (count : ℕ) → count ≤ 16 → length (sets_line count) ≤ 7
 unfolding sets_line
 sets-size count few = let digits = length-decimal-le_wide 2 count (omega arith) (omega (arith, few)) (omega (arith, few)) in omega (arith, digits)
 
@@ -77,7 +77,7 @@ head-size budget config cost bound count pages rise small within few =
 
 -- ## Those of the sets
 
-entry-size : (entry : Entry) → EntryLimits entry → length (entry_line entry) ≤ 30
+pub entry-size : (entry : Entry) → EntryLimits entry → length (entry_line entry) ≤ 30
 unfolding entry_line
 entry-size entry h =
     let statement = length-decimal-le_wide 4 entry.statement (omega arith) (omega (arith, h.statement_most)) (omega (arith, h.statement_most)) in
@@ -95,7 +95,7 @@ entries-size least (entry ∷ entries) rise =
     let front = line-front (entry_line entry) (map entry_line entries) in
     omega (arith, front, entry-size entry rise.0, entries-size (entry_place entry + 1) entries rise.2)
 
-set-size : (mu count : ℕ) → mu ≤ 10 ^ 20 → count ≤ 1500000 → length (set_line mu count) ≤ 33
+pub set-size : (mu count : ℕ) → mu ≤ 10 ^ 20 → count ≤ 1500000 → length (set_line mu count) ≤ 33
 unfolding set_line
 set-size mu count price few =
     let first = length-decimal-le_wide 21 mu (omega arith) (omega (arith, price)) (omega (arith, price)) in
@@ -103,7 +103,7 @@ set-size mu count price few =
     let both = length-append (word mu) (word count) in
     omega (arith, first, second, both)
 
-count-front : (set : SparseSet) (sets : List SparseSet) → entry_count (set ∷ sets) ≡ length set.entries + entry_count sets
+pub count-front : (set : SparseSet) (sets : List SparseSet) → entry_count (set ∷ sets) ≡ length set.entries + entry_count sets
 count-front set sets = sum_by-cons (λ (s : SparseSet). length s.entries) set sets
 
 all-sets-size : (sets : List SparseSet) → AllByRecursion SetLimits sets → entry_count sets ≤ 1500000 → length (text_of (sets_lines sets)) ≤ length sets * 34 + entry_count sets * 31
@@ -119,7 +119,7 @@ all-sets-size (set ∷ sets) limits few =
 
 -- ## Those of the tree
 
-node-size : (sets : ℕ) (node : Node) → sets ≤ 16 → NodeLimits sets node → length (node_line node) ≤ 5
+pub node-size : (sets : ℕ) (node : Node) → sets ≤ 16 → NodeLimits sets node → length (node_line node) ≤ 5
 unfolding node_line
 node-size sets (Branch candidate) few limits = let digits = length-decimal-le_wide 3 candidate (omega arith) (omega (arith, limits.1)) (omega (arith, limits.1)) in omega (arith, digits)
 node-size sets (Bounded set) few limits = let digits = length-decimal-le_wide 2 set (omega arith) (omega (arith, limits, few)) (omega (arith, limits, few)) in omega (arith, digits)
@@ -131,11 +131,11 @@ nodes-size sets (node ∷ nodes) few limits =
     let front = line-front (node_line node) (map node_line nodes) in
     omega (arith, front, node-size sets node few limits.0, nodes-size sets nodes few limits.1)
 
-tree-size : (count : ℕ) → count ≤ 1000000 → length (tree_line count) ≤ 12
+pub tree-size : (count : ℕ) → count ≤ 1000000 → length (tree_line count) ≤ 12
 unfolding tree_line
 tree-size count few = let digits = length-decimal-le_wide 7 count (omega arith) (omega (arith, few)) (omega (arith, few)) in omega (arith, digits)
 
-end-size : length end_line ≡ 3
+pub end-size : length end_line ≡ 3
 unfolding end_line
 end-size = refl
 

@@ -20,8 +20,8 @@ use Rattle.certificate.specs.Texts.{text_of, word, words, title_line, budget_lin
 use Rattle.certificate.specs.declared.cert.Cert.{Cert}
 use Rattle.certificate.specs.declared.cert.Entry.{Entry}
 use Rattle.certificate.specs.declared.cert.SparseSet.{SparseSet}
-use Rattle.certificate.specs.declared.draft.Draft.{Draft}
-use Rattle.certificate.specs.declared.draft.Stage.TheVariants as stages
+use Rattle.certificate.specs.inner.Outlines.{Draft}
+use Rattle.certificate.specs.declared.stage.Stage.TheVariants as stages
 use Rattle.certificate.specs.inner.Runs.{Run}
 use Rattle.certificate.specs.inner.Steps.{start, StepAt}
 use Rattle.certificate.proofs.WideDigits.{wide-digits}
@@ -34,7 +34,7 @@ use Rattle.certificate.proofs.ReadLaws.{start-fits}
 abbrev Plain : List ℕ → Type 0
 Plain bytes = AllByRecursion (λ (b : ℕ). b ≢ 10) bytes
 
-all-append : {X : Type 0} (P : X → Type 0) (xs ys : List X) → AllByRecursion P xs → AllByRecursion P ys → AllByRecursion P (xs ++ ys)
+pub all-append : {X : Type 0} (P : X → Type 0) (xs ys : List X) → AllByRecursion P xs → AllByRecursion P ys → AllByRecursion P (xs ++ ys)
 all-append P [] ys h g = g
 all-append P (x ∷ xs) ys h g = (h.0, all-append P xs ys h.1 g)
 
@@ -94,7 +94,7 @@ sets-plain (s ∷ ss) h few =
     let total : entry_count (s ∷ ss) ≡ 0 + length s.entries + entry_count ss = sum_by-append (λ (x : SparseSet). length x.entries) (s ∷ []) ss in
     all-append IsLine (set_lines s) (sets_lines ss) (set-plain s.mu (length s.entries) (omega (arith, h.0.price)) (omega (arith, few)), entries-plain 0 s.entries h.0.entries) (sets-plain ss h.1 (omega (arith, few)))
 
-node-plain : (sets : ℕ) (node : Node) → sets ≤ 16 → NodeLimits sets node → IsLine (node_line node)
+pub node-plain : (sets : ℕ) (node : Node) → sets ≤ 16 → NodeLimits sets node → IsLine (node_line node)
 unfolding node_line
 node-plain sets (Branch a) few h = number-plain (codes "B") a refl (omega (arith, h.1))
 node-plain sets (Bounded k) few h = number-plain (codes "L") k refl (omega (arith, h))
@@ -135,7 +135,7 @@ cert-plain c h =
 cut : (line more : List ℕ) (rest : List ℕ) → (line ++ 10 ∷ more) ++ rest ≡ line ++ 10 ∷ (more ++ rest)
 cut line more rest = append_assoc line (10 ∷ more) rest
 
-lines-front : (xs ys : List (List ℕ)) (more : List ℕ) → AllByRecursion IsLine xs → AllByRecursion IsLine ys → text_of xs ≡ text_of ys ++ more → (zs : List (List ℕ)) × (xs ≡ ys ++ zs) × (text_of zs ≡ more)
+pub lines-front : (xs ys : List (List ℕ)) (more : List ℕ) → AllByRecursion IsLine xs → AllByRecursion IsLine ys → text_of xs ≡ text_of ys ++ more → (zs : List (List ℕ)) × (xs ≡ ys ++ zs) × (text_of zs ≡ more)
 lines-front xs [] more h g e = (xs, refl, e)
 lines-front [] (y ∷ ys) more h g e = absurd (omega (arith, ap length e, length-append (y ++ 10 ∷ text_of ys) more, length-append y (10 ∷ text_of ys)))
 lines-front (x ∷ xs) (y ∷ ys) more h g e =
@@ -143,7 +143,7 @@ lines-front (x ∷ xs) (y ∷ ys) more h g e =
     let rest = lines-front xs ys more h.1 g.1 same.1 in
     (rest.0, ap (λ (l : List ℕ). l ∷ xs) same.0 ∙ ap (λ (ls : List (List ℕ)). y ∷ ls) rest.1, rest.2)
 
-one-longer : (xs ys : List (List ℕ)) (r s : List ℕ) → AllByRecursion IsLine xs → AllByRecursion IsLine ys → length ys ≡ suc (length xs) → text_of xs ++ r ≡ text_of ys ++ s →
+pub one-longer : (xs ys : List (List ℕ)) (r s : List ℕ) → AllByRecursion IsLine xs → AllByRecursion IsLine ys → length ys ≡ suc (length xs) → text_of xs ++ r ≡ text_of ys ++ s →
     (line : List ℕ) × (ys ≡ xs ++ line ∷ []) × BeginsWithLine r line s
 one-longer [] [] r s h g size e = absurd (omega arith)
 one-longer [] (y ∷ []) r s h g size e = (y, refl, record { parts = e ∙ cut y [] s; whole = g.0 })
@@ -177,7 +177,7 @@ begun-line (z ∷ zs) rest line more h e begins =
     let same = one_line rest z (text_of zs) line more (record { parts = sym e; whole = h.0 }) begins in
     (zs, ap (λ (l : List ℕ). l ∷ zs) same.0)
 
-all-behind : {X : Type 0} (P : X → Type 0) (xs ys : List X) → AllByRecursion P (xs ++ ys) → AllByRecursion P ys
+pub all-behind : {X : Type 0} (P : X → Type 0) (xs ys : List X) → AllByRecursion P (xs ++ ys) → AllByRecursion P ys
 all-behind P [] ys h = h
 all-behind P (x ∷ xs) ys h = all-behind P xs ys h.1
 

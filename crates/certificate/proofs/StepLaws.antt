@@ -8,10 +8,11 @@ use Rattle.bip_model.specs.declared.answer.Node.TheVariants.{Branch, Bounded, Ov
 use Rattle.certificate.specs.Limits.{EntryLimits, EntriesFrom, SetLimits, AreTrees, entry_place}
 use Rattle.certificate.specs.declared.cert.Entry.{Entry}
 use Rattle.certificate.specs.declared.cert.SparseSet.{SparseSet}
-use Rattle.certificate.specs.declared.draft.Draft.{Draft}
-use Rattle.certificate.specs.declared.draft.TheConstants.{FIRST_PLACE, LAST_PLACE}
+use Rattle.certificate.specs.inner.Outlines.{Draft, with_tree}
+use Rattle.certificate.specs.declared.outline.TheConstants.{FIRST_PLACE, LAST_PLACE}
 use Rattle.certificate.specs.inner.Steps.{trees_after, closed, closed_by, with_set, with_entry}
-use Rattle.certificate.specs.inner.Drafts.{next_place, Leave, BodyFits, HasBegun}
+use Rattle.certificate.specs.inner.Drafts.{next_place, Leave, BodyFits, HasBegun, DraftFits, OutlineFits}
+use Rattle.certificate.specs.declared.outline.Outline.{Outline}
 
 -- all of a list, and one more
 pub all-more : {X : Type 0} (P : X → Type 0) (xs : List X) (x : X) → AllByRecursion P xs → P x → AllByRecursion P (xs ++ x ∷ [])
@@ -109,3 +110,14 @@ with_entry-fits entry left d is limits low high h =
 closed-stage : (n : ℕ) (d : Draft) → ((closed_by n d).stage ≡ d.stage) × ((closed_by n d).tree ≡ d.tree) × ((closed_by n d).trees_left ≡ d.trees_left) × ((closed_by n d).nodes_left ≡ d.nodes_left)
 closed-stage zero d = (refl, refl, refl, refl)
 closed-stage (suc n) d = (refl, refl, refl, refl)
+
+-- what is known of an outline with some tree
+pub outline-fits : (o : Outline) (tree : List Node) → DraftFits (with_tree o tree) → OutlineFits o
+outline-fits o tree fits = record {
+  few_sets = fits.body.few;
+  few_entries = omega (arith, fits.body.count);
+  begun = fits.body.begun;
+  few_nodes = omega (arith, fits.nodes.few);
+  enough = fits.nodes.enough;
+  some_trees = fits.nodes.some;
+}

@@ -10,8 +10,8 @@ use Rattle.certificate.specs.Limits.{Rise, IsSmall, EntryLimits, NodeLimits, ent
 use Rattle.certificate.specs.Texts.{word, words, budget_line, config_line, cost_line, bound_line, sets_line, set_line, entry_line, tree_line, node_line}
 use Rattle.certificate.specs.declared.cert.Entry.{Entry}
 use Rattle.certificate.specs.declared.cert.SparseSet.{SparseSet}
-use Rattle.certificate.specs.declared.draft.Draft.{Draft}
-use Rattle.certificate.specs.declared.draft.TheConstants.{FIRST_PLACE, LAST_PLACE}
+use Rattle.certificate.specs.inner.Outlines.{Draft}
+use Rattle.certificate.specs.declared.outline.TheConstants.{FIRST_PLACE, LAST_PLACE}
 use Rattle.certificate.specs.inner.Words.{IsSetLine}
 use Rattle.certificate.specs.inner.Steps.{trees_after, closed, closed_by, with_set, with_entry, BodyStep, NodeStep}
 use Rattle.certificate.proofs.WideDigits.{wide-injective}

@@ -7,10 +7,10 @@ use Rattle.bip_model.specs.declared.answer.Node.TheVariants.{Branch, Overfull}
 use Rattle.certificate.specs.Limits.{NodeLimits, EntryLimits, EntriesFrom, entry_place}
 use Rattle.certificate.specs.Texts.{title_line, budget_line, config_line, cost_line, bound_line, sets_line, set_line, entry_line, tree_line, node_line, end_line}
 use Rattle.certificate.specs.declared.cert.Entry.{Entry}
-use Rattle.certificate.specs.declared.draft.Draft.{Draft}
-use Rattle.certificate.specs.declared.draft.Stage.{Stage}
-use Rattle.certificate.specs.declared.draft.Stage.TheVariants as stages
-use Rattle.certificate.specs.declared.draft.TheConstants.{FIRST_PLACE, LAST_PLACE}
+use Rattle.certificate.specs.inner.Outlines.{Draft}
+use Rattle.certificate.specs.declared.stage.Stage.{Stage}
+use Rattle.certificate.specs.declared.stage.Stage.TheVariants as stages
+use Rattle.certificate.specs.declared.outline.TheConstants.{FIRST_PLACE, LAST_PLACE}
 use Rattle.certificate.specs.inner.Steps.{trees_after, closed, with_set, with_entry, StepAt, BodyStep, NodeStep}
 use Rattle.certificate.specs.inner.Drafts.{DraftFits, next_place}
 use Rattle.certificate.specs.inner.Runs.{Run}

@@ -1,7 +1,9 @@
 pub mod Texts
 pub mod Limits
 pub mod Certificates
+pub mod Heads
 pub mod Order
 pub mod Trees
 pub mod Answers
 pub mod inner
+pub mod Scanners

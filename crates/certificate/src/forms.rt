@@ -125,8 +125,9 @@ pub(crate) fn entry_line(line: &[u8]) -> Option<Entry>
     }
 }
 
-/// The node of a line of a tree whose leaves may name so many sets.
-pub(crate) fn node_line(line: &[u8], sets: usize) -> Option<Node>
+/// The node of a line of a tree whose leaves may name so many sets, the line without its line feed; `None` where it is no
+/// such line.
+pub fn node_line(line: &[u8], sets: usize) -> Option<Node>
     requires { sets ≤ 16 }
     ensures { MatchOption result ((node : nodes.Node) → limits.NodeLimits sets node → line.now ≢ texts.node_line node) (λ node. limits.NodeLimits sets node × (line.now ≡ texts.node_line node)) }
 {

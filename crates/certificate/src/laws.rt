@@ -2,6 +2,7 @@
 ghost use Rattle.std.specs.Prelude.{◌↔◌, ◌<◌};
 ghost use Rattle.certificate.specs.Answers as answers;
 ghost use Rattle.certificate.specs.Certificates as certificates;
+ghost use Rattle.certificate.specs.Heads as heads;
 ghost use Rattle.certificate.specs.Limits as limits;
 ghost use Rattle.certificate.specs.Order as order;
 ghost use Rattle.certificate.specs.Trees as trees;
@@ -45,4 +46,9 @@ pub fn best_answers_keep_limits()
 /// The text of a certificate is never longer than the file of a certificate may be: 64 MiB.
 pub fn written_certificates_fit()
     ensures { certificates.TextsFit }
+{}
+
+/// The head of a certificate keeps the limits of certificates, and its tree begins within the bytes that a text may have.
+pub fn heads_keep_limits()
+    ensures { heads.HeadsKeepLimits }
 {}

@@ -7,6 +7,9 @@
 //! a certificate's and at which line others break, `specs/Answers.antt` the certificate of an answer. Whether a certificate
 //! proves its bound is left to others.
 //!
+//! A `Scanner` reads a text that is handed to it in pieces, and gives the certificate's `Head`, which has no tree, and says
+//! where that stands; `node_line` reads one of its lines.
+//!
 //! A `Cert` has `SparseSet`s of `Entry`s and a tree of `bip_model`'s `Node`s; a `CertFault` says why a text isn't read.
 //!
 //! ```rust
@@ -22,19 +25,29 @@
 #![tactic(auto)]
 
 mod cert;
-mod draft;
+mod counts;
 mod forms;
+mod head;
 mod laws;
 mod lines;
+mod outline;
 mod read;
+mod reading;
+mod scanner;
 mod sets;
+mod stage;
+mod state;
 mod words;
 mod write;
 
 pub use cert::{Cert, CertFault, Entry, SparseSet};
+pub use forms::node_line;
+pub use head::Head;
 pub use laws::{
-    best_answers_keep_limits, breaks_are_one, places_in_order, standing_programmes_are_in_order,
-    texts_are_one, whole_trees_are_preorders, written_certificates_fit,
+    best_answers_keep_limits, breaks_are_one, heads_keep_limits, places_in_order,
+    standing_programmes_are_in_order, texts_are_one, whole_trees_are_preorders,
+    written_certificates_fit,
 };
 pub use read::read_cert;
+pub use scanner::Scanner;
 pub use write::write_cert;

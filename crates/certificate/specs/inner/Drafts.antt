@@ -7,10 +7,11 @@ use Rattle.certificate.specs.Limits.{Rise, IsSmall, SetLimits, EntriesFrom, Node
 use Rattle.certificate.specs.declared.cert.Cert.{Cert}
 use Rattle.certificate.specs.declared.cert.Entry.{Entry}
 use Rattle.certificate.specs.declared.cert.SparseSet.{SparseSet}
-use Rattle.certificate.specs.declared.draft.Draft.{Draft}
-use Rattle.certificate.specs.declared.draft.Stage.{Stage}
-use Rattle.certificate.specs.declared.draft.Stage.TheVariants as stages
-use Rattle.certificate.specs.declared.draft.TheConstants.{FIRST_PLACE, LAST_PLACE}
+use Rattle.certificate.specs.declared.outline.Outline.{Outline}
+use Rattle.certificate.specs.declared.stage.Stage.{Stage}
+use Rattle.certificate.specs.declared.stage.Stage.TheVariants as stages
+use Rattle.certificate.specs.declared.outline.TheConstants.{FIRST_PLACE, LAST_PLACE}
+use Rattle.certificate.specs.inner.Outlines.{Draft}
 use Rattle.certificate.specs.inner.Steps.{trees_after}
 
 -- the certificate whose lines were all taken
@@ -103,3 +104,12 @@ pub record DraftFits (d : Draft) : Type 0 where
   pub body : BodyFits d
   pub nodes : TreeFits (length d.sets) d.tree d.nodes_left d.trees_left
   pub stage : StageFits d.stage d
+
+-- what an outline keeps of that, whatever the tree
+pub record OutlineFits (o : Outline) : Type 0 where
+  pub few_sets : length o.sets + o.sets_left ≤ MOST_SETS
+  pub few_entries : o.entries_left ≤ MOST_ENTRIES
+  pub begun : 0 < o.entries_left → 0 < o.sets_left
+  pub few_nodes : o.nodes_left ≤ MOST_NODES
+  pub enough : o.trees_left ≤ o.nodes_left
+  pub some_trees : 0 < o.nodes_left → 0 < o.trees_left

@@ -1,9 +1,9 @@
 -- The lines that a draft has taken.
 use Rattle.std.specs.Prelude.{◌≡◌, ℕ, zero, suc, ◌+◌, List, [], ◌∷◌, ◌++◌, length, map}
 use Rattle.certificate.specs.Texts.{title_line, budget_line, config_line, cost_line, bound_line, set_line, entry_line, tree_line, node_line, end_line, head_lines, sets_lines}
-use Rattle.certificate.specs.declared.draft.Draft.{Draft}
-use Rattle.certificate.specs.declared.draft.Stage.{Stage}
-use Rattle.certificate.specs.declared.draft.Stage.TheVariants as stages
+use Rattle.certificate.specs.inner.Outlines.{Draft}
+use Rattle.certificate.specs.declared.stage.Stage.{Stage}
+use Rattle.certificate.specs.declared.stage.Stage.TheVariants as stages
 use Rattle.certificate.specs.inner.Steps.{StepAt}
 
 -- those of the set that is begun

@@ -6,10 +6,13 @@ use Rattle.bip_model.specs.declared.answer.Node.TheVariants.{Branch, Bounded, Ov
 use Rattle.certificate.specs.Limits.{Rise, IsSmall, EntryLimits, NodeLimits, entry_place}
 use Rattle.certificate.specs.Texts.{title_line, budget_line, config_line, cost_line, bound_line, sets_line, entry_line, tree_line, node_line, end_line}
 use Rattle.certificate.specs.declared.cert.Entry.{Entry}
-use Rattle.certificate.specs.declared.draft.Draft.{Draft}
-use Rattle.certificate.specs.declared.draft.Stage.{Stage}
-use Rattle.certificate.specs.declared.draft.Stage.TheVariants as stages
-use Rattle.certificate.specs.declared.draft.TheConstants.{FIRST_PLACE, LAST_PLACE}
+use Rattle.certificate.specs.declared.outline.Outline.{Outline}
+use Rattle.certificate.specs.declared.stage.Stage.{Stage}
+use Rattle.certificate.specs.declared.stage.Stage.TheVariants as stages
+use Rattle.certificate.specs.declared.stage.Taken.{Taken}
+use Rattle.certificate.specs.declared.stage.Taken.TheVariants as takes
+use Rattle.certificate.specs.declared.outline.TheConstants.{FIRST_PLACE, LAST_PLACE}
+use Rattle.certificate.specs.inner.Outlines.{Draft, with_tree}
 use Rattle.certificate.specs.inner.Words.{IsSetLine}
 
 -- before the first line
@@ -90,11 +93,23 @@ StepAt stages.Body d line e = BodyStep d.entries_left d.sets_left d line e
 StepAt stages.Nodes d line e = NodeStep d.nodes_left d line e
 StepAt stages.Done d line e = ⊥
 
--- a step was made, or there is none
-abbrev pub Takes : Bool → (Draft → Type 0) → Draft → Type 0
-Takes true P e = P e
-Takes false P e = (f : Draft) → ¬ (P f)
+-- before the lines of nodes
+abbrev pub is_front : Stage → Bool
+is_front stages.Nodes = false
+is_front stages.Done = false
+is_front stage = true
 
--- a line was taken as one that may come at a stage, or none may come so
-abbrev pub TakesAt : Stage → Bool → Draft → List ℕ → Draft → Type 0
-TakesAt stage fits d line e = Takes fits (StepAt stage d line) e
+-- a line is taken as one that may come, or none may come so
+abbrev pub Reads : Bool → Draft → List ℕ → Draft → Type 0
+Reads true d line e = StepAt d.stage d line e
+Reads false d line e = (f : Draft) → ¬ (StepAt d.stage d line f)
+
+-- a step was made, whose node, if it has one, is behind the tree so far; or there is none
+abbrev pub Takes : Taken → (Draft → Type 0) → Outline → List Node → Type 0
+Takes takes.Refused P o tree = (f : Draft) → ¬ (P f)
+Takes takes.Line P o tree = P (with_tree o tree)
+Takes (takes.Node node) P o tree = P (with_tree o (tree ++ node ∷ []))
+
+-- so of a line at a stage, whatever the tree so far
+abbrev pub TakesAt : Stage → Taken → Outline → List ℕ → Outline → Type 0
+TakesAt stage taken o line p = (tree : List Node) → Takes taken (StepAt stage (with_tree o tree) line) p tree
