@@ -10,6 +10,8 @@ mod lagrangian;
 #[cfg(test)]
 mod opened;
 #[cfg(test)]
+mod pieces;
+#[cfg(test)]
 mod planned;
 #[cfg(test)]
 mod prices;

@@ -1,20 +1,17 @@
 -- Sums over statements and candidates, one more at a time.
-use Rattle.std.proofs.Common.{◌≡◌, ◌∙◌, ℕ, zero, suc, ◌+◌, ◌-◌, ◌*◌, ◌<◌, List, [], ◌∷◌, ◌++◌, length, get_or, refl, sym, ap, arith}
-use Rattle.std.specs.Prelude.{if◌then◌else◌, ◌==◌, sum, map}
+use Rattle.std.proofs.Common.{◌≡◌, ◌∙◌, ℕ, zero, suc, ◌+◌, ◌-◌, ◌*◌, ◌<◌, List, [], ◌∷◌, ◌++◌, length, get_or, refl, ap, arith}
+use Rattle.std.specs.Prelude.{if◌then◌else◌, ◌==◌}
 use Rattle.std.specs.Option.{option_map_or}
 use Rattle.adv_base.specs.declared.catalogue.Catalogue.{Catalogue}
 use Rattle.adv_base.specs.declared.catalogue.index.IndexShape.{IndexShape}
 use Rattle.adv_base.specs.declared.setting.Config.{Config}
 use Rattle.adv_base.specs.declared.workload.Statement.{Statement}
 use Rattle.adv_base.specs.declared.workload.parts.Slot.{Slot}
-use Rattle.adv_base.specs.Configs.{has_candidate, chosen, config_pages}
+use Rattle.adv_base.specs.Configs.{has_candidate}
 use Rattle.adv_base.specs.Nodes.{Node, is_open}
 use Rattle.adv_base.specs.Settings.{TheSetting}
-use Rattle.adv_base.specs.Sizes.{shape_pages}
 use Rattle.plan_model.specs.Lagrangian.{TheMultipliers, IsRentedPlan, AreRentedPlans, slot_rents, weighted_rents, candidate_cost, candidate_rents, costs_inside, earnings}
 use Rattle.plan_model.specs.Totals.{AreCosts, IsCost, block_of, weighted_sum}
-use Rattle.plan_model.proofs.Sums.{sum-total}
-use Rattle.bip_model.proofs.Totalling.{chosen-sum}
 use Rattle.gap_checker.specs.inner.Earnings.{earned_from}
 
 -- ## Statements
@@ -138,9 +135,3 @@ earnings-more setting multipliers budget node a (first ∷ shapes) shape =
     let next : suc a + length shapes ≡ a + suc (length shapes) = omega arith in
     let same : earning_of setting multipliers budget node (suc a + length shapes) shape ≡ earning_of setting multipliers budget node (a + suc (length shapes)) shape = ap (λ (n : ℕ). earning_of setting multipliers budget node n shape) next in
     omega (arith, earnings-more setting multipliers budget node (suc a) shapes shape, same)
-
--- ## Pages
-
-pub pages-sum : (cat : Catalogue) (shapes : List IndexShape) (config : Config) (sizes : List ℕ) → sizes ≡ map (shape_pages cat) shapes → sum (chosen config.on sizes) ≡ config_pages cat shapes config
-pages-sum cat shapes config sizes are =
-    ap (λ (list : List ℕ). sum (chosen config.on list)) are ∙ chosen-sum (shape_pages cat) config.on shapes ∙ sym (sum-total (shape_pages cat) (chosen config.on shapes))

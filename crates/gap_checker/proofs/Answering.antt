@@ -7,13 +7,14 @@ use Rattle.std.proofs.lemmas.List.{append_assoc}
 use Rattle.std.proofs.lemmas.List.Elements.{All-head, All-tail}
 use Rattle.adv_base.specs.declared.limits.TheConstants.{MOST_CANDIDATES, MOST_RENT}
 use Rattle.adv_base.specs.declared.setting.Config.{Config}
+use Rattle.adv_base.specs.Nodes as nodes
 use Rattle.adv_base.specs.Settings.{TheSetting}
 use Rattle.plan_model.specs.Lagrangian.{TheMultipliers}
 use Rattle.bip_model.specs.declared.answer.Answer.{Answer}
 use Rattle.bip_model.specs.declared.multipliers.Multipliers.{Multipliers}
 use Rattle.bip_model.specs.declared.programme.Programme.{Programme}
 use Rattle.bip_model.specs.Best.{IsBest}
-use Rattle.bip_model.specs.Proves.{free_node, Proves}
+use Rattle.bip_model.specs.Proves.{Proves}
 use Rattle.bip_model.specs.StandsFor.{StandsFor}
 use Rattle.bip_model.specs.Trees.{with_candidate}
 use Rattle.bip_model.specs.Uses.{uses, multipliers_in, AreMultipliersIn}
@@ -122,10 +123,10 @@ sets-same setting programme (set ∷ sets) stands are =
 
 -- ## The law
 
-pub best-proved : (setting : TheSetting) (programme : Programme) (budget node_budget : ℕ) (answer : Answer) → StandsFor setting programme → length answer.config.on ≡ MOST_CANDIDATES →
-    IsBest setting budget node_budget free_node answer → IsProof setting (answer_cert programme budget answer)
-best-proved setting programme budget node_budget answer stands count best =
-    subst (λ (config : Config). Proves setting budget free_node config answer.cost answer.bound (map multipliers_of (map (sparse_set programme) answer.sets)) answer.tree)
+pub best-proved : (setting : TheSetting) (programme : Programme) (budget node_budget : ℕ) (root : nodes.Node) (answer : Answer) → StandsFor setting programme → length answer.config.on ≡ MOST_CANDIDATES →
+    IsBest setting budget node_budget root answer → IsProof setting root (answer_cert programme budget answer)
+best-proved setting programme budget node_budget root answer stands count best =
+    subst (λ (config : Config). Proves setting budget root config answer.cost answer.bound (map multipliers_of (map (sparse_set programme) answer.sets)) answer.tree)
     (sym (config-same answer.config count))
-    (subst (λ (sets : List TheMultipliers). Proves setting budget free_node answer.config answer.cost answer.bound sets answer.tree)
+    (subst (λ (sets : List TheMultipliers). Proves setting budget root answer.config answer.cost answer.bound sets answer.tree)
     (sym (sets-same setting programme answer.sets stands best.limits.each)) best.proves)

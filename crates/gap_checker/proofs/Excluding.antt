@@ -40,26 +40,26 @@ some-there P [] x rest all = All-head P x rest all
 some-there P (y ∷ before) x rest all = some-there P before x rest (λ k d within. all (suc k) d (omega (arith, within)))
 
 -- each node of a proof's tree is right
-right-there : (setting : TheSetting) (cert : Cert) (number : ℕ) (at : nodes.Node) (node : Node) → IsProof setting cert → IsNodeAt setting cert number at node → IsRightAt setting cert.budget cert.bound (sets_of cert) at node
-right-there setting cert number at node proof is =
+right-there : (setting : TheSetting) (root : nodes.Node) (cert : Cert) (number : ℕ) (at : nodes.Node) (node : Node) → IsProof setting root cert → IsNodeAt setting root cert number at node → IsRightAt setting cert.budget cert.bound (sets_of cert) at node
+right-there setting root cert number at node proof is =
     let P : Visit → Type 0 = IsRight setting cert.budget cert.bound (sets_of cert) in
-    let all = shown-right setting cert.budget cert.bound (sets_of cert) free_node [] proof.shown.tree [] proof.shown.shows (λ k d within. absurd (omega (arith, within))) in
-    let moved : All P (visits (free_node ∷ []) cert.tree) = subst (λ (list : List Node). All P (visits (free_node ∷ []) list)) (sym (behind-nothing (preorder proof.shown.tree)) ∙ sym proof.shown.list_is) all in
+    let all = shown-right setting cert.budget cert.bound (sets_of cert) root [] proof.shown.tree [] proof.shown.shows (λ k d within. absurd (omega (arith, within))) in
+    let moved : All P (visits (root ∷ []) cert.tree) = subst (λ (list : List Node). All P (visits (root ∷ []) list)) (sym (behind-nothing (preorder proof.shown.tree)) ∙ sym proof.shown.list_is) all in
     some-there P is.before (record { at = at; node = node }) is.rest (subst (All P) is.parts moved)
 
 not-below : (bound value : ℤ) → bound ≤ℤ value → value <ℤ bound → ⊥
 not-below bound value least below = omega (arith, ints, least, below)
 
 -- a leaf below the bound isn't right
-pub leaf-wrong : (setting : TheSetting) (cert : Cert) (n : ℕ) (computed claimed : ℤ) (is : IsLeafBelow setting cert n computed claimed) → IsRightAt setting cert.budget cert.bound (sets_of cert) is.at (Bounded is.set) → ⊥
-leaf-wrong setting cert n computed claimed is right =
+pub leaf-wrong : (setting : TheSetting) (root : nodes.Node) (cert : Cert) (n : ℕ) (computed claimed : ℤ) (is : IsLeafBelow setting root cert n computed claimed) → IsRightAt setting cert.budget cert.bound (sets_of cert) is.at (Bounded is.set) → ⊥
+leaf-wrong setting root cert n computed claimed is right =
     let same : right.multipliers ≡ is.multipliers = same_Some right.multipliers is.multipliers (sym right.found ∙ is.found) in
     let value : right.value ≡ computed = one-lagrangian setting cert.budget is.at is.multipliers right.value computed (subst (λ (m : TheMultipliers). IsLagrangian setting cert.budget is.at m right.value) same right.value_is) is.value_is in
     not-below claimed computed (subst (λ (v : ℤ). claimed ≤ℤ v) value (subst (λ (b : ℤ). b ≤ℤ right.value) (sym is.claimed_is) right.at_least)) is.below
 
 -- nor is one that is called overfull where what is in fits
-pub full-wrong : (setting : TheSetting) (cert : Cert) (n size : ℕ) (is : IsNotOverfull setting cert n size) → IsRightAt setting cert.budget cert.bound (sets_of cert) is.at Overfull → ⊥
-full-wrong setting cert n size is right = omega (arith, right, is.size_is, is.fits)
+pub full-wrong : (setting : TheSetting) (root : nodes.Node) (cert : Cert) (n size : ℕ) (is : IsNotOverfull setting root cert n size) → IsRightAt setting cert.budget cert.bound (sets_of cert) is.at Overfull → ⊥
+full-wrong setting root cert n size is right = omega (arith, right, is.size_is, is.fits)
 
 -- ## Configurations and pairs
 
@@ -89,18 +89,18 @@ bad-pair setting cert number place rise rents bad =
     bad.none (named bad.entry.statement (bad.entry.slot - 1) bad.entry.candidate (entry-rent bad.set.entries 0 (place - 1) bad.entry (rise (number - 1) bad.set bad.set_found) bad.entry_found))
 
 -- what proves is refused only for want of memory
-pub excluded : (setting : TheSetting) (cert : Cert) (fault : CheckFault) → CertLimits cert → ((j : ℕ) (set : SparseSet) → slice_get cert.sets j ≡ Some set → EntriesFrom 0 set.entries) →
-    IsProof setting cert → IsFault setting cert fault → fault ≡ faults.Memory
-excluded setting cert faults.Memory limits rise proof is = refl
-excluded setting cert (faults.BadConfig n) limits rise proof is = absurd (bad-number setting cert n limits proof.members is)
-excluded setting cert (faults.OverBudget size budget) limits rise proof is = absurd (not-over setting cert size budget proof.fits is)
-excluded setting cert (faults.CostDiffers claimed computed) limits rise proof is = absurd (not-other setting cert claimed computed proof.cost_is is)
-excluded setting cert (faults.BadPair set entry) limits rise proof is = absurd (bad-pair setting cert set entry rise proof.rents is)
-excluded setting cert (faults.BadBranch n) limits rise proof is = absurd (is.wrong (right-there setting cert n is.at (Branch is.candidate) proof is.node_is))
-excluded setting cert (faults.LeafBelow n computed claimed) limits rise proof is =
-    absurd (leaf-wrong setting cert n computed claimed is (right-there setting cert n is.at (Bounded is.set) proof is.node_is))
-excluded setting cert (faults.NotInfeasible n size) limits rise proof is =
-    absurd (full-wrong setting cert n size is (right-there setting cert n is.at Overfull proof is.node_is))
+pub excluded : (setting : TheSetting) (root : nodes.Node) (cert : Cert) (fault : CheckFault) → CertLimits cert → ((j : ℕ) (set : SparseSet) → slice_get cert.sets j ≡ Some set → EntriesFrom 0 set.entries) →
+    IsProof setting root cert → IsFault setting root cert fault → fault ≡ faults.Memory
+excluded setting root cert faults.Memory limits rise proof is = refl
+excluded setting root cert (faults.BadConfig n) limits rise proof is = absurd (bad-number setting cert n limits proof.members is)
+excluded setting root cert (faults.OverBudget size budget) limits rise proof is = absurd (not-over setting cert size budget proof.fits is)
+excluded setting root cert (faults.CostDiffers claimed computed) limits rise proof is = absurd (not-other setting cert claimed computed proof.cost_is is)
+excluded setting root cert (faults.BadPair set entry) limits rise proof is = absurd (bad-pair setting cert set entry rise proof.rents is)
+excluded setting root cert (faults.BadBranch n) limits rise proof is = absurd (is.wrong (right-there setting root cert n is.at (Branch is.candidate) proof is.node_is))
+excluded setting root cert (faults.LeafBelow n computed claimed) limits rise proof is =
+    absurd (leaf-wrong setting root cert n computed claimed is (right-there setting root cert n is.at (Bounded is.set) proof is.node_is))
+excluded setting root cert (faults.NotInfeasible n size) limits rise proof is =
+    absurd (full-wrong setting root cert n size is (right-there setting root cert n is.at Overfull proof is.node_is))
 
 -- the entries of a certificate's sets are in order
 pub sets-rise : (sets : List SparseSet) → AllByRecursion SetLimits sets → (j : ℕ) (set : SparseSet) → slice_get sets j ≡ Some set → EntriesFrom 0 set.entries
@@ -112,7 +112,7 @@ sets-rise (first ∷ sets) limits zero set there = subst (λ (s : SparseSet). En
 sets-rise (first ∷ sets) limits (suc j) set there = sets-rise sets limits.1 j set there
 
 -- a proof bounds every fitting configuration
-pub bounds-all : (setting : TheSetting) (cert : Cert) → KeepsLimits setting → IsProof setting cert → BoundsAll setting cert.budget cert.cost cert.bound
+pub bounds-all : (setting : TheSetting) (cert : Cert) → KeepsLimits setting → IsProof setting free_node cert → BoundsAll setting cert.budget cert.cost cert.bound
 bounds-all setting cert limits proof =
     record {
       all = λ other sum is fits sum_is. proved-bound setting cert.budget free_node (config_of cert) cert.cost cert.bound (sets_of cert) cert.tree other sum limits proof is fits (below-free other) sum_is;

@@ -10,8 +10,15 @@ pub mod Walking
 pub mod Excluding
 pub mod Judging
 pub mod Answering
-pub mod Desks
+pub mod EachDesk
 pub mod Changing
 pub mod Keeping
 pub mod Remembering
 pub mod OneFault
+pub mod Claimed
+pub mod TreeTexts
+pub mod TreeBreaks
+pub mod Reading
+pub mod Alike
+pub mod Behind
+pub mod Told

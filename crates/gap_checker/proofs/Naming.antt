@@ -199,14 +199,14 @@ total-at (first ∷ sets) (suc j) set there = omega (arith, total-at sets j set 
 pub count-at : (sets : List SparseSet) (j : ℕ) (set : SparseSet) → slice_get sets j ≡ Some set → length set.entries ≤ entry_count sets
 count-at sets j set there = omega (arith, total-at sets j set there, sum-total (λ (s : SparseSet). length s.entries) sets)
 
-pub pair-first : (setting : TheSetting) (cert : Cert) (j number place : ℕ) (set : SparseSet) → number ≡ j + 1 → slice_get cert.sets j ≡ Some set → IsBadEntry setting set place →
-    ((k : ℕ) (earlier : SparseSet) → k < j → slice_get cert.sets k ≡ Some earlier → All (NamesPair setting) earlier.entries) → IsFirstBad setting cert number place
-pair-first setting cert j number place set is found bad before =
+pub pair-first : (setting : TheSetting) (sets : List SparseSet) (j number place : ℕ) (set : SparseSet) → number ≡ j + 1 → slice_get sets j ≡ Some set → IsBadEntry setting set place →
+    ((k : ℕ) (earlier : SparseSet) → k < j → slice_get sets k ≡ Some earlier → All (NamesPair setting) earlier.entries) → IsFirstBad setting sets number place
+pair-first setting sets j number place set is found bad before =
     let same : number - 1 ≡ j = omega (arith, is) in
     record {
       some = omega (arith, is);
       set = set;
-      found = ap (slice_get cert.sets) same ∙ found;
+      found = ap (slice_get sets) same ∙ found;
       entry = bad;
       before = λ k earlier below there. before k earlier (omega (arith, below, same)) there;
     }

@@ -102,9 +102,9 @@ pub record IsOneNode (m n : ℕ) (at other : nodes.Node) (node another : Node) :
   pub place : at ≡ other
   pub same : node ≡ another
 
-one-node : (setting : TheSetting) (cert : Cert) (m n : ℕ) (at other : nodes.Node) (node another : Node) → IsNodeAt setting cert m at node → IsNodeAt setting cert n other another →
+one-node : (setting : TheSetting) (root : nodes.Node) (cert : Cert) (m n : ℕ) (at other : nodes.Node) (node another : Node) → IsNodeAt setting root cert m at node → IsNodeAt setting root cert n other another →
     (IsRightAt setting cert.budget cert.bound (sets_of cert) at node → ⊥) → (IsRightAt setting cert.budget cert.bound (sets_of cert) other another → ⊥) → IsOneNode m n at other node another
-one-node setting cert m n at other node another p q wrong bad =
+one-node setting root cert m n at other node another p q wrong bad =
     let x : Visit = record { at = at; node = node } in
     let y : Visit = record { at = other; node = another } in
     let one = first-one (IsRight setting cert.budget cert.bound (sets_of cert)) p.before q.before x y p.rest q.rest (sym p.parts ∙ q.parts) p.right q.right wrong bad in
@@ -114,13 +114,13 @@ one-node setting cert m n at other node another p q wrong bad =
       same = ap (λ (v : Visit). v.node) one.1;
     }
 
-same-branch : (setting : TheSetting) (cert : Cert) (m n : ℕ) → IsBadBranch setting cert m → IsBadBranch setting cert n → faults.BadBranch m ≡ faults.BadBranch n
-same-branch setting cert m n p q =
-    ap faults.BadBranch (one-node setting cert m n p.at q.at (Branch p.candidate) (Branch q.candidate) p.node_is q.node_is p.wrong q.wrong).number
+same-branch : (setting : TheSetting) (root : nodes.Node) (cert : Cert) (m n : ℕ) → IsBadBranch setting root cert m → IsBadBranch setting root cert n → faults.BadBranch m ≡ faults.BadBranch n
+same-branch setting root cert m n p q =
+    ap faults.BadBranch (one-node setting root cert m n p.at q.at (Branch p.candidate) (Branch q.candidate) p.node_is q.node_is p.wrong q.wrong).number
 
-same-leaf : (setting : TheSetting) (cert : Cert) (m n : ℕ) (v w c d : ℤ) → IsLeafBelow setting cert m v c → IsLeafBelow setting cert n w d → faults.LeafBelow m v c ≡ faults.LeafBelow n w d
-same-leaf setting cert m n v w c d p q =
-    let one = one-node setting cert m n p.at q.at (Bounded p.set) (Bounded q.set) p.node_is q.node_is (leaf-wrong setting cert m v c p) (leaf-wrong setting cert n w d q) in
+same-leaf : (setting : TheSetting) (root : nodes.Node) (cert : Cert) (m n : ℕ) (v w c d : ℤ) → IsLeafBelow setting root cert m v c → IsLeafBelow setting root cert n w d → faults.LeafBelow m v c ≡ faults.LeafBelow n w d
+same-leaf setting root cert m n v w c d p q =
+    let one = one-node setting root cert m n p.at q.at (Bounded p.set) (Bounded q.set) p.node_is q.node_is (leaf-wrong setting root cert m v c p) (leaf-wrong setting root cert n w d q) in
     let number : m ≡ n = one.number in
     let set : p.set ≡ q.set = let same = one.same in cc in
     let multipliers : p.multipliers ≡ q.multipliers = same_Some p.multipliers q.multipliers (sym p.found ∙ ap (set_at (sets_of cert)) set ∙ q.found) in
@@ -129,25 +129,25 @@ same-leaf setting cert m n v w c d p q =
     let claim : c ≡ d = p.claimed_is ∙ sym q.claimed_is in
     cc
 
-same-full : (setting : TheSetting) (cert : Cert) (m n s t : ℕ) → IsNotOverfull setting cert m s → IsNotOverfull setting cert n t → faults.NotInfeasible m s ≡ faults.NotInfeasible n t
-same-full setting cert m n s t p q =
-    let one = one-node setting cert m n p.at q.at Overfull Overfull p.node_is q.node_is (full-wrong setting cert m s p) (full-wrong setting cert n t q) in
+same-full : (setting : TheSetting) (root : nodes.Node) (cert : Cert) (m n s t : ℕ) → IsNotOverfull setting root cert m s → IsNotOverfull setting root cert n t → faults.NotInfeasible m s ≡ faults.NotInfeasible n t
+same-full setting root cert m n s t p q =
+    let one = one-node setting root cert m n p.at q.at Overfull Overfull p.node_is q.node_is (full-wrong setting root cert m s p) (full-wrong setting root cert n t q) in
     let number : m ≡ n = one.number in
     let size : s ≡ t = p.size_is ∙ ap (λ (at : nodes.Node). config_pages setting.cat setting.shapes at.inside) one.place ∙ sym q.size_is in
     cc
 
 -- nodes of two kinds aren't one
-no-branch-leaf : (setting : TheSetting) (cert : Cert) (m n : ℕ) (v c : ℤ) → IsBadBranch setting cert m → IsLeafBelow setting cert n v c → ⊥
-no-branch-leaf setting cert m n v c p q =
-    let same = (one-node setting cert m n p.at q.at (Branch p.candidate) (Bounded q.set) p.node_is q.node_is p.wrong (leaf-wrong setting cert n v c q)).same in cc
+no-branch-leaf : (setting : TheSetting) (root : nodes.Node) (cert : Cert) (m n : ℕ) (v c : ℤ) → IsBadBranch setting root cert m → IsLeafBelow setting root cert n v c → ⊥
+no-branch-leaf setting root cert m n v c p q =
+    let same = (one-node setting root cert m n p.at q.at (Branch p.candidate) (Bounded q.set) p.node_is q.node_is p.wrong (leaf-wrong setting root cert n v c q)).same in cc
 
-no-branch-full : (setting : TheSetting) (cert : Cert) (m n s : ℕ) → IsBadBranch setting cert m → IsNotOverfull setting cert n s → ⊥
-no-branch-full setting cert m n s p q =
-    let same = (one-node setting cert m n p.at q.at (Branch p.candidate) Overfull p.node_is q.node_is p.wrong (full-wrong setting cert n s q)).same in cc
+no-branch-full : (setting : TheSetting) (root : nodes.Node) (cert : Cert) (m n s : ℕ) → IsBadBranch setting root cert m → IsNotOverfull setting root cert n s → ⊥
+no-branch-full setting root cert m n s p q =
+    let same = (one-node setting root cert m n p.at q.at (Branch p.candidate) Overfull p.node_is q.node_is p.wrong (full-wrong setting root cert n s q)).same in cc
 
-no-leaf-full : (setting : TheSetting) (cert : Cert) (m n s : ℕ) (v c : ℤ) → IsLeafBelow setting cert m v c → IsNotOverfull setting cert n s → ⊥
-no-leaf-full setting cert m n s v c p q =
-    let same = (one-node setting cert m n p.at q.at (Bounded p.set) Overfull p.node_is q.node_is (leaf-wrong setting cert m v c p) (full-wrong setting cert n s q)).same in cc
+no-leaf-full : (setting : TheSetting) (root : nodes.Node) (cert : Cert) (m n s : ℕ) (v c : ℤ) → IsLeafBelow setting root cert m v c → IsNotOverfull setting root cert n s → ⊥
+no-leaf-full setting root cert m n s v c p q =
+    let same = (one-node setting root cert m n p.at q.at (Bounded p.set) Overfull p.node_is q.node_is (leaf-wrong setting root cert m v c p) (full-wrong setting root cert n s q)).same in cc
 
 -- ## Two faults
 
@@ -166,80 +166,80 @@ rank (faults.LeafBelow k l m) = 6
 rank (faults.NotInfeasible k l) = 7
 
 -- no two faults of different ranks stand together
-apart : (setting : TheSetting) (cert : Cert) (one two : CheckFault) → CertLimits cert → Rising cert → one ≢ faults.Memory → rank one < rank two → IsFault setting cert one → IsFault setting cert two → ⊥
-apart setting cert faults.Memory two limits rise some less p q = some refl
-apart setting cert (faults.BadConfig k) (faults.OverBudget n o) limits rise some less p q = bad-number setting cert k limits q.members p
-apart setting cert (faults.BadConfig k) (faults.CostDiffers n o) limits rise some less p q = bad-number setting cert k limits q.members p
-apart setting cert (faults.BadConfig k) (faults.BadPair n o) limits rise some less p q = bad-number setting cert k limits q.members p
-apart setting cert (faults.BadConfig k) (faults.BadBranch n) limits rise some less p q = bad-number setting cert k limits q.sound.members p
-apart setting cert (faults.BadConfig k) (faults.LeafBelow n o r) limits rise some less p q = bad-number setting cert k limits q.sound.members p
-apart setting cert (faults.BadConfig k) (faults.NotInfeasible n o) limits rise some less p q = bad-number setting cert k limits q.sound.members p
-apart setting cert (faults.BadConfig k) two limits rise some less p q = omega (arith, less)
-apart setting cert (faults.OverBudget k l) (faults.CostDiffers n o) limits rise some less p q = not-over setting cert k l q.fits p
-apart setting cert (faults.OverBudget k l) (faults.BadPair n o) limits rise some less p q = not-over setting cert k l q.fits p
-apart setting cert (faults.OverBudget k l) (faults.BadBranch n) limits rise some less p q = not-over setting cert k l q.sound.fits p
-apart setting cert (faults.OverBudget k l) (faults.LeafBelow n o r) limits rise some less p q = not-over setting cert k l q.sound.fits p
-apart setting cert (faults.OverBudget k l) (faults.NotInfeasible n o) limits rise some less p q = not-over setting cert k l q.sound.fits p
-apart setting cert (faults.OverBudget k l) two limits rise some less p q = omega (arith, less)
-apart setting cert (faults.CostDiffers k l) (faults.BadPair n o) limits rise some less p q = not-other setting cert k l q.cost_is p
-apart setting cert (faults.CostDiffers k l) (faults.BadBranch n) limits rise some less p q = not-other setting cert k l q.sound.cost_is p
-apart setting cert (faults.CostDiffers k l) (faults.LeafBelow n o r) limits rise some less p q = not-other setting cert k l q.sound.cost_is p
-apart setting cert (faults.CostDiffers k l) (faults.NotInfeasible n o) limits rise some less p q = not-other setting cert k l q.sound.cost_is p
-apart setting cert (faults.CostDiffers k l) two limits rise some less p q = omega (arith, less)
-apart setting cert (faults.BadPair k l) (faults.BadBranch n) limits rise some less p q = bad-pair setting cert k l rise q.sound.rents p
-apart setting cert (faults.BadPair k l) (faults.LeafBelow n o r) limits rise some less p q = bad-pair setting cert k l rise q.sound.rents p
-apart setting cert (faults.BadPair k l) (faults.NotInfeasible n o) limits rise some less p q = bad-pair setting cert k l rise q.sound.rents p
-apart setting cert (faults.BadPair k l) two limits rise some less p q = omega (arith, less)
-apart setting cert (faults.BadBranch k) (faults.LeafBelow n o r) limits rise some less p q = no-branch-leaf setting cert k n o r p q
-apart setting cert (faults.BadBranch k) (faults.NotInfeasible n o) limits rise some less p q = no-branch-full setting cert k n o p q
-apart setting cert (faults.BadBranch k) two limits rise some less p q = omega (arith, less)
-apart setting cert (faults.LeafBelow k l m) (faults.NotInfeasible n o) limits rise some less p q = no-leaf-full setting cert k n o l m p q
-apart setting cert (faults.LeafBelow k l m) two limits rise some less p q = omega (arith, less)
-apart setting cert (faults.NotInfeasible k l) faults.Memory limits rise some less p q = omega (arith, less)
-apart setting cert (faults.NotInfeasible k l) two limits rise some less p q = omega (arith, less)
+apart : (setting : TheSetting) (root : nodes.Node) (cert : Cert) (one two : CheckFault) → CertLimits cert → Rising cert → one ≢ faults.Memory → rank one < rank two → IsFault setting root cert one → IsFault setting root cert two → ⊥
+apart setting root cert faults.Memory two limits rise some less p q = some refl
+apart setting root cert (faults.BadConfig k) (faults.OverBudget n o) limits rise some less p q = bad-number setting cert k limits q.members p
+apart setting root cert (faults.BadConfig k) (faults.CostDiffers n o) limits rise some less p q = bad-number setting cert k limits q.members p
+apart setting root cert (faults.BadConfig k) (faults.BadPair n o) limits rise some less p q = bad-number setting cert k limits q.members p
+apart setting root cert (faults.BadConfig k) (faults.BadBranch n) limits rise some less p q = bad-number setting cert k limits q.sound.members p
+apart setting root cert (faults.BadConfig k) (faults.LeafBelow n o r) limits rise some less p q = bad-number setting cert k limits q.sound.members p
+apart setting root cert (faults.BadConfig k) (faults.NotInfeasible n o) limits rise some less p q = bad-number setting cert k limits q.sound.members p
+apart setting root cert (faults.BadConfig k) two limits rise some less p q = omega (arith, less)
+apart setting root cert (faults.OverBudget k l) (faults.CostDiffers n o) limits rise some less p q = not-over setting cert k l q.fits p
+apart setting root cert (faults.OverBudget k l) (faults.BadPair n o) limits rise some less p q = not-over setting cert k l q.fits p
+apart setting root cert (faults.OverBudget k l) (faults.BadBranch n) limits rise some less p q = not-over setting cert k l q.sound.fits p
+apart setting root cert (faults.OverBudget k l) (faults.LeafBelow n o r) limits rise some less p q = not-over setting cert k l q.sound.fits p
+apart setting root cert (faults.OverBudget k l) (faults.NotInfeasible n o) limits rise some less p q = not-over setting cert k l q.sound.fits p
+apart setting root cert (faults.OverBudget k l) two limits rise some less p q = omega (arith, less)
+apart setting root cert (faults.CostDiffers k l) (faults.BadPair n o) limits rise some less p q = not-other setting cert k l q.cost_is p
+apart setting root cert (faults.CostDiffers k l) (faults.BadBranch n) limits rise some less p q = not-other setting cert k l q.sound.cost_is p
+apart setting root cert (faults.CostDiffers k l) (faults.LeafBelow n o r) limits rise some less p q = not-other setting cert k l q.sound.cost_is p
+apart setting root cert (faults.CostDiffers k l) (faults.NotInfeasible n o) limits rise some less p q = not-other setting cert k l q.sound.cost_is p
+apart setting root cert (faults.CostDiffers k l) two limits rise some less p q = omega (arith, less)
+apart setting root cert (faults.BadPair k l) (faults.BadBranch n) limits rise some less p q = bad-pair setting cert k l rise q.sound.rents p
+apart setting root cert (faults.BadPair k l) (faults.LeafBelow n o r) limits rise some less p q = bad-pair setting cert k l rise q.sound.rents p
+apart setting root cert (faults.BadPair k l) (faults.NotInfeasible n o) limits rise some less p q = bad-pair setting cert k l rise q.sound.rents p
+apart setting root cert (faults.BadPair k l) two limits rise some less p q = omega (arith, less)
+apart setting root cert (faults.BadBranch k) (faults.LeafBelow n o r) limits rise some less p q = no-branch-leaf setting root cert k n o r p q
+apart setting root cert (faults.BadBranch k) (faults.NotInfeasible n o) limits rise some less p q = no-branch-full setting root cert k n o p q
+apart setting root cert (faults.BadBranch k) two limits rise some less p q = omega (arith, less)
+apart setting root cert (faults.LeafBelow k l m) (faults.NotInfeasible n o) limits rise some less p q = no-leaf-full setting root cert k n o l m p q
+apart setting root cert (faults.LeafBelow k l m) two limits rise some less p q = omega (arith, less)
+apart setting root cert (faults.NotInfeasible k l) faults.Memory limits rise some less p q = omega (arith, less)
+apart setting root cert (faults.NotInfeasible k l) two limits rise some less p q = omega (arith, less)
 
 -- two of one rank are the same
-alike : (setting : TheSetting) (cert : Cert) (one two : CheckFault) → one ≢ faults.Memory → rank one ≡ rank two → IsFault setting cert one → IsFault setting cert two → one ≡ two
-alike setting cert faults.Memory two some same p q = absurd (some refl)
-alike setting cert (faults.BadConfig k) (faults.BadConfig n) some same p q = ap faults.BadConfig (same-number setting cert k n p q)
-alike setting cert (faults.BadConfig k) two some same p q = absurd (omega (arith, same))
-alike setting cert (faults.OverBudget k l) (faults.OverBudget n o) some same p q = over-same setting cert k l n o p q
-alike setting cert (faults.OverBudget k l) two some same p q = absurd (omega (arith, same))
-alike setting cert (faults.CostDiffers k l) (faults.CostDiffers n o) some same p q = other-same setting cert k l n o p q
-alike setting cert (faults.CostDiffers k l) two some same p q = absurd (omega (arith, same))
-alike setting cert (faults.BadPair k l) (faults.BadPair n o) some same p q = same-pair setting cert k l n o p q
-alike setting cert (faults.BadPair k l) two some same p q = absurd (omega (arith, same))
-alike setting cert (faults.BadBranch k) (faults.BadBranch n) some same p q = same-branch setting cert k n p q
-alike setting cert (faults.BadBranch k) two some same p q = absurd (omega (arith, same))
-alike setting cert (faults.LeafBelow k l m) (faults.LeafBelow n o r) some same p q = same-leaf setting cert k n l o m r p q
-alike setting cert (faults.LeafBelow k l m) two some same p q = absurd (omega (arith, same))
-alike setting cert (faults.NotInfeasible k l) (faults.NotInfeasible n o) some same p q = same-full setting cert k n l o p q
-alike setting cert (faults.NotInfeasible k l) two some same p q = absurd (omega (arith, same))
+alike : (setting : TheSetting) (root : nodes.Node) (cert : Cert) (one two : CheckFault) → one ≢ faults.Memory → rank one ≡ rank two → IsFault setting root cert one → IsFault setting root cert two → one ≡ two
+alike setting root cert faults.Memory two some same p q = absurd (some refl)
+alike setting root cert (faults.BadConfig k) (faults.BadConfig n) some same p q = ap faults.BadConfig (same-number setting cert k n p q)
+alike setting root cert (faults.BadConfig k) two some same p q = absurd (omega (arith, same))
+alike setting root cert (faults.OverBudget k l) (faults.OverBudget n o) some same p q = over-same setting cert k l n o p q
+alike setting root cert (faults.OverBudget k l) two some same p q = absurd (omega (arith, same))
+alike setting root cert (faults.CostDiffers k l) (faults.CostDiffers n o) some same p q = other-same setting cert k l n o p q
+alike setting root cert (faults.CostDiffers k l) two some same p q = absurd (omega (arith, same))
+alike setting root cert (faults.BadPair k l) (faults.BadPair n o) some same p q = same-pair setting cert k l n o p q
+alike setting root cert (faults.BadPair k l) two some same p q = absurd (omega (arith, same))
+alike setting root cert (faults.BadBranch k) (faults.BadBranch n) some same p q = same-branch setting root cert k n p q
+alike setting root cert (faults.BadBranch k) two some same p q = absurd (omega (arith, same))
+alike setting root cert (faults.LeafBelow k l m) (faults.LeafBelow n o r) some same p q = same-leaf setting root cert k n l o m r p q
+alike setting root cert (faults.LeafBelow k l m) two some same p q = absurd (omega (arith, same))
+alike setting root cert (faults.NotInfeasible k l) (faults.NotInfeasible n o) some same p q = same-full setting root cert k n l o p q
+alike setting root cert (faults.NotInfeasible k l) two some same p q = absurd (omega (arith, same))
 
 -- two faults of a certificate are the same
-pub one-fault : (setting : TheSetting) (cert : Cert) (one two : CheckFault) → CertLimits cert → Rising cert → one ≢ faults.Memory → two ≢ faults.Memory → IsFault setting cert one → IsFault setting cert two → one ≡ two
-one-fault setting cert one two limits rise some other p q =
+pub one-fault : (setting : TheSetting) (root : nodes.Node) (cert : Cert) (one two : CheckFault) → CertLimits cert → Rising cert → one ≢ faults.Memory → two ≢ faults.Memory → IsFault setting root cert one → IsFault setting root cert two → one ≡ two
+one-fault setting root cert one two limits rise some other p q =
     elim (cases_order (rank one) (rank two)) [
-      | inl same ↦ alike setting cert one two some same p q
+      | inl same ↦ alike setting root cert one two some same p q
       | inr differ ↦
           elim differ [
-            | inl less ↦ absurd (apart setting cert one two limits rise some less p q)
-            | inr more ↦ absurd (apart setting cert two one limits rise other more q p)
+            | inl less ↦ absurd (apart setting root cert one two limits rise some less p q)
+            | inr more ↦ absurd (apart setting root cert two one limits rise other more q p)
           ]
     ]
 
 -- ## Two answers
 
-same-checked : (setting : TheSetting) (cert : Cert) (checked other : Checked) → IsChecked setting cert checked → IsChecked setting cert other → checked ≡ other
-same-checked setting cert checked other p q =
+same-checked : (setting : TheSetting) (root : nodes.Node) (cert : Cert) (checked other : Checked) → IsChecked setting root cert checked → IsChecked setting root cert other → checked ≡ other
+same-checked setting root cert checked other p q =
     let budget = p.budget_is ∙ sym q.budget_is in
     let cost = p.cost_is ∙ sym q.cost_is in
     let bound = p.bound_is ∙ sym q.bound_is in
     λ i. record { budget = budget i; cost = cost i; bound = bound i }
 
 -- two answers to a certificate are the same
-pub one-answer : (setting : TheSetting) (cert : Cert) (answer other : Result Checked CheckFault) → CertLimits cert → IsAnswer setting cert answer → IsAnswer setting cert other → answer ≡ other
-one-answer setting cert (Ok checked) (Ok other) limits p q = ap Ok (same-checked setting cert checked other p q)
-one-answer setting cert (Ok checked) (Err fault) limits p q = absurd (q.0 (excluded setting cert fault limits (sets-rise cert.sets limits.sets) p.proof q.1))
-one-answer setting cert (Err fault) (Ok checked) limits p q = absurd (p.0 (excluded setting cert fault limits (sets-rise cert.sets limits.sets) q.proof p.1))
-one-answer setting cert (Err fault) (Err other) limits p q = ap Err (one-fault setting cert fault other limits (sets-rise cert.sets limits.sets) p.0 q.0 p.1 q.1)
+pub one-answer : (setting : TheSetting) (root : nodes.Node) (cert : Cert) (answer other : Result Checked CheckFault) → CertLimits cert → IsAnswer setting root cert answer → IsAnswer setting root cert other → answer ≡ other
+one-answer setting root cert (Ok checked) (Ok other) limits p q = ap Ok (same-checked setting root cert checked other p q)
+one-answer setting root cert (Ok checked) (Err fault) limits p q = absurd (q.0 (excluded setting root cert fault limits (sets-rise cert.sets limits.sets) p.proof q.1))
+one-answer setting root cert (Err fault) (Ok checked) limits p q = absurd (p.0 (excluded setting root cert fault limits (sets-rise cert.sets limits.sets) q.proof p.1))
+one-answer setting root cert (Err fault) (Err other) limits p q = ap Err (one-fault setting root cert fault other limits (sets-rise cert.sets limits.sets) p.0 q.0 p.1 q.1)

@@ -6,7 +6,6 @@ use Rattle.std.proofs.lemmas.List.Elements.{All-replicate, All-head, All-tail}
 use Rattle.std.proofs.lemmas.Option.{slice_get_within}
 use Rattle.adv_base.specs.Settings.{TheSetting}
 use Rattle.bip_model.specs.StandsFor.{AreEach}
-use Rattle.certificate.specs.declared.cert.Cert.{Cert}
 use Rattle.certificate.specs.declared.cert.Entry.{Entry}
 use Rattle.certificate.specs.declared.cert.SparseSet.{SparseSet}
 use Rattle.plan_model.specs.declared.plan.TheConstants.{MOST_COST}
@@ -15,9 +14,9 @@ use Rattle.gap_checker.specs.declared.memo.Last.{Last}
 use Rattle.gap_checker.specs.declared.multipliers.Multipliers.{Multipliers}
 use Rattle.gap_checker.specs.Views.{rent_in}
 use Rattle.gap_checker.specs.inner.Earnings.{rent_of}
-use Rattle.gap_checker.specs.inner.Judges.{IsKept, all_sets}
+use Rattle.gap_checker.specs.inner.Kept.{IsKept, all_sets}
 use Rattle.gap_checker.specs.inner.Memos.{IsLast, IsLastOf, IsBlank}
-use Rattle.gap_checker.proofs.Desks.{each-set}
+use Rattle.gap_checker.proofs.EachDesk.{each-set}
 use Rattle.gap_checker.proofs.Lists.{each-at, some-at}
 
 -- ## Before the first leaf
@@ -41,28 +40,28 @@ all-blank setting (s ∷ sets) (l ∷ lasts) count blank =
     let P : Last → Type 0 = IsBlank (length setting.statements) in
     (blank-last setting s l (All-head P l lasts blank), all-blank setting sets lasts (omega (arith, count)) (All-tail P l lasts blank))
 
-pub lasts-made : (setting : TheSetting) (cert : Cert) (lasts : List Last) → length lasts ≡ length cert.sets + 1 → All (IsBlank (length setting.statements)) lasts → AreEach (IsLastOf setting) (all_sets cert) lasts
-lasts-made setting cert lasts count blank = all-blank setting (all_sets cert) lasts (omega (arith, count)) blank
+pub lasts-made : (setting : TheSetting) (sets : List SparseSet) (lasts : List Last) → length lasts ≡ length sets + 1 → All (IsBlank (length setting.statements)) lasts → AreEach (IsLastOf setting) (all_sets sets) lasts
+lasts-made setting sets lasts count blank = all-blank setting (all_sets sets) lasts (omega (arith, count)) blank
 
 -- ## The set of a leaf
 
-pub lasts-count : (setting : TheSetting) (cert : Cert) (lasts : List Last) → AreEach (IsLastOf setting) (all_sets cert) lasts → length lasts ≡ suc (length cert.sets)
-lasts-count setting cert lasts are = each-length (IsLastOf setting) (all_sets cert) lasts are
+pub lasts-count : (setting : TheSetting) (sets : List SparseSet) (lasts : List Last) → AreEach (IsLastOf setting) (all_sets sets) lasts → length lasts ≡ suc (length sets)
+lasts-count setting sets lasts are = each-length (IsLastOf setting) (all_sets sets) lasts are
 
-pub last-at : (setting : TheSetting) (cert : Cert) (sets : List Multipliers) (lasts : List Last) (k : ℕ) (own : Multipliers) (last : Last) → AreEach (IsKept setting) (all_sets cert) sets → AreEach (IsLastOf setting) (all_sets cert) lasts →
-    slice_get sets k ≡ Some own → slice_get lasts k ≡ Some last → IsLast setting (rent_of own.rents) last
-last-at setting cert sets lasts k own last are lasts_are there here =
-    let within : k < length sets = slice_get_within sets k own there in
-    let sparse = some-at (all_sets cert) k (omega (arith, within, each-length (IsKept setting) (all_sets cert) sets are)) in
-    let kept = each-at (IsKept setting) (all_sets cert) sets k sparse.item own are sparse.found there in
-    let is = each-at (IsLastOf setting) (all_sets cert) lasts k sparse.item last lasts_are sparse.found here in
+pub last-at : (setting : TheSetting) (sets : List SparseSet) (keeps : List Multipliers) (lasts : List Last) (k : ℕ) (own : Multipliers) (last : Last) → AreEach (IsKept setting) (all_sets sets) keeps → AreEach (IsLastOf setting) (all_sets sets) lasts →
+    slice_get keeps k ≡ Some own → slice_get lasts k ≡ Some last → IsLast setting (rent_of own.rents) last
+last-at setting sets keeps lasts k own last are lasts_are there here =
+    let within : k < length keeps = slice_get_within keeps k own there in
+    let sparse = some-at (all_sets sets) k (omega (arith, within, each-length (IsKept setting) (all_sets sets) keeps are)) in
+    let kept = each-at (IsKept setting) (all_sets sets) keeps k sparse.item own are sparse.found there in
+    let is = each-at (IsLastOf setting) (all_sets sets) lasts k sparse.item last lasts_are sparse.found here in
     subst (λ (entries : List Entry). IsLast setting (λ q s a. rent_in entries q s a) last) (sym kept.entries_are) is
 
-pub last-set : (setting : TheSetting) (cert : Cert) (sets : List Multipliers) (lasts : List Last) (k : ℕ) (own : Multipliers) (last : Last) → AreEach (IsKept setting) (all_sets cert) sets → AreEach (IsLastOf setting) (all_sets cert) lasts →
-    slice_get sets k ≡ Some own → IsLast setting (rent_of own.rents) last → AreEach (IsLastOf setting) (all_sets cert) (set lasts k last)
-last-set setting cert sets lasts k own last are lasts_are there new =
-    let within : k < length sets = slice_get_within sets k own there in
-    let sparse = some-at (all_sets cert) k (omega (arith, within, each-length (IsKept setting) (all_sets cert) sets are)) in
-    let kept = each-at (IsKept setting) (all_sets cert) sets k sparse.item own are sparse.found there in
-    each-set (IsLastOf setting) (all_sets cert) lasts k sparse.item last lasts_are sparse.found
+pub last-set : (setting : TheSetting) (sets : List SparseSet) (keeps : List Multipliers) (lasts : List Last) (k : ℕ) (own : Multipliers) (last : Last) → AreEach (IsKept setting) (all_sets sets) keeps → AreEach (IsLastOf setting) (all_sets sets) lasts →
+    slice_get keeps k ≡ Some own → IsLast setting (rent_of own.rents) last → AreEach (IsLastOf setting) (all_sets sets) (set lasts k last)
+last-set setting sets keeps lasts k own last are lasts_are there new =
+    let within : k < length keeps = slice_get_within keeps k own there in
+    let sparse = some-at (all_sets sets) k (omega (arith, within, each-length (IsKept setting) (all_sets sets) keeps are)) in
+    let kept = each-at (IsKept setting) (all_sets sets) keeps k sparse.item own are sparse.found there in
+    each-set (IsLastOf setting) (all_sets sets) lasts k sparse.item last lasts_are sparse.found
     (subst (λ (entries : List Entry). IsLast setting (λ q s a. rent_in entries q s a) last) kept.entries_are new)

@@ -1,5 +1,5 @@
--- What the checker answers: what a certificate proves, or where it first fails to. Numbers of sets, entries and nodes count
--- from 1.
+-- What the checker answers: what a certificate proves below a root, or where it first fails to. Numbers of sets, entries
+-- and nodes count from 1.
 use Rattle.std.specs.Prelude.{◌≡◌, ◌≢◌, ℕ, suc, ◌-◌, ◌<◌, ◌≤◌, ℤ, ◌<ℤ◌, List, [], ◌∷◌, ◌++◌, length, All, Some, slice_get}
 use Rattle.adv_base.specs.Configs.{IsConfigOf, Fits, config_pages}
 use Rattle.adv_base.specs.Nodes as nodes
@@ -9,7 +9,7 @@ use Rattle.plan_model.specs.Totals.{IsTotal}
 use Rattle.bip_model.specs.declared.answer.Node.{Node}
 use Rattle.bip_model.specs.declared.answer.Node.TheVariants.{Branch, Bounded, Overfull}
 use Rattle.bip_model.specs.Trees.{IsBranch, set_at}
-use Rattle.bip_model.specs.Proves.{free_node, NamesUse, RentsUses}
+use Rattle.bip_model.specs.Proves.{NamesUse, RentsUses}
 use Rattle.certificate.specs.declared.cert.Cert.{Cert}
 use Rattle.certificate.specs.declared.cert.Entry.{Entry}
 use Rattle.certificate.specs.declared.cert.SparseSet.{SparseSet}
@@ -19,12 +19,12 @@ use Rattle.gap_checker.specs.declared.fault.Checked.{Checked}
 use Rattle.gap_checker.specs.declared.fault.CheckFault.{CheckFault}
 use Rattle.gap_checker.specs.declared.fault.CheckFault.TheVariants as faults
 
--- the certificate proves what is told of it
-pub record IsChecked (setting : TheSetting) (cert : Cert) (checked : Checked) : Type 0 where
+-- the certificate proves what is told of it, below a root
+pub record IsChecked (setting : TheSetting) (root : nodes.Node) (cert : Cert) (checked : Checked) : Type 0 where
   pub budget_is : checked.budget ≡ cert.budget
   pub cost_is : checked.cost ≡ cert.cost
   pub bound_is : checked.bound ≡ cert.bound
-  pub proof : IsProof setting cert
+  pub proof : IsProof setting root cert
 
 -- ## The configuration
 
@@ -71,7 +71,7 @@ pub record IsBadPair (setting : TheSetting) (cert : Cert) (number place : ℕ) :
   pub sets_before : (j : ℕ) (earlier : SparseSet) → j < number - 1 → slice_get cert.sets j ≡ Some earlier → All (NamesPair setting) earlier.entries
   pub entries_before : (k : ℕ) (earlier : Entry) → k < place - 1 → slice_get set.entries k ≡ Some earlier → NamesPair setting earlier
 
--- ## The tree
+-- ## The tree, from a root
 
 -- all but the tree is as it has to be
 pub record IsSound (setting : TheSetting) (cert : Cert) : Type 0 where
@@ -81,27 +81,27 @@ pub record IsSound (setting : TheSetting) (cert : Cert) : Type 0 where
   pub rents : All (RentsUses setting) (sets_of cert)
 
 -- a node of the tree, by its number in preorder; those before it are right
-pub record IsNodeAt (setting : TheSetting) (cert : Cert) (number : ℕ) (at : nodes.Node) (node : Node) : Type 0 where
+pub record IsNodeAt (setting : TheSetting) (root : nodes.Node) (cert : Cert) (number : ℕ) (at : nodes.Node) (node : Node) : Type 0 where
   pub before : List Visit
   pub rest : List Visit
-  pub parts : visits (free_node ∷ []) cert.tree ≡ before ++ record { at = at; node = node } ∷ rest
+  pub parts : visits (root ∷ []) cert.tree ≡ before ++ record { at = at; node = node } ∷ rest
   pub number_is : number ≡ suc (length before)
   pub right : All (IsRight setting cert.budget cert.bound (sets_of cert)) before
 
 -- the first node that isn't right is a branch on what is no candidate, or isn't free there
-pub record IsBadBranch (setting : TheSetting) (cert : Cert) (number : ℕ) : Type 0 where
+pub record IsBadBranch (setting : TheSetting) (root : nodes.Node) (cert : Cert) (number : ℕ) : Type 0 where
   pub sound : IsSound setting cert
   pub at : nodes.Node
   pub candidate : ℕ
-  pub node_is : IsNodeAt setting cert number at (Branch candidate)
+  pub node_is : IsNodeAt setting root cert number at (Branch candidate)
   pub wrong : ¬ (IsBranch setting at candidate)
 
 -- it is a leaf whose Lagrangian value is below the bound
-pub record IsLeafBelow (setting : TheSetting) (cert : Cert) (number : ℕ) (computed claimed : ℤ) : Type 0 where
+pub record IsLeafBelow (setting : TheSetting) (root : nodes.Node) (cert : Cert) (number : ℕ) (computed claimed : ℤ) : Type 0 where
   pub sound : IsSound setting cert
   pub at : nodes.Node
   pub set : ℕ
-  pub node_is : IsNodeAt setting cert number at (Bounded set)
+  pub node_is : IsNodeAt setting root cert number at (Bounded set)
   pub multipliers : TheMultipliers
   pub found : set_at (sets_of cert) set ≡ Some multipliers
   pub value_is : IsLagrangian setting cert.budget at multipliers computed
@@ -109,22 +109,22 @@ pub record IsLeafBelow (setting : TheSetting) (cert : Cert) (number : ℕ) (comp
   pub below : computed <ℤ claimed
 
 -- it is called overfull, and what is in fits
-pub record IsNotOverfull (setting : TheSetting) (cert : Cert) (number size : ℕ) : Type 0 where
+pub record IsNotOverfull (setting : TheSetting) (root : nodes.Node) (cert : Cert) (number size : ℕ) : Type 0 where
   pub sound : IsSound setting cert
   pub at : nodes.Node
-  pub node_is : IsNodeAt setting cert number at Overfull
+  pub node_is : IsNodeAt setting root cert number at Overfull
   pub size_is : size ≡ config_pages setting.cat setting.shapes at.inside
   pub fits : size ≤ cert.budget
 
 -- ## The first fault
 
 -- what a fault says; each stands at the first place at which the certificate proves nothing
-abbrev pub IsFault : TheSetting → Cert → CheckFault → Type 0
-IsFault setting cert faults.Memory = Unit {0}
-IsFault setting cert (faults.BadConfig number) = IsBadConfig setting cert number
-IsFault setting cert (faults.OverBudget size budget) = IsOverBudget setting cert size budget
-IsFault setting cert (faults.CostDiffers claimed computed) = IsOtherCost setting cert claimed computed
-IsFault setting cert (faults.BadPair set entry) = IsBadPair setting cert set entry
-IsFault setting cert (faults.BadBranch number) = IsBadBranch setting cert number
-IsFault setting cert (faults.LeafBelow number computed claimed) = IsLeafBelow setting cert number computed claimed
-IsFault setting cert (faults.NotInfeasible number size) = IsNotOverfull setting cert number size
+abbrev pub IsFault : TheSetting → nodes.Node → Cert → CheckFault → Type 0
+IsFault setting root cert faults.Memory = Unit {0}
+IsFault setting root cert (faults.BadConfig number) = IsBadConfig setting cert number
+IsFault setting root cert (faults.OverBudget size budget) = IsOverBudget setting cert size budget
+IsFault setting root cert (faults.CostDiffers claimed computed) = IsOtherCost setting cert claimed computed
+IsFault setting root cert (faults.BadPair set entry) = IsBadPair setting cert set entry
+IsFault setting root cert (faults.BadBranch number) = IsBadBranch setting root cert number
+IsFault setting root cert (faults.LeafBelow number computed claimed) = IsLeafBelow setting root cert number computed claimed
+IsFault setting root cert (faults.NotInfeasible number size) = IsNotOverfull setting root cert number size

@@ -1,11 +1,12 @@
 -- A setting and a certificate, as the definitions of plan_model and bip_model see them.
 use Rattle.std.specs.Prelude.{ℕ, suc, ◌==◌, Bool, ◌&&◌, if◌then◌else◌, List, [], ◌∷◌, map, fold}
 use Rattle.adv_base.specs.declared.setting.Config.{Config}
+use Rattle.adv_base.specs.Nodes as nodes
 use Rattle.adv_base.specs.Settings.{TheSetting}
 use Rattle.plan_model.specs.Lagrangian.{TheMultipliers}
 use Rattle.plan_model.specs.Totals.{no_candidates}
 use Rattle.bip_model.specs.Trees.{with_candidate}
-use Rattle.bip_model.specs.Proves.{free_node, Proves}
+use Rattle.bip_model.specs.Proves.{Proves}
 use Rattle.certificate.specs.declared.cert.Cert.{Cert}
 use Rattle.certificate.specs.declared.cert.Entry.{Entry}
 use Rattle.certificate.specs.declared.cert.SparseSet.{SparseSet}
@@ -33,7 +34,6 @@ sets_of cert = map multipliers_of cert.sets
 abbrev pub config_of : Cert → Config
 config_of cert = config_with cert.config
 
--- The certificate proves its bound, and what its configuration costs, for a setting; at the tree's root each candidate is
--- free.
-abbrev pub IsProof : TheSetting → Cert → Type 0
-IsProof setting cert = Proves setting cert.budget free_node (config_of cert) cert.cost cert.bound (sets_of cert) cert.tree
+-- The certificate proves its bound below a root, and what its configuration costs, for a setting.
+abbrev pub IsProof : TheSetting → nodes.Node → Cert → Type 0
+IsProof setting root cert = Proves setting cert.budget root (config_of cert) cert.cost cert.bound (sets_of cert) cert.tree

@@ -2,8 +2,7 @@
 ghost use Rattle.adv_base.specs.OfferTables.{OfferTableLimits};
 ghost use Rattle.gap_checker.specs.inner.Rows.{table_of};
 
-use crate::row::Row;
-use crate::shown::Shown;
+use crate::row::{Row, Shown};
 use adv_base::Item;
 use plan_model::Offers;
 

@@ -1,32 +1,22 @@
 //! Checking a certificate.
-ghost use Rattle.std.specs.Prelude.{◌≡◌, IfOk, IfErr, OnOk};
+ghost use Rattle.std.specs.Prelude.{◌≡◌, IfOk, IfErr};
+ghost use Rattle.adv_base.specs.Settings.{the_setting};
 ghost use Rattle.bip_model.specs.Laws.{BoundsAll};
+ghost use Rattle.bip_model.specs.Proves.{free_node};
 ghost use Rattle.certificate.specs.Limits.{CertLimits};
 ghost use Rattle.gap_checker.specs.Faults as faults;
-ghost use Rattle.adv_base.specs.Settings.{the_setting};
 ghost use Rattle.gap_checker.specs.Views as views;
-ghost use Rattle.gap_checker.specs.inner.Figures.{AreFigures, setting_of};
 
+use crate::claims::Claims;
 use crate::fault::{CheckFault, Checked};
-use crate::figures::Figures;
+use crate::judge::Judge;
 use crate::memo::Memo;
-use crate::sound::judge_claims;
-use crate::tree::judge_tree;
+use crate::part::parts_of;
 use adv_base::Setting;
+use bip_model::Fix;
 use certificate::Cert;
+use hypo_indexes::Figures;
 use std::alloc::Global;
-
-/// Judges the parts of a certificate in their order.
-fn judge_parts(alloc: Global, figures: &Figures<'_>, cert: &Cert) -> Result<(), CheckFault>
-    requires figures_are { AreFigures figures.now }
-    requires limits { CertLimits cert.now }
-    ensures proof { OnOk result (views.IsProof (setting_of figures.now) cert.now) }
-    ensures fault { IfErr result (faults.IsFault (setting_of figures.now) cert.now) }
-{
-    let mut memo = Memo::new(alloc, figures, cert)?;
-    judge_claims(alloc, figures, &mut memo, cert)?;
-    judge_tree(alloc, figures, &mut memo, cert)
-}
 
 /// Judges a certificate for a setting, through the planner alone. Ok comes exactly where the certificate is a proof: its
 /// configuration has candidates alone, fits the budget and costs what is claimed; its rents are those of uses of candidates;
@@ -35,13 +25,18 @@ fn judge_parts(alloc: Global, figures: &Figures<'_>, cert: &Cert) -> Result<(), 
 /// node by node. `Memory` is want of memory.
 pub fn check(alloc: Global, setting: &Setting<'_>, cert: &Cert) -> Result<Checked, CheckFault>
     requires { CertLimits cert.now }
-    ensures checked { IfOk result (faults.IsChecked (the_setting setting.now) cert.now) }
+    ensures checked { IfOk result (faults.IsChecked (the_setting setting.now) free_node cert.now) }
     ensures bounds { IfOk result (λ checked. BoundsAll (the_setting setting.now) checked.budget checked.cost checked.bound) }
-    ensures fault { IfErr result (faults.IsFault (the_setting setting.now) cert.now) }
-    ensures proved { views.IsProof (the_setting setting.now) cert.now → IfErr result (λ fault. fault ≡ CheckFault.Memory) }
+    ensures fault { IfErr result (faults.IsFault (the_setting setting.now) free_node cert.now) }
+    ensures proved { views.IsProof (the_setting setting.now) free_node cert.now → IfErr result (λ fault. fault ≡ CheckFault.Memory) }
 {
+    let root = Fix::free();
     let figures = Figures::new(alloc, setting)?;
-    judge_parts(alloc, &figures, cert)?;
+    let parts = parts_of(alloc, setting)?;
+    let judge = Judge::new(alloc, setting, &figures, Claims::of_cert(cert), &root)?;
+    let mut memo = Memo::new(alloc, setting, parts.as_slice(), judge.claims.sets)?;
+    judge.judge_claims(alloc, &mut memo)?;
+    judge.judge_tree(alloc, &mut memo, cert.tree.as_slice())?;
     Ok(Checked {
         budget: cert.budget,
         cost: cert.cost,

@@ -1,8 +1,11 @@
 //! What a check of a certificate answers.
 ghost use Rattle.std.specs.Prelude.{◌≡◌};
+ghost use Rattle.gap_checker.specs.declared.fault.AtFault.TheVariants as at_faults;
 ghost use Rattle.gap_checker.specs.declared.fault.CheckFault.TheVariants.{Memory};
+ghost use Rattle.gap_checker.specs.inner.AtFaults.{at_fault};
 
 use adv_base::NoMemory;
+use adv_shelf::Failed;
 
 /// What a certificate proves: under the space budget, in pages, its configuration costs `cost`, and no fitting one costs
 /// less than `bound`, both in thousandths of a page read.
@@ -40,5 +43,45 @@ impl From<NoMemory> for CheckFault {
 
     fn from(_e: NoMemory) -> CheckFault {
         CheckFault::Memory
+    }
+}
+
+/// Why a certificate whose tree stands in a file proves nothing.
+#[derive(Clone, Copy, Debug, PartialEq, Eq)]
+pub enum AtFault {
+    /// Memory ran out.
+    Memory,
+    /// A read of the file failed, and the shelf has counted it.
+    Failed,
+    /// No tree of so many nodes as the head has goes on with this line of the file, counted from its first, which is 1.
+    Malformed(u64),
+    /// The first part of the certificate that fails, which isn't for want of memory.
+    Fault(CheckFault),
+}
+
+impl From<NoMemory> for AtFault {
+    ghost from_gives = { λ _ e. e ≡ at_faults.Memory };
+
+    fn from(_e: NoMemory) -> AtFault {
+        AtFault::Memory
+    }
+}
+
+impl From<Failed> for AtFault {
+    ghost from_gives = { λ _ e. e ≡ at_faults.Failed };
+
+    fn from(_e: Failed) -> AtFault {
+        AtFault::Failed
+    }
+}
+
+impl From<CheckFault> for AtFault {
+    ghost from_gives = { λ fault e. e ≡ at_fault fault };
+
+    fn from(fault: CheckFault) -> AtFault {
+        match fault {
+            CheckFault::Memory => AtFault::Memory,
+            _ => AtFault::Fault(fault),
+        }
     }
 }

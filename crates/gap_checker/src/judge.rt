@@ -1,64 +1,65 @@
-//! Judging nodes of the tree.
-ghost use Rattle.std.specs.Prelude.{◌≡◌, ◌+◌, ◌<◌, ◌≤◌, IfOk, IfErr, OnOk, ◌++◌, ◌∷◌, [], Some, length, slice_get};
+//! What certificates are judged by, and nodes of their trees.
+ghost use Rattle.std.specs.Prelude.{◌≡◌, ◌<◌, IfOk, OnOk, ◌++◌, ◌∷◌, [], Some, length, slice_get};
 ghost use Rattle.std.specs.List.{AllByRecursion};
+ghost use Rattle.adv_base.specs.Configs.{space_of};
+ghost use Rattle.adv_base.specs.Settings.{the_setting};
 ghost use Rattle.bip_model.specs.StandsFor.{AreEach};
-ghost use Rattle.bip_model.specs.declared.answer.Node.TheVariants.{Branch, Bounded, Overfull};
+ghost use Rattle.bip_model.specs.Views.{the_space};
 ghost use Rattle.certificate.specs.Limits as limits;
-ghost use Rattle.gap_checker.specs.Views as views;
-ghost use Rattle.gap_checker.specs.Visits as visits;
-ghost use Rattle.gap_checker.specs.inner.Figures.{AreFigures, setting_of};
-ghost use Rattle.gap_checker.specs.inner.Judges as judges;
-ghost use Rattle.gap_checker.specs.inner.Memos.{IsMemo};
-ghost use Rattle.gap_checker.specs.inner.Nodes.{node_of};
+ghost use Rattle.hypo_indexes.specs.Figures.{AreFigures};
+ghost use Rattle.gap_checker.specs.inner.Kept as kept;
 
-use crate::available::pages_inside;
+use crate::claims::Claims;
 use crate::fault::CheckFault;
-use crate::figures::Figures;
 use crate::lagrangian::lagrangian_value;
 use crate::memo::Memo;
 use crate::multipliers::{Multipliers, multipliers_of};
 use crate::rents::Rents;
-use crate::subproblem::Subproblem;
-use adv_base::NoMemory;
-use bip_model::Node;
-use certificate::{Cert, SparseSet};
+use adv_base::{NoMemory, Setting};
+use bip_model::{Fix, Node, Space};
+use certificate::SparseSet;
+use hypo_indexes::Figures;
 use std::alloc::Global;
 
-/// What nodes are judged by: figures of the setting, the sets of multipliers, of which the first has no rents, the budget
-/// and the bound that is claimed.
+/// What a certificate is judged by: the setting and its figures, the space of its candidates, what the certificate claims
+/// and the root of its tree; and its sets with what candidates earn under them, of which the first has no rents.
 #[derive(Drop)]
 pub(crate) struct Judge<'a> {
-    pub figures: &'a Figures<'a>,
+    pub setting: &'a Setting<'a>,
+    pub figures: &'a Figures,
+    pub space: Space<'a>,
+    pub claims: Claims<'a>,
+    pub root: &'a Fix,
     pub sets: Vec<Multipliers<'a>>,
-    pub budget: u64,
-    pub bound: i128,
+    pub ghost figures_are: { AreFigures (the_setting setting.now) figures.now },
+    pub ghost space_is: { the_space space ≡ space_of setting.now.cat.now setting.now.shapes.now claims.budget },
 }
 
 /// A set of a certificate, with what candidates earn.
 fn kept_set<'a>(
     alloc: Global,
-    figures: &Figures<'_>,
+    setting: &Setting<'_>,
     set: &'a SparseSet,
 ) -> Result<Multipliers<'a>, NoMemory>
     requires limits { limits.SetLimits set.now }
-    ensures { IfOk result (judges.IsKept (setting_of figures.now) set.now) }
+    ensures { IfOk result (kept.IsKept (the_setting setting.now) set.now) }
 {
     let rents = Rents {
         mu: set.mu,
         entries: set.entries.as_slice(),
     };
-    multipliers_of(alloc, figures.setting, rents)
+    multipliers_of(alloc, setting, rents)
 }
 
 /// The set without rents.
-fn zero_set<'a>(alloc: Global, figures: &Figures<'_>) -> Result<Multipliers<'a>, NoMemory>
-    ensures { IfOk result (judges.IsKept (setting_of figures.now) judges.zero_set) }
+fn zero_set<'a>(alloc: Global, setting: &Setting<'_>) -> Result<Multipliers<'a>, NoMemory>
+    ensures { IfOk result (kept.IsKept (the_setting setting.now) kept.zero_set) }
 {
     let rents = Rents {
         mu: 0,
         entries: &[],
     };
-    multipliers_of(alloc, figures.setting, rents)
+    multipliers_of(alloc, setting, rents)
 }
 
 /// Puts a set at the end.
@@ -72,17 +73,17 @@ fn put<'a>(sets: &mut Vec<Multipliers<'a>>, set: Multipliers<'a>) -> Result<(), 
 /// All sets, that without rents first.
 fn kept_sets<'a>(
     alloc: Global,
-    figures: &Figures<'_>,
+    setting: &Setting<'_>,
     sets: &'a [SparseSet],
 ) -> Result<Vec<Multipliers<'a>>, NoMemory>
     requires limits { AllByRecursion limits.SetLimits sets.now }
-    ensures { IfOk result (λ kept. AreEach (judges.IsKept (setting_of figures.now)) (judges.zero_set ∷ sets.now) kept.items) }
+    ensures { IfOk result (λ list. AreEach (kept.IsKept (the_setting setting.now)) (kept.all_sets sets.now) list.items) }
 {
     let mut kept = Vec::new(alloc);
-    let zero = zero_set(alloc, figures)?;
+    let zero = zero_set(alloc, setting)?;
     put(&mut kept, zero)?;
     for set in sets {
-        let own = kept_set(alloc, figures, set)?;
+        let own = kept_set(alloc, setting, set)?;
         put(&mut kept, own)?;
     }
     Ok(kept)
@@ -100,40 +101,49 @@ fn kept_set_at<'b, 'a>(sets: &'b [Multipliers<'a>], at: usize) -> &'b Multiplier
 }
 
 impl<'a> Judge<'a> {
-    /// The judge of a certificate.
+    ghost use Rattle.std.specs.Prelude.{◌≡◌, ◌≤◌, IfOk, IfErr, OnOk, length};
+    ghost use Rattle.bip_model.specs.Views.{node_of};
+    ghost use Rattle.bip_model.specs.declared.answer.Node.TheVariants.{Branch, Bounded, Overfull};
+    ghost use Rattle.gap_checker.specs.inner.Claims.{KeepsLimits};
+    ghost use Rattle.gap_checker.specs.inner.Judges as judges;
+    ghost use Rattle.gap_checker.specs.inner.Memos.{IsMemo};
+
+    /// The judge of a certificate's claims, and of its tree below a root. Want of memory is the one error.
     pub(crate) fn new(
         alloc: Global,
-        figures: &'a Figures<'a>,
-        cert: &'a Cert,
+        setting: &'a Setting<'a>,
+        figures: &'a Figures,
+        claims: Claims<'a>,
+        root: &'a Fix,
     ) -> Result<Judge<'a>, NoMemory>
-        requires figures_are { AreFigures figures.now }
-        requires limits { limits.CertLimits cert.now }
-        ensures judge { IfOk result (λ judge. judges.IsJudge judge cert.now) }
-        ensures figures { IfOk result (λ judge. judge.figures.now ≡ figures.now) }
+        requires figures_are { AreFigures (the_setting setting.now) figures.now }
+        requires limits { KeepsLimits claims }
+        ensures judge { IfOk result judges.IsJudge }
+        ensures setting { IfOk result (λ judge. judge.setting.now ≡ setting.now) }
+        ensures claims { IfOk result (λ judge. judge.claims ≡ claims.entry) }
+        ensures root { IfOk result (λ judge. judge.root.now ≡ root.now) }
     {
-        let sets = kept_sets(alloc, figures, cert.sets.as_slice())?;
+        let sets = kept_sets(alloc, setting, claims.sets)?;
+        let space = Space {
+            sizes: figures.sizes.as_slice(),
+            budget: claims.budget,
+        };
         Ok(Judge {
+            setting,
             figures,
+            space,
+            claims,
+            root,
             sets,
-            budget: cert.budget,
-            bound: cert.bound,
         })
     }
 
     /// Judges a branch: its candidate is one, and free.
-    fn judge_branch(
-        &self,
-        cert: &Cert,
-        number: u32,
-        at: &Subproblem,
-        candidate: u16,
-    ) -> Result<(), CheckFault>
-        requires judge { judges.IsJudge self.now cert.now }
-        ensures right { OnOk result (visits.IsRightAt (setting_of self.now.figures.now) cert.now.budget cert.now.bound (views.sets_of cert.now) (node_of at.now) (Branch candidate)) }
-        ensures wrong { IfErr result (judges.IsWrong (setting_of self.now.figures.now) cert.now number (node_of at.now) (Branch candidate)) }
+    fn judge_branch(&self, number: u32, at: &Fix, candidate: u16) -> Result<(), CheckFault>
+        ensures right { OnOk result (judges.IsRightFor self.now (node_of at.now) (Branch candidate)) }
+        ensures wrong { IfErr result (judges.IsWrong self.now number (node_of at.now) (Branch candidate)) }
     {
-        let _budget = cert.budget;
-        if candidate == 0 || candidate as usize > self.figures.setting.shapes.len() {
+        if candidate == 0 || candidate as usize > self.setting.shapes.len() {
             return Err(CheckFault::BadBranch(number));
         }
         if !at.is_free(candidate) {
@@ -147,71 +157,59 @@ impl<'a> Judge<'a> {
         &self,
         alloc: Global,
         memo: &mut Memo<'_>,
-        cert: &Cert,
         number: u32,
-        at: &Subproblem,
+        at: &Fix,
         set: u8,
     ) -> Result<(), CheckFault>
-        requires judge { judges.IsJudge self.now cert.now }
-        requires memo_is { IsMemo (setting_of self.now.figures.now) cert.now memo.old }
-        requires set_in { set ≤ length cert.now.sets }
-        ensures memo { OnOk result (IsMemo (setting_of self.now.figures.now) cert.now memo.new) }
-        ensures right { OnOk result (visits.IsRightAt (setting_of self.now.figures.now) cert.now.budget cert.now.bound (views.sets_of cert.now) (node_of at.now) (Bounded set)) }
-        ensures wrong { IfErr result (judges.IsWrong (setting_of self.now.figures.now) cert.now number (node_of at.now) (Bounded set)) }
+        requires judge { judges.IsJudge self.now }
+        requires memo_is { IsMemo (judges.setting_of self.now) self.now.claims.sets.now memo.old }
+        requires set_in { set ≤ length self.now.claims.sets.now }
+        ensures memo { OnOk result (IsMemo (judges.setting_of self.now) self.now.claims.sets.now memo.new) }
+        ensures right { OnOk result (judges.IsRightFor self.now (node_of at.now) (Bounded set)) }
+        ensures wrong { IfErr result (judges.IsWrong self.now number (node_of at.now) (Bounded set)) }
     {
         let multipliers = kept_set_at(self.sets.as_slice(), set as usize);
         let last = &mut memo.lasts[set as usize];
         let desks = memo.desks.as_mut_slice();
-        let value = lagrangian_value(
-            alloc,
-            self.figures,
-            desks,
-            last,
-            multipliers,
-            self.budget,
-            at,
-        )?;
-        if value < self.bound {
-            return Err(CheckFault::LeafBelow(number, value, self.bound));
+        let value = lagrangian_value(alloc, self, desks, last, multipliers, at)?;
+        if value < self.claims.bound {
+            return Err(CheckFault::LeafBelow(number, value, self.claims.bound));
         }
         Ok(())
     }
 
     /// Judges a leaf that is called overfull: what is in doesn't fit.
-    fn judge_overfull(&self, cert: &Cert, number: u32, at: &Subproblem) -> Result<(), CheckFault>
-        requires judge { judges.IsJudge self.now cert.now }
-        ensures right { OnOk result (visits.IsRightAt (setting_of self.now.figures.now) cert.now.budget cert.now.bound (views.sets_of cert.now) (node_of at.now) Overfull) }
-        ensures wrong { IfErr result (judges.IsWrong (setting_of self.now.figures.now) cert.now number (node_of at.now) Overfull) }
+    fn judge_overfull(&self, number: u32, at: &Fix) -> Result<(), CheckFault>
+        ensures right { OnOk result (judges.IsRightFor self.now (node_of at.now) Overfull) }
+        ensures wrong { IfErr result (judges.IsWrong self.now number (node_of at.now) Overfull) }
     {
-        let _budget = cert.budget;
-        let size = pages_inside(self.figures, at);
-        if size <= self.budget {
+        let size = self.space.pages(&at.inside());
+        if size <= self.claims.budget {
             return Err(CheckFault::NotInfeasible(number, size as u128));
         }
         Ok(())
     }
 
     /// Judges a node where it stands; nodes are numbered from 1.
-    pub(crate) fn judge(
+    pub(crate) fn judge_node(
         &self,
         alloc: Global,
         memo: &mut Memo<'_>,
-        cert: &Cert,
         number: u32,
-        at: &Subproblem,
+        at: &Fix,
         node: Node,
     ) -> Result<(), CheckFault>
-        requires judge { judges.IsJudge self.now cert.now }
-        requires memo_is { IsMemo (setting_of self.now.figures.now) cert.now memo.old }
-        requires limits { limits.NodeLimits (length cert.now.sets) node }
-        ensures memo { OnOk result (IsMemo (setting_of self.now.figures.now) cert.now memo.new) }
-        ensures right { OnOk result (visits.IsRightAt (setting_of self.now.figures.now) cert.now.budget cert.now.bound (views.sets_of cert.now) (node_of at.now) node) }
-        ensures wrong { IfErr result (judges.IsWrong (setting_of self.now.figures.now) cert.now number (node_of at.now) node) }
+        requires judge { judges.IsJudge self.now }
+        requires memo_is { IsMemo (judges.setting_of self.now) self.now.claims.sets.now memo.old }
+        requires limits { limits.NodeLimits (length self.now.claims.sets.now) node }
+        ensures memo { OnOk result (IsMemo (judges.setting_of self.now) self.now.claims.sets.now memo.new) }
+        ensures right { OnOk result (judges.IsRightFor self.now (node_of at.now) node) }
+        ensures wrong { IfErr result (judges.IsWrong self.now number (node_of at.now) node) }
     {
         match node {
-            Node::Branch(candidate) => self.judge_branch(cert, number, at, candidate),
-            Node::Bounded(set) => self.judge_leaf(alloc, memo, cert, number, at, set),
-            Node::Overfull => self.judge_overfull(cert, number, at),
+            Node::Branch(candidate) => self.judge_branch(number, at, candidate),
+            Node::Bounded(set) => self.judge_leaf(alloc, memo, number, at, set),
+            Node::Overfull => self.judge_overfull(number, at),
         }
     }
 }

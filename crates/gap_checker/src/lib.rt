@@ -23,14 +23,13 @@
 //! ```
 #![tactic(auto)]
 
-mod available;
+mod at;
 mod board;
-mod candidates;
 mod changes;
 mod checking;
+mod claims;
 mod desk;
 mod fault;
-mod figures;
 mod judge;
 mod lagrangian;
 mod laws;
@@ -38,16 +37,16 @@ mod memo;
 mod multipliers;
 mod part;
 mod planning;
-mod plans;
 mod rents;
 mod row;
-mod shown;
 mod sound;
-mod subproblem;
-mod terms;
 mod tree;
+mod tree_reader;
 mod uses;
 
+pub use at::check_at;
 pub use checking::check;
-pub use fault::{CheckFault, Checked};
-pub use laws::{answers_are_one, best_answers_are_proved, faults_exclude_proofs};
+pub use fault::{AtFault, CheckFault, Checked};
+pub use laws::{
+    answers_are_alike, answers_are_one, best_answers_are_proved, faults_exclude_proofs,
+};

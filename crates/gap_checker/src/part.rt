@@ -1,8 +1,8 @@
 //! What the searches of a statement start from.
 ghost use Rattle.std.specs.Prelude.{◌≡◌, IfOk};
 ghost use Rattle.adv_base.specs.Named.{NamesBlock, NamesWork};
-ghost use Rattle.bip_model.specs.StandsFor.{AreEach};
 ghost use Rattle.adv_base.specs.Settings.{the_setting};
+ghost use Rattle.bip_model.specs.StandsFor.{AreEach};
 ghost use Rattle.gap_checker.specs.inner.Parts as kept;
 
 use access_paths::{ConfigOffers, task};

@@ -5,6 +5,7 @@ ghost use Rattle.certificate.specs.Limits.{EntriesFrom, entry_place};
 ghost use Rattle.gap_checker.specs.Views as views;
 ghost use Rattle.gap_checker.specs.inner.Searches as searches;
 
+use adv_base::Config;
 use certificate::Entry;
 
 /// A set of Lagrangian multipliers: the price of a page, in parts of 65536, and the rents other than 0 by statement, slot
@@ -13,6 +14,13 @@ use certificate::Entry;
 pub(crate) struct Rents<'a> {
     pub mu: u128,
     pub entries: &'a [Entry],
+}
+
+/// The terms on which a search may use candidates: those that are available, and the rents of their uses.
+#[derive(Clone, Copy)]
+pub(crate) struct Terms<'a> {
+    pub config: &'a Config,
+    pub rents: Rents<'a>,
 }
 
 /// Where a use stands among the entries of a set.

@@ -2,7 +2,14 @@
 ghost use Rattle.std.specs.Prelude.{◌≤◌, length};
 ghost use Rattle.adv_base.specs.declared.limits.TheConstants.{MOST_OFFERS};
 
-use crate::shown::Shown;
+use adv_base::Item;
+
+/// An offer: what the rows are sorted by, and its price with the rent, in thousandths of a page read.
+#[derive(Clone, Copy)]
+pub(crate) struct Shown<'a> {
+    pub order: &'a [Item],
+    pub price: u64,
+}
 
 /// The offers of a slot.
 #[derive(Drop)]

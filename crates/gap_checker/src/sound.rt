@@ -1,32 +1,29 @@
-//! What a certificate claims beside its tree.
-ghost use Rattle.std.specs.Prelude.{◌≡◌, ◌+◌, ◌*◌, ◌<◌, ◌≤◌, All, Some, None, IfOk, IfErr, OnOk};
+//! Judging what a certificate claims beside its tree.
+ghost use Rattle.std.specs.Prelude.{◌≡◌, ◌+◌, ◌*◌, ◌≤◌, All, Some, None, IfOk, IfErr, OnOk};
 ghost use Rattle.std.specs.Option.{ForSome};
 ghost use Rattle.adv_base.specs.Configs as configs;
 ghost use Rattle.adv_base.specs.Named.{NamesWork};
+ghost use Rattle.adv_base.specs.Settings.{the_setting};
 ghost use Rattle.adv_base.specs.declared.limits.TheConstants.{MOST_CANDIDATES, MOST_INDEXES, MOST_UPKEEP};
+ghost use Rattle.bip_model.specs.Trees as trees;
 ghost use Rattle.certificate.specs.Limits as limits;
 ghost use Rattle.plan_model.specs.Totals as totals;
 ghost use Rattle.plan_model.specs.declared.plan.TheConstants.{MOST_COST};
 ghost use Rattle.gap_checker.specs.Faults as faults;
-ghost use Rattle.adv_base.specs.Settings.{the_setting};
 ghost use Rattle.gap_checker.specs.Views as views;
 ghost use Rattle.gap_checker.specs.inner.Claims as claims;
-ghost use Rattle.gap_checker.specs.inner.Figures.{AreFigures, setting_of};
+ghost use Rattle.gap_checker.specs.inner.Judges as judges;
 ghost use Rattle.gap_checker.specs.inner.Memos.{IsMemo};
 ghost use Rattle.gap_checker.specs.inner.Parts.{AreDesks, HasDesk};
 
-use crate::candidates::pages_in;
 use crate::desk::Desk;
 use crate::fault::CheckFault;
-use crate::figures::{Figures, statement_at};
-use crate::memo::Memo;
+use crate::judge::Judge;
+use crate::memo::{Memo, statement_at};
 use crate::planning::plan_cost;
-use crate::rents::Rents;
-use crate::subproblem::with_candidate;
-use crate::terms::Terms;
+use crate::rents::{Rents, Terms};
 use crate::uses::judge_pairs;
 use adv_base::{Config, NoMemory, Setting, Statement};
-use certificate::Cert;
 use hypo_indexes::{config_upkeep, kept_upkeep};
 use std::alloc::Global;
 
@@ -43,6 +40,17 @@ fn first_past(numbers: &[u16], count: usize) -> Option<u16>
     None
 }
 
+/// A configuration with one candidate more.
+fn with_candidate(config: &Config, number: u16) -> Config
+    requires some { 1 ≤ number }
+    requires within { number ≤ MOST_CANDIDATES }
+    ensures { result ≡ trees.with_candidate config.now number }
+{
+    let mut on = config.on;
+    on[number as usize - 1] = true;
+    Config { on }
+}
+
 /// The configuration of the candidates with these numbers.
 fn config_with(numbers: &[u16]) -> Config
     requires { limits.Rise 1 numbers.now }
@@ -53,26 +61,6 @@ fn config_with(numbers: &[u16]) -> Config
         config = with_candidate(&config, *number);
     }
     config
-}
-
-/// The configuration of a certificate, where its numbers are those of candidates that fit the budget.
-fn judge_config(figures: &Figures<'_>, cert: &Cert) -> Result<Config, CheckFault>
-    requires figures_are { AreFigures figures.now }
-    requires limits { limits.CertLimits cert.now }
-    ensures config { IfOk result (λ config. config ≡ views.config_of cert.now) }
-    ensures members { OnOk result (configs.IsConfigOf figures.now.setting.now.shapes.now (views.config_of cert.now)) }
-    ensures fits { OnOk result (configs.Fits figures.now.setting.now.cat.now figures.now.setting.now.shapes.now (views.config_of cert.now) cert.now.budget) }
-    ensures fault { IfErr result (faults.IsFault (setting_of figures.now) cert.now) }
-{
-    if let Some(number) = first_past(cert.config.as_slice(), figures.setting.shapes.len()) {
-        return Err(CheckFault::BadConfig(number));
-    }
-    let config = config_with(cert.config.as_slice());
-    let size = pages_in(figures.sizes.as_slice(), &config);
-    if size > cert.budget {
-        return Err(CheckFault::OverBudget(size as u128, cert.budget));
-    }
-    Ok(config)
 }
 
 /// What a statement costs under a configuration, without its weight: a least plan and the upkeep of all indexes.
@@ -105,16 +93,14 @@ fn statement_cost(
 /// What the workload costs under a configuration.
 fn total_cost(
     alloc: Global,
-    figures: &Figures<'_>,
+    setting: &Setting<'_>,
     desks: &mut [Option<Desk<'_>>],
     config: &Config,
 ) -> Result<u128, NoMemory>
-    requires figures_are { AreFigures figures.now }
-    requires desks_are { AreDesks (setting_of figures.now) desks.old }
-    ensures desks { OnOk result (AreDesks (setting_of figures.now) desks.new) }
-    ensures total { IfOk result (totals.IsTotal figures.now.setting.now.cat.now figures.now.setting.now.shapes.now config.now figures.now.setting.now.statements.now) }
+    requires desks_are { AreDesks (the_setting setting.now) desks.old }
+    ensures desks { OnOk result (AreDesks (the_setting setting.now) desks.new) }
+    ensures total { IfOk result (totals.IsTotal setting.now.cat.now setting.now.shapes.now config.now setting.now.statements.now) }
 {
-    let setting = figures.setting;
     let mut total: u128 = 0;
     'statements: for i in 0..setting.statements.len() {
         let statement = statement_at(setting, i);
@@ -125,25 +111,41 @@ fn total_cost(
     Ok(total)
 }
 
-/// Judges all that a certificate claims but its bound.
-pub(crate) fn judge_claims(
-    alloc: Global,
-    figures: &Figures<'_>,
-    memo: &mut Memo<'_>,
-    cert: &Cert,
-) -> Result<(), CheckFault>
-    requires figures_are { AreFigures figures.now }
-    requires memo_is { IsMemo (setting_of figures.now) cert.now memo.old }
-    requires limits { limits.CertLimits cert.now }
-    ensures memo { OnOk result (IsMemo (setting_of figures.now) cert.now memo.new) }
-    ensures sound { OnOk result (faults.IsSound (setting_of figures.now) cert.now) }
-    ensures fault { IfErr result (faults.IsFault (setting_of figures.now) cert.now) }
-{
-    let config = judge_config(figures, cert)?;
-    let total = total_cost(alloc, figures, memo.desks.as_mut_slice(), &config)?;
-    if total != cert.cost {
-        return Err(CheckFault::CostDiffers(cert.cost, total));
+impl Judge<'_> {
+    /// The configuration that is claimed, where its numbers are those of candidates that fit the budget.
+    fn judge_config(&self) -> Result<Config, CheckFault>
+        requires { judges.IsJudge self.now }
+        ensures config { IfOk result (λ config. config ≡ views.config_with self.now.claims.config.now) }
+        ensures members { OnOk result (configs.IsConfigOf self.now.setting.now.shapes.now (views.config_with self.now.claims.config.now)) }
+        ensures fits { OnOk result (configs.Fits self.now.setting.now.cat.now self.now.setting.now.shapes.now (views.config_with self.now.claims.config.now) self.now.claims.budget) }
+        ensures fault { IfErr result (judges.IsFaultFor self.now) }
+    {
+        let numbers = self.claims.config;
+        if let Some(number) = first_past(numbers, self.setting.shapes.len()) {
+            return Err(CheckFault::BadConfig(number));
+        }
+        let config = config_with(numbers);
+        let size = self.space.pages(&config);
+        if size > self.claims.budget {
+            return Err(CheckFault::OverBudget(size as u128, self.claims.budget));
+        }
+        Ok(config)
     }
-    judge_pairs(figures.setting, cert)?;
-    Ok(())
+
+    /// Judges all that is claimed but the bound.
+    pub(crate) fn judge_claims(&self, alloc: Global, memo: &mut Memo<'_>) -> Result<(), CheckFault>
+        requires judge { judges.IsJudge self.now }
+        requires memo_is { IsMemo (judges.setting_of self.now) self.now.claims.sets.now memo.old }
+        ensures memo { OnOk result (IsMemo (judges.setting_of self.now) self.now.claims.sets.now memo.new) }
+        ensures sound { OnOk result (judges.AreSound self.now) }
+        ensures fault { IfErr result (judges.IsFaultFor self.now) }
+    {
+        let config = self.judge_config()?;
+        let total = total_cost(alloc, self.setting, memo.desks.as_mut_slice(), &config)?;
+        if total != self.claims.cost {
+            return Err(CheckFault::CostDiffers(self.claims.cost, total));
+        }
+        judge_pairs(self.setting, self.claims.sets)?;
+        Ok(())
+    }
 }

@@ -1,27 +1,25 @@
-//! Walking over the tree.
-ghost use Rattle.std.specs.Prelude.{◌≡◌, ◌+◌, ◌<◌, ◌++◌, ◌∷◌, [], IfErr, OnOk, Some, None, length, slice_get};
-ghost use Rattle.bip_model.specs.declared.answer.Node.{Node};
+//! Walking over a tree, from node to node.
+ghost use Rattle.std.specs.Prelude.{◌≡◌, ◌<◌, ◌≤◌, ◌++◌, ◌∷◌, [], IfErr, OnOk, Some, None, length, slice_get};
+ghost use Rattle.std.specs.List.{AllByRecursion};
+ghost use Rattle.adv_base.specs.declared.limits.TheConstants.{MOST_NODES};
+ghost use Rattle.bip_model.specs.Views.{node_of};
 ghost use Rattle.certificate.specs.Limits as limits;
 ghost use Rattle.gap_checker.specs.Faults as faults;
 ghost use Rattle.gap_checker.specs.Views as views;
-ghost use Rattle.gap_checker.specs.inner.Figures.{AreFigures, setting_of};
 ghost use Rattle.gap_checker.specs.inner.Judges as judges;
 ghost use Rattle.gap_checker.specs.inner.Memos.{IsMemo};
 ghost use Rattle.gap_checker.specs.inner.Nodes as kept;
 ghost use Rattle.gap_checker.specs.inner.Walks as walks;
 
 use crate::fault::CheckFault;
-use crate::figures::Figures;
 use crate::judge::Judge;
 use crate::memo::Memo;
-use crate::subproblem::Subproblem;
 use adv_base::NoMemory;
-use bip_model::Node;
-use certificate::Cert;
+use bip_model::{Fix, Node};
 use std::alloc::Global;
 
 /// Puts a node of the search at the end.
-fn put(starts: &mut Vec<Subproblem>, start: Subproblem) -> Result<(), NoMemory>
+pub(crate) fn put(starts: &mut Vec<Fix>, start: Fix) -> Result<(), NoMemory>
     ensures { OnOk result (starts.new.items ≡ starts.old.items ++ start ∷ []) }
 {
     starts.push(start)?;
@@ -29,9 +27,9 @@ fn put(starts: &mut Vec<Subproblem>, start: Subproblem) -> Result<(), NoMemory>
 }
 
 /// Keeps the sides of a branch for later, the in-side to be taken first; a leaf has none.
-fn keep_sides(starts: &mut Vec<Subproblem>, at: &Subproblem, node: Node) -> Result<(), NoMemory>
-    requires { walks.HasSides node }
-    ensures { OnOk result (kept.starts_of starts.new.items ≡ walks.sides (kept.node_of at.now) node (kept.starts_of starts.old.items)) }
+fn keep_sides(starts: &mut Vec<Fix>, at: &Fix, node: Node) -> Result<(), NoMemory>
+    requires { walks.HasSides (node_of at.now) node }
+    ensures { OnOk result (kept.starts_of starts.new.items ≡ walks.sides (node_of at.now) node (kept.starts_of starts.old.items)) }
 {
     match node {
         Node::Branch(candidate) => {
@@ -44,7 +42,7 @@ fn keep_sides(starts: &mut Vec<Subproblem>, at: &Subproblem, node: Node) -> Resu
 }
 
 /// The node of the search that was kept last.
-fn next_start(starts: &mut Vec<Subproblem>) -> Subproblem
+fn next_start(starts: &mut Vec<Fix>) -> Fix
     requires { 0 < length starts.old.items }
     ensures { starts.old.items ≡ starts.new.items ++ result ∷ [] }
 {
@@ -55,78 +53,63 @@ fn next_start(starts: &mut Vec<Subproblem>) -> Subproblem
 }
 
 /// The node of a place.
-fn node_at(cert: &Cert, place: usize) -> Node
-    requires { place < length cert.now.tree }
-    ensures { slice_get cert.now.tree place ≡ Some result }
+fn node_at(tree: &[Node], place: usize) -> Node
+    requires { place < length tree.now }
+    ensures { slice_get tree.now place ≡ Some result }
 {
-    match cert.tree.as_slice().get(place) {
+    match tree.get(place) {
         Some(node) => *node,
         None => unreachable!(),
     }
 }
 
-/// Judges the next node.
-fn judge_next(
-    alloc: Global,
-    judge: &Judge<'_>,
-    memo: &mut Memo<'_>,
-    cert: &Cert,
-    starts: &mut Vec<Subproblem>,
-    i: usize,
-) -> Result<(), CheckFault>
-    requires judge { judges.IsJudge judge.now cert.now }
-    requires memo_is { IsMemo (setting_of judge.now.figures.now) cert.now memo.old }
-    requires limits { limits.CertLimits cert.now }
-    requires sound { faults.IsSound (setting_of judge.now.figures.now) cert.now }
-    requires within { i < length cert.now.tree }
-    requires walk { judges.IsWalk (setting_of judge.now.figures.now) cert.now i (kept.starts_of starts.old.items) }
-    ensures memo { OnOk result (IsMemo (setting_of judge.now.figures.now) cert.now memo.new) }
-    ensures walk { OnOk result (judges.IsWalk (setting_of judge.now.figures.now) cert.now (i + 1) (kept.starts_of starts.new.items)) }
-    ensures fault { IfErr result (faults.IsFault (setting_of judge.now.figures.now) cert.now) }
-{
-    let node = node_at(cert, i);
-    let at = next_start(starts);
-    judge.judge(alloc, memo, cert, i as u32 + 1, &at, node)?;
-    keep_sides(starts, &at, node)?;
-    Ok(())
-}
-
-/// Judges the nodes of the tree in preorder.
-fn judge_nodes(
-    alloc: Global,
-    judge: &Judge<'_>,
-    memo: &mut Memo<'_>,
-    cert: &Cert,
-) -> Result<(), CheckFault>
-    requires judge { judges.IsJudge judge.now cert.now }
-    requires memo_is { IsMemo (setting_of judge.now.figures.now) cert.now memo.old }
-    requires limits { limits.CertLimits cert.now }
-    requires sound { faults.IsSound (setting_of judge.now.figures.now) cert.now }
-    ensures proof { OnOk result (views.IsProof (setting_of judge.now.figures.now) cert.now) }
-    ensures fault { IfErr result (faults.IsFault (setting_of judge.now.figures.now) cert.now) }
-{
-    let mut starts = Vec::new(alloc);
-    put(&mut starts, Subproblem::root())?;
-    for i in 0..cert.tree.len() {
-        judge_next(alloc, judge, memo, cert, &mut starts, i)?;
+impl Judge<'_> {
+    /// Judges the next node of a tree, whatever was read before it.
+    pub(crate) fn judge_next(
+        &self,
+        alloc: Global,
+        memo: &mut Memo<'_>,
+        starts: &mut Vec<Fix>,
+        number: u32,
+        node: Node,
+    ) -> Result<(), CheckFault>
+        requires judge { judges.IsJudge self.now }
+        requires memo_is { IsMemo (judges.setting_of self.now) self.now.claims.sets.now memo.old }
+        requires limits { limits.NodeLimits (length self.now.claims.sets.now) node }
+        requires some { 0 < length starts.old.items }
+        ensures memo { OnOk result (IsMemo (judges.setting_of self.now) self.now.claims.sets.now memo.new) }
+        ensures count { OnOk result (length starts.new.items ≡ walks.trees_after (length starts.old.items) node) }
+        ensures walk { OnOk result (judges.GoesOn self.now (kept.starts_of starts.old.items) node (kept.starts_of starts.new.items)) }
+        ensures fault { IfErr result (judges.IsNextFault self.now (kept.starts_of starts.old.items) number node) }
+    {
+        let at = next_start(starts);
+        self.judge_node(alloc, memo, number, &at, node)?;
+        keep_sides(starts, &at, node)?;
+        Ok(())
     }
-    Ok(())
-}
 
-/// Judges the tree of a certificate, of which all else is right.
-pub(crate) fn judge_tree(
-    alloc: Global,
-    figures: &Figures<'_>,
-    memo: &mut Memo<'_>,
-    cert: &Cert,
-) -> Result<(), CheckFault>
-    requires figures_are { AreFigures figures.now }
-    requires memo_is { IsMemo (setting_of figures.now) cert.now memo.old }
-    requires limits { limits.CertLimits cert.now }
-    requires sound { faults.IsSound (setting_of figures.now) cert.now }
-    ensures proof { OnOk result (views.IsProof (setting_of figures.now) cert.now) }
-    ensures fault { IfErr result (faults.IsFault (setting_of figures.now) cert.now) }
-{
-    let judge = Judge::new(alloc, figures, cert)?;
-    judge_nodes(alloc, &judge, memo, cert)
+    /// Judges the nodes of a tree in preorder.
+    pub(crate) fn judge_tree(
+        &self,
+        alloc: Global,
+        memo: &mut Memo<'_>,
+        tree: &[Node],
+    ) -> Result<(), CheckFault>
+        requires judge { judges.IsJudge self.now }
+        requires memo_is { IsMemo (judges.setting_of self.now) self.now.claims.sets.now memo.old }
+        requires sound { judges.AreSound self.now }
+        requires few { length tree.now ≤ MOST_NODES }
+        requires nodes { AllByRecursion (limits.NodeLimits (length self.now.claims.sets.now)) tree.now }
+        requires tree { limits.AreTrees 1 tree.now }
+        ensures proof { OnOk result (views.IsProof (judges.setting_of self.now) (judges.root_of self.now) (judges.cert_of self.now tree.now)) }
+        ensures fault { IfErr result (faults.IsFault (judges.setting_of self.now) (judges.root_of self.now) (judges.cert_of self.now tree.now)) }
+    {
+        let mut starts = Vec::new(alloc);
+        put(&mut starts, *self.root)?;
+        for i in 0..tree.len() {
+            let node = node_at(tree, i);
+            self.judge_next(alloc, memo, &mut starts, i as u32 + 1, node)?;
+        }
+        Ok(())
+    }
 }

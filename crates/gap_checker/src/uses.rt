@@ -1,7 +1,8 @@
 //! The uses that entries name.
 ghost use Rattle.std.specs.Prelude.{◌≡◌, ℕ, ◌-◌, ◌<◌, ◌≤◌, All, Some, None, slice_get, option_map, IfErr, IsTrue, OnOk, false, length};
+ghost use Rattle.std.specs.List.{AllByRecursion};
 ghost use Rattle.std.specs.Option.{ForSome};
-ghost use Rattle.adv_base.specs.declared.limits.TheConstants.{MOST_ENTRIES};
+ghost use Rattle.adv_base.specs.declared.limits.TheConstants.{MOST_ENTRIES, MOST_SETS};
 ghost use Rattle.certificate.specs.Limits as limits;
 ghost use Rattle.certificate.specs.declared.cert.SparseSet.{SparseSet};
 ghost use Rattle.gap_checker.specs.Faults as faults;
@@ -10,7 +11,7 @@ ghost use Rattle.gap_checker.specs.inner.Uses as uses;
 
 use crate::fault::CheckFault;
 use adv_base::{Setting, Slot};
-use certificate::{Cert, Entry, SparseSet};
+use certificate::{Entry, SparseSet};
 
 /// The slot of a statement; both are counted from 1.
 fn slot_at<'a>(setting: &Setting<'a>, statement: u16, slot: u8) -> Option<&'a Slot>
@@ -58,11 +59,11 @@ fn entry_at(set: &SparseSet, place: usize) -> &Entry
 }
 
 /// The set of a place.
-fn set_at(cert: &Cert, place: usize) -> &SparseSet
-    requires { place < length cert.now.sets }
-    ensures { slice_get cert.now.sets place ≡ Some result.now }
+fn set_at(sets: &[SparseSet], place: usize) -> &SparseSet
+    requires { place < length sets.now }
+    ensures { slice_get sets.now place ≡ Some result.now }
 {
-    match cert.sets.as_slice().get(place) {
+    match sets.get(place) {
         Some(set) => set,
         None => unreachable!(),
     }
@@ -96,13 +97,15 @@ fn bad_entry(setting: &Setting<'_>, set: &SparseSet) -> Option<u32>
 }
 
 /// Judges the entries of all sets: each names a slot of a statement and a candidate on its table.
-pub(crate) fn judge_pairs(setting: &Setting<'_>, cert: &Cert) -> Result<(), CheckFault>
-    requires { limits.CertLimits cert.now }
-    ensures right { OnOk result ((j : ℕ) (set : SparseSet) → slice_get cert.now.sets j ≡ Some set → All (faults.NamesPair (the_setting setting.now)) set.entries) }
-    ensures wrong { IfErr result (uses.IsPairFault (the_setting setting.now) cert.now) }
+pub(crate) fn judge_pairs(setting: &Setting<'_>, sets: &[SparseSet]) -> Result<(), CheckFault>
+    requires few { length sets.now ≤ MOST_SETS }
+    requires limits { AllByRecursion limits.SetLimits sets.now }
+    requires few_entries { limits.entry_count sets.now ≤ MOST_ENTRIES }
+    ensures right { OnOk result ((j : ℕ) (set : SparseSet) → slice_get sets.now j ≡ Some set → All (faults.NamesPair (the_setting setting.now)) set.entries) }
+    ensures wrong { IfErr result (uses.IsPairFault (the_setting setting.now) sets.now) }
 {
-    for j in 0..cert.sets.len() {
-        let set = set_at(cert, j);
+    for j in 0..sets.len() {
+        let set = set_at(sets, j);
         if let Some(entry) = bad_entry(setting, set) {
             return Err(CheckFault::BadPair(j as u8 + 1, entry));
         }

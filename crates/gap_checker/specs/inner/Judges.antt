@@ -1,83 +1,95 @@
 -- What a judge of nodes holds, and what it says of one.
-use Rattle.std.specs.Prelude.{◌≡◌, ℕ, ◌≤◌, ℤ, ◌<ℤ◌, List, [], ◌∷◌, ◌++◌, length, drop, All, Some}
-use Rattle.adv_base.specs.declared.limits.TheConstants.{MOST_PAGE_PRICE, MOST_ROWS}
+use Rattle.std.specs.Prelude.{◌≡◌, ℕ, suc, ◌≤◌, ℤ, ◌<ℤ◌, ◌↔◌, List, [], ◌∷◌, ◌++◌, length, All, Some}
 use Rattle.adv_base.specs.Configs.{config_pages}
 use Rattle.adv_base.specs.Nodes as nodes
-use Rattle.adv_base.specs.Settings.{TheSetting}
+use Rattle.adv_base.specs.Settings.{TheSetting, the_setting}
 use Rattle.bip_model.specs.declared.answer.Node.{Node}
 use Rattle.bip_model.specs.declared.answer.Node.TheVariants.{Branch, Bounded, Overfull}
 use Rattle.bip_model.specs.StandsFor.{AreEach}
 use Rattle.bip_model.specs.Trees.{IsBranch, set_at}
-use Rattle.bip_model.specs.Proves.{free_node}
+use Rattle.bip_model.specs.Views.{node_of}
 use Rattle.certificate.specs.declared.cert.Cert.{Cert}
-use Rattle.certificate.specs.declared.cert.SparseSet.{SparseSet}
-use Rattle.certificate.specs.Limits.{EntriesFrom, AreTrees}
+use Rattle.certificate.specs.Limits.{AreTrees}
 use Rattle.plan_model.specs.Lagrangian.{TheMultipliers, IsLagrangian}
+use Rattle.gap_checker.specs.declared.claims.Claims.{Claims}
 use Rattle.gap_checker.specs.declared.fault.CheckFault.{CheckFault}
 use Rattle.gap_checker.specs.declared.fault.CheckFault.TheVariants as faults
 use Rattle.gap_checker.specs.declared.judge.Judge.{Judge}
-use Rattle.gap_checker.specs.declared.multipliers.Multipliers.{Multipliers}
-use Rattle.gap_checker.specs.Views.{sets_of}
-use Rattle.gap_checker.specs.Visits.{Visit, visits, IsRight}
-use Rattle.gap_checker.specs.inner.Earnings.{AreEarned}
-use Rattle.gap_checker.specs.inner.Figures.{AreFigures, setting_of}
+use Rattle.gap_checker.specs.Faults.{IsFault, IsSound}
+use Rattle.gap_checker.specs.Visits.{Visit, visits, IsRight, IsRightAt}
+use Rattle.gap_checker.specs.inner.Claims.{KeepsLimits, cert_with, sets_in}
+use Rattle.gap_checker.specs.inner.Kept.{IsKept, all_sets}
 
--- the set without rents, and the sets of a certificate behind it
-abbrev pub zero_set : SparseSet
-zero_set = record { mu = 0; entries = [] }
+-- what a judge judges by, and the certificate's sets with what candidates earn under them
+abbrev pub setting_of : Judge → TheSetting
+setting_of judge = the_setting judge.setting.now
 
-abbrev pub all_sets : Cert → List SparseSet
-all_sets cert = zero_set ∷ cert.sets
+abbrev pub root_of : Judge → nodes.Node
+root_of judge = node_of judge.root.now
 
--- a set as it is kept, with what candidates earn under it
-pub record IsKept (setting : TheSetting) (sparse : SparseSet) (set : Multipliers) : Type 0 where
-  pub mu_is : set.rents.mu ≡ sparse.mu
-  pub entries_are : set.rents.entries.now ≡ sparse.entries
-  pub mu_most : sparse.mu ≤ MOST_PAGE_PRICE
-  pub rise : EntriesFrom 0 sparse.entries
-  pub earned : AreEarned setting set
+pub record IsJudge (judge : Judge) : Type 0 where
+  pub limits : KeepsLimits judge.claims
+  pub sets_are : AreEach (IsKept (setting_of judge)) (all_sets judge.claims.sets.now) judge.sets.items
 
-pub record IsJudge (judge : Judge) (cert : Cert) : Type 0 where
-  pub figures_are : AreFigures judge.figures.now
-  pub budget_is : judge.budget ≡ cert.budget
-  pub budget_most : judge.budget ≤ MOST_ROWS
-  pub bound_is : judge.bound ≡ cert.bound
-  pub sets_are : AreEach (IsKept (setting_of judge.figures.now)) (all_sets cert) judge.sets.items
+-- the certificate that it judges, with a tree
+abbrev pub cert_of : Judge → List Node → Cert
+cert_of judge tree = cert_with judge.claims tree
 
--- ## What may be wrong with a node
+-- a fault of what is claimed, whatever the tree
+abbrev pub IsFaultFor : Judge → CheckFault → Type 0
+IsFaultFor judge fault = (tree : List Node) → IsFault (setting_of judge) (root_of judge) (cert_of judge tree) fault
+
+-- what is claimed is as it has to be
+abbrev pub AreSound : Judge → Type 0
+AreSound judge = (tree : List Node) → IsSound (setting_of judge) (cert_of judge tree)
+
+-- ## What is right with a node, and what may be wrong
+
+abbrev pub IsRightFor : Judge → nodes.Node → Node → Type 0
+IsRightFor judge at node = IsRightAt (setting_of judge) judge.claims.budget judge.claims.bound (sets_in judge.claims) at node
 
 pub record IsWrongBranch (setting : TheSetting) (node : Node) (at : nodes.Node) : Type 0 where
   pub candidate : ℕ
   pub node_is : node ≡ Branch candidate
   pub wrong : ¬ (IsBranch setting at candidate)
 
-pub record IsWeakLeaf (setting : TheSetting) (cert : Cert) (node : Node) (at : nodes.Node) (computed claimed : ℤ) : Type 0 where
+pub record IsWeakLeaf (setting : TheSetting) (claims : Claims) (node : Node) (at : nodes.Node) (computed claimed : ℤ) : Type 0 where
   pub set : ℕ
   pub node_is : node ≡ Bounded set
   pub multipliers : TheMultipliers
-  pub found : set_at (sets_of cert) set ≡ Some multipliers
-  pub value_is : IsLagrangian setting cert.budget at multipliers computed
-  pub claimed_is : claimed ≡ cert.bound
+  pub found : set_at (sets_in claims) set ≡ Some multipliers
+  pub value_is : IsLagrangian setting claims.budget at multipliers computed
+  pub claimed_is : claimed ≡ claims.bound
   pub below : computed <ℤ claimed
 
-pub record IsFitting (setting : TheSetting) (cert : Cert) (node : Node) (at : nodes.Node) (size : ℕ) : Type 0 where
+pub record IsFitting (setting : TheSetting) (claims : Claims) (node : Node) (at : nodes.Node) (size : ℕ) : Type 0 where
   pub node_is : node ≡ Overfull
   pub size_is : size ≡ config_pages setting.cat setting.shapes at.inside
-  pub fits : size ≤ cert.budget
+  pub fits : size ≤ claims.budget
 
-abbrev pub IsWrong : TheSetting → Cert → ℕ → nodes.Node → Node → CheckFault → Type 0
-IsWrong setting cert number at node faults.Memory = Unit {0}
-IsWrong setting cert number at node (faults.BadBranch n) = (n ≡ number) × IsWrongBranch setting node at
-IsWrong setting cert number at node (faults.LeafBelow n computed claimed) = (n ≡ number) × IsWeakLeaf setting cert node at computed claimed
-IsWrong setting cert number at node (faults.NotInfeasible n size) = (n ≡ number) × IsFitting setting cert node at size
-IsWrong setting cert number at node fault = ⊥
+abbrev pub IsWrong : Judge → ℕ → nodes.Node → Node → CheckFault → Type 0
+IsWrong judge number at node faults.Memory = Unit {0}
+IsWrong judge number at node (faults.BadBranch n) = (n ≡ number) × IsWrongBranch (setting_of judge) node at
+IsWrong judge number at node (faults.LeafBelow n computed claimed) = (n ≡ number) × IsWeakLeaf (setting_of judge) judge.claims node at computed claimed
+IsWrong judge number at node (faults.NotInfeasible n size) = (n ≡ number) × IsFitting (setting_of judge) judge.claims node at size
+IsWrong judge number at node fault = ⊥
 
 -- ## The walk
 
--- so many nodes were right; what is left of the tree starts at the nodes that are kept, the last one first
-pub record IsWalk (setting : TheSetting) (cert : Cert) (count : ℕ) (starts : List nodes.Node) : Type 0 where
+-- The nodes that were read are right, and whatever comes behind them starts at the nodes that are kept, the last one first.
+pub record IsWalk (judge : Judge) (read : List Node) (starts : List nodes.Node) : Type 0 where
   pub before : List Visit
-  pub count_is : count ≡ length before
-  pub parts : visits (free_node ∷ []) cert.tree ≡ before ++ visits starts (drop count cert.tree)
-  pub right : All (IsRight setting cert.budget cert.bound (sets_of cert)) before
-  pub trees : AreTrees (length starts) (drop count cert.tree)
+  pub count_is : length read ≡ length before
+  pub parts : (rest : List Node) → visits (root_of judge ∷ []) (read ++ rest) ≡ before ++ visits starts rest
+  pub right : All (IsRight (setting_of judge) judge.claims.budget judge.claims.bound (sets_in judge.claims)) before
+  pub trees : (rest : List Node) → AreTrees 1 (read ++ rest) ↔ AreTrees (length starts) rest
+
+-- a node more of a tree, whatever was read before it
+abbrev pub GoesOn : Judge → List nodes.Node → Node → List nodes.Node → Type 0
+GoesOn judge old node new = (read : List Node) → IsWalk judge read old → IsWalk judge (read ++ node ∷ []) new
+
+-- or the fault there, whatever comes behind it
+abbrev pub IsNextFault : Judge → List nodes.Node → ℕ → Node → CheckFault → Type 0
+IsNextFault judge starts number node fault =
+    (read rest : List Node) → AreSound judge → IsWalk judge read starts → number ≡ suc (length read) →
+    IsFault (setting_of judge) (root_of judge) (cert_of judge (read ++ node ∷ rest)) fault

@@ -4,7 +4,6 @@ use Rattle.adv_base.specs.declared.setting.Config.{Config}
 use Rattle.adv_base.specs.declared.workload.Statement.{Statement}
 use Rattle.adv_base.specs.Settings.{TheSetting}
 use Rattle.bip_model.specs.StandsFor.{AreEach}
-use Rattle.certificate.specs.declared.cert.Cert.{Cert}
 use Rattle.certificate.specs.declared.cert.SparseSet.{SparseSet}
 use Rattle.plan_model.specs.Lagrangian.{IsRentedPlan}
 use Rattle.plan_model.specs.declared.plan.TheConstants.{MOST_COST}
@@ -13,7 +12,7 @@ use Rattle.gap_checker.specs.declared.changes.Changes.{Changes}
 use Rattle.gap_checker.specs.declared.memo.Last.{Last}
 use Rattle.gap_checker.specs.declared.memo.Memo.{Memo}
 use Rattle.gap_checker.specs.inner.Changes.{IsUntouched}
-use Rattle.gap_checker.specs.inner.Judges.{all_sets}
+use Rattle.gap_checker.specs.inner.Kept.{all_sets}
 use Rattle.gap_checker.specs.inner.Parts.{AreDesks}
 
 -- each number is what a least plan of the statement of its place costs over a configuration, with rents
@@ -40,6 +39,6 @@ pub record IsBlank (count : ℕ) (last : Last) : Type 0 where
   pub config_is : last.config ≡ None
   pub costs_are : last.costs.items ≡ replicate count 0
 
-pub record IsMemo (setting : TheSetting) (cert : Cert) (memo : Memo) : Type 0 where
+pub record IsMemo (setting : TheSetting) (sets : List SparseSet) (memo : Memo) : Type 0 where
   pub desks_are : AreDesks setting memo.desks.items
-  pub lasts_are : AreEach (IsLastOf setting) (all_sets cert) memo.lasts.items
+  pub lasts_are : AreEach (IsLastOf setting) (all_sets sets) memo.lasts.items

@@ -6,7 +6,7 @@ use Rattle.adv_base.specs.Settings.{TheSetting}
 use Rattle.plan_model.specs.Lagrangian.{TheMultipliers, AreRentedPlans}
 use Rattle.plan_model.specs.Totals.{weighted_sum}
 use Rattle.gap_checker.specs.Views.{multipliers_of}
-use Rattle.gap_checker.specs.declared.figures.Figures.{Figures}
+use Rattle.hypo_indexes.specs.declared.figures.Figures.{Figures}
 use Rattle.gap_checker.specs.declared.multipliers.Multipliers.{Multipliers}
 use Rattle.gap_checker.specs.declared.rents.Rents.{Rents}
 
@@ -23,7 +23,7 @@ pub record IsRentedSum (setting : TheSetting) (config : Config) (rent : ℕ → 
 -- ## What a candidate costs and earns, by its place from 0
 
 abbrev pub cost_at : Figures → ℕ → ℕ → ℕ
-cost_at figures mu a = 65536 * slice_index_or figures.upkeep.items a 0 + mu * slice_index_or figures.sizes.items a 0
+cost_at figures mu a = 65536 * slice_index_or figures.upkeep a 0 + mu * slice_index_or figures.sizes a 0
 
 abbrev pub rents_at : Multipliers → ℕ → ℕ
 rents_at set a = 65536 * slice_index_or set.earned.items a 0

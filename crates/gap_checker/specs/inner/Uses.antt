@@ -1,10 +1,9 @@
 -- Uses that entries name, and the first that names none.
-use Rattle.std.specs.Prelude.{◌≡◌, ℕ, ◌-◌, ◌<◌, ◌==◌, Bool, false, All, Option, Some, slice_get, option_and_then}
+use Rattle.std.specs.Prelude.{◌≡◌, ℕ, ◌-◌, ◌<◌, ◌==◌, Bool, false, All, List, Option, Some, slice_get, option_and_then}
 use Rattle.std.specs.Option.{option_map_or}
 use Rattle.adv_base.specs.declared.workload.parts.Slot.{Slot}
 use Rattle.adv_base.specs.Settings.{TheSetting}
 use Rattle.plan_model.specs.Totals.{block_of}
-use Rattle.certificate.specs.declared.cert.Cert.{Cert}
 use Rattle.certificate.specs.declared.cert.Entry.{Entry}
 use Rattle.certificate.specs.declared.cert.SparseSet.{SparseSet}
 use Rattle.gap_checker.specs.Faults.{NamesPair}
@@ -42,13 +41,13 @@ pub record IsBadEntry (setting : TheSetting) (set : SparseSet) (place : ℕ) : T
   pub none : ¬ (NamesPair setting entry)
   pub before : (k : ℕ) (earlier : Entry) → k < place - 1 → slice_get set.entries k ≡ Some earlier → NamesPair setting earlier
 
-pub record IsFirstBad (setting : TheSetting) (cert : Cert) (number place : ℕ) : Type 0 where
+pub record IsFirstBad (setting : TheSetting) (sets : List SparseSet) (number place : ℕ) : Type 0 where
   pub some : 0 < number
   pub set : SparseSet
-  pub found : slice_get cert.sets (number - 1) ≡ Some set
+  pub found : slice_get sets (number - 1) ≡ Some set
   pub entry : IsBadEntry setting set place
-  pub before : (j : ℕ) (earlier : SparseSet) → j < number - 1 → slice_get cert.sets j ≡ Some earlier → All (NamesPair setting) earlier.entries
+  pub before : (j : ℕ) (earlier : SparseSet) → j < number - 1 → slice_get sets j ≡ Some earlier → All (NamesPair setting) earlier.entries
 
-abbrev pub IsPairFault : TheSetting → Cert → CheckFault → Type 0
-IsPairFault setting cert (BadPair number place) = IsFirstBad setting cert number place
-IsPairFault setting cert fault = ⊥
+abbrev pub IsPairFault : TheSetting → List SparseSet → CheckFault → Type 0
+IsPairFault setting sets (BadPair number place) = IsFirstBad setting sets number place
+IsPairFault setting sets fault = ⊥

@@ -6,4 +6,4 @@ use Rattle.adv_base.specs.Settings.{the_setting}
 use Rattle.gap_checker.proofs.uses.judge_pairs.Given as goal
 
 abbrev pub invariant-loop-j : goal.invariant-loop-j
-invariant-loop-j l = (k : ℕ) (earlier : SparseSet) → k < l.j → slice_get l.cert.sets k ≡ Some earlier → All (faults.NamesPair (the_setting l.setting)) earlier.entries
+invariant-loop-j l = (k : ℕ) (earlier : SparseSet) → k < l.j → slice_get l.sets k ≡ Some earlier → All (faults.NamesPair (the_setting l.setting)) earlier.entries
