@@ -1,5 +1,4 @@
 pub mod RentedPrices
-pub mod AvailableCandidates
 pub mod EarnedRents
 pub mod FlatSlots
 pub mod ListedCosts
@@ -13,3 +12,4 @@ pub mod MarkedCosts
 pub mod WrittenRents
 pub mod LeastPrices
 pub mod MadeLists
+pub mod ReachedRents

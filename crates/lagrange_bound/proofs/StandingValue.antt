@@ -1,6 +1,6 @@
 -- In a programme that stands for a setting, what it tells of a node is the setting's Lagrangian value.
-use Rattle.std.proofs.Common.{◌≡◌, ◌∙◌, inl, inr, ℕ, zero, suc, ◌+◌, ◌-◌, ◌*◌, ◌<◌, ◌≤◌, ◌==◌, Bool, true, false, not, ◌&&◌, ◌||◌, List, [], ◌∷◌, length, All, map, drop, sum, ℤ, pos, negsuc, ◌+ℤ◌, ◌-ℤ◌, refl, sym, ap, subst, arith}
-use Rattle.std.specs.Prelude.{Option, Some, None, if◌then◌else◌, nat_le, filter, slice_get, slice_index_or}
+use Rattle.std.proofs.Common.{◌≡◌, ◌∙◌, inl, inr, ℕ, zero, suc, ◌+◌, ◌-◌, ◌*◌, ◌<◌, ◌≤◌, ◌==◌, Bool, true, false, not, ◌&&◌, List, [], ◌∷◌, length, All, map, drop, ℤ, pos, negsuc, ◌+ℤ◌, ◌-ℤ◌, refl, sym, ap, subst, arith}
+use Rattle.std.specs.Prelude.{Option, Some, None, if◌then◌else◌, filter, slice_get, slice_index_or}
 use Rattle.std.specs.Int.{int_div_euclid}
 use Rattle.std.specs.List.{enumerate_from}
 use Rattle.std.specs.Option.{option_map_or}
@@ -17,11 +17,10 @@ use Rattle.adv_base.specs.declared.workload.Work.{Work}
 use Rattle.adv_base.specs.declared.workload.Work.TheVariants.{Select, Update, Delete, Insert}
 use Rattle.adv_base.specs.declared.workload.block.Block.{Block}
 use Rattle.adv_base.specs.declared.workload.parts.Slot.{Slot}
-use Rattle.adv_base.specs.Configs.{chosen, has_candidate, config_pages}
+use Rattle.adv_base.specs.Configs.{Space, has_candidate}
 use Rattle.adv_base.specs.Laws.{IsRent}
 use Rattle.adv_base.specs.Named.{NamesWork}
 use Rattle.adv_base.specs.Nodes as nodes
-use Rattle.adv_base.specs.Nodes.{flags_from, config_of}
 use Rattle.adv_base.specs.Settings.{TheSetting, KeepsLimits}
 use Rattle.adv_base.specs.Sizes.{shape_pages}
 use Rattle.plan_model.specs.Exchange.{sum_below}
@@ -40,11 +39,12 @@ use Rattle.bip_model.specs.declared.programme.Programme.{Programme}
 use Rattle.bip_model.specs.declared.multipliers.Multipliers.{Multipliers}
 use Rattle.bip_model.specs.Values.{part_grants, grant_count}
 use Rattle.bip_model.specs.StandsFor.{candidates_on, AreEach, IsGrant, IsSlotPart, Blocked, IsPart, blocked_in, blocked_from, StandsFor}
-use Rattle.bip_model.specs.Views.{is_in, is_out, node_of, rent_at, multipliers_of, AreMultipliers}
+use Rattle.bip_model.specs.Views.{space_in, is_in, is_out, node_of, state_at, rent_at, multipliers_of, AreMultipliers}
 use Rattle.bip_model.specs.Views as views
-use Rattle.bip_model.proofs.Totalling.{named-of, chosen-sum}
+use Rattle.bip_model.proofs.Deciding.{space-same}
+use Rattle.bip_model.proofs.Totalling.{named-of}
 use Rattle.bip_model.proofs.Lists.{map-or, each-map}
-use Rattle.lagrange_bound.specs.Bounds.{state_at, pages_inside, fits_beside, may_use, available, grant_rents, slot_rents, part_rents, candidate_cost, candidate_rents, paid, earned, paid_in_all, earned_in_all, rounded_up, value_of_plans, costs_at, lagrangian}
+use Rattle.lagrange_bound.specs.Bounds.{fits_at, grant_rents, slot_rents, part_rents, candidate_cost, candidate_rents, paid, earned, paid_in_all, earned_in_all, rounded_up, value_of_plans, costs_at, lagrangian}
 use Rattle.lagrange_bound.specs.Laws.{AreLeastPlans}
 use Rattle.lagrange_bound.specs.Rented.{rented_cost, plan_costs, weighted_costs}
 use Rattle.lagrange_bound.proofs.RentPlaces.{RentsAre, SlotsAre, PartsAre, Ascending, SlotsAscending, PartsAscending, ascending-below, parts-below, parts-rents}
@@ -219,16 +219,6 @@ parts-one f setting i shape q (statement ∷ statements) parts rents found are r
 
 -- ## Which candidates may be used
 
-flags-same : (f g : ℕ → Bool) (a n : ℕ) → ((i : ℕ) → f (suc i) ≡ g (suc i)) → flags_from f (suc a) n ≡ flags_from g (suc a) n
-unfolding flags_from
-flags-same f g a zero same = refl
-flags-same f g a (suc n) same =
-    ap (λ (b : Bool). b ∷ flags_from f (suc (suc a)) n) (same a) ∙ ap (λ (bs : List Bool). g (suc a) ∷ bs) (flags-same f g (suc a) n same)
-
-config_of-same : (f g : ℕ → Bool) → ((i : ℕ) → f (suc i) ≡ g (suc i)) → config_of f ≡ config_of g
-unfolding config_of
-config_of-same f g same = ap (λ (on : List Bool). record { on = on }) (flags-same f g 0 256 same)
-
 map-default : {X Y : Type 0} (f : X → Y) (xs : List X) (i : ℕ) (d : X) → slice_index_or (map f xs) i (f d) ≡ f (slice_index_or xs i d)
 map-default f [] i d = refl
 map-default f (x ∷ xs) zero d = refl
@@ -240,45 +230,16 @@ inside-is fix i = flag-of (node_of fix).inside i ∙ map-default is_in fix.state
 outside-is : (fix : Fix) (i : ℕ) → has_candidate (node_of fix).outside (suc i) ≡ is_out (state_at fix i)
 outside-is fix i = flag-of (node_of fix).outside i ∙ map-default is_out fix.state i Free
 
-pages-are : (setting : TheSetting) (programme : Programme) (fix : Fix) → StandsFor setting programme → pages_inside programme fix ≡ config_pages setting.cat setting.shapes (node_of fix).inside
-pages-are setting programme fix stands =
-    ap (λ (sizes : List ℕ). sum (chosen (map is_in fix.state) sizes)) stands.sizes_are
-    ∙ chosen-sum (shape_pages setting.cat) (map is_in fix.state) setting.shapes
-    ∙ sym (sum-total (shape_pages setting.cat) (chosen (map is_in fix.state) setting.shapes))
-
-fits-is : (setting : TheSetting) (programme : Programme) (budget : ℕ) (fix : Fix) (i : ℕ) → StandsFor setting programme →
-    fits_beside programme budget fix i ≡ nat_le (config_pages setting.cat setting.shapes (node_of fix).inside + nodes.candidate_pages setting.cat setting.shapes (suc i)) budget
-fits-is setting programme budget fix i stands =
-    let back : suc i - 1 ≡ i = omega arith in
-    let own : slice_index_or programme.sizes i 0 ≡ nodes.candidate_pages setting.cat setting.shapes (suc i) =
-    ap (λ (sizes : List ℕ). slice_index_or sizes i 0) stands.sizes_are ∙ sym (map-or (shape_pages setting.cat) setting.shapes i)
-    ∙ ap (λ (k : ℕ). option_map_or (shape_pages setting.cat) (slice_get setting.shapes k) 0) (sym back) in
-    ap (λ (n : ℕ). nat_le (n + slice_index_or programme.sizes i 0) budget) (pages-are setting programme fix stands)
-    ∙ ap (λ (n : ℕ). nat_le (config_pages setting.cat setting.shapes (node_of fix).inside + n) budget) own
-
 open-is : (setting : TheSetting) (programme : Programme) (budget : ℕ) (fix : Fix) (i : ℕ) → StandsFor setting programme →
-    nodes.is_open setting.cat setting.shapes budget (node_of fix) (suc i) ≡ ((not (is_in (state_at fix i)) && not (is_out (state_at fix i))) && fits_beside programme budget fix i)
+    nodes.is_open setting.cat setting.shapes budget (node_of fix) (suc i) ≡ ((not (is_in (state_at fix i)) && not (is_out (state_at fix i))) && fits_at programme budget fix i)
 open-is setting programme budget fix i stands =
-    let fits : Bool = nat_le (config_pages setting.cat setting.shapes (node_of fix).inside + nodes.candidate_pages setting.cat setting.shapes (suc i)) budget in
-    ap (λ (b : Bool). (not b && not (has_candidate (node_of fix).outside (suc i))) && fits) (inside-is fix i)
-    ∙ ap (λ (b : Bool). (not (is_in (state_at fix i)) && not b) && fits) (outside-is fix i)
-    ∙ ap (λ (b : Bool). (not (is_in (state_at fix i)) && not (is_out (state_at fix i))) && b) (sym (fits-is setting programme budget fix i stands))
+    ap (λ (space : Space). nodes.is_open_in space (node_of fix) (suc i)) (space-same setting programme budget stands)
+    ∙ ap (λ (b : Bool). (not b && not (has_candidate (node_of fix).outside (suc i))) && fits_at programme budget fix i) (inside-is fix i)
+    ∙ ap (λ (b : Bool). (not (is_in (state_at fix i)) && not b) && fits_at programme budget fix i) (outside-is fix i)
 
 available-is : (setting : TheSetting) (programme : Programme) (budget : ℕ) (fix : Fix) → StandsFor setting programme →
-    available programme budget fix ≡ nodes.available setting.cat setting.shapes budget (node_of fix)
-available-is setting programme budget fix stands =
-    config_of-same (λ a. may_use (state_at fix (a - 1)) (fits_beside programme budget fix (a - 1))) (nodes.is_available setting.cat setting.shapes budget (node_of fix))
-    (λ i.
-    let back : suc i - 1 ≡ i = omega arith in
-    ap (λ (k : ℕ). may_use (state_at fix k) (fits_beside programme budget fix k)) back
-    ∙ usable (state_at fix i) (fits_beside programme budget fix i)
-    ∙ ap (λ (b : Bool). b || ((not (is_in (state_at fix i)) && not (is_out (state_at fix i))) && fits_beside programme budget fix i)) (sym (inside-is fix i))
-    ∙ ap (λ (b : Bool). has_candidate (node_of fix).inside (suc i) || b) (sym (open-is setting programme budget fix i stands)))
-  where
-    usable : (state : State) (fits : Bool) → may_use state fits ≡ (is_in state || ((not (is_in state) && not (is_out state)) && fits))
-    usable In fits = refl
-    usable Out fits = refl
-    usable Free fits = refl
+    nodes.available_in (space_in programme budget) (node_of fix) ≡ nodes.available setting.cat setting.shapes budget (node_of fix)
+available-is setting programme budget fix stands = ap (λ (space : Space). nodes.available_in space (node_of fix)) (sym (space-same setting programme budget stands))
 
 -- ## What candidates cost and earn
 
@@ -338,7 +299,7 @@ earned-is setting programme budget fix multipliers stands rented =
     let f : ℕ → IndexShape → ℕ = λ a shape.
     if has_candidate (node_of fix).inside a then plain.candidate_rents setting M a shape else
     if nodes.is_open setting.cat setting.shapes budget (node_of fix) a then plain.candidate_rents setting M a shape - plain.candidate_cost setting M shape else 0 in
-    let g : ℕ → ℕ = λ i. earned (state_at fix i) (fits_beside programme budget fix i) (candidate_cost programme multipliers.mu i) (candidate_rents programme multipliers.lambda i) in
+    let g : ℕ → ℕ = λ i. earned (state_at fix i) (fits_at programme budget fix i) (candidate_cost programme multipliers.mu i) (candidate_rents programme multipliers.lambda i) in
     let count : length programme.sizes ≡ length setting.shapes = ap length stands.sizes_are ∙ length-map setting.shapes (shape_pages setting.cat) in
     ap (sum_below g) count
     ∙ sum-shapes f g setting.shapes
@@ -346,7 +307,7 @@ earned-is setting programme budget fix multipliers stands rented =
     let rents : candidate_rents programme multipliers.lambda i ≡ plain.candidate_rents setting M (suc i) shape =
     ap (λ (n : ℕ). 65536 * n) (parts-one M.rent setting i shape 1 setting.statements programme.parts multipliers.lambda found stands.parts_are rented) in
     let state : State = state_at fix i in
-    let fits : Bool = fits_beside programme budget fix i in
+    let fits : Bool = fits_at programme budget fix i in
     let cost : ℕ = plain.candidate_cost setting M shape in
     let own : ℕ = plain.candidate_rents setting M (suc i) shape in
     ap (λ (n : ℕ). earned state fits n (candidate_rents programme multipliers.lambda i)) (cost-is setting programme M i shape stands found)

@@ -1,11 +1,10 @@
 -- The Lagrangian value of a node, as a programme tells it: what the plans of its parts cost where the candidates that may
 -- be used pay rent, what exists and what is in costs, less what the rents bring in and the price of the budget. Candidates
 -- are numbered from 1; their places among sizes, upkeep and states are counted from 0.
-use Rattle.std.specs.Prelude.{ℕ, suc, ◌+◌, ◌-◌, ◌*◌, ◌==◌, Bool, true, false, if◌then◌else◌, nat_le, List, [], ◌∷◌, length, drop, map, sum, slice_index_or, ℤ, pos, ◌+ℤ◌, ◌-ℤ◌}
+use Rattle.std.specs.Prelude.{ℕ, suc, ◌+◌, ◌-◌, ◌*◌, ◌==◌, Bool, true, false, if◌then◌else◌, List, [], ◌∷◌, length, drop, slice_index_or, ℤ, pos, ◌+ℤ◌, ◌-ℤ◌}
 use Rattle.std.specs.Int.{int_div_euclid}
-use Rattle.adv_base.specs.declared.setting.Config.{Config}
-use Rattle.adv_base.specs.Configs.{chosen}
-use Rattle.adv_base.specs.Nodes.{config_of}
+use Rattle.adv_base.specs.Configs.{fits_beside}
+use Rattle.adv_base.specs.Nodes.{available_in}
 use Rattle.plan_model.specs.Exchange.{sum_below}
 use Rattle.bip_model.specs.declared.fix.Fix.{Fix}
 use Rattle.bip_model.specs.declared.fix.State.{State}
@@ -16,32 +15,8 @@ use Rattle.bip_model.specs.declared.part.Part.{Part}
 use Rattle.bip_model.specs.declared.programme.Programme.{Programme}
 use Rattle.bip_model.specs.declared.multipliers.Multipliers.{Multipliers}
 use Rattle.bip_model.specs.Values.{part_grants}
-use Rattle.bip_model.specs.Views.{is_in}
+use Rattle.bip_model.specs.Views.{space_in, node_of, state_at}
 use Rattle.lagrange_bound.specs.Rented.{plan_costs, weighted_costs}
-
--- ## Which candidates may be used
-
--- the state of the candidate at a place
-abbrev pub state_at : Fix → ℕ → State
-state_at fix i = slice_index_or fix.state i Free
-
--- the pages of those that are in
-abbrev pub pages_inside : Programme → Fix → ℕ
-pages_inside programme fix = sum (chosen (map is_in fix.state) programme.sizes)
-
--- a candidate fits the budget beside those that are in
-abbrev pub fits_beside : Programme → ℕ → Fix → ℕ → Bool
-fits_beside programme budget fix i = nat_le (pages_inside programme fix + slice_index_or programme.sizes i 0) budget
-
--- one may be used where it is in, or is free and fits
-abbrev pub may_use : State → Bool → Bool
-may_use In fits = true
-may_use Out fits = false
-may_use Free fits = fits
-
--- the configuration of those that may be used at a node
-abbrev pub available : Programme → ℕ → Fix → Config
-available programme budget fix = config_of (λ a. may_use (state_at fix (a - 1)) (fits_beside programme budget fix (a - 1)))
 
 -- ## What a candidate costs and earns, in parts of 65536
 
@@ -85,10 +60,14 @@ unfoldable pub paid_in_all : Programme → Fix → Multipliers → ℕ
 paid_in_all programme fix multipliers =
     sum_below (λ i. paid (state_at fix i) (candidate_cost programme multipliers.mu i)) (length programme.sizes)
 
+-- the candidate at a place fits beside those that are in
+abbrev pub fits_at : Programme → ℕ → Fix → ℕ → Bool
+fits_at programme budget fix i = fits_beside (space_in programme budget) (node_of fix).inside (suc i)
+
 unfoldable pub earned_in_all : Programme → ℕ → Fix → Multipliers → ℕ
 earned_in_all programme budget fix multipliers =
     sum_below
-    (λ i. earned (state_at fix i) (fits_beside programme budget fix i) (candidate_cost programme multipliers.mu i) (candidate_rents programme multipliers.lambda i))
+    (λ i. earned (state_at fix i) (fits_at programme budget fix i) (candidate_cost programme multipliers.mu i) (candidate_rents programme multipliers.lambda i))
     (length programme.sizes)
 
 -- ## The value
@@ -110,7 +89,7 @@ value_of_costs programme budget fix multipliers costs = value_of_plans programme
 
 -- the costs that they have at a node
 abbrev pub costs_at : Programme → ℕ → Fix → Multipliers → List ℕ
-costs_at programme budget fix multipliers = plan_costs (available programme budget fix) programme.parts multipliers.lambda
+costs_at programme budget fix multipliers = plan_costs (available_in (space_in programme budget) (node_of fix)) programme.parts multipliers.lambda
 
 -- the Lagrangian value of a node
 unfoldable pub lagrangian : Programme → ℕ → Fix → Multipliers → ℤ

@@ -4,6 +4,7 @@ ghost use Rattle.adv_base.specs.declared.limits.TheConstants.{MOST_CANDIDATES, M
 ghost use Rattle.bip_model.specs.Values as values;
 ghost use Rattle.bip_model.specs.Views.{AreMultipliers};
 ghost use Rattle.lagrange_bound.specs.Bounds as bounds;
+ghost use Rattle.lagrange_bound.specs.Laws as laws;
 ghost use Rattle.lagrange_bound.specs.Rented as rented;
 ghost use Rattle.lagrange_bound.specs.inner.Limits as limits;
 
@@ -75,11 +76,9 @@ pub(crate) fn value_of_plans(
     rounded_up(more, less)
 }
 
-/// The Lagrangian value of a node for a space budget in pages, under multipliers: no fitting configuration below the node
-/// costs less, in thousandths of a page read. It is defined at every node, also where what is in doesn't fit. Takes no
-/// memory.
+/// The Lagrangian value of a node, as the programme tells it.
 #[tactic(auto, unfolding(crate::specs::Bounds::lagrangian, bip_model::specs::Values::grant_count))]
-pub fn bound(programme: &Programme, budget: u64, fix: &Fix, multipliers: &Multipliers) -> i128
+fn value_of(programme: &Programme, budget: u64, fix: &Fix, multipliers: &Multipliers) -> i128
     requires budget { budget ≤ MOST_ROWS }
     requires multipliers { AreMultipliers programme.now multipliers.now }
     ensures { result ≡ bounds.lagrangian programme.now budget fix.now multipliers.now }
@@ -95,4 +94,16 @@ pub fn bound(programme: &Programme, budget: u64, fix: &Fix, multipliers: &Multip
         sums.plans,
         &sums.earned,
     )
+}
+
+/// The Lagrangian value of a node for a space budget in pages, under multipliers: no fitting configuration below the node
+/// costs less, in thousandths of a page read. It is defined at every node, also where what is in doesn't fit. Of a
+/// programme that stands for a setting it is the setting's Lagrangian value. Takes no memory.
+pub fn bound(programme: &Programme, budget: u64, fix: &Fix, multipliers: &Multipliers) -> i128
+    requires budget { budget ≤ MOST_ROWS }
+    requires multipliers { AreMultipliers programme.now multipliers.now }
+    ensures exact { result ≡ bounds.lagrangian programme.now budget fix.now multipliers.now }
+    ensures lagrangian { laws.IsLagrangianInEach programme.now budget fix.now multipliers.now result }
+{
+    value_of(programme, budget, fix, multipliers)
 }

@@ -1,68 +1,20 @@
 //! Which candidates may be used at a node, what they cost, and what a node pays and earns by them.
-ghost use Rattle.std.specs.Prelude.{◌≡◌, ℕ, suc, ◌+◌, ◌-◌, ◌*◌, ◌<◌, ◌≤◌, if◌then◌else◌, All, length, sum, slice_index_or};
-ghost use Rattle.adv_base.specs.declared.limits.TheConstants.{MOST_CANDIDATES, MOST_INDEX_PAGES, MOST_PAGE_PRICE};
+ghost use Rattle.std.specs.Prelude.{◌≡◌, ℕ, suc, ◌-◌, ◌*◌, ◌<◌, ◌≤◌, All, length, slice_index_or};
+ghost use Rattle.adv_base.specs.declared.limits.TheConstants.{MOST_CANDIDATES, MOST_PAGE_PRICE};
+ghost use Rattle.adv_base.specs.Nodes as nodes;
 ghost use Rattle.bip_model.specs.Views as views;
 ghost use Rattle.lagrange_bound.specs.Bounds as bounds;
 ghost use Rattle.lagrange_bound.specs.inner.Limits as limits;
 
 use crate::earnings::Earned;
 use adv_base::Config;
-use adv_base::limits::MOST_CANDIDATES;
 use bip_model::{Fix, Multipliers, Programme, State};
 
-/// The pages of a candidate that is in, and else 0.
-fn if_in(pages: u64, state: State) -> u64
-    ensures { result ≡ (if views.is_in state then pages else 0) }
-{
-    match state {
-        State::In => pages,
-        State::Free | State::Out => 0,
-    }
-}
-
-/// The pages of the candidates that are in.
-pub(crate) fn pages_inside(programme: &Programme, fix: &Fix) -> u64
-    ensures exact { result ≡ bounds.pages_inside programme.now fix.now }
-    ensures most { result ≤ MOST_CANDIDATES * MOST_INDEX_PAGES }
-{
-    let sizes = programme.sizes.as_slice();
-    let mut pages = 0;
-    for a in 0..sizes.len() {
-        pages += if_in(sizes[a], fix.state[a]);
-    }
-    pages
-}
-
-/// The pages of the candidate at a place; 0 where there is none.
-fn size_at(programme: &Programme, a: usize) -> u64
-    ensures exact { result ≡ slice_index_or programme.now.sizes a 0 }
-    ensures most { result ≤ MOST_INDEX_PAGES }
-{
-    let sizes = programme.sizes.as_slice();
-    if a < sizes.len() { sizes[a] } else { 0 }
-}
-
-/// Whether a candidate may be used: it is in, or free and fits the budget beside what is in.
-fn may_use(state: State, fits: bool) -> bool
-    ensures { result ≡ bounds.may_use state fits }
-{
-    match state {
-        State::In => true,
-        State::Out => false,
-        State::Free => fits,
-    }
-}
-
-/// The candidates that may be used at a node.
+/// The candidates that may be used at a node: those that are in or open.
 pub(crate) fn available(programme: &Programme, budget: u64, fix: &Fix) -> Config
-    ensures { result ≡ bounds.available programme.now budget fix.now }
+    ensures { result ≡ nodes.available_in (views.space_in programme.now budget) (views.node_of fix.now) }
 {
-    let inside = pages_inside(programme, fix);
-    let mut on = [false; MOST_CANDIDATES];
-    for a in 0..MOST_CANDIDATES {
-        on[a] = may_use(fix.state[a], inside + size_at(programme, a) <= budget);
-    }
-    Config { on }
+    programme.space(budget).available(fix)
 }
 
 /// What the candidate at a place costs where it is chosen, its upkeep and its pages at the price of a page, in parts of
@@ -128,10 +80,11 @@ pub(crate) fn earned_in_all(
     ensures exact { result ≡ bounds.earned_in_all programme.now budget fix.now multipliers.now }
     ensures most { result ≤ MOST_CANDIDATES * (65536 * limits.MOST_RENTS) }
 {
-    let inside = pages_inside(programme, fix);
+    let space = programme.space(budget);
+    let inside = space.inside(fix);
     let mut sum = 0;
     for a in 0..programme.sizes.len() {
-        let fits = inside + size_at(programme, a) <= budget;
+        let fits = space.fits_beside(fix, inside, a as u16 + 1);
         let cost = candidate_cost(programme, multipliers.mu, a);
         sum += earned(fix.state[a], fits, cost, 65536 * rents[a]);
     }

@@ -3,6 +3,7 @@ ghost use Rattle.std.specs.Prelude.{◌≡◌, ◌≤ℤ◌, ◌≤◌, ◌<◌,
 ghost use Rattle.adv_base.specs.declared.limits.TheConstants.{MOST_ROWS};
 ghost use Rattle.bip_model.specs.Views.{AreMultipliers};
 ghost use Rattle.lagrange_bound.specs.Bounds as bounds;
+ghost use Rattle.lagrange_bound.specs.Laws as laws;
 ghost use Rattle.lagrange_bound.specs.Rents as rents;
 
 use crate::bounds::bound;
@@ -53,7 +54,7 @@ fn try_rents(
 
 /// Improves multipliers at a node, with others as room: afterwards the bound there is at least what it was, and at least
 /// that of the rent multipliers of each of the first `rounds` prices of a page, of at most 41: 0, 1, 2, 4 and so on. Rounds
-/// beyond these change nothing: `ascend` goes on from here. Takes no memory.
+/// beyond these change nothing. Takes no memory.
 pub fn improve(
     programme: &Programme,
     budget: u64,
@@ -69,6 +70,7 @@ pub fn improve(
     ensures room { AreMultipliers programme.now spare.new }
     ensures keeps { bounds.lagrangian programme.now budget fix.now mult.old ≤ℤ bounds.lagrangian programme.now budget fix.now mult.new }
     ensures tried { (i : ℕ) → i < min rounds 41 → bounds.lagrangian programme.now budget fix.now (rents.rent_multipliers programme.now (rents.tried_price i)) ≤ℤ bounds.lagrangian programme.now budget fix.now mult.new }
+    ensures reached { (i : ℕ) → i < min rounds 41 → laws.ReachesRentsInEach programme.now budget fix.now mult.new (rents.tried_price i) }
 {
     let mut best = bound(programme, budget, fix, mult);
     for round in 0..rounds.min(MOST_ROUNDS) {

@@ -1,6 +1,8 @@
 //! Bounds under one set of multipliers, carried from node to node.
 ghost use Rattle.std.specs.Prelude.{◌≡◌, ◌*◌, ◌<◌, ◌≤◌, IfOk};
 ghost use Rattle.adv_base.specs.declared.limits.TheConstants.{MOST_CANDIDATES, MOST_ROWS};
+ghost use Rattle.adv_base.specs.Nodes as nodes;
+ghost use Rattle.bip_model.specs.Views as views;
 ghost use Rattle.bip_model.specs.Views.{AreMultipliers};
 ghost use Rattle.lagrange_bound.specs.Bounds as bounds;
 ghost use Rattle.lagrange_bound.specs.Ledgers as ledgers;
@@ -112,7 +114,7 @@ fn value_at(
     requires budget { budget ≤ MOST_ROWS }
     requires multipliers { AreMultipliers programme.now multipliers.now }
     requires ledger { ledgers.IsLedger programme.now multipliers.now ledger.now }
-    requires config { ledger.now.config ≡ bounds.available programme.now budget fix.now }
+    requires config { ledger.now.config ≡ nodes.available_in (views.space_in programme.now budget) (views.node_of fix.now) }
     ensures { result ≡ bounds.lagrangian programme.now budget fix.now multipliers.now }
 {
     value_of_plans(

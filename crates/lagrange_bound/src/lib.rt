@@ -5,16 +5,14 @@
 //! and the budget's price, bounds every fitting configuration below the node. `bound` tells that number from a
 //! programme alone; `specs/` says which number it is, and a law that it is the Lagrangian value of every setting for
 //! which the programme stands. `rent` makes multipliers under which no candidate earns more than it costs, `improve`
-//! takes the best of these where one is better than what it has, and `ascend` raises multipliers further, with a
-//! scratch that is made once. `terms`, `carry` and `total` are the parts of a bound; `open_ledger` makes one anew by
+//! takes the best of these where one is better than what it has. `terms`, `carry` and `total` are the parts of a bound; `open_ledger` makes one anew by
 //! lists of prices, and `bound_by` carries it from node to node. Costs are in thousandths of a sequential page read,
 //! sizes in pages.
 //!
 //! `Terms` are what the plan of each part costs at a node. A `Ledger` keeps these in place under one set of multipliers, and
 //! the `CheaperParts` of a programme say which parts each candidate can make cheaper, and so have to be priced anew where it
 //! comes or goes. They have the `PriceLists` too: the price of what exists for each order of each slot, and each
-//! `CheaperPrice` of a grant, one that is below. `PriceRows` are room for least prices. An `Ascent` has the memory of ascents,
-//! and a `Pace` says how many rounds one has, and how long its steps are.
+//! `CheaperPrice` of a grant, one that is below. `PriceRows` are room for least prices.
 //!
 //! ```rust
 //! // Statements of weights 10 and 11, which cost 80000 each, and 13000 and 14000 with candidates 1 and 2, of 3 and 4 pages.
@@ -27,7 +25,6 @@
 //! ```
 #![tactic(auto)]
 
-mod ascending;
 mod bounds;
 mod candidates;
 mod carrying;
@@ -47,7 +44,6 @@ mod sharing;
 mod uses;
 mod walking;
 
-pub use ascending::{Ascent, Pace, ascend};
 pub use bounds::bound;
 pub use carrying::{carry, terms, total};
 pub use cheaper::{CheaperParts, has_cheaper};

@@ -4,6 +4,7 @@ ghost use Rattle.std.specs.List.{flat_map};
 ghost use Rattle.adv_base.specs.declared.limits.TheConstants.{MOST_CANDIDATES, MOST_PAGE_PRICE, MOST_RENT, MOST_STATEMENTS};
 ghost use Rattle.bip_model.specs.Values as values;
 ghost use Rattle.bip_model.specs.Views.{AreMultipliers};
+ghost use Rattle.lagrange_bound.specs.Laws as laws;
 ghost use Rattle.lagrange_bound.specs.Rents as rents_spec;
 ghost use Rattle.lagrange_bound.specs.inner.Limits as limits;
 
@@ -168,6 +169,7 @@ pub fn rent(programme: &Programme, m: u64, into: &mut Multipliers)
     ensures page { into.new.mu ≡ m }
     ensures rents { into.new.lambda ≡ rents_spec.rents_of programme.now m }
     ensures within { AreMultipliers programme.now into.new }
+    ensures shared { laws.AreRentsInEach programme.now m into.new }
 {
     write_multipliers(programme, m, into);
 }
