@@ -1,8 +1,6 @@
 -- Runs of the search, put together from what the code does at a node.
-use Rattle.std.proofs.Common.{◌≡◌, ◌∙◌, inl, inr, ℕ, ◌+◌, Bool, false, ◌&&◌, List, [], ◌∷◌, ◌++◌, refl, sym, ap, subst, append_assoc}
-use Rattle.std.specs.Prelude.{slice_index_or}
+use Rattle.std.proofs.Common.{◌≡◌, ◌∙◌, inl, inr, ℕ, ◌+◌, Bool, List, [], ◌∷◌, ◌++◌, refl, sym, ap, subst, append_assoc}
 use Rattle.std.proofs.Math.Seq.{map-set_same}
-use Rattle.std.proofs.lemmas.Bool.{and_parts}
 use Rattle.bip_model.specs.declared.answer.Node.{Node}
 use Rattle.bip_model.specs.declared.answer.Node.TheVariants.{Branch, Bounded}
 use Rattle.bip_model.specs.declared.fix.Fix.{Fix}
@@ -11,16 +9,14 @@ use Rattle.bip_model.specs.Trees.{Branches, Leaf, preorder}
 use Rattle.branch_bound.specs.declared.found.Found.{Found}
 use Rattle.bip_model.specs.Values.{value}
 use Rattle.bip_model.specs.Views.{is_in}
-use Rattle.lagrange_bound.specs.Bounds.{state_at, fits_beside}
-use Rattle.branch_bound.specs.Sides.{is_free_state, fixed, total}
+use Rattle.branch_bound.specs.Sides.{fixed, total}
 use Rattle.branch_bound.specs.inner.Runs.{Rules, lag, visited, IsChoice, IsClosed, IsForced, IsBranch, lowered, branched, Runs, IsExplored}
-use Rattle.branch_bound.proofs.Climbing.{free-is}
+use Rattle.branch_bound.proofs.Choices.{open-choice}
 
 -- to leave a candidate out changes nothing of what is in
 pub outside-total : (rules : Rules) (fix right : Fix) (i : ℕ) → right ≡ fixed fix i Out → IsChoice rules fix i → total rules.programme right ≡ total rules.programme fix
 outside-total rules fix right i is choice =
-    let first = and_parts (is_free_state (state_at fix i)) (fits_beside rules.programme rules.budget fix i && slice_index_or rules.useful i false) choice.chosen in
-    let free = free-is (state_at fix i) first.0 in
+    let free = (open-choice rules fix i choice.chosen).free in
     ap (total rules.programme) is
     ∙ ap (λ (flags : List Bool). value rules.programme (record { on = flags })) (map-set_same is_in fix.state i Out Free (sym (ap is_in free)))
 

@@ -33,7 +33,7 @@ use Rattle.bip_model.specs.Trees.{Tree, Leaf, preorder, with_candidate, Shows}
 use Rattle.bip_model.specs.Uses.{multipliers_in, AreMultipliersIn, rent_multipliers}
 use Rattle.bip_model.specs.StandsFor.{StandsFor}
 use Rattle.bip_model.specs.Values.{value, grant_count}
-use Rattle.bip_model.specs.Views.{Place, is_place, rent_at, places, is_in, is_out, node_of, multipliers_of, AreMultipliers}
+use Rattle.bip_model.specs.Views.{Place, is_place, rent_at, places, is_in, is_out, node_of, multipliers_of, AreMultipliers, state_at}
 use Rattle.bip_model.proofs.Counting.{tight-smaller}
 use Rattle.bip_model.proofs.Deciding.{pages-same}
 use Rattle.bip_model.proofs.Descending.{useful-branches, value-below, subproblems-length}
@@ -45,16 +45,17 @@ use Rattle.bip_model.proofs.Totalling.{value-total}
 use Rattle.bip_model.proofs.Usefulness.{useful-counted}
 use Rattle.bip_model.proofs.Using.{multipliers-used, multipliers-kept}
 use Rattle.bip_model.proofs.Lists.{on-get}
-use Rattle.lagrange_bound.specs.Bounds.{state_at, lagrangian}
+use Rattle.lagrange_bound.specs.Bounds.{lagrangian}
 use Rattle.branch_bound.specs.declared.climb.Costed.{Costed}
 use Rattle.branch_bound.specs.declared.found.Found.{Found}
 use Rattle.branch_bound.specs.Sides.{inside, total, IsRoot}
 use Rattle.branch_bound.specs.inner.Climbs.{flag_at, IsSound, IsTop}
-use Rattle.branch_bound.specs.inner.Runs.{Rules, lag, MOST_LOW, started, Runs, least_bound}
+use Rattle.branch_bound.specs.inner.Runs.{Rules, lag, MOST_LOW, reaches, started, Runs, least_bound}
 use Rattle.branch_bound.proofs.Climbing.{free-is}
-use Rattle.branch_bound.proofs.Running.{AreRulesFor, own_sets, first_set, first-fits, first-value, first-found, runs-explored, runs-shows, not-less-of}
+use Rattle.branch_bound.proofs.Running.{AreRulesFor, own_sets, first_set, first-fits, first-value, first-found, reach-is, runs-explored, runs-shows, not-less-of}
 use Rattle.branch_bound.proofs.Sound.{under-root, sound-inside}
-use Rattle.branch_bound.proofs.Tight.{free-of, IsLowest, runs-lowest}
+use Rattle.branch_bound.proofs.Choices.{free-of}
+use Rattle.branch_bound.proofs.Tight.{IsLowest, runs-lowest}
 
 -- ## The bound
 
@@ -156,7 +157,7 @@ cost-below setting rules config cost are is =
 never-start : (bound low : ℤ) (cost : ℕ) → bound ≡ low → low ≡ pos MOST_LOW → cost < MOST_TOTAL → bound <ℤ pos cost → ⊥
 never-start bound low cost is at_start few below = omega (arith, ints, is, at_start, few, below)
 
--- the bound is the cost, or the least value of the leaves where nodes had run out
+-- the bound is the cost, or the least value of the leaves where the walk gave up
 pub given-up : (setting : TheSetting) (rules : Rules) (root : Fix) (known : Costed) (tree : Tree) (after : Found) (cost : ℕ) → AreRulesFor setting rules → IsConfigOf setting.shapes (inside root) → cost < MOST_TOTAL →
     Runs rules root (started known) tree after → least_bound cost after.low <ℤ pos cost → IsLowest setting rules (subproblems (node_of root) tree) (least_bound cost after.low) after.made
 given-up setting rules root known tree after cost are config few run below =
@@ -171,6 +172,23 @@ given-up setting rules root known tree after cost are config few run below =
   where
     not-below : (bound : ℤ) (cost : ℕ) → bound ≡ pos cost → bound <ℤ pos cost → ⊥
     not-below bound cost same below = omega (arith, ints, same, below)
+
+-- a walk that stops closed all leaves, or left no node
+reached-bound : (cost more : ℕ) (low : ℤ) → reaches low more ≡ true → cost ≤ more → least_bound cost low <ℤ pos cost → ⊥
+reached-bound cost more low reached less below =
+    let most = reach-is low more reached in
+    elim (bound-cases cost low) [
+      | inl same ↦ omega (arith, ints, same, below)
+      | inr own ↦ omega (arith, ints, own, below, most, less)
+    ]
+
+all-spent : (rules : Rules) (after : Found) (cost : ℕ) → (rules.stops ≡ true → (reaches after.low after.cost ≡ true) ⊎ (rules.nodes ≤ after.made + 1)) → cost ≤ after.cost →
+    least_bound cost after.low <ℤ pos cost → (rules.stops ≡ true) ⊎ (rules.nodes ≤ after.made + 1) → rules.nodes ≤ after.made + 1
+all-spent rules after cost done cheaper below spent =
+    elim spent [
+      | inr all ↦ all
+      | inl stops ↦ elim (done stops) [ inl reached ↦ absurd (reached-bound cost after.cost after.low reached cheaper below) | inr all ↦ all ]
+    ]
 
 -- ## Rents
 
@@ -298,12 +316,12 @@ smaller nodes made list useful one two three = omega (arith, one, two, three)
 
 pub best-answer : (setting : TheSetting) (rules : Rules) (root : Fix) (known : Costed) (tree : Tree) (after : Found) (config : Config) (cost : ℕ) (sets : List Multipliers) (list : List Node) (useful : ℕ) →
     AreRulesFor setting rules → IsRoot rules.programme rules.budget root → length root.state ≡ MOST_CANDIDATES → Runs rules root (started known) tree after → list ≡ preorder tree →
-    length list ≡ after.made → after.made ≤ rules.nodes → sets ≡ rules.sets → useful ≡ useful_below rules.programme rules.budget (length rules.programme.sizes) →
+    length list ≡ after.made → after.made ≤ rules.nodes → (rules.stops ≡ true → (reaches after.low after.cost ≡ true) ⊎ (rules.nodes ≤ after.made + 1)) → sets ≡ rules.sets → useful ≡ useful_below rules.programme rules.budget (length rules.programme.sizes) →
     IsSound rules.programme rules.budget root config cost → cost ≤ after.cost → IsTop rules.programme rules.budget root config cost →
     AtMostRents setting rules root 0 → ((j : ℕ) → j < 40 → AtMostRents setting rules root (2 ^ j)) →
     IsBest setting rules.budget rules.nodes (node_of root) (record { config = config; cost = cost; bound = least_bound cost after.low; sets = sets; tree = list; useful = useful })
 unfolding AtMostRents
-best-answer setting rules root known tree after config cost sets list useful are is_root long run list_is made most sets_are useful_is sound cheaper top none powers =
+best-answer setting rules root known tree after config cost sets list useful are is_root long run list_is made most done sets_are useful_is sound cheaper top none powers =
     let bound : ℤ = least_bound cost after.low in
     let nodes_of : List Subproblem = subproblems (node_of root) tree in
     let root_config = sound-config setting rules root (inside root) (total rules.programme root) are (sound-inside rules.programme rules.budget root root (under-root rules.programme rules.budget root is_root)) in
@@ -336,11 +354,12 @@ best-answer setting rules root known tree after config cost sets list useful are
       nodes_most = omega (arith, made, most);
       gave_up = λ below.
           let lowest = given-up setting rules root known tree after cost are root_config (cost-below setting rules config cost are sound.cost_is) run below in
+          let spent = all-spent rules after cost done cheaper below lowest.spent in
           let same = subproblems-length (node_of root) tree ∙ ap length (sym list_is) in
           let small = tight-smaller setting rules.budget useful (node_of root) tree (own_sets rules) bound cost are.limits counted (whole-node root long) root_config root_fits worthwhile in_tree lowest.tight below in
           record {
-            spent = omega (arith, lowest.spent, made);
-            fewer = smaller rules.nodes after.made (length nodes_of) useful lowest.spent (sym made ∙ sym same) small;
+            spent = omega (arith, spent, made);
+            fewer = smaller rules.nodes after.made (length nodes_of) useful spent (sym made ∙ sym same) small;
             tight = subst (λ (ms : List TheMultipliers). IsTight setting rules.budget bound ms nodes_of) (sym own) lowest.tight;
           };
       locally_best = record { with_one_more = one-more setting rules root config cost are top; with_one_less = one-less setting rules root config cost are sound top };

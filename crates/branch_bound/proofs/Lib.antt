@@ -8,4 +8,5 @@ pub mod Finding
 pub mod Final
 pub mod Linking
 pub mod OpenLedgers
-pub mod Proposing
+pub mod KeptSets
+pub mod Choices

@@ -3,8 +3,7 @@ use Rattle.std.proofs.Common.{◌≡◌, ◌∙◌, ◌⊎◌, inl, inr, ℕ, ze
 use Rattle.std.specs.Prelude.{slice_index_or, ◌≤ℤ◌}
 use Rattle.std.proofs.Math.Path.{fun_ext}
 use Rattle.std.proofs.Math.Nat.{mul-le-mul}
-use Rattle.std.proofs.Math.Pow.{pow_mono}
-use Rattle.adv_base.specs.declared.limits.TheConstants.{MOST_CANDIDATES, MOST_ENTRIES, MOST_PAGE_PRICE}
+use Rattle.adv_base.specs.declared.limits.TheConstants.{MOST_CANDIDATES, MOST_ENTRIES}
 use Rattle.adv_base.specs.declared.setting.Config.{Config}
 use Rattle.plan_model.specs.Lagrangian.{TheMultipliers}
 use Rattle.bip_model.specs.declared.answer.Node.{Node}
@@ -18,25 +17,17 @@ use Rattle.bip_model.specs.Views.{Place, is_place, rent_at, places, multipliers_
 use Rattle.lagrange_bound.specs.Bounds.{lagrangian}
 use Rattle.lagrange_bound.specs.Rents.{rent_multipliers, tried_price}
 use Rattle.lagrange_bound.proofs.StandingValue.{lagrangian-is}
-use Rattle.lagrange_bound.proofs.WrittenRents.{rents-within, rents-agree}
+use Rattle.lagrange_bound.proofs.ReachedRents.{tried-within}
+use Rattle.lagrange_bound.proofs.WrittenRents.{rents-agree}
 use Rattle.branch_bound.specs.declared.climb.Costed.{Costed}
 use Rattle.branch_bound.specs.declared.found.Found.{Found}
 use Rattle.branch_bound.specs.Answers.{IsBestForEach}
 use Rattle.branch_bound.specs.Rooms.{IsSetLimit}
 use Rattle.branch_bound.specs.Sides.{IsRoot}
 use Rattle.branch_bound.specs.inner.Climbs.{IsSound, IsTop}
-use Rattle.branch_bound.specs.inner.Runs.{Rules, started, Runs, IsExplored, least_bound}
+use Rattle.branch_bound.specs.inner.Runs.{Rules, reaches, started, IsExplored, least_bound}
 use Rattle.branch_bound.proofs.Running.{AreRulesFor, runs-count}
 use Rattle.branch_bound.proofs.Final.{AtMostRents, at-most-rents, best-answer}
-
--- ## Rents
-
-tried-most : (i : ℕ) → i < 41 → tried_price i ≤ MOST_PAGE_PRICE
-tried-most zero few = omega arith
-tried-most (suc j) few = let less : j ≤ 39 = omega (arith, few) in let up : 2 ^ j ≤ 2 ^ 39 = pow_mono less in omega (arith, up)
-
-tried-within : (programme : Programme) (i : ℕ) → i < 41 → AreMultipliers programme (rent_multipliers programme (tried_price i))
-tried-within programme i few = rents-within programme (rent_multipliers programme (tried_price i)) (tried_price i) (tried-most i few) refl refl
 
 -- ## Zeros
 
@@ -84,15 +75,15 @@ kept-entries rules first count kept =
       | inr most ↦ let all = scaled (length rules.sets) count (grant_count rules.programme) kept.few in inr (omega (arith, all, most))
     ]
 
-pub search-best : (rules : Rules) (root : Fix) (known : Costed) (before after : Found) (old tree_list : List Node) (config : Config) (cost : ℕ) (first : Multipliers) (count useful : ℕ) →
+pub search-best : (rules : Rules) (root : Fix) (known : Costed) (after : Found) (tree_list : List Node) (config : Config) (cost : ℕ) (first : Multipliers) (count useful : ℕ) →
     AreMultipliers rules.programme rules.zeros → AreKept rules first count → rules.zeros.mu ≡ 0 → rules.zeros.lambda ≡ replicate (grant_count rules.programme) 0 →
     ((i : ℕ) → i < length rules.programme.sizes → slice_index_or rules.useful i false ≡ is_useful rules.programme rules.budget (i + 1)) →
-    IsRoot rules.programme rules.budget root → length root.state ≡ MOST_CANDIDATES → before ≡ started known → old ≡ [] → IsExplored rules root before old after tree_list →
-    after.made ≤ rules.nodes → useful ≡ useful_below rules.programme rules.budget (length rules.programme.sizes) →
+    IsRoot rules.programme rules.budget root → length root.state ≡ MOST_CANDIDATES → IsExplored rules root (started known) [] after tree_list →
+    after.made ≤ rules.nodes → (rules.stops ≡ true → (reaches after.low after.cost ≡ true) ⊎ (rules.nodes ≤ after.made + 1)) → useful ≡ useful_below rules.programme rules.budget (length rules.programme.sizes) →
     IsSound rules.programme rules.budget root config cost → cost ≤ after.cost → IsTop rules.programme rules.budget root config cost →
     ((i : ℕ) → i < min 41 41 → lagrangian rules.programme rules.budget root (rent_multipliers rules.programme (tried_price i)) ≤ℤ lagrangian rules.programme rules.budget root first) →
     IsBestForEach rules.programme rules.budget rules.nodes root (record { config = config; cost = cost; bound = least_bound cost after.low; sets = rules.sets; tree = tree_list; useful = useful })
-search-best rules root known before after old tree_list config cost first count useful zeros_fit kept page lambda useful_are is_root long at_start empty explored most useful_is sound cheaper top tried setting limits stands =
+search-best rules root known after tree_list config cost first count useful zeros_fit kept page lambda useful_are is_root long explored most done useful_is sound cheaper top tried setting limits stands =
     let are : AreRulesFor setting rules =
     record {
       limits = limits;
@@ -110,8 +101,6 @@ search-best rules root known before after old tree_list config cost first count 
     at-most-rents setting rules root (tried_price i) (rent_multipliers rules.programme (tried_price i)) are (tried-within rules.programme i few) (rents-agree setting rules.programme (tried_price i) stands)
     (subst (λ (m : Multipliers). lagrangian rules.programme rules.budget root (rent_multipliers rules.programme (tried_price i)) ≤ℤ lagrangian rules.programme rules.budget root m) (sym (front-is rules.sets first rules.zeros kept.front))
     (tried i (omega (arith, few)))) in
-    let run : Runs rules root (started known) explored.tree after = subst (λ (f : Found). Runs rules root f explored.tree after) at_start explored.run in
-    let list_is : tree_list ≡ preorder explored.tree = explored.list_is ∙ ap (λ (front : List Node). front ++ preorder explored.tree) empty in
-    let made = runs-count rules root (started known) explored.tree after run in
-    best-answer setting rules root known explored.tree after config cost rules.sets tree_list useful are is_root long run list_is (omega (arith, made, ap length list_is)) most refl useful_is sound cheaper top
+    let made = runs-count rules root (started known) explored.tree after explored.run in
+    best-answer setting rules root known explored.tree after config cost rules.sets tree_list useful are is_root long explored.run explored.list_is (omega (arith, made, ap length explored.list_is)) most done refl useful_is sound cheaper top
     (at-most 0 (omega arith)) (λ j few. at-most (suc j) (omega (arith, few)))

@@ -1,15 +1,15 @@
 -- What a run of the search shows of a setting for which its programme stands.
-use Rattle.std.proofs.Common.{◌≡◌, ◌∙◌, ◌⊎◌, inl, inr, ℕ, zero, suc, ◌+◌, ◌-◌, ◌*◌, ◌<◌, ◌≤◌, Bool, true, false, cond, ◌&&◌, List, [], ◌∷◌, ◌++◌, length, map, get_or, All, ℤ, pos, negsuc, refl, sym, ap, subst, arith}
+use Rattle.std.proofs.Common.{◌≡◌, ◌∙◌, ◌⊎◌, inl, inr, ℕ, zero, suc, ◌+◌, ◌-◌, ◌*◌, ◌<◌, ◌≤◌, Bool, true, false, cond, List, [], ◌∷◌, ◌++◌, length, map, get_or, All, ℤ, pos, negsuc, refl, sym, ap, subst, arith}
 use Rattle.std.specs.Prelude.{Some, slice_get, slice_index_or, slice_set, nat_le, nat_lt, ◌≤ℤ◌, ◌<ℤ◌}
 use Rattle.std.specs.Int.{int_min}
 use Rattle.std.proofs.Math.ListN.{get_or-map}
-use Rattle.std.proofs.lemmas.Bool.{false≢true, and_parts, and_from, leb-true, ltb-true}
+use Rattle.std.proofs.lemmas.Bool.{false≢true, leb-true, ltb-true}
 use Rattle.std.proofs.lemmas.Bool.Decides.{nat_tests}
 use Rattle.std.proofs.lemmas.Int.{ints, int_min_is}
 use Rattle.std.proofs.lemmas.List.{length-append, length-map}
 use Rattle.std.proofs.lemmas.Option.{slice_get_within}
 use Rattle.adv_base.specs.declared.limits.TheConstants.{MOST_ENTRIES, MOST_SETS}
-use Rattle.adv_base.specs.Configs.{has_candidate}
+use Rattle.adv_base.specs.Configs.{Space, has_candidate}
 use Rattle.adv_base.specs.Nodes as nodes
 use Rattle.adv_base.specs.Nodes.{is_free}
 use Rattle.adv_base.specs.Settings.{TheSetting, KeepsLimits}
@@ -21,21 +21,21 @@ use Rattle.bip_model.specs.declared.fix.Fix.{Fix}
 use Rattle.bip_model.specs.declared.fix.State.TheVariants.{Free, In, Out}
 use Rattle.bip_model.specs.declared.multipliers.Multipliers.{Multipliers}
 use Rattle.bip_model.specs.Best.{subproblems, HasTotal}
-use Rattle.bip_model.specs.Candidates.{is_useful, is_open, pages_of, size_of}
+use Rattle.bip_model.specs.Candidates.{is_useful}
 use Rattle.bip_model.specs.StandsFor.{StandsFor}
 use Rattle.bip_model.specs.Trees.{Tree, Branches, Leaf, Full, preorder, in_side, out_side, zeros, set_at, Shows}
 use Rattle.bip_model.specs.Values.{value, grant_count}
-use Rattle.bip_model.specs.Views.{is_in, is_out, node_of, multipliers_of, AreMultipliers}
-use Rattle.bip_model.proofs.Deciding.{open-same}
+use Rattle.bip_model.specs.Views.{space_in, is_in, is_out, node_of, multipliers_of, AreMultipliers, state_at}
+use Rattle.bip_model.proofs.Deciding.{space-same}
 use Rattle.bip_model.proofs.Exploring.{AreExplored, leaf-explored, branch-explored, both-explored}
 use Rattle.bip_model.proofs.Sides.{parts-free, written-in, written-out}
 use Rattle.bip_model.proofs.Totalling.{value-total}
 use Rattle.bip_model.proofs.Usefulness.{useful-from}
-use Rattle.lagrange_bound.specs.Bounds.{state_at, fits_beside, lagrangian}
+use Rattle.lagrange_bound.specs.Bounds.{lagrangian}
 use Rattle.branch_bound.specs.declared.found.Found.{Found}
-use Rattle.branch_bound.specs.Sides.{is_free_state, fixed, inside, total}
+use Rattle.branch_bound.specs.Sides.{fixed, inside, total}
 use Rattle.branch_bound.specs.inner.Runs.{Rules, lag, reaches, visited, IsChoice, lowered, branched, Runs}
-use Rattle.branch_bound.proofs.Climbing.{free-is}
+use Rattle.branch_bound.proofs.Choices.{open-choice}
 
 -- ## Rules over a programme that stands for a setting
 
@@ -155,18 +155,17 @@ pub record IsGoodChoice (setting : TheSetting) (rules : Rules) (fix : Fix) (a i 
 
 pub good-choice : (setting : TheSetting) (rules : Rules) (fix : Fix) (a i : ℕ) → AreRulesFor setting rules → a ≡ i + 1 → IsChoice rules fix i → IsGoodChoice setting rules fix a i
 good-choice setting rules fix a i are is choice =
-    let first = and_parts (is_free_state (state_at fix i)) (fits_beside rules.programme rules.budget fix i && slice_index_or rules.useful i false) choice.chosen in
-    let second = and_parts (fits_beside rules.programme rules.budget fix i) (slice_index_or rules.useful i false) first.1 in
-    let free : state_at fix i ≡ Free = free-is (state_at fix i) first.0 in
-    let open_is : is_open rules.programme rules.budget (node_of fix) (i + 1) ≡ true =
-    and_from (is_free (node_of fix) (i + 1)) (nat_le (pages_of rules.programme (inside fix) + size_of rules.programme (i + 1)) rules.budget) (free-node fix i free)
-    (ap (λ (k : ℕ). nat_le (pages_of rules.programme (inside fix) + slice_index_or rules.programme.sizes k 0) rules.budget) (back-one (i + 1) i refl) ∙ second.0) in
+    let own = open-choice rules fix i choice.chosen in
+    let number : a ≡ suc i = omega (arith, is) in
     record {
-      free = free;
-      is_open' = open-same setting rules.programme rules.budget (node_of fix) a are.stands ∙ ap (is_open rules.programme rules.budget (node_of fix)) is ∙ open_is;
+      free = own.free;
+      is_open' =
+          ap (λ (space : Space). nodes.is_open_in space (node_of fix) a) (space-same setting rules.programme rules.budget are.stands)
+          ∙ ap (nodes.is_open_in (space_in rules.programme rules.budget) (node_of fix)) number
+          ∙ own.opens;
       useful =
           useful-from setting rules.programme rules.budget a are.stands
-          (ap (is_useful rules.programme rules.budget) is ∙ sym (are.useful_are i choice.within) ∙ second.1);
+          (ap (is_useful rules.programme rules.budget) is ∙ sym (are.useful_are i choice.within) ∙ own.useful);
     }
 
 -- ## No branch is in vain
@@ -175,7 +174,7 @@ reach-not : (value : ℤ) (cost : ℕ) → reaches value cost ≡ false → valu
 reach-not (pos n) cost e = let less : n < cost = above-of cost n e in omega (arith, ints, less)
 reach-not (negsuc n) cost e = omega (arith, ints)
 
-reach-is : (value : ℤ) (cost : ℕ) → reaches value cost ≡ true → pos cost ≤ℤ value
+pub reach-is : (value : ℤ) (cost : ℕ) → reaches value cost ≡ true → pos cost ≤ℤ value
 reach-is (pos n) cost e = let less : cost ≤ n = leb-true cost n e in omega (arith, ints, less)
 reach-is (negsuc n) cost e = absurd (false≢true e)
 

@@ -1,8 +1,7 @@
 -- The configuration that a search finds fits, obeys the root and has its cost.
-use Rattle.std.proofs.Common.{◌≡◌, ◌∙◌, ◌≢◌, inl, inr, ℕ, ◌+◌, ◌<◌, ◌≤◌, Bool, true, false, cond, ◌&&◌, List, length, map, sum, refl, sym, ap, subst, arith, get_or-set_other}
-use Rattle.std.specs.Prelude.{slice_index_or, nat_lt}
+use Rattle.std.proofs.Common.{◌≡◌, ◌∙◌, ◌≢◌, inl, inr, ℕ, ◌<◌, ◌≤◌, Bool, true, false, cond, List, [], length, map, sum, refl, sym, ap, subst, arith, get_or-set_other}
+use Rattle.std.specs.Prelude.{nat_lt}
 use Rattle.std.proofs.Math.ListN.{get_or-map}
-use Rattle.std.proofs.lemmas.Bool.{and_parts, leb-true}
 use Rattle.adv_base.specs.Configs.{chosen}
 use Rattle.adv_base.specs.declared.setting.Config.{Config}
 use Rattle.bip_model.specs.declared.answer.Node.{Node}
@@ -12,15 +11,15 @@ use Rattle.bip_model.specs.declared.fix.State.TheVariants.{Free, In, Out}
 use Rattle.bip_model.specs.declared.programme.Programme.{Programme}
 use Rattle.bip_model.specs.Trees.{Tree, Branches, Leaf, Full}
 use Rattle.bip_model.specs.Values.{value}
-use Rattle.bip_model.specs.Views.{is_in}
+use Rattle.bip_model.specs.Views.{is_in, state_at}
 use Rattle.bip_model.proofs.Lists.{map-set}
-use Rattle.lagrange_bound.specs.Bounds.{state_at, fits_beside}
 use Rattle.branch_bound.specs.declared.climb.Costed.{Costed}
 use Rattle.branch_bound.specs.declared.found.Found.{Found}
-use Rattle.branch_bound.specs.Sides.{is_free_state, fixed, inside, pages, total, IsRoot}
+use Rattle.branch_bound.specs.Sides.{fixed, inside, pages, total, IsRoot}
 use Rattle.branch_bound.specs.inner.Climbs.{IsSound, IsSoundHere}
 use Rattle.branch_bound.specs.inner.Runs.{Rules, visited, started, IsChoice, IsExplored, branched, Runs}
-use Rattle.branch_bound.proofs.Climbing.{free-is, pages-off, pages-on}
+use Rattle.branch_bound.proofs.Choices.{open-choice}
+use Rattle.branch_bound.proofs.Climbing.{pages-off, pages-on}
 
 -- what a node fixes beyond its root; what is in fits
 pub record IsUnder (programme : Programme) (budget : ℕ) (root fix : Fix) : Type 0 where
@@ -48,19 +47,17 @@ under-side programme budget root fix i new under free within room =
 
 under-in : (rules : Rules) (root fix : Fix) (i : ℕ) → IsUnder rules.programme rules.budget root fix → IsChoice rules fix i → IsUnder rules.programme rules.budget root (fixed fix i In)
 under-in rules root fix i under choice =
-    let first = and_parts (is_free_state (state_at fix i)) (fits_beside rules.programme rules.budget fix i && slice_index_or rules.useful i false) choice.chosen in
-    let second = and_parts (fits_beside rules.programme rules.budget fix i) (slice_index_or rules.useful i false) first.1 in
-    let room : pages rules.programme (inside fix) + slice_index_or rules.programme.sizes i 0 ≤ rules.budget = leb-true (pages rules.programme (inside fix) + slice_index_or rules.programme.sizes i 0) rules.budget second.0 in
+    let own = open-choice rules fix i choice.chosen in
     let is = ap (λ (flags : List Bool). sum (chosen flags rules.programme.sizes)) (map-set is_in fix.state i In) in
     let more = pages-on (map is_in fix.state) rules.programme.sizes i in
-    under-side rules.programme rules.budget root fix i In under (free-is (state_at fix i) first.0) choice.within (omega (arith, is, more, room))
+    under-side rules.programme rules.budget root fix i In under own.free choice.within (omega (arith, is, more, own.room))
 
 under-out : (rules : Rules) (root fix : Fix) (i : ℕ) → IsUnder rules.programme rules.budget root fix → IsChoice rules fix i → IsUnder rules.programme rules.budget root (fixed fix i Out)
 under-out rules root fix i under choice =
-    let first = and_parts (is_free_state (state_at fix i)) (fits_beside rules.programme rules.budget fix i && slice_index_or rules.useful i false) choice.chosen in
+    let own = open-choice rules fix i choice.chosen in
     let is = ap (λ (flags : List Bool). sum (chosen flags rules.programme.sizes)) (map-set is_in fix.state i Out) in
     let fewer = pages-off (map is_in fix.state) rules.programme.sizes i in
-    under-side rules.programme rules.budget root fix i Out under (free-is (state_at fix i) first.0) choice.within (omega (arith, is, fewer, under.fits))
+    under-side rules.programme rules.budget root fix i Out under own.free choice.within (omega (arith, is, fewer, under.fits))
 
 -- ## What was found
 
@@ -105,8 +102,7 @@ sound-bare programme budget root known is config_is cost_is =
     subst (λ (n : ℕ). IsSound programme budget root known.config n) (sym cost_is)
     (subst (λ (c : Config). IsSound programme budget root c (total programme root)) (sym config_is) (sound-inside programme budget root root (under-root programme budget root is)))
 
-pub explored-sound : (rules : Rules) (root : Fix) (known : Costed) (before after : Found) (old new : List Node) → IsRoot rules.programme rules.budget root → IsSoundHere rules.programme rules.budget root known →
-    before ≡ started known → IsExplored rules root before old after new → IsSoundFound rules root after
-explored-sound rules root known before after old new is sound at_start explored =
-    let under = under-root rules.programme rules.budget root is in
-    runs-sound rules root root before explored.tree after under (subst (λ (f : Found). IsSoundFound rules root f) (sym at_start) sound) explored.run
+pub explored-sound : (rules : Rules) (root : Fix) (known : Costed) (after : Found) (list : List Node) → IsRoot rules.programme rules.budget root → IsSoundHere rules.programme rules.budget root known →
+    IsExplored rules root (started known) [] after list → IsSoundFound rules root after
+explored-sound rules root known after list is sound explored =
+    runs-sound rules root root (started known) explored.tree after (under-root rules.programme rules.budget root is) sound explored.run

@@ -1,65 +1,47 @@
 -- Where a search gave up: the leaf with the least value.
-use Rattle.std.proofs.Common.{◌≡◌, ◌∙◌, ◌⊎◌, inl, inr, ℕ, zero, suc, ◌+◌, ◌-◌, ◌<◌, ◌≤◌, Bool, true, false, cond, ◌&&◌, List, length, ℤ, pos, refl, sym, ap, subst, arith}
-use Rattle.std.specs.Prelude.{Some, slice_get, slice_index_or, nat_le, ◌≤ℤ◌, int_lt}
+use Rattle.std.proofs.Common.{◌≡◌, ◌∙◌, ◌⊎◌, inl, inr, ℕ, zero, suc, ◌+◌, ◌-◌, ◌<◌, ◌≤◌, Bool, true, false, cond, List, length, ℤ, pos, refl, sym, ap, subst, arith}
+use Rattle.std.specs.Prelude.{Some, slice_get, slice_index_or, ◌≤ℤ◌, int_lt}
 use Rattle.std.specs.Int.{int_min}
-use Rattle.std.proofs.Math.ListN.{get_or-map}
-use Rattle.std.proofs.lemmas.Bool.{false≢true, and_parts, and_from, le-leb}
+use Rattle.std.proofs.lemmas.Bool.{false≢true, and_from, le-leb}
 use Rattle.std.proofs.lemmas.Int.{ints}
 use Rattle.std.proofs.lemmas.List.{length-map}
 use Rattle.std.proofs.lemmas.Option.{slice_get_within}
-use Rattle.adv_base.specs.Configs.{IsConfigOf}
+use Rattle.adv_base.specs.Configs.{Space, IsConfigOf}
 use Rattle.adv_base.specs.Nodes as nodes
 use Rattle.adv_base.specs.Nodes.{is_free}
 use Rattle.adv_base.specs.Settings.{TheSetting}
 use Rattle.adv_base.specs.Sizes.{shape_pages}
 use Rattle.plan_model.specs.Lagrangian.{TheMultipliers, IsLagrangian}
-use Rattle.plan_model.proofs.Renting.{flag-of}
 use Rattle.bip_model.specs.declared.fix.Fix.{Fix}
-use Rattle.bip_model.specs.declared.fix.State.{State}
-use Rattle.bip_model.specs.declared.fix.State.TheVariants.{Free, In, Out}
+use Rattle.bip_model.specs.declared.fix.State.TheVariants.{In, Out}
 use Rattle.bip_model.specs.Best.{Subproblem, subproblems, HasLagrangian, IsTight}
-use Rattle.bip_model.specs.Candidates.{is_useful, pages_of, size_of}
+use Rattle.bip_model.specs.Candidates.{is_useful}
 use Rattle.bip_model.specs.Laws.{NoneUseful}
 use Rattle.bip_model.specs.Trees.{Tree, Branches, Leaf, Full, in_side, out_side, set_at}
-use Rattle.bip_model.specs.Views.{is_in, is_out, node_of}
-use Rattle.bip_model.proofs.Deciding.{open-same}
+use Rattle.bip_model.specs.Views.{space_in, node_of}
+use Rattle.bip_model.proofs.Deciding.{space-same}
 use Rattle.bip_model.proofs.Descending.{with-config}
 use Rattle.bip_model.proofs.Lists.{front-of, back-of}
-use Rattle.bip_model.proofs.Sides.{free-parts}
 use Rattle.bip_model.proofs.Totalling.{value-total}
 use Rattle.bip_model.proofs.Unrented.{useless-total}
 use Rattle.bip_model.proofs.Usefulness.{useful-to}
-use Rattle.lagrange_bound.specs.Bounds.{state_at, fits_beside}
 use Rattle.branch_bound.specs.declared.found.Found.{Found}
-use Rattle.branch_bound.specs.Sides.{is_free_state, fixed, inside, total}
+use Rattle.branch_bound.specs.Sides.{fixed, inside, total}
 use Rattle.branch_bound.specs.inner.Runs.{Rules, lag, reaches, visited, NoChoice, IsHighest, IsForced, branched, Runs}
 use Rattle.branch_bound.proofs.Running.{AreRulesFor, own_sets, zeros-value, set-within, leaf-set, visit, in-is, out-is, good-choice, runs-later}
 
 -- ## A leaf without a choice is closed
-
-is-free-of : (state : State) → is_in state ≡ false → is_out state ≡ false → is_free_state state ≡ true
-is-free-of Free a b = refl
-is-free-of In a b = absurd (false≢true (sym a))
-is-free-of Out a b = absurd (false≢true (sym b))
-
--- what is free at the node is free in its fix
-pub free-of : (fix : Fix) (i : ℕ) → is_free (node_of fix) (suc i) ≡ true → is_free_state (state_at fix i) ≡ true
-free-of fix i free =
-    let parts = free-parts (node_of fix) (suc i) free in
-    is-free-of (state_at fix i) (sym (get_or-map is_in fix.state i Free) ∙ sym (flag-of (node_of fix).inside i) ∙ parts.0) (sym (get_or-map is_out fix.state i Free) ∙ sym (flag-of (node_of fix).outside i) ∙ parts.1)
 
 no-choice-useless : (setting : TheSetting) (rules : Rules) (fix : Fix) → AreRulesFor setting rules → NoChoice rules fix → NoneUseful setting rules.budget (node_of fix)
 no-choice-useless setting rules fix are none zero open' useful = absurd (omega (arith, useful.some))
 no-choice-useless setting rules fix are none (suc i) open' useful =
     let within_shapes = slice_get_within setting.shapes (suc i - 1) useful.shape useful.found in
     let within : i < length rules.programme.sizes = omega (arith, within_shapes, ap length are.stands.sizes_are, length-map setting.shapes (shape_pages setting.cat)) in
-    let own = and_parts (is_free (node_of fix) (suc i)) (nat_le (pages_of rules.programme (inside fix) + size_of rules.programme (suc i)) rules.budget) (sym (open-same setting rules.programme rules.budget (node_of fix) (suc i) are.stands) ∙ open') in
-    let place : suc i - 1 ≡ i = omega arith in
+    let opens : nodes.is_open_in (space_in rules.programme rules.budget) (node_of fix) (suc i) ≡ true =
+    ap (λ (space : Space). nodes.is_open_in space (node_of fix) (suc i)) (sym (space-same setting rules.programme rules.budget are.stands)) ∙ open' in
     let next : suc i ≡ i + 1 = omega arith in
-    let room : fits_beside rules.programme rules.budget fix i ≡ true = ap (λ (k : ℕ). nat_le (pages_of rules.programme (inside fix) + slice_index_or rules.programme.sizes k 0) rules.budget) (sym place) ∙ own.1 in
     let helps : slice_index_or rules.useful i false ≡ true = are.useful_are i within ∙ ap (is_useful rules.programme rules.budget) (sym next) ∙ useful-to setting rules.programme rules.budget (suc i) are.stands useful in
-    absurd (false≢true (sym (none i within) ∙ and_from (is_free_state (state_at fix i)) (fits_beside rules.programme rules.budget fix i && slice_index_or rules.useful i false) (free-of fix i own.0)
-    (and_from (fits_beside rules.programme rules.budget fix i) (slice_index_or rules.useful i false) room helps)))
+    absurd (false≢true (sym (none i within) ∙ and_from (slice_index_or rules.useful i false) (nodes.is_open_in (space_in rules.programme rules.budget) (node_of fix) (suc i)) helps opens))
 
 reached-total : (value : ℤ) (sum cost : ℕ) → value ≡ pos sum → cost ≤ sum → reaches value cost ≡ true
 reached-total value sum cost is less = ap (λ (v : ℤ). reaches v cost) is ∙ le-leb cost sum less
@@ -74,7 +56,7 @@ closed-without setting rules fix before are config none promising =
 
 pub record IsLowest (setting : TheSetting) (rules : Rules) (list : List Subproblem) (low : ℤ) (made : ℕ) : Type 0 where
   pub tight : IsTight setting rules.budget low (own_sets rules) list
-  pub spent : rules.nodes ≤ made + 1
+  pub spent : (rules.stops ≡ true) ⊎ (rules.nodes ≤ made + 1)
 
 min-cases : (x y : ℤ) → (int_min x y ≡ x) ⊎ (int_min x y ≡ y)
 min-cases x y = to (int_lt y x)
@@ -114,8 +96,12 @@ forced-lowest setting rules fix before after k are config forced low made =
           };
       spent =
           elim forced.why [
-            | inl few ↦ omega (arith, few, made)
-            | inr none ↦ absurd (closed-without setting rules fix before are config none forced.promising)
+            | inl stops ↦ inl stops
+            | inr more ↦
+                elim more [
+                  | inl few ↦ inr (omega (arith, few, made))
+                  | inr none ↦ absurd (closed-without setting rules fix before are config none forced.promising)
+                ]
           ];
     }
 
@@ -136,7 +122,7 @@ shifted setting budget bound sets xs ys i tight found =
 numbered-within : (setting : TheSetting) (rules : Rules) (a i : ℕ) → AreRulesFor setting rules → a ≡ i + 1 → i < length rules.programme.sizes → a ≤ length setting.shapes
 numbered-within setting rules a i are is within = omega (arith, is, within, ap length are.stands.sizes_are, length-map setting.shapes (shape_pages setting.cat))
 
--- the least value is the one before, or that of a leaf of the tree where nodes had run out
+-- the least value is the one before, or that of a leaf of the tree where the walk gave up
 pub runs-lowest : (setting : TheSetting) (rules : Rules) (fix : Fix) (before : Found) (tree : Tree) (after : Found) → AreRulesFor setting rules → IsConfigOf setting.shapes (inside fix) → Runs rules fix before tree after →
     (after.low ≡ before.low) ⊎ IsLowest setting rules (subproblems (node_of fix) tree) after.low after.made
 runs-lowest setting rules fix before (Leaf k) after are config run =
@@ -173,7 +159,7 @@ runs-lowest setting rules fix before (Branches a inside_tree outside_tree) after
                 let tight : IsTight setting rules.budget after.low (own_sets rules) xs = subst (λ (v : ℤ). IsTight setting rules.budget v (own_sets rules) xs) (sym same) there.tight in
                 inr (record {
                   tight = shifted setting rules.budget after.low (own_sets rules) xs (subproblems (node_of fix) (Branches a inside_tree outside_tree)) (suc tight.number) tight (front-of xs ys tight.number tight.leaf tight.leaf_found);
-                  spent = omega (arith, there.spent, later.made);
+                  spent = elim there.spent [ inl stops ↦ inl stops | inr spent ↦ inr (omega (arith, spent, later.made)) ];
                 })
           ]
     ]

@@ -7,7 +7,6 @@ use Rattle.bip_model.specs.Values.{grant_count}
 use Rattle.bip_model.specs.Views.{AreMultipliers}
 use Rattle.lagrange_bound.specs.Ledgers.{AreCheaperParts, HasPlaces, HasRoom}
 use Rattle.branch_bound.specs.declared.room.Room.{Room}
-use Rattle.branch_bound.specs.inner.Proposals.{AreHands}
 
 -- so many sets, of which at least one is always kept, have no more rents than an answer may have
 pub record IsSetLimit (programme : Programme) (count : ℕ) : Type 0 where
@@ -24,8 +23,9 @@ pub record IsRoomFor (programme : Programme) (nodes : ℕ) (room : Room) : Type 
   pub zeros_page : room.zeros.mu ≡ 0
   pub zeros_are : room.zeros.lambda ≡ replicate (grant_count programme) 0
   pub zeros_fit : AreMultipliers programme room.zeros
-  pub first_fits : AreMultipliers programme room.first
-  pub hands_fit : AreHands programme room.hands
+  pub first_fits : AreMultipliers programme room.spares.first
+  pub spare_fits : AreMultipliers programme room.spares.spare
+  pub others_fit : All (AreMultipliers programme) room.spares.others.items
   pub cheaper_are : AreCheaperParts programme room.cheaper
   pub ledgers_room : All (HasRoom programme) room.ledgers.each.items
   pub ledgers_most : MOST_SETS < length room.ledgers.each.items

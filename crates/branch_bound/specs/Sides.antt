@@ -1,14 +1,13 @@
 -- Nodes of a search and configurations, as a programme sees them.
-use Rattle.std.specs.Prelude.{◌≡◌, ℕ, ◌≤◌, Bool, true, false, length, map, sum, slice_set}
+use Rattle.std.specs.Prelude.{◌≡◌, ℕ, ◌≤◌, Bool, true, false, length, slice_set}
 use Rattle.adv_base.specs.declared.setting.Config.{Config}
-use Rattle.adv_base.specs.Configs.{chosen}
+use Rattle.adv_base.specs.Configs.{pages_in}
 use Rattle.bip_model.specs.declared.fix.Fix.{Fix}
 use Rattle.bip_model.specs.declared.fix.State.{State}
 use Rattle.bip_model.specs.declared.fix.State.TheVariants.{Free}
 use Rattle.bip_model.specs.declared.programme.Programme.{Programme}
 use Rattle.bip_model.specs.Values.{value}
-use Rattle.bip_model.specs.Views.{is_in}
-use Rattle.lagrange_bound.specs.Bounds.{state_at}
+use Rattle.bip_model.specs.Views.{node_of, state_at}
 
 abbrev pub is_free_state : State → Bool
 is_free_state Free = true
@@ -20,11 +19,11 @@ fixed fix i state = record { state = slice_set fix.state i state }
 
 -- the candidates that are in
 abbrev pub inside : Fix → Config
-inside fix = record { on = map is_in fix.state }
+inside fix = (node_of fix).inside
 
 -- the pages of a configuration
 abbrev pub pages : Programme → Config → ℕ
-pages programme config = sum (chosen config.on programme.sizes)
+pages programme config = pages_in programme.sizes config
 
 -- what is in at a node costs this
 abbrev pub total : Programme → Fix → ℕ

@@ -3,7 +3,7 @@ ghost use Rattle.std.specs.Prelude.{◌≡◌, ◌<◌, ◌≤◌, length};
 ghost use Rattle.adv_base.specs.declared.limits.TheConstants.{MOST_CANDIDATES};
 ghost use Rattle.branch_bound.specs.inner.Climbs as climbs;
 
-use crate::fixing::{config_pages, is_free};
+use crate::fixing::is_free;
 use adv_base::Config;
 use bip_model::{Fix, Programme, value};
 
@@ -44,7 +44,7 @@ fn added(programme: &Programme, budget: u64, from: &Costed, index: usize) -> Opt
     ensures { climbs.IsAdded programme.now budget from.now index result }
 {
     let config = changed(&from.config, index, true);
-    if config_pages(programme.sizes.as_slice(), &config) > budget {
+    if !programme.space(budget).fits(&config) {
         return None;
     }
     let cost = value(programme, &config);

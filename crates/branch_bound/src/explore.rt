@@ -10,7 +10,6 @@ ghost use Rattle.branch_bound.specs.inner.Runs as runs;
 use crate::fixing::fixed;
 use crate::found::Found;
 use crate::frame::Frame;
-use crate::guide::Guide;
 use crate::ledgers::Ledgers;
 use crate::node::{Fate, fate_of, lag, total_at, visited};
 use bip_model::{Fix, Node, State};
@@ -56,22 +55,23 @@ fn branched(found: Found, nodes: u32) -> Found
     }
 }
 
-/// The places of both sides of a branch in the plan.
+/// Where the sides of a branch stand in the plan; past it where the plan hasn't this branch.
 #[derive(Clone, Copy)]
-struct Sides {
+struct SidePlaces {
     inside: usize,
     outside: usize,
 }
 
-/// Where the sides of a branch stand in the plan; past it where the plan hasn't this branch.
-fn sides_of(frame: &Frame<'_>, place: usize, index: usize) -> Sides {
-    if place < frame.plan.len() && frame.plan[place].candidate == index {
-        Sides {
-            inside: frame.plan[place].inside,
-            outside: frame.plan[place].outside,
+/// The places of both sides of a branch on a candidate at a place of the plan.
+fn side_places(frame: &Frame<'_>, place: usize, index: usize) -> SidePlaces {
+    let step = frame.step(place);
+    if step.candidate as usize == index.wrapping_add(1) {
+        SidePlaces {
+            inside: place.wrapping_add(1),
+            outside: step.outside as usize,
         }
     } else {
-        Sides {
+        SidePlaces {
             inside: usize::MAX,
             outside: usize::MAX,
         }
@@ -89,28 +89,11 @@ fn outside(frame: &Frame<'_>, fix: &Fix, index: usize, cost: u128) -> Fix
     fixed(fix, index, State::Out)
 }
 
-/// What a search writes on its way: the tree, the set that closed the last leaf, ledgers, and a guide for each set.
+/// What a walk writes on its way: the tree, and the ledgers of its sets.
 #[derive(Drop)]
-pub(crate) struct SearchState {
+pub(crate) struct Walk {
     pub tree: Vec<Node>,
-    pub hint: u8,
     pub ledgers: Ledgers,
-    pub guides: Vec<Guide>,
-}
-
-impl SearchState {
-    /// What a search begins with.
-    pub fn new(tree: Vec<Node>, ledgers: Ledgers, guides: Vec<Guide>) -> SearchState
-        ensures tree { result.tree ≡ tree }
-        ensures ledgers { result.ledgers ≡ ledgers }
-    {
-        SearchState {
-            tree,
-            hint: 0,
-            ledgers,
-            guides,
-        }
-    }
 }
 
 /// Explores what is below a node that was made, and appends its tree in preorder. What is in there costs so much, and
@@ -121,49 +104,39 @@ pub(crate) fn explore(
     cost: u128,
     before: Found,
     place: usize,
-    state: &mut SearchState,
+    walk: &mut Walk,
 ) -> Found
     requires cost { cost ≡ sides.total frame.now.programme.now fix.now }
-    requires pending { vec_len state.old.tree < before.made }
+    requires pending { vec_len walk.old.tree < before.made }
     requires made { before.made ≤ frame.now.nodes }
-    requires room { frame.now.nodes ≤ vec_capacity state.old.tree }
-    requires ledgers { runs.AreLedgers (runs.rules_of frame.now) state.old.ledgers.each.items }
-    ensures explored { runs.IsExplored (runs.rules_of frame.now) fix.now before state.old.tree.items result state.new.tree.items }
-    ensures count { vec_len state.new.tree + before.made ≡ vec_len state.old.tree + 1 + result.made }
+    requires room { frame.now.nodes ≤ vec_capacity walk.old.tree }
+    requires ledgers { runs.AreLedgers (runs.rules_of frame.now) walk.old.ledgers.each.items }
+    ensures explored { runs.IsExplored (runs.rules_of frame.now) fix.now before walk.old.tree.items result walk.new.tree.items }
+    ensures count { vec_len walk.new.tree + before.made ≡ vec_len walk.old.tree + 1 + result.made }
     ensures more { before.made ≤ result.made }
     ensures most { result.made ≤ frame.now.nodes }
-    ensures room { vec_capacity state.old.tree ≤ vec_capacity state.new.tree }
-    ensures ledgers { runs.AreLedgers (runs.rules_of frame.now) state.new.ledgers.each.items }
+    ensures room { vec_capacity walk.old.tree ≤ vec_capacity walk.new.tree }
+    ensures ledgers { runs.AreLedgers (runs.rules_of frame.now) walk.new.ledgers.each.items }
 {
     let found = visited(fix, cost, before);
-    let guides = state.guides.as_mut_slice();
-    match fate_of(
-        frame,
-        fix,
-        &found,
-        state.hint,
-        place,
-        &mut state.ledgers,
-        guides,
-    ) {
+    match fate_of(frame, fix, &found, place, &mut walk.ledgers) {
         Fate::Closed(set) => {
-            state.hint = set;
-            append(&mut state.tree, Node::Bounded(set));
+            append(&mut walk.tree, Node::Bounded(set));
             found
         }
         Fate::Forced(set) => {
-            append(&mut state.tree, Node::Bounded(set));
-            given_up(frame, fix, found, set, &mut state.ledgers)
+            append(&mut walk.tree, Node::Bounded(set));
+            given_up(frame, fix, found, set, &mut walk.ledgers)
         }
         Fate::Branch(index) => {
-            append(&mut state.tree, Node::Branch(index as u16 + 1));
-            let sides = sides_of(frame, place, index);
+            append(&mut walk.tree, Node::Branch(index as u16 + 1));
+            let places = side_places(frame, place, index);
             let within = fixed(fix, index, State::In);
             let inner = branched(found, frame.nodes);
             let total = total_at(frame, &within);
-            let middle = explore(frame, &within, total, inner, sides.inside, state);
+            let middle = explore(frame, &within, total, inner, places.inside, walk);
             let without = outside(frame, fix, index, cost);
-            explore(frame, &without, cost, middle, sides.outside, state)
+            explore(frame, &without, cost, middle, places.outside, walk)
         }
     }
 }

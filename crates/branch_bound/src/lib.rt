@@ -2,10 +2,12 @@
 //!
 //! In goes a programme, a root that fixes some candidates, a budget of pages and one of nodes; out comes a
 //! configuration that fits, what it costs, and a tree of Lagrangian bounds below which no configuration that fits goes;
-//! it is best where the bound is its cost, and else the cheapest one that was found. The tree is explored depth first,
-//! the side that takes a candidate in before the side that leaves it out, under zeros and up to 16 sets of multipliers:
-//! the first bounds the root best, others are made for subtrees. All memory is taken before the search, in its room.
-//! Costs and bounds are in thousandths of a sequential page read, sizes in pages.
+//! it is best where the bound is its cost, and else the cheapest one that was found. `relaxations` proposes a
+//! configuration, up to 16 sets of multipliers and a plan of the tree; what is here trusts none of it. It walks the
+//! tree depth first along the plan, the side that takes a candidate in before the side that leaves it out, branches
+//! where the plan's candidate is open and useful, and closes leaves by exact bounds under zeros and the sets. All memory
+//! is taken before the search, in its room. Costs and bounds are in thousandths of a sequential page read, sizes in
+//! pages.
 //!
 //! The programme, the `Fix` that is the root and the `Answer` are `bip_model`'s; the `Room` has the memory of one
 //! search.
@@ -22,25 +24,19 @@
 #![tactic(auto)]
 
 mod best;
-mod choosing;
 mod climb;
 mod explore;
 mod fixing;
 mod found;
 mod frame;
-mod guide;
-mod hands;
-mod incumbent;
 mod ledgers;
-mod marks;
 mod node;
-mod offers;
-mod plan;
+mod proposing;
 mod room;
 mod taken;
 mod task;
-mod trial;
 mod useful;
+mod walk;
 
 pub use best::search;
 pub use room::Room;

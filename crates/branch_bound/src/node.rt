@@ -1,19 +1,15 @@
 //! One node of a search: the total of what is in there, its bounds, and what becomes of it.
-ghost use Rattle.std.specs.Prelude.{◌≡◌, ◌+◌, ◌*◌, ◌<◌, ◌≤◌, ◌⊎◌, false, length, IfNone, IfSome, slice_index_or};
-ghost use Rattle.adv_base.specs.declared.limits.TheConstants.{MOST_CANDIDATES, MOST_INDEX_PAGES};
+ghost use Rattle.std.specs.Prelude.{◌≡◌, suc, ◌+◌, ◌<◌, ◌≤◌, ◌⊎◌, false, true, length, IfNone, IfSome};
+ghost use Rattle.adv_base.specs.Nodes as nodes;
+ghost use Rattle.bip_model.specs.Views as views;
 ghost use Rattle.bip_model.specs.Views.{AreMultipliers};
-ghost use Rattle.lagrange_bound.specs.Bounds as bounds;
 ghost use Rattle.branch_bound.specs.Sides as sides;
 ghost use Rattle.branch_bound.specs.inner.Runs as runs;
 
-use crate::choosing::{Best, best_set, choice_here, reaches};
-use crate::fixing::{config_pages, inside, is_free};
 use crate::found::Found;
 use crate::frame::Frame;
-use crate::guide::Guide;
 use crate::ledgers::Ledgers;
-use adv_base::limits::MOST_CANDIDATES;
-use bip_model::{Fix, Multipliers, Programme, value};
+use bip_model::{Fix, Multipliers, value};
 use lagrange_bound::bound_by;
 
 /// What becomes of a node.
@@ -21,7 +17,7 @@ use lagrange_bound::bound_by;
 pub(crate) enum Fate {
     /// A leaf below which nothing is cheaper than what was found, by the set of this number.
     Closed(u8),
-    /// A leaf where nodes have run out, under the set of this number, which gives the highest value.
+    /// A leaf where the walk gives up, under the set of this number, which gives the highest value.
     Forced(u8),
     /// A branch on the candidate of this index.
     Branch(usize),
@@ -31,7 +27,7 @@ pub(crate) enum Fate {
 pub(crate) fn total_at(frame: &Frame<'_>, fix: &Fix) -> u128
     ensures { result ≡ sides.total frame.now.programme.now fix.now }
 {
-    value(frame.programme, &inside(fix))
+    value(frame.programme, &fix.inside())
 }
 
 /// What was found, with a node whose in-candidates cost so much, which may be less.
@@ -41,7 +37,7 @@ pub(crate) fn visited(fix: &Fix, cost: u128, before: Found) -> Found
 {
     if cost < before.cost {
         Found {
-            config: inside(fix),
+            config: fix.inside(),
             cost,
             low: before.low,
             made: before.made,
@@ -51,84 +47,44 @@ pub(crate) fn visited(fix: &Fix, cost: u128, before: Found) -> Found
     }
 }
 
-/// The pages of a candidate.
-fn size(programme: &Programme, index: usize) -> u64
-    requires { index < length programme.now.sizes }
-    ensures exact { result ≡ slice_index_or programme.now.sizes index 0 }
-    ensures most { result ≤ MOST_INDEX_PAGES }
+/// Whether a value is at least a cost.
+pub(crate) fn reaches(value: i128, cost: u128) -> bool
+    ensures { result ≡ runs.reaches value cost }
 {
-    programme.sizes.as_slice()[index]
+    value >= 0 && cost <= value as u128
 }
 
-/// Whether a candidate is open and useful at a node whose in-candidates have so many pages.
-fn is_choice(frame: &Frame<'_>, fix: &Fix, used: u64, index: usize) -> bool
-    requires within { index < length frame.now.programme.now.sizes }
-    requires used { used ≡ bounds.pages_inside frame.now.programme.now fix.now }
-    requires most { used ≤ MOST_CANDIDATES * MOST_INDEX_PAGES }
+/// Whether a candidate is useful and open at a node, by its index.
+fn is_choice(frame: &Frame<'_>, fix: &Fix, index: usize) -> bool
+    requires { index < length frame.now.programme.now.sizes }
     ensures { result ≡ runs.is_choice (runs.rules_of frame.now) fix.now index }
 {
-    is_free(fix.state[index])
-        && used + size(frame.programme, index) <= frame.budget
-        && frame.useful[index]
+    let space = frame.programme.space(frame.budget);
+    frame.useful[index] && space.is_open(fix, index as u16 + 1)
 }
 
 /// The first open useful candidate.
-fn choice(frame: &Frame<'_>, fix: &Fix, used: u64) -> Option<usize>
-    requires used { used ≡ bounds.pages_inside frame.now.programme.now fix.now }
-    requires most { used ≤ MOST_CANDIDATES * MOST_INDEX_PAGES }
+fn first_choice(frame: &Frame<'_>, fix: &Fix) -> Option<usize>
     ensures { runs.IsChoiceBelow (runs.rules_of frame.now) fix.now (length frame.now.programme.now.sizes) result }
 {
     for index in 0..frame.programme.sizes.len() {
-        if is_choice(frame, fix, used, index) {
+        if is_choice(frame, fix, index) {
             return Some(index);
         }
     }
     None
 }
 
-/// The proposed candidate where it is open and useful, else the first one that is.
-fn chosen(frame: &Frame<'_>, fix: &Fix, proposal: usize) -> Option<usize>
-    ensures { runs.IsChoiceBelow (runs.rules_of frame.now) fix.now (length frame.now.programme.now.sizes) result }
+/// The candidate of a number where it is open and useful, by its index.
+fn planned_choice(frame: &Frame<'_>, fix: &Fix, number: u16) -> Option<usize>
+    ensures { IfSome result (runs.IsChoice (runs.rules_of frame.now) fix.now) }
 {
-    let used = config_pages(frame.programme.sizes.as_slice(), &inside(fix));
-    if proposal < frame.programme.sizes.len() && is_choice(frame, fix, used, proposal) {
-        return Some(proposal);
+    let index = (number as usize).checked_sub(1)?;
+    if index < frame.programme.sizes.len() && is_choice(frame, fix, index) {
+        Some(index)
+    } else {
+        None
     }
-    choice(frame, fix, used)
-}
-
-/// The candidate that the plan proposes at one of its nodes, or that a guide proposes; by its index, 256 for none.
-fn proposed(
-    frame: &Frame<'_>,
-    cost: u128,
-    place: usize,
-    best: Best,
-    guides: &mut [Guide],
-) -> usize {
-    if place < frame.plan.len() && frame.plan[place].candidate < MOST_CANDIDATES {
-        return frame.plan[place].candidate;
-    }
-    choice_here(&frame.scope(), frame.sets, guides, cost, best)
-}
-
-/// A candidate to branch on, where two more nodes are left.
-fn branch(
-    frame: &Frame<'_>,
-    fix: &Fix,
-    found: &Found,
-    place: usize,
-    best: Best,
-    guides: &mut [Guide],
-) -> Option<usize>
-    requires { found.now.made ≤ frame.now.nodes }
-    ensures none { IfNone result ((frame.now.nodes < found.now.made + 2) ⊎ runs.NoChoice (runs.rules_of frame.now) fix.now) }
-    ensures some { IfSome result (λ i. (found.now.made + 2 ≤ frame.now.nodes) × runs.IsChoice (runs.rules_of frame.now) fix.now i) }
-{
-    if found.made + 2 > frame.nodes {
-        return None;
-    }
-    let proposal = proposed(frame, found.cost, place, best, guides);
-    chosen(frame, fix, proposal)
 }
 
 /// The set of a number: 0 is that of zeros.
@@ -211,64 +167,78 @@ fn highest(frame: &Frame<'_>, fix: &Fix, cost: u128, zero: i128, ledgers: &mut L
     best
 }
 
-/// The number of the set of a place; 0 where there is none.
-fn number_of(frame: &Frame<'_>, set: usize) -> u8
-    ensures { result ≤ length frame.now.sets.now }
+/// A candidate to branch on beyond the plan, where two more nodes are left; none where the walk stops.
+fn branch(frame: &Frame<'_>, fix: &Fix, found: &Found) -> Option<usize>
+    requires { found.now.made ≤ frame.now.nodes }
+    ensures none { IfNone result (runs.MayGiveUp (runs.rules_of frame.now) fix.now found.now) }
+    ensures some { IfSome result (λ i. (found.now.made + 2 ≤ frame.now.nodes) × runs.IsChoice (runs.rules_of frame.now) fix.now i) }
 {
-    if set < frame.sets.len() {
-        set as u8 + 1
-    } else {
-        0
+    if frame.stops || found.made + 2 > frame.nodes {
+        return None;
     }
+    first_choice(frame, fix)
 }
 
-/// What becomes of a node at which nothing branches: a leaf of the set of the highest value.
-fn leaf_fate(frame: &Frame<'_>, fix: &Fix, found: &Found, zero: i128, ledgers: &mut Ledgers) -> Fate
+/// What becomes of a node that neither zeros nor the plan decide: a leaf of the set that closes it, a branch, or a leaf
+/// of the set of the highest value.
+fn unplanned_fate(
+    frame: &Frame<'_>,
+    fix: &Fix,
+    found: &Found,
+    zero: i128,
+    ledgers: &mut Ledgers,
+) -> Fate
+    requires made { found.now.made ≤ frame.now.nodes }
     requires zero { zero ≡ runs.lag (runs.rules_of frame.now) fix.now 0 }
     requires promising { runs.reaches (runs.lag (runs.rules_of frame.now) fix.now 0) found.now.cost ≡ false }
-    requires why { (frame.now.nodes < found.now.made + 2) ⊎ runs.NoChoice (runs.rules_of frame.now) fix.now }
     requires ledgers { runs.AreLedgers (runs.rules_of frame.now) ledgers.old.each.items }
     ensures fate { runs.IsFate (runs.rules_of frame.now) fix.now found.now result }
     ensures ledgers { runs.AreLedgers (runs.rules_of frame.now) ledgers.new.each.items }
 {
     let best = highest(frame, fix, found.cost, zero, ledgers);
     if reaches(best.value, found.cost) {
-        Fate::Closed(best.set)
-    } else {
-        Fate::Forced(best.set)
+        return Fate::Closed(best.set);
+    }
+    match branch(frame, fix, found) {
+        Some(index) => Fate::Branch(index),
+        None => Fate::Forced(best.set),
     }
 }
 
-/// What becomes of a node, after it is visited. Guides tell which set may close it, where the lists that they go by are
-/// whole; the set that closed the last leaf is tried first.
+/// Whether the set that the plan names for a leaf closes it.
+fn is_closed(frame: &Frame<'_>, fix: &Fix, cost: u128, set: u8, ledgers: &mut Ledgers) -> bool
+    requires ledgers { runs.AreLedgers (runs.rules_of frame.now) ledgers.old.each.items }
+    ensures closed { result ≡ true → (set ≤ length frame.now.sets.now) × (runs.reaches (runs.lag (runs.rules_of frame.now) fix.now set) cost ≡ true) }
+    ensures ledgers { runs.AreLedgers (runs.rules_of frame.now) ledgers.new.each.items }
+{
+    set as usize <= frame.sets.len() && reaches(lag(frame, fix, set, ledgers), cost)
+}
+
+/// What becomes of a node at a place of the plan, after it is visited.
 pub(crate) fn fate_of(
     frame: &Frame<'_>,
     fix: &Fix,
     found: &Found,
-    hint: u8,
     place: usize,
     ledgers: &mut Ledgers,
-    guides: &mut [Guide],
 ) -> Fate
     requires made { found.now.made ≤ frame.now.nodes }
     requires ledgers { runs.AreLedgers (runs.rules_of frame.now) ledgers.old.each.items }
     ensures fate { runs.IsFate (runs.rules_of frame.now) fix.now found.now result }
     ensures ledgers { runs.AreLedgers (runs.rules_of frame.now) ledgers.new.each.items }
 {
-    let first = (hint as usize).saturating_sub(1);
-    let scope = frame.scope();
-    let guess = best_set(&scope, frame.sets, guides, found.cost, fix, first);
-    let set = number_of(frame, guess.set);
-    let is_hopeful = reaches(guess.value, found.cost) || !frame.offers.is_whole();
-    if is_hopeful && reaches(lag(frame, fix, set, ledgers), found.cost) {
-        return Fate::Closed(set);
+    let step = frame.step(place);
+    if step.candidate == 0 && is_closed(frame, fix, found.cost, step.set, ledgers) {
+        return Fate::Closed(step.set);
     }
     let zero = lag(frame, fix, 0, ledgers);
     if reaches(zero, found.cost) {
         return Fate::Closed(0);
     }
-    match branch(frame, fix, found, place, guess, guides) {
-        Some(index) => Fate::Branch(index),
-        None => leaf_fate(frame, fix, found, zero, ledgers),
+    if found.made + 2 <= frame.nodes {
+        if let Some(index) = planned_choice(frame, fix, step.candidate) {
+            return Fate::Branch(index);
+        }
     }
+    unplanned_fate(frame, fix, found, zero, ledgers)
 }

@@ -1,12 +1,11 @@
-//! What is taken of a draft: it is tested against the root and the budget, and priced anew.
+//! What is taken of a proposed configuration: it is tested against the root and the budget, and priced.
 ghost use Rattle.std.specs.Prelude.{◌≡◌, true, length};
 ghost use Rattle.adv_base.specs.declared.limits.TheConstants.{MOST_CANDIDATES};
 ghost use Rattle.branch_bound.specs.inner.Climbs as climbs;
 
 use crate::climb::Costed;
-use crate::fixing::config_pages;
-use crate::incumbent::Draft;
 use crate::task::Task;
+use adv_base::Config;
 use adv_base::limits::MOST_CANDIDATES;
 use bip_model::{State, value};
 
@@ -37,18 +36,14 @@ fn obeys(states: &[State], flags: &[bool], count: usize) -> bool
     true
 }
 
-/// The cheaper of the configuration that is known and of a draft, where that obeys the root and fits.
-pub(crate) fn taken(task: &Task<'_>, known: Costed, draft: &Draft) -> Costed
+/// The cheaper of the configuration that is known and of one that is proposed, where that obeys the root and fits.
+pub(crate) fn taken(task: &Task<'_>, known: Costed, config: Config) -> Costed
     requires { climbs.IsSoundHere task.now.programme.now task.now.budget task.now.root.now known }
     ensures { climbs.IsSoundHere task.now.programme.now task.now.budget task.now.root.now result }
 {
-    if draft.cost >= known.cost {
-        return known;
-    }
-    let config = draft.config;
-    let sizes = task.programme.sizes.as_slice();
-    if !obeys(&task.root.state, &config.on, sizes.len())
-        || config_pages(sizes, &config) > task.budget
+    let count = task.programme.sizes.len();
+    if !obeys(&task.root.state, &config.on, count)
+        || !task.programme.space(task.budget).fits(&config)
     {
         return known;
     }

@@ -1,27 +1,22 @@
-//! What a plan is made for.
+//! What a search is asked.
 ghost use Rattle.std.specs.Prelude.{◌≡◌, ◌≤◌};
 ghost use Rattle.adv_base.specs.declared.limits.TheConstants.{MOST_ROWS, MOST_SETS};
 ghost use Rattle.branch_bound.specs.Sides as sides;
 ghost use Rattle.branch_bound.specs.inner.Climbs as climbs;
 
 use crate::climb::Costed;
-use crate::offers::Offers;
 use adv_base::limits::MOST_CANDIDATES;
-use bip_model::{Fix, Multipliers, Programme};
+use bip_model::{Fix, Programme};
 
-/// The programme, what its candidates offer, the budget of pages, the root of the search and the configuration that it
-/// has in, which candidates are useful and whether these are few, multipliers of zeros, and how many sets of
-/// multipliers a search may keep.
+/// The programme, the budget of pages, the root of the search and the configuration that it has in, which candidates
+/// are useful, and how many sets of multipliers a search may keep.
 #[derive(Drop)]
 pub(crate) struct Task<'a> {
     pub programme: &'a Programme,
-    pub offers: &'a Offers,
     pub budget: u64,
     pub useful: &'a [bool; MOST_CANDIDATES],
     pub root: &'a Fix,
-    pub zeros: &'a Multipliers,
     pub bare: Costed,
-    pub are_few: bool,
     pub most: usize,
     pub ghost budget_most: { budget ≤ MOST_ROWS },
     pub ghost bare_inside: { bare.config ≡ sides.inside root.now },

@@ -1,7 +1,9 @@
 //! Certificates that are read, and texts that no certificate has, each with the line at which it breaks, counted by hand.
 mod made;
+mod pieces;
 mod written;
 
+use crate::certificates::pieces::scanned;
 use bip_model::Node;
 use certificate::{CertFault, read_cert};
 use std::alloc::Global;
@@ -28,6 +30,20 @@ fn line_of(text: &[u8], offset: usize) -> u64 {
         + 1
 }
 
+/// A text breaks at a line, read as a whole and in pieces.
+fn breaks_at(rt: &impl Abort, alloc: Global, text: &[u8], want: u64, name: &str) {
+    let whole = read_cert(alloc, text).err();
+    assert_eq!(rt; whole, Some(CertFault::Malformed(want)), "{name}");
+    for size in [1, 7, 93] {
+        let pieces = scanned(rt, alloc, text, size).err();
+        assert_eq!(rt;
+            pieces,
+            Some(CertFault::Malformed(want)),
+            "{name} by {size}"
+        );
+    }
+}
+
 #[test]
 fn a_certificate_is_read(rt: HostRuntime) {
     let cert = read_cert(rt.alloc(), CERTK.as_bytes()).expect(&rt, "a certificate");
@@ -45,11 +61,12 @@ fn prefixes_break_at_their_last_line(rt: HostRuntime) {
     let text = CERTK.as_bytes();
     assert_eq!(rt; text.len(), 93);
     for len in 0..93 {
-        let want = line_of(text, len);
-        let read = read_cert(rt.alloc(), &text[..len]);
-        assert!(rt;
-            matches!(read, Err(CertFault::Malformed(line)) if line == want),
-            "{len}"
+        breaks_at(
+            &rt,
+            rt.alloc(),
+            &text[..len],
+            line_of(text, len),
+            "a prefix",
         );
     }
 }
@@ -133,11 +150,7 @@ fn changed_lines_break(rt: HostRuntime) {
         let text = CERTK
             .replacen(rt.alloc(), old, new, 1)
             .expect(&rt, "memory");
-        let read = read_cert(rt.alloc(), text.as_bytes());
-        assert!(rt;
-            matches!(read, Err(CertFault::Malformed(line)) if line == want),
-            "{new}"
-        );
+        breaks_at(&rt, rt.alloc(), text.as_bytes(), want, new);
     }
 }
 
@@ -165,10 +178,6 @@ fn sets_break(rt: HostRuntime) {
         ("set 0 0\nset 7 2\n1 1 256 5\n1 2 1 5\ntree 1\nL 2\n", 13),
     ] {
         let text = format!(in rt.alloc(); "{TWO_SETS}{lines}").expect(&rt, "memory");
-        let read = read_cert(rt.alloc(), text.as_bytes());
-        assert!(rt;
-            matches!(read, Err(CertFault::Malformed(line)) if line == want),
-            "{lines}"
-        );
+        breaks_at(&rt, rt.alloc(), text.as_bytes(), want, lines);
     }
 }

@@ -4,8 +4,6 @@
 #![tactic(auto)]
 
 #[cfg(test)]
-mod ascents;
-#[cfg(test)]
 mod bounds;
 #[cfg(test)]
 mod certificates;

@@ -6,7 +6,7 @@ use Rattle.bip_model.specs.declared.fix.State.{State}
 use Rattle.bip_model.specs.declared.fix.State.TheVariants.{Free, In, Out}
 use Rattle.bip_model.specs.declared.programme.Programme.{Programme}
 use Rattle.bip_model.specs.Values.{value}
-use Rattle.lagrange_bound.specs.Bounds.{state_at}
+use Rattle.bip_model.specs.Views.{state_at}
 use Rattle.branch_bound.specs.declared.climb.Costed.{Costed}
 use Rattle.branch_bound.specs.Sides.{pages}
 

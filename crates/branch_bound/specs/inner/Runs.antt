@@ -1,6 +1,7 @@
 -- A run of the search below a node: what it had found before and what after, and the tree that it wrote.
-use Rattle.std.specs.Prelude.{◌≡◌, ℕ, ◌+◌, ◌-◌, ◌^◌, ◌<◌, ◌≤◌, nat_lt, nat_le, Bool, true, false, ◌&&◌, if◌then◌else◌, ◌⊎◌, List, ◌∷◌, ◌++◌, length, Option, Some, None, slice_index_or, ℤ, pos, negsuc, ◌≤ℤ◌}
+use Rattle.std.specs.Prelude.{◌≡◌, ℕ, suc, ◌+◌, ◌-◌, ◌^◌, ◌<◌, ◌≤◌, nat_lt, nat_le, Bool, true, false, ◌&&◌, if◌then◌else◌, ◌⊎◌, List, [], ◌∷◌, ◌++◌, length, Option, Some, None, slice_index_or, ℤ, pos, negsuc, ◌≤ℤ◌}
 use Rattle.std.specs.Int.{int_min}
+use Rattle.adv_base.specs.Nodes.{is_open_in}
 use Rattle.bip_model.specs.declared.answer.Answer.{Answer}
 use Rattle.bip_model.specs.declared.answer.Node.{Node}
 use Rattle.bip_model.specs.declared.fix.Fix.{Fix}
@@ -8,7 +9,8 @@ use Rattle.bip_model.specs.declared.fix.State.TheVariants.{In, Out}
 use Rattle.bip_model.specs.declared.multipliers.Multipliers.{Multipliers}
 use Rattle.bip_model.specs.declared.programme.Programme.{Programme}
 use Rattle.bip_model.specs.Trees.{Tree, Branches, Leaf, Full, preorder}
-use Rattle.lagrange_bound.specs.Bounds.{state_at, fits_beside, lagrangian}
+use Rattle.bip_model.specs.Views.{space_in, node_of}
+use Rattle.lagrange_bound.specs.Bounds.{lagrangian}
 use Rattle.lagrange_bound.specs.declared.ledger.Ledger.{Ledger}
 use Rattle.lagrange_bound.specs.Ledgers.{IsLedger}
 use Rattle.branch_bound.specs.declared.climb.Costed.{Costed}
@@ -17,7 +19,7 @@ use Rattle.branch_bound.specs.declared.frame.Frame.{Frame}
 use Rattle.branch_bound.specs.declared.node.Fate.{Fate}
 use Rattle.branch_bound.specs.declared.node.Fate.TheVariants.{Closed, Forced, Branch}
 use Rattle.branch_bound.specs.declared.task.Task.{Task}
-use Rattle.branch_bound.specs.Sides.{is_free_state, fixed, inside, total}
+use Rattle.branch_bound.specs.Sides.{fixed, inside, total}
 
 -- what stays the same in a search
 pub record Rules : Type 0 where
@@ -27,6 +29,8 @@ pub record Rules : Type 0 where
   pub zeros : Multipliers
   pub sets : List Multipliers
   pub useful : List Bool
+  -- whether a walk may give up while nodes are left
+  pub stops : Bool
 
 abbrev pub rules_of : Frame → Rules
 rules_of frame =
@@ -37,10 +41,11 @@ rules_of frame =
       zeros = frame.zeros.now;
       sets = frame.sets.now;
       useful = frame.useful.now;
+      stops = frame.stops;
     }
 
-abbrev pub rules_for : Task → ℕ → Multipliers → List Multipliers → Rules
-rules_for task nodes zeros sets =
+abbrev pub rules_for : Task → ℕ → Multipliers → List Multipliers → Bool → Rules
+rules_for task nodes zeros sets stops =
     record {
       programme = task.programme.now;
       budget = task.budget;
@@ -48,6 +53,7 @@ rules_for task nodes zeros sets =
       zeros = zeros;
       sets = sets;
       useful = task.useful.now;
+      stops = stops;
     }
 
 -- the set of a number: 0 is that of zeros
@@ -81,7 +87,7 @@ visited rules fix found = visited_at fix (total rules.programme fix) found
 -- a candidate is open and useful, by its index
 abbrev pub is_choice : Rules → Fix → ℕ → Bool
 is_choice rules fix i =
-    is_free_state (state_at fix i) && (fits_beside rules.programme rules.budget fix i && slice_index_or rules.useful i false)
+    slice_index_or rules.useful i false && is_open_in (space_in rules.programme rules.budget) (node_of fix) (suc i)
 
 abbrev pub NoChoiceBelow : Rules → Fix → ℕ → Type 0
 NoChoiceBelow rules fix n = (i : ℕ) → i < n → is_choice rules fix i ≡ false
@@ -109,11 +115,15 @@ pub record IsClosed (rules : Rules) (fix : Fix) (found : Found) (k : ℕ) : Type
   pub set : k ≤ length rules.sets
   pub reached : reaches (lag rules fix k) found.cost ≡ true
 
--- a leaf where nodes have run out, or no candidate is left, under the set that gives the highest value
+-- why nothing branches at a leaf that isn't closed: the walk stops, nodes have run out, or no candidate is left
+abbrev pub MayGiveUp : Rules → Fix → Found → Type 0
+MayGiveUp rules fix found = (rules.stops ≡ true) ⊎ (rules.nodes < found.made + 2) ⊎ NoChoice rules fix
+
+-- a leaf where the walk gives up, under the set that gives the highest value
 pub record IsForced (rules : Rules) (fix : Fix) (found : Found) (k : ℕ) : Type 0 where
   pub highest : IsHighest rules fix (length rules.sets) k (lag rules fix k)
   pub promising : reaches (lag rules fix 0) found.cost ≡ false
-  pub why : (rules.nodes < found.made + 2) ⊎ NoChoice rules fix
+  pub why : MayGiveUp rules fix found
 
 -- a branch, for which two more nodes are left
 pub record IsBranch (rules : Rules) (fix : Fix) (found : Found) (i : ℕ) : Type 0 where
@@ -172,6 +182,12 @@ pub record IsExplored (rules : Rules) (fix : Fix) (before : Found) (old : List N
   pub tree : Tree
   pub list_is : new ≡ old ++ preorder tree
   pub run : Runs rules fix before tree after
+
+-- a walk along the plan that closed all leaves or left no node, or one that goes on beyond the plan
+pub record IsWalked (rules : Bool → Rules) (root : Fix) (before after : Found) (list : List Node) : Type 0 where
+  pub stops : Bool
+  pub explored : IsExplored (rules stops) root before [] after list
+  pub done : stops ≡ true → (reaches after.low after.cost ≡ true) ⊎ ((rules stops).nodes ≤ after.made + 1)
 
 -- what nothing that fits costs less than: the cost found, or the least value of the leaves where the search gave up
 abbrev pub least_bound : ℕ → ℤ → ℤ

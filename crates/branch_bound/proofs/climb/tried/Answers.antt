@@ -1,5 +1,5 @@
 use Rattle.std.proofs.Common.{◌≡◌, ◌≤◌, true, false, length, rules}
-use Rattle.lagrange_bound.specs.Bounds.{state_at}
+use Rattle.bip_model.specs.Views.{state_at}
 use Rattle.branch_bound.specs.Sides.{is_free_state}
 use Rattle.branch_bound.specs.inner.Climbs.{flag_at}
 use Rattle.branch_bound.proofs.Climbing.{free-is, removed-trial, added-trial}

@@ -17,6 +17,6 @@ returns-in-Forced-clause-explored t c =
 pub returns-in-Branch-clause-explored : goal.returns-in-Branch-clause-explored
 returns-in-Branch-clause-explored t c =
     branch-explored (runs.rules_of c.args.frame.now) c.args.fix.now c.fixed-within.result c.outside-without.result c.args.before c.visited-found.result c.branched-inner.result c.explore-middle.result
-    c.explore.result c.in-Branch.index c.args.state.now.tree.items c.append-in-Branch.new.tree.items c.explore-middle.new.state.tree.items c.explore.new.state.tree.items
+    c.explore.result c.in-Branch.index c.args.walk.now.tree.items c.append-in-Branch.new.tree.items c.explore-middle.new.walk.tree.items c.explore.new.walk.tree.items
     (c.visited-found.ensures.exact ∙ ap (λ (n : ℕ). runs.visited_at c.args.fix.now n c.args.before) c.requires.cost) c.fixed-within.ensures
     c.outside-without.ensures.exact c.branched-inner.ensures c.in-Branch.ensures.fate c.append-in-Branch.ensures.items c.explore-middle.ensures.explored c.explore.ensures.explored

@@ -1,0 +1,344 @@
+//! The search for the cheapest configuration: best bound first, over linear relaxations, with fixings and roundings.
+
+use crate::configuration::{Chosen, Incumbent};
+use crate::fixing::Losses;
+use crate::lagrangian::Lagrangian;
+use crate::matrix::{Matrix, float_of};
+use crate::places::{Places, at, put};
+use crate::relaxation::Relaxation;
+use crate::rounding::{Rounding, Shared};
+use crate::tree::{MOST_NODES, Tree};
+use crate::view::View;
+use adv_base::NoMemory;
+use bip_model::{Fix, State};
+use std::alloc::Global;
+
+/// How near a relaxation comes to its optimum, as a part of what is missing.
+const TOLERANCE: f64 = 0.001;
+/// The most times that a node is relaxed.
+const MOST_PASSES: u32 = 4;
+/// A node is relaxed for the third time, or once more, only where so many candidates were fixed.
+const MANY_FIXED: usize = 3;
+/// A candidate whose share is nearer to a whole number than this is branched on last.
+const LEAST_PART: f64 = 1e-4;
+/// So often at first, and then once in so many times, the search goes on to a side of the branch that it made.
+const FIRST_DIVES: u32 = 3;
+
+const LATER_DIVES: u32 = 16;
+
+/// The cheapest configuration that was found, whether no other is cheaper, and the bound of the root.
+#[derive(Clone, Copy)]
+pub(crate) struct Found {
+    pub on: Chosen,
+    pub cost: i128,
+    pub is_closed: bool,
+    pub root_bound: f64,
+}
+
+/// The visit of a node: its states and its bound, and a candidate on which both sides of a branch are closed.
+#[derive(Clone, Copy)]
+struct Visit {
+    fix: Fix,
+    bound: f64,
+    is_closed: bool,
+    forced: Option<u8>,
+}
+
+/// What the search works with. `rents` has the rents of the last relaxation by link of the matrix, `own_rents` by link of the
+/// view, and `shares` what it took of each candidate.
+#[derive(Drop)]
+pub(crate) struct Finder {
+    pub view: View,
+    pub lagrangian: Lagrangian,
+    pub relaxation: Relaxation,
+    pub tree: Tree,
+    rounding: Rounding,
+    losses: Losses,
+    best: Incumbent,
+    rents: Vec<f64>,
+    own_rents: Vec<f64>,
+    shares: [f64; 256],
+    root_bound: f64,
+}
+
+impl Finder {
+    /// All memory that searches over a matrix take. Want of memory is the one error.
+    pub(crate) fn new(alloc: Global, matrix: &Matrix) -> Result<Finder, NoMemory> {
+        Ok(Finder {
+            view: View::new(alloc, matrix)?,
+            lagrangian: Lagrangian::new(alloc, matrix)?,
+            relaxation: Relaxation::new(alloc, matrix)?,
+            tree: Tree::new(alloc)?,
+            rounding: Rounding::new(alloc, matrix)?,
+            losses: Losses::BLANK,
+            best: Incumbent {
+                on: [false; 256],
+                cost: 0,
+            },
+            rents: vec![in alloc; 0.0; matrix.links.len()]?,
+            own_rents: vec![in alloc; 0.0; matrix.links.len()]?,
+            shares: [0.0; 256],
+            root_bound: 0.0,
+        })
+    }
+
+    /// A node with this bound has nothing cheaper.
+    fn target(&self) -> f64 {
+        float_of(self.best.cost) - 0.5
+    }
+
+    /// Keeps the rents and shares of the relaxation.
+    fn keep(&mut self) {
+        for (link, rent) in self.view.links.iter().zip(self.relaxation.rents.iter()) {
+            put(self.rents.as_mut_slice(), *link as usize, *rent);
+        }
+        for (candidate, share) in self
+            .view
+            .candidates
+            .iter()
+            .zip(self.relaxation.shares.iter())
+        {
+            self.shares[*candidate as usize] = *share;
+        }
+    }
+
+    /// Opens the view of a node. Where no candidate is left, what is in is all there is.
+    fn open(&mut self, matrix: &Matrix, budget: i64, visit: &mut Visit) {
+        self.view
+            .open(matrix, &visit.fix, budget, float_of(self.best.cost));
+        if self.view.candidates.is_empty() {
+            self.rounding
+                .close(matrix, &visit.fix, budget, &mut self.best);
+            visit.bound = visit.bound.max(self.view.constant);
+            visit.is_closed = true;
+        }
+    }
+
+    /// Solves the relaxation of the view and rounds it.
+    fn relax(&mut self, matrix: &Matrix, budget: i64, visit: &mut Visit, is_first: bool) {
+        let target = self.target();
+        visit.is_closed = self
+            .relaxation
+            .solve(&self.view, &mut self.lagrangian, target, TOLERANCE);
+        self.keep();
+        visit.bound = visit.bound.max(self.relaxation.bound);
+        if is_first {
+            self.root_bound = visit.bound;
+        }
+        if visit.is_closed {
+            return;
+        }
+        let node = Shared {
+            fix: &visit.fix,
+            view: &self.view,
+            shares: self.relaxation.shares.as_slice(),
+            budget,
+        };
+        let _ = self.rounding.round(matrix, &node, is_first, &mut self.best);
+        visit.is_closed = self.relaxation.bound >= self.target();
+    }
+
+    /// Evaluates the view under the rents that were kept, and weighs its candidates. Answers what is missing to the target.
+    fn evaluate(&mut self, visit: &mut Visit) -> f64 {
+        for (own, link) in self.own_rents.iter_mut().zip(self.view.links.iter()) {
+            *own = at(self.rents.as_slice(), *link as usize, 0.0);
+        }
+        let all = Places {
+            from: 0,
+            to: self.view.links.len(),
+        };
+        let target = self.target();
+        let rents = all.of(self.own_rents.as_slice());
+        self.lagrangian.evaluate(&self.view, rents);
+        let missing = target - self.lagrangian.value;
+        self.losses
+            .weigh(&self.view, rents, &mut self.lagrangian, missing);
+        visit.bound = visit.bound.max(self.lagrangian.value);
+        missing
+    }
+
+    /// Fixes candidates of the view one of whose sides is closed under the rents of the relaxation; how many.
+    fn fix(&mut self, visit: &mut Visit) -> usize {
+        let missing = self.evaluate(visit);
+        let mut count = 0usize;
+        for number in 0..self.view.candidates.len() {
+            let candidate = at(self.view.candidates.as_slice(), number, 0);
+            let rises = self.losses.rises(&self.view, &self.lagrangian, number);
+            if rises.outside >= missing {
+                visit.fix.state[candidate as usize] = State::In;
+                count = count.wrapping_add(1);
+            } else if rises.inside >= missing {
+                visit.fix.state[candidate as usize] = State::Out;
+                count = count.wrapping_add(1);
+            } else if visit.forced.is_none() {
+                let best = self.losses.best_rises(&self.view, &self.lagrangian, number);
+                if best.inside >= missing && best.outside >= missing {
+                    visit.forced = Some(candidate);
+                }
+            }
+        }
+        count
+    }
+
+    /// Relaxes a node and fixes candidates, again where many were fixed.
+    fn relax_and_fix(&mut self, matrix: &Matrix, budget: i64, visit: &mut Visit, is_root: bool) {
+        for pass in 0..MOST_PASSES {
+            self.open(matrix, budget, visit);
+            if visit.is_closed {
+                return;
+            }
+            self.relax(matrix, budget, visit, is_root && pass == 0);
+            if visit.is_closed {
+                return;
+            }
+            let count = self.fix(visit);
+            visit.is_closed = pages(matrix, &visit.fix) > budget;
+            if visit.is_closed {
+                return;
+            }
+            if visit.forced.is_some() || count == 0 || (pass > 0 && count < MANY_FIXED) {
+                break;
+            }
+        }
+        self.open(matrix, budget, visit);
+    }
+
+    /// The candidate of the view, by its number there, on which to branch: the one with the most pages in doubt.
+    fn choice(&self) -> usize {
+        let mut best = 0;
+        let mut most = f64::NEG_INFINITY;
+        for (number, candidate) in self.view.candidates.iter().enumerate() {
+            let share = self.shares[*candidate as usize];
+            let part = share.min(1.0 - share);
+            let doubt = if part < LEAST_PART {
+                part - 1.0
+            } else {
+                part * at(self.view.sizes.as_slice(), number, 0.0)
+            };
+            if doubt > most {
+                most = doubt;
+                best = number;
+            }
+        }
+        best
+    }
+
+    /// The bound of a side of a branch where the value rises by so much.
+    fn side_bound(&self, visit: &Visit, rise: f64) -> f64 {
+        let cost = float_of(self.best.cost);
+        if visit.forced.is_some() || self.lagrangian.value + rise >= cost - 0.5 {
+            cost
+        } else {
+            visit.bound
+        }
+    }
+
+    /// Branches at a node; the side to which the share of the branch's candidate rounds, if it is open.
+    fn branch(&mut self, place: usize, visit: &Visit, number: usize) -> Option<usize> {
+        let candidate = at(self.view.candidates.as_slice(), number, 0);
+        let rises = self.losses.best_rises(&self.view, &self.lagrangian, number);
+        let inside = self.side_bound(visit, rises.inside);
+        let outside = self.side_bound(visit, rises.outside);
+        let first = self
+            .tree
+            .branch(place, &visit.fix, candidate, [inside, outside]);
+        if self.shares[candidate as usize] >= 0.5 {
+            self.open_side(first, inside)
+        } else {
+            self.open_side(first.wrapping_add(1), outside)
+        }
+    }
+
+    /// A node, where a bound leaves it open.
+    fn open_side(&self, place: usize, bound: f64) -> Option<usize> {
+        if bound < self.target() {
+            Some(place)
+        } else {
+            None
+        }
+    }
+
+    /// Visits a node of the tree. Answers a side of its branch that may be visited next.
+    fn visit(&mut self, matrix: &Matrix, budget: i64, place: usize) -> Option<usize> {
+        let node = self.tree.nodes.get(place)?;
+        let mut visit = Visit {
+            fix: node.fix(),
+            bound: node.bound,
+            is_closed: false,
+            forced: None,
+        };
+        self.relax_and_fix(matrix, budget, &mut visit, place == 0);
+        if !visit.is_closed {
+            let _ = self.evaluate(&mut visit);
+        }
+        let number = match visit.forced {
+            Some(candidate) => self.view.local[candidate as usize] as usize,
+            None => self.choice(),
+        };
+        let is_closed = visit.is_closed
+            || visit.bound >= self.target()
+            || number >= self.view.candidates.len();
+        self.tree.write(place, &visit.fix, visit.bound, is_closed);
+        if is_closed {
+            None
+        } else {
+            self.branch(place, &visit, number)
+        }
+    }
+
+    /// The bound of a node.
+    fn bound(&self, place: usize) -> f64 {
+        match self.tree.nodes.get(place) {
+            Some(node) => node.bound,
+            None => f64::INFINITY,
+        }
+    }
+
+    /// Searches for the cheapest configuration below a root. Where the root's relaxation can't be solved, its rounding is taken.
+    pub(crate) fn find(&mut self, matrix: &Matrix, root: &Fix, budget: i64) -> Found {
+        self.best = self.rounding.begin(matrix, root, budget);
+        self.tree.begin(root);
+        self.root_bound = f64::NEG_INFINITY;
+        let mut dive = None;
+        let mut turns = 0u32;
+        for _visit in 0..MOST_NODES {
+            let next = match dive {
+                Some(place) => Some(place),
+                None => self.tree.least(),
+            };
+            let Some(place) = next else {
+                break;
+            };
+            if dive.is_none() {
+                turns = turns.wrapping_add(1);
+            }
+            if self.bound(place) >= self.target() || self.tree.is_full() {
+                break;
+            }
+            let side = self.visit(matrix, budget, place);
+            if self.root_bound == f64::NEG_INFINITY {
+                break;
+            }
+            let is_dive = turns <= FIRST_DIVES || turns % LATER_DIVES == 0;
+            dive = if is_dive { side } else { None };
+        }
+        let target = self.target();
+        Found {
+            on: self.best.on,
+            cost: self.best.cost,
+            is_closed: self.tree.close(target),
+            root_bound: self.root_bound,
+        }
+    }
+}
+
+/// The pages of what is in at a node.
+fn pages(matrix: &Matrix, fix: &Fix) -> i64 {
+    let mut sum = 0i64;
+    for a in 0..256 {
+        if fix.state[a] == State::In {
+            sum = sum.saturating_add(matrix.sizes[a]);
+        }
+    }
+    sum
+}

@@ -1,0 +1,36 @@
+//! Proposals for a search over CoPhy's programme: a cheap configuration, and sets of multipliers with a plan of the tree that
+//! shows that none is cheaper. They are found by a branch and bound over linear relaxations, in `f64`.
+//!
+//! Nothing here is relied on: whoever takes a proposal checks it in whole numbers. So functions say nothing of what they find;
+//! that they end and can't fail is proved.
+#![tactic(auto)]
+
+mod capping;
+mod cholesky;
+mod configuration;
+mod deepening;
+mod entering;
+mod finding;
+mod fixing;
+mod gains;
+mod interior;
+mod lagrangian;
+mod least_plans;
+mod ledger;
+mod lifting;
+mod matrix;
+mod ordering;
+mod path;
+mod places;
+mod planner;
+mod planning;
+mod proposals;
+mod relaxation;
+mod rounding;
+mod splitting;
+mod thinning;
+mod tree;
+mod trial;
+mod view;
+
+pub use proposals::{Proposals, Step};

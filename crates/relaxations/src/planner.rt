@@ -1,0 +1,417 @@
+//! What a plan is made with: sets of multipliers, the node that is worked on, and the plan so far.
+
+use crate::finding::Finder;
+use crate::gains::Gains;
+use crate::ledger::Ledger;
+use crate::lifting::Lifting;
+use crate::matrix::{LARGEST, Matrix, float_of};
+use crate::path::Path;
+use crate::places::{at, put};
+use adv_base::NoMemory;
+use adv_base::limits::MOST_ENTRIES;
+use bip_model::Fix;
+use std::alloc::Global;
+use std::num::{nearest_i64_to_f64, saturating_f64_to_i64};
+
+/// The most sets that are kept, zeros among them.
+pub(crate) const MOST_SETS: usize = 17;
+/// How near the relaxation of a set comes to its optimum, as a part of what is missing.
+const TOLERANCE: f64 = 1e-3;
+
+/// A node of the plan: the candidate of its branch, from 1, or 0 at a leaf; there the set that closes it, or the best one
+/// where none does and it is open.
+#[derive(Clone, Copy)]
+pub(crate) struct PlanNode {
+    pub candidate: u16,
+    pub set: u8,
+    pub is_open: bool,
+}
+
+/// A branch of which a set closes one side at once: whether the candidate comes in on the other one, and whether the branch
+/// is kept.
+#[derive(Clone, Copy)]
+pub(crate) struct Fixing {
+    pub candidate: u8,
+    pub is_inside: bool,
+    pub set: u8,
+    pub is_kept: bool,
+}
+
+/// A set, and the Lagrangian value under it, in parts of 65536.
+#[derive(Clone, Copy)]
+pub(crate) struct Best {
+    pub set: usize,
+    pub value: i128,
+}
+
+/// What is planned: a value above `target` closes a node, in parts of 65536 as `cost` is in whole numbers; at most so many
+/// nodes and sets, zeros among these.
+#[derive(Clone, Copy)]
+pub(crate) struct Task<'a> {
+    pub matrix: &'a Matrix,
+    pub budget: i64,
+    pub cost: i128,
+    pub target: i128,
+    pub nodes: usize,
+    pub most_sets: usize,
+    pub most_asked: u64,
+}
+
+/// Where a subtree begins: in the plan, among the fixings, and on the path.
+#[derive(Clone, Copy)]
+pub(crate) struct Start {
+    pub place: usize,
+    pub fixings: usize,
+    pub depth: usize,
+}
+
+/// What became of a node: closed, open with its best set, or without room for more nodes.
+pub(crate) enum Settled {
+    Closed,
+    Open(Best),
+    Full,
+}
+
+/// What a plan is made with: the sets, of which `count` stand, the path to the node that is worked on, the plan so far, and
+/// the nodes that it will have beside those; the branches of the present nodes of which one side is closed; which set closed
+/// the last leaf; and how often a set was asked.
+#[derive(Drop)]
+pub(crate) struct Planner {
+    pub ledgers: Vec<Ledger>,
+    pub count: usize,
+    pub path: Path,
+    pub plan: Vec<PlanNode>,
+    pub pending: usize,
+    pub fixings: Vec<Fixing>,
+    pub gains: Gains,
+    pub hint: usize,
+    pub asked: u64,
+    pub turns: Vec<(usize, usize)>,
+    pub spans: Vec<(usize, usize)>,
+    is_heavy: bool,
+    values: [i128; MOST_SETS],
+    lifting: Lifting,
+    most_nodes: usize,
+}
+
+impl Planner {
+    /// All memory of plans of at most so many nodes. Want of memory is the one error.
+    pub(crate) fn new(alloc: Global, matrix: &Matrix, nodes: usize) -> Result<Planner, NoMemory> {
+        let mut ledgers = Vec::with_capacity(alloc, MOST_SETS)?;
+        for _set in 0..MOST_SETS {
+            ledgers.push(Ledger::new(alloc, matrix)?)?;
+        }
+        Ok(Planner {
+            ledgers,
+            count: 0,
+            path: Path::new(alloc)?,
+            plan: Vec::with_capacity(alloc, nodes)?,
+            pending: 0,
+            fixings: Vec::with_capacity(alloc, 512)?,
+            gains: Gains::BLANK,
+            hint: 0,
+            asked: 0,
+            turns: Vec::with_capacity(alloc, 257)?,
+            spans: Vec::with_capacity(alloc, 512)?,
+            is_heavy: false,
+            values: [0; MOST_SETS],
+            lifting: Lifting::new(alloc, matrix)?,
+            most_nodes: nodes,
+        })
+    }
+
+    /// Begins at a root, with zeros as the one set.
+    pub(crate) fn begin(&mut self, task: &Task<'_>, root: &Fix) {
+        self.gains.begin(task.matrix);
+        self.path.begin(task.matrix, root, task.budget);
+        self.count = 0;
+        self.asked = 0;
+        self.is_heavy = false;
+        self.add(task, 0);
+        self.begin_anew();
+    }
+
+    /// Begins a plan anew with the sets that there are.
+    pub(crate) fn begin_anew(&mut self) {
+        self.plan.clear();
+        self.fixings.clear();
+        self.pending = 0;
+        self.hint = self.count.saturating_sub(1).min(1);
+    }
+
+    /// Adds the set whose rents stand at the next place, with a price of a page, unless the sets would have too many rents:
+    /// then no other is made.
+    fn add(&mut self, task: &Task<'_>, page: i128) {
+        if self.count < self.ledgers.len() {
+            let ledger = &mut self.ledgers[self.count];
+            ledger.page = page;
+            ledger.open(task.matrix, &self.path, task.budget);
+            let mut entries = 0usize;
+            for (set, ledger) in self.ledgers.iter().enumerate() {
+                if set <= self.count {
+                    entries = entries.saturating_add(ledger.entries);
+                }
+            }
+            if entries <= MOST_ENTRIES {
+                self.count = self.count.saturating_add(1);
+            } else {
+                self.is_heavy = true;
+            }
+        }
+    }
+
+    /// Whether one more set may be made.
+    pub(crate) fn has_room(&self, task: &Task<'_>) -> bool {
+        self.count < task.most_sets.min(self.ledgers.len()) && !self.is_heavy
+    }
+
+    /// How many nodes the plan has, with those that are to come.
+    pub(crate) fn nodes(&self) -> usize {
+        self.plan.len().saturating_add(self.pending)
+    }
+
+    /// Whether the plan can't take another branch within so many nodes.
+    pub(crate) fn is_full(&self, task: &Task<'_>, nodes: usize) -> bool {
+        let most = nodes.min(task.nodes).min(self.most_nodes);
+        self.nodes().saturating_add(3) > most
+    }
+
+    /// Where a subtree begins now.
+    pub(crate) fn start(&self) -> Start {
+        Start {
+            place: self.plan.len(),
+            fixings: self.fixings.len(),
+            depth: self.path.depth(),
+        }
+    }
+
+    /// Goes back to so many steps.
+    pub(crate) fn go_back(&mut self, task: &Task<'_>, depth: usize) {
+        for (set, ledger) in self.ledgers.iter_mut().enumerate() {
+            if set < self.count {
+                ledger.go_back(&self.path, depth);
+            }
+        }
+        self.path.go_back(task.matrix, depth);
+    }
+
+    /// The value under a set, in parts of 65536.
+    pub(crate) fn ask(&mut self, task: &Task<'_>, set: usize) -> i128 {
+        if set >= self.ledgers.len() || set >= self.count {
+            return i128::MIN / 4;
+        }
+        self.asked = self.asked.wrapping_add(1);
+        let value = self.ledgers[set].value(task.matrix, &self.path);
+        put(&mut self.values, set, value);
+        value
+    }
+
+    /// The set that closes the node, or the best one.
+    pub(crate) fn best(&mut self, task: &Task<'_>) -> Best {
+        let hint = self.hint;
+        let mut best = Best {
+            set: 0,
+            value: i128::MIN / 4,
+        };
+        for turn in 0..self.count {
+            let set = if turn == 0 {
+                hint
+            } else if turn <= hint {
+                turn - 1
+            } else {
+                turn
+            };
+            let value = self.ask(task, set);
+            if value > best.value {
+                best = Best { set, value };
+            }
+            if value > task.target {
+                break;
+            }
+        }
+        best
+    }
+
+    /// Appends a leaf.
+    pub(crate) fn put_leaf(&mut self, best: Best, is_open: bool) {
+        let _ = self.plan.push(PlanNode {
+            candidate: 0,
+            set: (best.set & 255) as u8,
+            is_open,
+        });
+    }
+
+    /// Appends a branch, and takes its inner side. The outer one is yet to come.
+    pub(crate) fn branch(&mut self, task: &Task<'_>, candidate: usize) {
+        let _ = self.plan.push(PlanNode {
+            candidate: (candidate & 255) as u16 + 1,
+            set: 0,
+            is_open: false,
+        });
+        self.pending = self.pending.saturating_add(1);
+        self.path.go(task.matrix, candidate, true);
+    }
+
+    /// Goes from the inner side of a branch to the outer one.
+    pub(crate) fn go_outside(&mut self, task: &Task<'_>, candidate: usize, depth: usize) {
+        self.go_back(task, depth);
+        self.pending = self.pending.saturating_sub(1);
+        self.path.go(task.matrix, candidate, false);
+    }
+
+    /// Takes the other side of a branch of which a set closes one.
+    pub(crate) fn take_fixing(&mut self, task: &Task<'_>, fixing: Fixing) {
+        let _ = self.fixings.push(fixing);
+        self.pending = self.pending.saturating_add(2);
+        let candidate = fixing.candidate as usize;
+        self.path.go(task.matrix, candidate, fixing.is_inside);
+    }
+
+    /// Takes all fixings under a set, within so many nodes: first what is left out, which may not be open after what comes in.
+    /// Whether there are any.
+    pub(crate) fn fix(&mut self, task: &Task<'_>, best: Best, nodes: usize) -> bool {
+        if best.set >= self.ledgers.len() {
+            return false;
+        }
+        let need = task.target.wrapping_sub(best.value).wrapping_add(1);
+        let ledger = &mut self.ledgers[best.set];
+        self.gains.write(task.matrix, &self.path, ledger);
+        let mut is_any = false;
+        for is_inside in [false, true] {
+            for a in 0..256 {
+                let is_out = self.gains.outside[a] < need;
+                let closes = if is_inside {
+                    !is_out
+                } else {
+                    is_out && self.gains.inside[a] >= need
+                };
+                if closes && self.path.is_open(a) && !self.is_full(task, nodes) {
+                    let set = (best.set & 255) as u8;
+                    let candidate = (a & 255) as u8;
+                    self.take_fixing(
+                        task,
+                        Fixing {
+                            candidate,
+                            is_inside,
+                            set,
+                            is_kept: true,
+                        },
+                    );
+                    is_any = true;
+                }
+            }
+        }
+        is_any
+    }
+
+    /// The best set that isn't among the first of some.
+    fn next_best(&self, tried: &[usize]) -> Best {
+        let mut best = Best {
+            set: usize::MAX,
+            value: i128::MIN,
+        };
+        for set in 0..self.count.min(MOST_SETS) {
+            if self.values[set] > best.value && !tried.contains(&set) {
+                best = Best {
+                    set,
+                    value: self.values[set],
+                };
+            }
+        }
+        best
+    }
+
+    /// Closes the node where a set does so, else takes fixings under the best sets, at most so many, until there are none.
+    pub(crate) fn settle(&mut self, task: &Task<'_>, sets: usize, nodes: usize) -> Settled {
+        for _pass in 0..256 {
+            let best = self.best(task);
+            if best.value > task.target {
+                self.hint = best.set;
+                self.put_leaf(best, false);
+                return Settled::Closed;
+            }
+            if self.is_full(task, nodes) {
+                return Settled::Full;
+            }
+            let mut tried = [usize::MAX; 3];
+            let mut is_any = false;
+            for turn in 0..sets.min(3) {
+                let next = self.next_best(&tried);
+                put(&mut tried, turn, next.set);
+                is_any = self.fix(task, next, nodes);
+                if is_any {
+                    break;
+                }
+            }
+            if !is_any {
+                return Settled::Open(best);
+            }
+        }
+        Settled::Full
+    }
+
+    /// Takes back what was begun.
+    pub(crate) fn abandon(&mut self, task: &Task<'_>, start: Start, pending: usize) {
+        self.go_back(task, start.depth);
+        self.fixings.truncate(start.fixings);
+        self.plan.truncate(start.place);
+        self.pending = pending;
+    }
+
+    /// Makes a set of the relaxation of the node, and answers its place.
+    pub(crate) fn add_own(&mut self, task: &Task<'_>, finder: &mut Finder) -> usize {
+        let set = self.count;
+        if set >= self.ledgers.len() {
+            return 0;
+        }
+        let cost = float_of(task.cost);
+        finder
+            .view
+            .open(task.matrix, &self.path.fix, task.budget, cost);
+        let ledger = &mut self.ledgers[set];
+        for rent in ledger.rents.iter_mut() {
+            *rent = 0;
+        }
+        ledger.shares = [0.0; 256];
+        let mut page = 0;
+        if !finder.view.candidates.is_empty() {
+            let _ = finder.relaxation.solve(
+                &finder.view,
+                &mut finder.lagrangian,
+                cost + 1.0,
+                TOLERANCE,
+            );
+            write_relaxation(task.matrix, finder, ledger);
+            page = whole(finder.relaxation.page * 65536.0) as i128;
+        }
+        let rents = ledger.rents.as_mut_slice();
+        self.lifting.lift(task.matrix, &self.path, rents);
+        self.add(task, page);
+        self.hint = set.min(self.count.saturating_sub(1));
+        self.hint
+    }
+}
+
+/// The whole number nearest to a float, at least 0.
+fn whole(number: f64) -> i64 {
+    saturating_f64_to_i64((number + 0.5).floor()).clamp(0, LARGEST)
+}
+
+/// Writes rents and shares of a relaxation.
+fn write_relaxation(matrix: &Matrix, finder: &Finder, ledger: &mut Ledger) {
+    let rents = finder.relaxation.rents.iter();
+    for (link, rent) in finder.view.links.iter().zip(rents) {
+        let place = *link as usize;
+        if place < matrix.links.len() {
+            let part = matrix.links[place].part as usize;
+            if part < matrix.parts.len() {
+                let weight = nearest_i64_to_f64(matrix.parts[part].weight);
+                put(ledger.rents.as_mut_slice(), place, whole(*rent / weight));
+            }
+        }
+    }
+    let shares = finder.relaxation.shares.iter();
+    for (candidate, share) in finder.view.candidates.iter().zip(shares) {
+        ledger.shares[*candidate as usize] = *share;
+    }
+}

@@ -1,0 +1,224 @@
+//! What is proposed to a search: a configuration, sets of multipliers, and a plan of its tree.
+ghost use Rattle.std.specs.Prelude.{◌≡◌, ◌≤◌, All, length};
+ghost use Rattle.adv_base.specs.declared.limits.TheConstants.{MOST_RENT};
+ghost use Rattle.bip_model.specs.Views.{AreMultipliers};
+
+use crate::finding::Finder;
+use crate::matrix::Matrix;
+use crate::places::at;
+use crate::planner::{MOST_SETS, PlanNode, Planner, Task};
+use crate::splitting::Splitter;
+use adv_base::limits::{MOST_PAGE_PRICE, MOST_RENT};
+use adv_base::{Config, NoMemory};
+use bip_model::{Fix, Multipliers, Programme, State};
+use std::alloc::Global;
+
+/// The nodes that trials have, one time after the other while something is left open.
+const TRIALS: [usize; 3] = [80, 640, 5120];
+/// Sets are asked so often at most.
+const MOST_ASKED: u64 = 1_500_000;
+/// The most of a cost that is looked at, 2^100.
+const MOST_COST: u128 = 1_267_650_600_228_229_401_496_703_205_376;
+
+/// A node of a plan, in preorder: the candidate of its branch, from 1, or 0 at a leaf; there the set that closes it, or the
+/// best one: 0 for zeros, k for the k-th. The inner side of a branch stands behind it, the other one at `outside`.
+#[derive(Clone, Copy)]
+pub struct Step {
+    pub candidate: u16,
+    pub set: u8,
+    pub outside: u32,
+}
+
+/// All memory of proposals for one programme, and what was proposed last.
+#[derive(Drop)]
+pub struct Proposals {
+    matrix: Matrix,
+    finder: Finder,
+    planner: Planner,
+    splitter: Splitter,
+    steps: Vec<Step>,
+    /// The places of the sets that leaves name.
+    kept: Vec<usize>,
+    waiting: Vec<(usize, usize)>,
+    root: Fix,
+    budget: i64,
+}
+
+impl Proposals {
+    /// All memory of proposals for a programme, with plans of at most so many nodes. Want of memory is the one error.
+    pub fn new(alloc: Global, programme: &Programme, nodes: u32) -> Result<Proposals, NoMemory> {
+        let most = nodes as usize;
+        let matrix = Matrix::new(alloc, programme)?;
+        let finder = Finder::new(alloc, &matrix)?;
+        let planner = Planner::new(alloc, &matrix, most)?;
+        Ok(Proposals {
+            matrix,
+            finder,
+            planner,
+            splitter: Splitter::new(alloc, most)?,
+            steps: Vec::with_capacity(alloc, most)?,
+            kept: Vec::with_capacity(alloc, MOST_SETS)?,
+            waiting: Vec::with_capacity(alloc, 257)?,
+            root: Fix::free(),
+            budget: 0,
+        })
+    }
+
+    /// The cheapest configuration that is found below a root for a space budget in pages, of candidates that may be useful.
+    pub fn find(&mut self, root: &Fix, useful: &[bool; 256], budget: u64) -> Config {
+        self.root = *root;
+        self.budget = budget.min(i64::MAX as u64) as i64;
+        for a in 0..256 {
+            if !useful[a] && self.root.state[a] == State::Free {
+                self.root.state[a] = State::Out;
+            }
+        }
+        let found = self.finder.find(&self.matrix, &self.root, self.budget);
+        let on = found.on;
+        Config { on }
+    }
+
+    /// Makes at most so many sets, and with them a plan of at most so many nodes that is to show that no configuration below
+    /// the root of `find` is cheaper than a cost.
+    pub fn plan(&mut self, cost: u128, nodes: u32, most: usize) {
+        let whole = cost.min(MOST_COST) as i128;
+        let task = Task {
+            matrix: &self.matrix,
+            budget: self.budget,
+            cost: whole,
+            target: whole.wrapping_sub(1).wrapping_mul(65536),
+            nodes: nodes as usize,
+            most_sets: most.saturating_add(1),
+            most_asked: MOST_ASKED,
+        };
+        self.planner.begin(&task, &self.root);
+        if self.planner.has_room(&task) {
+            let _ = self.planner.add_own(&task, &mut self.finder);
+        }
+        let first = self.planner.count;
+        for trial in TRIALS {
+            self.planner.count = first;
+            if self.planner.plan_along(&task, &mut self.finder, trial)
+                || self.planner.is_spent(&task)
+            {
+                break;
+            }
+        }
+        self.splitter.read(self.planner.plan.as_slice());
+        self.splitter.split(&task, &mut self.planner);
+        let numbers = self.keep_sets();
+        self.write_steps(&numbers);
+    }
+
+    /// Keeps the sets that leaves name, and answers the number of each.
+    fn keep_sets(&mut self) -> [u8; MOST_SETS] {
+        let mut numbers = [0; MOST_SETS];
+        self.kept.clear();
+        for set in 1..MOST_SETS {
+            for own in self.splitter.nodes.iter() {
+                if own.node.candidate == 0 && own.node.set as usize == set {
+                    let _ = self.kept.push(set);
+                    numbers[set] = (self.kept.len() & 255) as u8;
+                    break;
+                }
+            }
+        }
+        numbers
+    }
+
+    /// Writes the steps of the plan.
+    fn write_steps(&mut self, numbers: &[u8; MOST_SETS]) {
+        self.steps.clear();
+        self.waiting.clear();
+        let mut place = 0;
+        for _node in 0..self.splitter.nodes.len() {
+            if place >= self.splitter.nodes.len() {
+                break;
+            }
+            let own = self.splitter.nodes[place];
+            let number = self.steps.len();
+            let _ = self.steps.push(step_of(&own.node, numbers));
+            if own.node.candidate > 0 {
+                let _ = self.waiting.push((number, own.sides[1]));
+                place = own.sides[0];
+            } else if let Some((above, outside)) = self.waiting.pop() {
+                if above < self.steps.len() {
+                    self.steps[above].outside = self.steps.len().min(u32::MAX as usize) as u32;
+                }
+                place = outside;
+            }
+        }
+    }
+
+    /// The plan that was made last, in preorder.
+    pub fn steps(&self) -> &[Step] {
+        self.steps.as_slice()
+    }
+
+    /// How many sets it has.
+    pub fn set_count(&self) -> usize {
+        self.kept.len()
+    }
+
+    /// Writes the set of a number, from 0, over multipliers of the programme.
+    pub fn write_set(&self, number: usize, programme: &Programme, into: &mut Multipliers)
+        requires { AreMultipliers programme.now into.old }
+        ensures { AreMultipliers programme.now into.new }
+    {
+        let set = at(self.kept.as_slice(), number, usize::MAX);
+        if set >= self.planner.ledgers.len() {
+            return;
+        }
+        let ledger = &self.planner.ledgers[set];
+        into.mu = (ledger.page.max(0) as u128).min(MOST_PAGE_PRICE);
+        clear(into.lambda.items.as_mut_slice());
+        write_rents(
+            &self.matrix,
+            ledger.rents.as_slice(),
+            into.lambda.items.as_mut_slice(),
+        );
+    }
+}
+
+/// The step of a node, whose outer side is written later, where sets have these numbers.
+fn step_of(node: &PlanNode, numbers: &[u8; MOST_SETS]) -> Step {
+    Step {
+        candidate: node.candidate,
+        set: at(numbers, node.set as usize, 0),
+        outside: 0,
+    }
+}
+
+/// Puts a rent at a place, where there is one.
+fn put_rent(rents: &mut [u64], place: usize, rent: u64)
+    requires most { All (λ rent. rent ≤ MOST_RENT) rents.old }
+    ensures one_each { length rents.new ≡ length rents.old }
+    ensures most { All (λ rent. rent ≤ MOST_RENT) rents.new }
+{
+    if place < rents.len() {
+        rents[place] = rent.min(MOST_RENT);
+    }
+}
+
+/// Writes zeros.
+fn clear(rents: &mut [u64])
+    requires most { All (λ rent. rent ≤ MOST_RENT) rents.old }
+    ensures one_each { length rents.new ≡ length rents.old }
+    ensures most { All (λ rent. rent ≤ MOST_RENT) rents.new }
+{
+    for place in 0..rents.len() {
+        put_rent(rents, place, 0);
+    }
+}
+
+/// Writes the rents of a matrix's links.
+fn write_rents(matrix: &Matrix, rents: &[i64], into: &mut [u64])
+    requires most { All (λ rent. rent ≤ MOST_RENT) into.old }
+    ensures one_each { length into.new ≡ length into.old }
+    ensures most { All (λ rent. rent ≤ MOST_RENT) into.new }
+{
+    for number in 0..matrix.links.len().min(rents.len()) {
+        let rent = rents[number].max(0) as u64;
+        put_rent(into, matrix.links[number].rent, rent);
+    }
+}
