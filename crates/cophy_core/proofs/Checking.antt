@@ -8,6 +8,7 @@ use Rattle.certificate.specs.Certificates.{OneBreak, OneCertificate, IsCertifica
 use Rattle.gap_checker.specs.declared.fault.Checked.{Checked}
 use Rattle.gap_checker.specs.declared.fault.CheckFault.{CheckFault}
 use Rattle.gap_checker.specs.declared.fault.CheckFault.TheVariants as check
+use Rattle.bip_model.specs.Proves.{free_node}
 use Rattle.gap_checker.specs.Faults.{IsFault}
 use Rattle.gap_checker.specs.Laws.{AnswersAreOne, IsAnswer}
 use Rattle.report.specs.declared.done.Done.{Done}
@@ -22,7 +23,7 @@ malformed setting bytes reading.Memory why breaks is = absurd is
 malformed setting bytes (reading.Malformed line) why breaks is = subst (ProvesNothing setting bytes) (sym is) breaks
 
 -- a fault of the certificate
-pub faulty : (setting : TheSetting) (bytes : List ℕ) (cert : Cert) (fault : CheckFault) (why : NotProved) → IsCertificate bytes cert → fault ≢ check.Memory → IsFault setting cert fault → why ≡ Fault fault → ProvesNothing setting bytes why
+pub faulty : (setting : TheSetting) (bytes : List ℕ) (cert : Cert) (fault : CheckFault) (why : NotProved) → IsCertificate bytes cert → fault ≢ check.Memory → IsFault setting free_node cert fault → why ≡ Fault fault → ProvesNothing setting bytes why
 faulty setting bytes cert fault why is some fails told =
     subst (ProvesNothing setting bytes) (sym told) (record { cert = cert; cert_is = is; no_memory = some; fault_is = fails })
 
@@ -35,12 +36,12 @@ given setting bytes cert (Err e) is h = tt
 
 -- bytes are the text of a certificate to which this may be answered
 abbrev IsTold : TheSetting → List ℕ → Result Checked CheckFault → Type 0
-IsTold setting bytes answer = (cert : Cert) × IsCertificate bytes cert × IsAnswer setting cert answer
+IsTold setting bytes answer = (cert : Cert) × IsCertificate bytes cert × IsAnswer setting free_node cert answer
 
 one-told : OneCertificate → AnswersAreOne → (setting : TheSetting) (bytes : List ℕ) (answer other : Result Checked CheckFault) → IsTold setting bytes answer → IsTold setting bytes other → answer ≡ other
 one-told one answers setting bytes answer other p q =
     let same : p.0 ≡ q.0 = one bytes p.0 q.0 p.1 q.1 in
-    answers setting q.0 answer other q.1.limits (subst (λ (cert : Cert). IsAnswer setting cert answer) same p.2) q.2
+    answers setting free_node q.0 answer other q.1.limits (subst (λ (cert : Cert). IsAnswer setting free_node cert answer) same p.2) q.2
 
 proved-told : (setting : TheSetting) (bytes : List ℕ) (checked : Checked) → IsProved setting bytes checked → IsTold setting bytes (Ok checked)
 proved-told setting bytes checked p = (p.cert, p.cert_is, p.checked_is)

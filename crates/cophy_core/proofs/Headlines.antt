@@ -12,6 +12,7 @@ use Rattle.adv_shelf.specs.Sink.{append_to}
 use Rattle.certificate.specs.declared.cert.Cert.{Cert}
 use Rattle.certificate.specs.Certificates.{IsCertificate, OneCertificate, TextsFit}
 use Rattle.bip_model.specs.declared.answer.Answer.{Answer}
+use Rattle.bip_model.specs.Proves.{free_node}
 use Rattle.certificate.specs.Answers.{answer_cert}
 use Rattle.gap_checker.specs.declared.fault.Checked.{Checked as GapChecked}
 use Rattle.gap_checker.specs.Faults.{IsFault}
@@ -147,7 +148,7 @@ checked_is checked budget cost bound e f g =
     ap (λ (b : ℕ). Made b checked.cost checked.bound) e ∙ (ap (λ (c : ℕ). Made budget c checked.bound) f ∙ ap (λ (d : ℤ). Made budget cost d) g)
 
 -- of a certificate that is a proof, nothing else is told
-only_proved : (laws : Laws) (setting : TheSetting) (bytes : List ℕ) (cert : Cert) (done : Done) → IsCertificate bytes cert → IsProof setting cert → check.Gives bytes setting done → done ≡ Checked (record { budget = cert.budget; cost = cert.cost; bound = cert.bound })
+only_proved : (laws : Laws) (setting : TheSetting) (bytes : List ℕ) (cert : Cert) (done : Done) → IsCertificate bytes cert → IsProof setting free_node cert → check.Gives bytes setting done → done ≡ Checked (record { budget = cert.budget; cost = cert.cost; bound = cert.bound })
 only_proved laws setting bytes cert (Checked checked) is proof h =
     let same = laws.one bytes h.cert cert h.cert_is is in
     let told = h.checked_is in
@@ -155,8 +156,8 @@ only_proved laws setting bytes cert (Checked checked) is proof h =
 only_proved laws setting bytes cert (NotProved (Malformed line)) is proof h = absurd (h.none cert is)
 only_proved laws setting bytes cert (NotProved (Fault fault)) is proof h =
     let same = laws.one bytes h.cert cert h.cert_is is in
-    let fault_is = subst (λ (c : Cert). IsFault setting c fault) same h.fault_is in
-    absurd (h.no_memory (laws.exclude setting cert fault is.limits proof fault_is))
+    let fault_is = subst (λ (c : Cert). IsFault setting free_node c fault) same h.fault_is in
+    absurd (h.no_memory (laws.exclude setting free_node cert fault is.limits proof fault_is))
 only_proved laws setting bytes cert done is proof h = absurd h
 
 checked_inputs : (files : Files) (cat load file : List ℕ) (a b bytes : List ℕ) (after : Option Files) → AreInputs (Some files) (setting_files cat load) (a ∷ b ∷ []) → after ≡ put_file (Some files) file bytes → file ≢ cat → file ≢ load → length bytes ≤ MOST_CERTIFICATE_BYTES → AreInputs after (files_of (Check cat load file)) (a ∷ b ∷ bytes ∷ [])
@@ -183,7 +184,7 @@ certified : (laws : Laws) (setting : TheSetting) (files : Files) (asked : Asked)
 certified laws setting files asked advice left_over a b (Some file) puts after are is_setting is put e =
     let answer = advice.answer in
     let own = put.certificate_is in
-    let proof = laws.proved setting own.programme asked.budget asked.nodes answer own.stands is.flags is.best in
+    let proof = laws.proved setting own.programme asked.budget asked.nodes free_node answer own.stands is.flags is.best in
     let there : after ≡ put_file (Some files) file put.bytes = e ∙ ap (put_all (Some files)) put.puts_are in
     let accepted : file ≢ asked.cat → file ≢ asked.load → Answers (Check asked.cat asked.load file) after (proved asked answer) = λ not_cat not_load. record {
       inputs = a ∷ b ∷ put.bytes ∷ [];

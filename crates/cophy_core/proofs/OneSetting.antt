@@ -59,14 +59,14 @@ same_rates x y e =
     (λ i. rates_prop (e i).seq_page (e i).rand_page (e i).row_cpu (e i).sort_cpu (e i).merge_cpu (e i).hash_cpu (e i).group_cpu) x.limits y.limits in
     λ i. record { seq_page = (e i).seq_page; rand_page = (e i).rand_page; row_cpu = (e i).row_cpu; sort_cpu = (e i).sort_cpu; merge_cpu = (e i).merge_cpu; hash_cpu = (e i).hash_cpu; group_cpu = (e i).group_cpu; limits = limits i }
 
-column_prop : (width : ℕ) (distinct : Option ℕ) (low high : Option ℤ) → IsProp (ColumnLimits width distinct low high)
-column_prop width distinct low high = hlevel props
+column_prop : (width : ℕ) (distinct : Option ℕ) (low high : Option ℤ) (bounds : List ℤ) → IsProp (ColumnLimits width distinct low high bounds)
+column_prop width distinct low high bounds = hlevel props
 
 same_column : (x y : Column) → plain_column x ≡ plain_column y → x ≡ y
 same_column x y e =
-    let limits = is_prop→PathP (λ i. ColumnLimits (e i).width (e i).distinct (e i).low (e i).high)
-    (λ i. column_prop (e i).width (e i).distinct (e i).low (e i).high) x.limits y.limits in
-    λ i. record { name = (e i).name; kind = (e i).kind; width = (e i).width; distinct = (e i).distinct; low = (e i).low; high = (e i).high; limits = limits i }
+    let limits = is_prop→PathP (λ i. ColumnLimits (e i).width (e i).distinct (e i).low (e i).high (e i).bounds)
+    (λ i. column_prop (e i).width (e i).distinct (e i).low (e i).high (e i).bounds) x.limits y.limits in
+    λ i. record { name = (e i).name; kind = (e i).kind; width = (e i).width; distinct = (e i).distinct; low = (e i).low; high = (e i).high; bounds = (e i).bounds; limits = limits i }
 
 keys_prop : (keys : List ℕ) → IsProp (KeyLimits keys)
 keys_prop keys = hlevel props
@@ -90,7 +90,7 @@ same_table x y e =
     let indexes = same_lists plain_index same_index x.indexes y.indexes (λ i. (e i).indexes) in
     let limits = is_prop→PathP (λ i. TableLimits (e i).rows (e i).pages (columns i) (indexes i))
     (λ i. table_prop (e i).rows (e i).pages (columns i) (indexes i)) x.limits y.limits in
-    λ i. record { name = (e i).name; rows = (e i).rows; pages = (e i).pages; columns = columns i; indexes = indexes i; limits = limits i }
+    λ i. record { name = (e i).name; rows = (e i).rows; pages = (e i).pages; may_cluster = (e i).may_cluster; columns = columns i; indexes = indexes i; limits = limits i }
 
 catalogue_prop : (tables : List Table) → IsProp (CatalogueLimits tables)
 catalogue_prop tables = hlevel props

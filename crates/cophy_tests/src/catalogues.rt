@@ -4,8 +4,8 @@ use std::alloc::Global;
 use std::process::Abort;
 
 /// Catalogues by name. A line `t NAME` stands for a table of 1000 rows and 20 pages, `c NAME` for a column of whole
-/// numbers of width 4 with 1000 values, `d NAME N` for the same with N values, and `i NAME KEYS` for an index; every other
-/// line stands as it is.
+/// numbers of width 4 with 1000 values, `d NAME N` for the same with N values, `h NAME ENDS` for one with 1000 values and a
+/// histogram, and `i NAME KEYS` for an index; every other line stands as it is.
 const CATALOGUES: &str = r#"= T
 t t
 c c
@@ -19,6 +19,10 @@ c c
 t t
 c c
 c n
+i t_c "c"
+= HIST
+t t
+h c 0, 10, 20, 1000
 i t_c "c"
 = TC
 t t
@@ -164,6 +168,9 @@ fn template_of(kind: &str) -> Option<&'static str> {
         "t" => Some("[[table]]\nname = \"@\"\nrows = 1000\npages = 20\n"),
         "c" => Some("[[table.column]]\nname = \"@\"\nkind = \"int\"\nwidth = 4\ndistinct = 1000\n"),
         "d" => { Some("[[table.column]]\nname = \"@\"\nkind = \"int\"\nwidth = 4\ndistinct = #\n") }
+        "h" => Some(
+            "[[table.column]]\nname = \"@\"\nkind = \"int\"\nwidth = 4\ndistinct = 1000\nbounds = [#]\n",
+        ),
         "i" => Some("[[table.index]]\nname = \"@\"\nkeys = [#]\n"),
         _ => None,
     }
@@ -190,12 +197,14 @@ fn push_line(rt: &impl Abort, text: &mut String, line: &str) {
     }
 }
 
-/// The text of the catalogue of a name; behind `=`, the name is the text, in which `~` stands for a line feed.
+/// The text of the catalogue of a name, of the version that stands behind it, or of version 1; behind `=`, the name is the
+/// text, in which `~` stands for a line feed.
 pub(crate) fn catalogue(rt: &impl Abort, alloc: Global, name: &str) -> Vec<u8> {
     if let Some(text) = name.strip_prefix("=") {
         return spread(rt, alloc, text);
     }
-    let mut text = String::from_str(alloc, "version = 1\n").expect(rt, "memory");
+    let (name, version) = name.split_once(' ').unwrap_or((name, "1"));
+    let mut text = format!(in alloc; "version = {version}\n").expect(rt, "memory");
     let mut inside = false;
     for line in CATALOGUES.lines() {
         if let Some(next) = line.strip_prefix("= ") {

@@ -12,6 +12,10 @@ mod faults;
 #[cfg(test)]
 mod files;
 #[cfg(test)]
+mod histograms;
+#[cfg(test)]
+mod keys;
+#[cfg(test)]
 mod large;
 #[cfg(test)]
 mod runs;

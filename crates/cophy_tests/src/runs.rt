@@ -53,7 +53,7 @@ const REFUSALS: &str =
 5|cost CAT LOAD|T|SELECT c FROM t a, t b WHERE a.c = b.c||refused: ambiguous at 8~
 5|cost CAT LOAD|T|SELECT 1 FROM t, t||refused: alias twice at 18~
 5|cost CAT LOAD|=|||refused: missing version~
-5|cost CAT LOAD|=version = 2~|||refused: out of range version~
+5|cost CAT LOAD|=version = 3~|||refused: out of range version~
 5|cost CAT LOAD|=version 1~|||refused: not toml~
 5|cost CAT LOAD|=version = 1.0~|SELECT||refused: wrong kind version~
 5|cost CAT LOAD|=version = 1~[[table]]~name = "t"~rows = 1000.0~|||refused: wrong kind table[1].rows~
@@ -147,7 +147,7 @@ const CHECKED: &str =
 0|check CAT LOAD CONF|STAR|SELECT count(*) FROM hub, p, q, r, s WHERE k1 = p.x AND k2 = p.y AND k3 = p.z AND k4 = q.x AND k5 = q.y AND k6 = q.z AND k7 = r.x AND k8 = r.y AND k9 = r.z AND k10 = s.w AND k11 = s.x AND k12 = s.y AND k13 = s.z -- 4480 combinations; no index fits|cophy certificate 1~budget 0~config~cost 198088~bound 198088~sets 0~tree 1~L 0~end~|proved cost 198088 bound 198088 budget 0~
 0|check CAT LOAD CONF|EMPTY||cophy certificate 1~budget 0~config~cost 0~bound 0~sets 0~tree 1~L 0~end~|proved cost 0 bound 0 budget 0~
 5|check CAT LOAD CONF|KNAP|SELECT c FROM t WHERE|no certificate|refused: syntax at 22~
-5|check CAT LOAD CONF|=version = 2~||no certificate|refused: out of range version~
+5|check CAT LOAD CONF|=version = 3~||no certificate|refused: out of range version~
 5|check CAT LOAD CONF|XZ|SELECT * FROM v|no certificate|refused: no table at 15~
 3|check CAT LOAD none|KNAP|SELECT c FROM||read fault: none~
 3|check CAT gone none|KNAP|SELECT c FROM||read fault: gone~"#;
@@ -278,7 +278,7 @@ fn compare_advice(rt: &impl Abort, alloc: Global, line: &str) {
 }
 
 /// Walks a table.
-fn compare_all(rt: &impl Abort, alloc: Global, table: &str) {
+pub(crate) fn compare_all(rt: &impl Abort, alloc: Global, table: &str) {
     for line in table.lines() {
         compare(rt, alloc, line);
     }

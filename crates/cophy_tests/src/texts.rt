@@ -3,11 +3,12 @@ ghost use Rattle.std.specs.Prelude.{option_map};
 ghost use Rattle.adv_base.specs.Settings.{the_setting};
 ghost use Rattle.report.specs.Texts.{FitsSetting, IsBoundedBy};
 
+use crate::keys::field_of;
 use crate::scene::split;
 use adv_base::{Catalogue, Config, List, Rates, Setting};
 use binder::BindFault;
 use bip_model::Answer;
-use catalogue::{CatFault, KeyField, KeyPart, KeyPath};
+use catalogue::{CatFault, KeyPart, KeyPath};
 use gap_checker::{CheckFault, Checked};
 use report::{Advice, Done, NotProved, Prices, Refusal, Role, WordFault, text};
 use sql_reader::SqlFault;
@@ -107,6 +108,7 @@ Missing 2 Table 0 Itself 0|missing table[2]
 Missing 2 Table 0 Name 0|missing table[2].name
 Missing 2 Table 0 Rows 0|missing table[2].rows
 Missing 2 Table 0 Pages 0|missing table[2].pages
+Missing 2 Table 0 MayCluster 0|missing table[2].may_cluster
 Missing 2 Table 0 Columns 0|missing table[2].column
 Missing 2 Column 1 Itself 0|missing table[2].column[1]
 Missing 2 Column 1 Kind 0|missing table[2].column[1].kind
@@ -114,6 +116,8 @@ Missing 2 Column 1 Width 0|missing table[2].column[1].width
 Missing 2 Column 1 Distinct 0|missing table[2].column[1].distinct
 Missing 2 Column 1 Low 0|missing table[2].column[1].low
 Missing 2 Column 1 High 0|missing table[2].column[1].high
+Missing 2 Column 1 Bounds 0|missing table[2].column[1].bounds
+OutOfRange 2 Column 1 Bounds 257|out of range table[2].column[1].bounds[257]
 Missing 2 Table 0 Indexes 0|missing table[2].index
 Missing 2 Index 1 Itself 0|missing table[2].index[1]
 Missing 2 Index 1 Keys 0|missing table[2].index[1].keys
@@ -187,35 +191,6 @@ fn part_of(name: &str) -> Option<KeyPart> {
         "Table" => Some(KeyPart::Table),
         "Column" => Some(KeyPart::Column),
         "Index" => Some(KeyPart::Index),
-        _ => None,
-    }
-}
-
-/// The key of a name.
-fn field_of(name: &str) -> Option<KeyField> {
-    match name {
-        "Itself" => Some(KeyField::Itself),
-        "Version" => Some(KeyField::Version),
-        "SeqPage" => Some(KeyField::SeqPage),
-        "RandPage" => Some(KeyField::RandPage),
-        "RowCpu" => Some(KeyField::RowCpu),
-        "SortCpu" => Some(KeyField::SortCpu),
-        "MergeCpu" => Some(KeyField::MergeCpu),
-        "HashCpu" => Some(KeyField::HashCpu),
-        "GroupCpu" => Some(KeyField::GroupCpu),
-        "Name" => Some(KeyField::Name),
-        "Rows" => Some(KeyField::Rows),
-        "Pages" => Some(KeyField::Pages),
-        "Columns" => Some(KeyField::Columns),
-        "Indexes" => Some(KeyField::Indexes),
-        "Kind" => Some(KeyField::Kind),
-        "Width" => Some(KeyField::Width),
-        "Distinct" => Some(KeyField::Distinct),
-        "Low" => Some(KeyField::Low),
-        "High" => Some(KeyField::High),
-        "Keys" => Some(KeyField::Keys),
-        "Unique" => Some(KeyField::Unique),
-        "Clustered" => Some(KeyField::Clustered),
         _ => None,
     }
 }

@@ -1,7 +1,7 @@
 -- The path of a catalogue's key, as it is printed: `table[2].column[1].width`.
 use Rattle.std.specs.Prelude.{ℕ, ◌==◌, if◌then◌else◌, List, [], ◌++◌, codes, decimal}
 use Rattle.catalogue.specs.declared.fault.KeyField.{KeyField}
-use Rattle.catalogue.specs.declared.fault.KeyField.TheVariants.{Itself, Version, SeqPage, RandPage, RowCpu, SortCpu, MergeCpu, HashCpu, GroupCpu, Name, Rows, Pages, Columns, Indexes, Kind, Width, Distinct, Low, High, Keys, Unique, Clustered}
+use Rattle.catalogue.specs.declared.fault.KeyField.TheVariants.{Itself, Version, SeqPage, RandPage, RowCpu, SortCpu, MergeCpu, HashCpu, GroupCpu, Name, Rows, Pages, MayCluster, Columns, Indexes, Kind, Width, Distinct, Low, High, Bounds, Keys, Unique, Clustered}
 use Rattle.catalogue.specs.declared.fault.KeyPart.{KeyPart}
 use Rattle.catalogue.specs.declared.fault.KeyPart.TheVariants.{Whole, Rates, Table, Column, Index}
 use Rattle.catalogue.specs.declared.fault.KeyPath.{KeyPath}
@@ -20,6 +20,7 @@ field_word GroupCpu = codes "group_cpu"
 field_word Name = codes "name"
 field_word Rows = codes "rows"
 field_word Pages = codes "pages"
+field_word MayCluster = codes "may_cluster"
 field_word Columns = codes "column"
 field_word Indexes = codes "index"
 field_word Kind = codes "kind"
@@ -27,6 +28,7 @@ field_word Width = codes "width"
 field_word Distinct = codes "distinct"
 field_word Low = codes "low"
 field_word High = codes "high"
+field_word Bounds = codes "bounds"
 field_word Keys = codes "keys"
 field_word Unique = codes "unique"
 field_word Clustered = codes "clustered"

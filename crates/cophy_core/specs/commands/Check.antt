@@ -2,6 +2,7 @@
 use Rattle.std.specs.Prelude.{◌≡◌, ◌≢◌, ℕ, List}
 use Rattle.adv_base.specs.Settings.{TheSetting}
 use Rattle.bip_model.specs.Laws.{BoundsAll}
+use Rattle.bip_model.specs.Proves.{free_node}
 use Rattle.certificate.specs.declared.cert.Cert.{Cert}
 use Rattle.certificate.specs.declared.cert.CertFault.{CertFault}
 use Rattle.certificate.specs.declared.cert.CertFault.TheVariants as reading
@@ -20,7 +21,7 @@ use Rattle.report.specs.declared.done.NotProved.TheVariants.{Malformed, Fault}
 pub record IsProved (setting : TheSetting) (bytes : List ℕ) (checked : Checked) : Type 0 where
   pub cert : Cert
   pub cert_is : IsCertificate bytes cert
-  pub checked_is : IsChecked setting cert checked
+  pub checked_is : IsChecked setting free_node cert checked
   pub bounds : BoundsAll setting checked.budget checked.cost checked.bound
 
 -- the bytes are the text of a certificate, and this is the first of its faults
@@ -28,7 +29,7 @@ pub record IsFaulty (setting : TheSetting) (bytes : List ℕ) (fault : CheckFaul
   pub cert : Cert
   pub cert_is : IsCertificate bytes cert
   pub no_memory : fault ≢ check.Memory
-  pub fault_is : IsFault setting cert fault
+  pub fault_is : IsFault setting free_node cert fault
 
 -- why the bytes prove nothing: they are no certificate's, and this is the first line at which none goes on; or the first
 -- fault of the certificate that they are
