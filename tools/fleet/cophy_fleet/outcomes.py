@@ -1,0 +1,41 @@
+"""What comes of a database's tasks."""
+from __future__ import annotations
+
+from dataclasses import dataclass, field
+
+from cophy_text.answers import Advice, read_advice
+
+
+@dataclass(frozen=True)
+class Point:
+    """What one budget buys: the text of the advice, and its certificate, compressed."""
+
+    budget: int
+    advice: str = field(repr=False)
+    certificate: bytes = field(repr=False)
+
+    def numbers(self) -> Advice:
+        """The advice, taken apart."""
+        return read_advice(self.advice)
+
+
+@dataclass(frozen=True)
+class Advised:
+    """Points with rising budgets, the worker that made them and its seconds. A refusal is the program's first line; without
+    one and without points nothing has changed."""
+
+    digest: str
+    worker: str
+    points: tuple[Point, ...] = ()
+    refusal: str = ""
+    seconds: float = 0.0
+
+
+@dataclass(frozen=True)
+class Checked:
+    """Where certificates were made and where they were checked; a fault names the first that proves something else."""
+
+    advised_on: str
+    checked_on: str
+    fault: str = ""
+    seconds: float = 0.0

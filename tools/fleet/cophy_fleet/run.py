@@ -1,0 +1,190 @@
+"""A run over a fleet: what is asked of the cluster for each database, and what is done where a part of it fails.
+
+Dask places, moves and retries tasks. For each database it gets three, one after the other: `read_inputs`, `advise` and
+`check`, the last one held to the workers that didn't advise. It blames a worker's death on all that waits there, so a
+database that is blamed has no fault yet: it is tried once more when the others are done and nothing waits beside it.
+"""
+from __future__ import annotations
+
+import asyncio
+from collections.abc import Callable
+from concurrent.futures import CancelledError
+from contextlib import nullcontext, suppress
+from dataclasses import replace
+from typing import Any
+
+from distributed import Client, Future, KilledWorker, Semaphore
+
+from cophy_fleet import work
+from cophy_fleet.outcomes import Advised, Checked
+from cophy_fleet.settings import Database, Fault, Fleet
+from cophy_fleet.store import Answer, Store, answer_of
+
+ROOM = 8
+"""How many databases are under way for each thread of the cluster: so many inputs lie in the workers' memory."""
+PATIENCE = 300
+"""The seconds for which a checking worker is awaited where there was one before."""
+GLANCE = 1
+"""The seconds between two looks at which workers are there."""
+CHECKS = 2
+"""How often a check is asked for, where all workers that it was held to go away or the advice has to be made anew."""
+
+
+class Deserted(Exception):
+    """No check has come to an end."""
+
+
+LOST = (KilledWorker, Deserted, CancelledError, OSError)
+"""What a database may meet with because of another one that was on the same worker."""
+
+Told = Callable[[Answer, bool], None]
+
+
+class Run:
+    """A run. `tell` gets each answer, and whether it is new."""
+
+    def __init__(self, client: Client, fleet: Fleet, settings: work.Settings, store: Store, tell: Told) -> None:
+        self.client, self.fleet, self.settings, self.store, self.tell = client, fleet, settings, store, tell
+        self.workers: dict[str, int] = {}
+        self.most = 0
+        self.gates: dict[str, Semaphore] = {}
+
+    async def all(self) -> None:
+        """Answers for each database of the fleet, the failures too."""
+        await self.client.wait_for_workers(1)  # type: ignore[func-returns-value]
+        for server in sorted({it.server for it in self.fleet.databases if it.service}):
+            # Whoever uses the same cluster counts the same connections.
+            name = f"cophy-fleet {self.fleet.connections} {server}"
+            self.gates[server] = await Semaphore(self.fleet.connections, name)
+        await self._look()
+        room = asyncio.Semaphore(ROOM * sum(self.workers.values()))
+        lost: list[Database] = []
+
+        async def one(database: Database) -> None:
+            async with room:
+                if not await self._answered(database, is_alone=False):
+                    lost.append(database)
+
+        async def each() -> None:
+            await asyncio.gather(*(one(it) for it in self.fleet.databases))
+            for it in lost:
+                await self._answered(it, is_alone=True)
+
+        whole = asyncio.ensure_future(each())
+        try:
+            while not (await asyncio.wait((whole,), timeout=GLANCE))[0]:
+                if self.client.status in ("closing", "closed"):
+                    raise Fault("the cluster has gone; what is done is kept")
+                with suppress(OSError):
+                    await self._look()
+            whole.result()
+        finally:
+            whole.cancel()
+            await asyncio.gather(whole, return_exceptions=True)
+
+    def _keep(self, answer: Answer, is_new: bool) -> None:
+        if answer.fault and not answer.digest:
+            self.store.fail(answer.database, answer.fault)
+        elif is_new:
+            self.store.keep(answer)
+        self.tell(answer, is_new)
+
+    async def _answered(self, database: Database, is_alone: bool) -> bool:
+        """Whether there is an answer, which then is kept: none where the fault may be that of another database, unless it is
+        tried alone. An answer without a digest is tried again by the next run."""
+        try:
+            answer, is_new = await self._tried(database)
+        except Exception as fault:
+            if isinstance(fault, LOST) and not is_alone:
+                return False
+            answer, is_new = Answer(database.name, "", _named(fault)), True
+        self._keep(answer, is_new)
+        return True
+
+    async def _tried(self, database: Database) -> tuple[Answer, bool]:
+        known = self.store.digest(database.name)
+        async with self._gate(database):
+            inputs = self._task(work.read_inputs, database)
+            fault = await inputs.exception()
+        if fault is not None:
+            raise fault
+        made = self._task(work.advise, inputs, known, priority=1)
+        advised: Advised = await made.result()
+        if advised.refusal:
+            return Answer(database.name, advised.digest, advised.refusal), True
+        kept = None if advised.points else self.store.answer(database.name)
+        if kept is None:
+            return answer_of(database.name, advised, await self._checked(inputs, made, advised.worker)), True
+        # Inputs that are what they were have the points that they had, or are refused again.
+        is_back = bool(kept.points and kept.fault)
+        return (replace(kept, fault="") if is_back else kept), is_back
+
+    def _gate(self, database: Database) -> Any:
+        """What an export waits at until its server has a connection to give. Databases that name no server count as one
+        server's."""
+        return self.gates[database.server] if database.service else nullcontext()
+
+    async def _checked(self, inputs: Future, made: Future, advised_on: str) -> Checked:
+        """What a check says, on another worker than advised as long as there is one."""
+        for _ in range(CHECKS):
+            others = await self._others(advised_on)
+            checked = await self._check(inputs, made, others)
+            if checked is None:
+                continue
+            # Advice that was lost with its worker is made anew by another one, which may be the one that checks.
+            if checked.advised_on != checked.checked_on or not others:
+                return checked
+            advised_on = checked.advised_on
+        raise Deserted
+
+    async def _check(self, inputs: Future, made: Future, others: list[str]) -> Checked | None:
+        """What a check on one of these workers says, on any where they are none; nothing where all of them have gone. It would
+        wait for them for ever, as would a result that they had."""
+        task = self._task(work.check, inputs, made, priority=2, workers=others or None)
+        ended = asyncio.ensure_future(task.result())
+        try:
+            while not ended.done() and (not others or set(others) & {*self.workers}):
+                await asyncio.wait((ended,), timeout=GLANCE)
+            if ended.done():
+                checked: Checked = await ended
+                return checked
+            # The task is given up, not what waits for it: this may be fetching the results of others too.
+            await task.cancel()
+            with suppress(*LOST):
+                await ended
+            return None
+        finally:
+            ended.cancel()
+
+    async def _others(self, worker: str) -> list[str]:
+        """The workers but this one; where the last of them has gone, its successor is awaited."""
+        for _ in range(PATIENCE // GLANCE):
+            await self._look()
+            others = [it for it in self.workers if it != worker]
+            if others or self.most < 2:
+                return others
+            await asyncio.sleep(GLANCE)
+        self.most = 1
+        return []
+
+    async def _look(self) -> None:
+        """Asks the scheduler for the workers that are there now, with their threads. What Dask keeps of that here is late."""
+        told = await self.client.scheduler.identity()  # type: ignore[union-attr]
+        self.workers = {it: int(one["nthreads"]) for it, one in told["workers"].items()}
+        self.most = max(self.most, len(self.workers))
+
+    def _task(self, function: Callable[..., Any], *values: Any, **how: Any) -> Future:
+        """A task; Dask tries it again where it fails."""
+        task: Future = self.client.submit(
+            function, *values, self.settings, retries=self.fleet.retries, pure=False, **how
+        )
+        return task
+
+
+def _named(fault: Exception) -> str:
+    """A fault in words."""
+    if isinstance(fault, (KilledWorker, Deserted)):
+        return "its workers died while they were at it"
+    if isinstance(fault, CancelledError):
+        return "the cluster gave it up"
+    return str(fault) if isinstance(fault, work.Failed) else f"{type(fault).__name__}: {fault}"[:300]
