@@ -6,6 +6,7 @@ from dataclasses import dataclass, field
 
 PAGE = 8192
 _PICK = re.compile(r"(?:pick )?(\d{1,18}) ([A-Za-z0-9_]+)\(([A-Za-z0-9_]+(?:, [A-Za-z0-9_]+)*)\) (\d{1,30}) pages\Z")
+_LEFT_OVER = re.compile(r"^left over (\d{1,18})$", re.MULTILINE)
 _PRICE = re.compile(r"statement (\d{1,18}) weight (\d{1,18}) cost (\d{1,60})\Z")
 _NUMBERS = {
     "budget": re.compile(r"budget (\d{1,60})\Z"),
@@ -94,6 +95,14 @@ def read_candidates(text: str) -> list[Candidate]:
     return [_candidate(it) for it in lines[:-1]]
 
 
+def read_left_over(text: str) -> int:
+    """How many candidates the text of `candidates` counts beside those that it lists."""
+    found = _LEFT_OVER.search(text)
+    if found is None:
+        raise NoAnswer("this is no list of candidates: it lacks the line 'left over'")
+    return int(found[1])
+
+
 def read_prices(text: str) -> Prices:
     """Takes the text of `cost` or `whatif` apart."""
     prices = Prices({}, -1)
@@ -110,9 +119,9 @@ def read_prices(text: str) -> Prices:
     return prices
 
 
-def megabytes(pages: int) -> str:
-    """Pages of 8192 bytes in MB of 1048576 bytes."""
-    return f"{pages * PAGE / 1048576:.1f} MB"
+def counted(number: int, word: str) -> str:
+    """A number with what it counts: `1 statement`, `2,000 statements`."""
+    return f"{number:,} {word}{'s' * (number != 1)}"
 
 
 def explained(cost: float) -> float:

@@ -22,8 +22,10 @@ KNOWN: dict[str, tuple[str, ...]] = {
     "column": ("name", "kind", "width", "distinct", "low", "high"),
     "index": ("name", "keys", "unique", "clustered"),
 }
+SECOND = {"table": ("may_cluster",), "column": ("bounds",)}
+"""The keys that version 2 has beside these."""
 RANGES = {
-    "version": "the whole number 1",
+    "version": "the whole number 1 or 2",
     "rows": "a whole number from 0 to 10^12",
     "pages": "a whole number from 0 to 10^12",
     "width": "a whole number of bytes from 1 to 1000",
@@ -31,6 +33,8 @@ RANGES = {
     "kind": 'one of the texts "int", "text" and "date"',
     "low": 'a whole number for a column of kind int, a text "yyyy-mm-dd" for one of kind date',
     "high": "what low may be, and not below it",
+    "bounds": "a list of 2 to 257 ends, each of which low may be, none below the one before",
+    "may_cluster": "true or false",
     "name": "a text of 1 to 64 ASCII letters, digits and _, with no digit first",
     "keys": "a list of 1 to 8 names of columns of the table",
     "unique": "true or false",
@@ -52,7 +56,15 @@ CHILDREN = "postgres_children"
 """The tables that inherit from a table, each with its schema and its name."""
 TAKEN = "postgres_taken"
 """Names of relations that the catalogue doesn't have, which no new index may have."""
-PASSED_OVER = frozenset((OURS, NO_KEY, CHILDREN, TAKEN))
+TYPE = "postgres_type"
+"""The name of a column's type, where it is PostgreSQL's own."""
+SCALE = "postgres_scale"
+"""The numbers of a column are its values times ten to this power."""
+FRACTIONS = "postgres_fractions"
+"""Whether values of a column lie between its numbers."""
+NULLS = "postgres_nulls"
+"""The share of the rows that have no value in a column."""
+PASSED_OVER = frozenset((OURS, NO_KEY, CHILDREN, TAKEN, TYPE, SCALE, FRACTIONS, NULLS))
 
 _STEP = re.compile(r"([a-z_]+)(?:\[(\d+)\])?")
 
@@ -69,34 +81,42 @@ def nearest(word: str, known: tuple[str, ...] | list[str]) -> str | None:
     return folded[found[0]] if found else None
 
 
+def known(part: str, version: object) -> tuple[str, ...]:
+    """The keys of a part of a catalogue of this version."""
+    return KNOWN.get(part, ()) + (SECOND.get(part, ()) if version == 2 else ())
+
+
 def unknown_keys(catalogue: dict[str, Any]) -> Iterator[tuple[str, str]]:
     """Each key that `cophy` passes over, as its path and a hint, which may be empty."""
-    yield from _unknown("", "", catalogue)
+    version = catalogue.get("version")
+    yield from _unknown("", "", catalogue, version)
     rates = catalogue.get("rates")
     if isinstance(rates, dict):
-        yield from _unknown("rates", "rates.", rates)
+        yield from _unknown("rates", "rates.", rates, version)
     for number, table in _elements(catalogue, "table"):
-        yield from _unknown("table", f"table[{number}].", table)
+        yield from _unknown("table", f"table[{number}].", table, version)
         for part in ("column", "index"):
             for at, element in _elements(table, part):
-                yield from _unknown(part, f"table[{number}].{part}[{at}].", element)
+                yield from _unknown(part, f"table[{number}].{part}[{at}].", element, version)
 
 
-def _unknown(part: str, path: str, element: dict[str, Any]) -> Iterator[tuple[str, str]]:
+def _unknown(part: str, path: str, element: dict[str, Any], version: object) -> Iterator[tuple[str, str]]:
     for key in element:
-        if key in KNOWN[part] or key in PASSED_OVER:
+        if key in known(part, version) or key in PASSED_OVER:
             continue
-        yield f"{path}{key}", _hint(part, key)
+        yield f"{path}{key}", _hint(part, key, version)
 
 
-def _hint(part: str, key: str) -> str:
+def _hint(part: str, key: str, version: object) -> str:
+    if key in SECOND.get(part, ()):
+        return "version 2 has it"
     if part == "" and key in ("column", "index", "columns", "indexes"):
         singular = "column" if key.startswith("column") else "index"
         return f"write [[table.{singular}]], below the table that it belongs to"
     if part == "" and key in RATES:
         return "it belongs under [rates]"
-    near = nearest(key, KNOWN[part])
-    return f"did you mean {near}?" if near else f"known here are {', '.join(KNOWN[part])}"
+    near = nearest(key, known(part, version))
+    return f"did you mean {near}?" if near else f"known here are {', '.join(known(part, version))}"
 
 
 def _elements(parent: dict[str, Any], part: str) -> Iterator[tuple[int, dict[str, Any]]]:

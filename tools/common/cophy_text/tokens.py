@@ -15,6 +15,7 @@ _PIECE = re.compile(
     rb"""(?P<blank>[ \t\n\r]+)
     |(?P<line>--[^\n]*)
     |(?P<block>/\*[^*]*(?:\*(?!/)[^*]*)*\*/)
+    |(?P<unended>/\*)
     |(?P<word>[A-Za-z_][A-Za-z0-9_]*)
     |(?P<quoted>"[^"\n]+")
     |(?P<decimal>[0-9]*\.[0-9]+(?![0-9A-Za-z_]))
@@ -41,14 +42,14 @@ class Token:
 
 
 def tokens(text: bytes) -> Iterator[Token]:
-    """The tokens of the text, up to its end or to the first byte that no token takes.
+    """The tokens of the text, up to its end, to the first byte that no token takes or to a comment without an end.
 
     A comment `-- weight N` is a token of kind `weight` whose text is the number's digits.
     """
     at = 0
     while at < len(text):
         found = _PIECE.match(text, at)
-        if found is None:
+        if found is None or found.lastgroup == "unended":
             return
         kind, piece = str(found.lastgroup), found.group()
         weight = _WEIGHT.match(piece) if kind == "line" else None
@@ -97,6 +98,27 @@ def statement_at(text: bytes, place: int) -> int:
         elif not is_open:
             number, is_open = number + 1, True
     return max(number, 1)
+
+
+def statements(text: bytes) -> dict[int, str]:
+    """The statements of a workload by their numbers, from 1, each without what stands before its first token."""
+    found, begin, end = dict[int, str](), 0, 0
+    for token in tokens(text):
+        if token.kind == "weight":
+            continue
+        if token.text != b";":
+            begin, end = begin or token.place, token.place + len(token.text)
+        elif begin:
+            found[len(found) + 1], begin = text[begin - 1 : end - 1].decode(errors="replace"), 0
+    if begin:
+        found[len(found) + 1] = text[begin - 1 : end - 1].decode(errors="replace")
+    return found
+
+
+def names_in(text: bytes) -> set[str]:
+    """The words and the quoted names of a workload, in small letters."""
+    listed = (it for it in tokens(text) if it.kind in ("word", "quoted"))
+    return {it.text.decode("ascii", "replace").strip('"').lower() for it in listed}
 
 
 def has_statement(text: bytes) -> bool:

@@ -7,7 +7,7 @@ from dataclasses import dataclass
 from typing import Any
 
 from cophy_text import keys
-from cophy_text.tokens import Token, place_of, tokens
+from cophy_text.tokens import Token, names_in, place_of, tokens
 
 _RANGES = (b"<", b"<=", b">", b">=")
 _LITERALS = ("whole", "decimal", "text")
@@ -42,8 +42,9 @@ def lines(remarks: list[Remark]) -> list[str]:
     return warnings + [f"note: {kind}: {'; '.join(listed)}" for kind, listed in places.items()]
 
 
-def catalogue_remarks(content: bytes) -> tuple[list[Remark], dict[str, Any]]:
-    """What a catalogue says in vain or leaves out, and its document."""
+def catalogue_remarks(content: bytes, workload: bytes | None = None) -> tuple[list[Remark], dict[str, Any]]:
+    """What a catalogue says in vain or leaves out, and its document. With a workload, what is wrong with the numbers of a table
+    or a column that no statement names counts for nothing, and isn't told."""
     try:
         document = tomllib.loads(content.decode())
     except (ValueError, RecursionError) as fault:
@@ -52,9 +53,15 @@ def catalogue_remarks(content: bytes) -> tuple[list[Remark], dict[str, Any]]:
         Warning(path, f"means nothing and is passed over{': ' + hint if hint else ''}")
         for path, hint in keys.unknown_keys(document)
     ]
+    named = names_in(workload) if workload is not None else None
     for number, table in enumerate(_listed(document, "table"), 1):
-        found += _table(f"table[{number}]", table)
+        if _is_named(table, named):
+            found += _table(f"table[{number}]", table, named)
     return found, document
+
+
+def _is_named(it: dict[str, Any], named: set[str] | None) -> bool:
+    return named is None or str(it.get("name")).lower() in named
 
 
 def _place(text: str) -> str:
@@ -66,7 +73,7 @@ def _listed(parent: dict[str, Any], part: str) -> list[dict[str, Any]]:
     return [it for it in listed if isinstance(it, dict)] if isinstance(listed, list) else []
 
 
-def _table(path: str, table: dict[str, Any]) -> Iterator[Remark]:
+def _table(path: str, table: dict[str, Any], named: set[str] | None) -> Iterator[Remark]:
     name = str(table.get("name"))
     notes = table.get(keys.OURS)
     if isinstance(notes, list) and keys.NOT_ANALYSED in notes[2:]:
@@ -79,7 +86,8 @@ def _table(path: str, table: dict[str, Any]) -> Iterator[Remark]:
         str(key).lower() for index in _listed(table, "index") for key in index.get("keys", ()) if isinstance(key, str)
     }
     for number, column in enumerate(_listed(table, "column"), 1):
-        yield from _column(f"{path}.column[{number}]", name, column, table, indexed)
+        if _is_named(column, named):
+            yield from _column(f"{path}.column[{number}]", name, column, table, indexed)
     for index in _listed(table, "index"):
         if isinstance(index.get("keys"), list) and len(index["keys"]) > 4:
             yield Note("an index with more than four keys grows with each", f"{name + '.' + str(index.get('name'))!a}")

@@ -15,7 +15,8 @@ def parser() -> argparse.ArgumentParser:
         prog="cophy-lint",
         description="Warns of what cophy takes in silence and is probably wrong: keys of a catalogue that mean nothing, "
         "tables without rows. Notes what is a guess: columns without distinct, ranges of parameters; a line for each kind "
-        "of note, with all its places. A file without warnings may still be refused.",
+        "of note, with all its places. Of tables and columns that no statement of the workload names, their numbers count for "
+        "nothing and aren't looked at. A file without warnings may still be refused.",
         epilog="The status is 0 where there are no warnings, whatever is noted; 1 where there are some; 2 where a file "
         "can't be read or the words are faulty.",
     )
@@ -29,10 +30,11 @@ def main() -> int:
     """Prints the warnings and notes, and gives the status."""
     words = parser().parse_args()
     try:
-        remarks, document = catalogue_remarks(Path(words.catalogue).read_bytes())
+        workload = Path(words.workload).read_bytes() if words.workload else None
+        remarks, document = catalogue_remarks(Path(words.catalogue).read_bytes(), workload)
         found = [(words.catalogue, remarks)]
-        if words.workload:
-            found.append((words.workload, workload_remarks(Path(words.workload).read_bytes(), document)))
+        if workload is not None:
+            found.append((words.workload, workload_remarks(workload, document)))
     except OSError as fault:
         print(f"cophy-lint: {fault.filename}: {fault.strerror}", file=sys.stderr)
         return 2

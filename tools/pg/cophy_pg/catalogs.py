@@ -20,37 +20,25 @@ SELECT c.oid::int8, pg_catalog.pg_relation_size(c.oid) / pg_catalog.current_sett
 FROM pg_catalog.pg_class c WHERE c.oid = ANY(%s::oid[])"""
 VIEWS = """
 SELECT c.oid::int8, pg_catalog.pg_get_viewdef(c.oid) FROM pg_catalog.pg_class c WHERE c.oid = ANY(%s::oid[])"""
-BASES = """
-WITH RECURSIVE base(domain, type, modifier) AS (
-    SELECT t.oid, t.typbasetype, t.typtypmod FROM pg_catalog.pg_type t WHERE t.typtype = 'd'
-    UNION ALL
-    SELECT b.domain, t.typbasetype, t.typtypmod FROM base b JOIN pg_catalog.pg_type t ON t.oid = b.type
-    WHERE t.typtype = 'd'
-), based AS (
-    SELECT t.oid AS type, s.oid AS base, b.modifier, s.typlen,
-           CASE WHEN s.typnamespace = 'pg_catalog'::regnamespace THEN s.typname::text ELSE '' END AS name
-    FROM pg_catalog.pg_type t
-    LEFT JOIN base b ON b.domain = t.oid
-        AND NOT EXISTS (SELECT FROM pg_catalog.pg_type d WHERE d.oid = b.type AND d.typtype = 'd')
-    JOIN pg_catalog.pg_type s ON s.oid = coalesce(b.type, t.oid)
-)"""
-"""`based` has for each type what it is when all domains are taken off, however many there are."""
-COLUMNS = f"""{BASES}
-SELECT a.attrelid::int8, a.attnum::int4, a.attname::text, b.name, b.typlen::int4,
-       (CASE WHEN a.atttypmod >= 0 THEN a.atttypmod ELSE coalesce(b.modifier, -1) END)::int4, b.base::int8,
-       a.attstorage::text, a.attgenerated::text = 'v'
+DOMAINS = "SELECT oid::int8, typbasetype::int8, typtypmod::int4 FROM pg_catalog.pg_type WHERE typtype = 'd'"
+TYPES = """
+SELECT oid::int8, typlen::int4, CASE WHEN typnamespace = 'pg_catalog'::regnamespace THEN typname::text ELSE '' END
+FROM pg_catalog.pg_type WHERE oid = ANY(%s::oid[])"""
+COLUMNS = f"""
+SELECT a.attrelid::int8, a.attnum::int4, a.attname::text, a.atttypid::int8, a.atttypmod::int4, a.attstorage::text,
+       a.attgenerated::text = 'v'
 FROM pg_catalog.pg_attribute a JOIN pg_catalog.pg_class c ON c.oid = a.attrelid
-JOIN pg_catalog.pg_namespace n ON n.oid = c.relnamespace JOIN based b ON b.type = a.atttypid
+JOIN pg_catalog.pg_namespace n ON n.oid = c.relnamespace
 WHERE a.attnum > 0 AND NOT a.attisdropped AND c.relkind IN ('r', 'm', 'p') AND NOT c.relispartition AND {OWN}
 ORDER BY a.attrelid, a.attnum"""
-STATS = f"""{BASES}
+STATS = f"""
 SELECT c.oid::int8, s.attname::text, s.n_distinct::float8, s.avg_width::int4, s.correlation::float8,
-       CASE WHEN b.name = ANY(%s) THEN s.most_common_vals::text::text[] END,
-       CASE WHEN b.name = ANY(%s) THEN s.histogram_bounds::text::text[] END, s.inherited
+       CASE WHEN a.atttypid = ANY(%s::oid[]) THEN s.most_common_vals::text::text[] END,
+       CASE WHEN a.atttypid = ANY(%s::oid[]) THEN s.histogram_bounds::text::text[] END, s.inherited,
+       s.most_common_freqs::float8[], s.null_frac::float8
 FROM pg_catalog.pg_stats s JOIN pg_catalog.pg_namespace n ON n.nspname = s.schemaname
 JOIN pg_catalog.pg_class c ON c.relnamespace = n.oid AND c.relname = s.tablename
 JOIN pg_catalog.pg_attribute a ON a.attrelid = c.oid AND a.attname = s.attname
-JOIN based b ON b.type = a.atttypid
 WHERE NOT c.relispartition AND {OWN}
 ORDER BY s.inherited"""
 NAMES = f"""
@@ -81,19 +69,8 @@ _IS_ARRAY = (
     "t.typtype = 'b' AND t.typlen = -1 AND t.typelem <> 0 AND t.typsubscript = 'array_subscript_handler'::regproc"
 )
 ORDERS = f"""
-WITH RECURSIVE used(type) AS (
-    SELECT a.atttypid FROM pg_catalog.pg_attribute a
-    WHERE a.attrelid = ANY(%s::oid[]) AND a.attnum > 0 AND NOT a.attisdropped
-    UNION
-    SELECT p.part FROM used u JOIN pg_catalog.pg_type t ON t.oid = u.type CROSS JOIN LATERAL (
-        SELECT t.typbasetype WHERE t.typtype = 'd'
-        UNION ALL SELECT t.typelem WHERE {_IS_ARRAY}
-        UNION ALL SELECT a.atttypid FROM pg_catalog.pg_attribute a
-            WHERE t.typtype = 'c' AND a.attrelid = t.typrelid AND a.attnum > 0 AND NOT a.attisdropped
-    ) p(part)
-)
 SELECT t.oid::int8, pg_catalog.format_type(t.oid, NULL), t.typtype::text,
-       CASE WHEN t.typtype = 'd' THEN ARRAY[t.typbasetype::int8] WHEN {_IS_ARRAY} THEN ARRAY[t.typelem::int8]
+       CASE WHEN {_IS_ARRAY} THEN ARRAY[t.typelem::int8]
             WHEN t.typtype = 'c' THEN ARRAY(SELECT a.atttypid::int8 FROM pg_catalog.pg_attribute a
                 WHERE a.attrelid = t.typrelid AND a.attnum > 0 AND NOT a.attisdropped) END,
        EXISTS (
@@ -101,7 +78,7 @@ SELECT t.oid::int8, pg_catalog.format_type(t.oid, NULL), t.typtype::text,
            WHERE m.amname = 'btree' AND o.opcdefault AND (o.opcintype = t.oid OR EXISTS (
                SELECT FROM pg_catalog.pg_cast k WHERE k.castsource = t.oid AND k.casttarget = o.opcintype
                AND k.castmethod = 'b' AND k.castcontext = 'i')))
-FROM used u JOIN pg_catalog.pg_type t ON t.oid = u.type"""
-"""The types of the columns of some tables and all that they are made of, and whether each has an operator class itself.
+FROM pg_catalog.pg_type t WHERE t.oid = ANY(%s::oid[])"""
+"""For types that are no domains: their parts where they have any, and whether they have an operator class themselves.
 PostgreSQL 14 is the first with typsubscript."""
 BEFORE_14 = (" AND t.typsubscript = 'array_subscript_handler'::regproc", "")

@@ -6,9 +6,11 @@ from datetime import date
 from typing import Any
 
 from cophy_text import keys
-from cophy_pg.rewrite.terms import day_number, text_of_number
-from cophy_pg.schema import Column, Index, Schema, Table
+from cophy_pg.bounds import MOST_PARTS
+from cophy_pg.places import MOST_SCALE, day_number, text_of_number
+from cophy_pg.schema import Column, Index, Schema, Table, share_of
 
+VERSION = 2
 KINDS = ("int", "text", "date")
 
 
@@ -32,7 +34,7 @@ def _toml_list(texts: list[str]) -> str:
 
 def catalogue_text(schema: Schema, rates: dict[str, int], head: list[str]) -> str:
     """The catalogue, with remarks as comments."""
-    lines = [*(f"# {it}" for it in head), "version = 1"]
+    lines = [*(f"# {it}" for it in head), f"version = {VERSION}"]
     if schema.taken:
         lines.append(f"{keys.TAKEN} = {_toml_list(schema.taken)}")
     lines += ["", "[rates]"]
@@ -57,14 +59,26 @@ def _column(column: Column) -> list[str]:
     if column.distinct is not None:
         lines.append(f"distinct = {column.distinct}")
     if column.low is not None and column.high is not None:
-        for key, end in (("low", column.low), ("high", column.high)):
-            text = text_of_number(column, end).removeprefix("DATE ").replace("'", '"')
-            lines.append(f"{key} = {text}")
+        lines += [f"{key} = {_end_text(column, end)}" for key, end in (("low", column.low), ("high", column.high))]
+    if column.bounds:
+        lines.append(f"bounds = [{', '.join(_end_text(column, it) for it in column.bounds)}]")
     if column.shown != column.name:
         lines.append(f"{keys.OURS} = {toml_text(column.name)}")
+    if column.type:
+        lines.append(f"{keys.TYPE} = {toml_text(column.type)}")
+    if column.scale:
+        lines.append(f"{keys.SCALE} = {column.scale}")
+    if column.has_fractions:
+        lines.append(f"{keys.FRACTIONS} = true")
+    if column.nulls:
+        lines.append(f"{keys.NULLS} = {column.nulls}")
     if column.no_key:
         lines.append(f"{keys.NO_KEY} = {toml_text(column.no_key)}")
     return lines
+
+
+def _end_text(column: Column, end: int) -> str:
+    return text_of_number(column, end).removeprefix("DATE ").replace("'", '"')
 
 
 def _index(index: Index, table: Table) -> list[str]:
@@ -81,13 +95,14 @@ def read_schema(content: bytes) -> Schema:
     """The schema of a catalogue that `cophy` takes, with the names that PostgreSQL knows where it has them."""
     try:
         document = tomllib.loads(content.decode())
-        tables = [_read_table(it) for it in _of(list, document.get("table", []))]
+        has_bounds = document.get("version") == VERSION
+        tables = [_read_table(it, has_bounds) for it in _of(list, document.get("table", []))]
         taken = _texts(document.get(keys.TAKEN, []))
     except (ValueError, TypeError, KeyError, AttributeError, RecursionError):
         raise NoCatalogue from None
     path = dict.fromkeys(["public", *(it.schema for it in tables)])
     schema = Schema(tables, path)
-    schema.taken = taken
+    schema.taken, schema.is_written = taken, True
     return schema
 
 
@@ -102,7 +117,7 @@ def _texts(value: Any) -> list[str]:
     return [_of(str, it) for it in _of(list, value)]
 
 
-def _read_table(element: dict[str, Any]) -> Table:
+def _read_table(element: dict[str, Any], has_bounds: bool) -> Table:
     shown = _of(str, element["name"])
     schema, name, *notes = _texts(element.get(keys.OURS, ["public", shown]))
     table = Table(schema, name, shown, _of(int, element["rows"]), _of(int, element["pages"]))
@@ -112,7 +127,7 @@ def _read_table(element: dict[str, Any]) -> Table:
         table.children.append((child_schema, child))
     by_shown: dict[str, str] = {}
     for it in _of(list, element["column"]):
-        column = _read_column(it)
+        column = _read_column(it, has_bounds)
         if column.name:
             table.columns[column.name] = column
             by_shown[column.shown.lower()] = column.name
@@ -125,17 +140,29 @@ def _read_table(element: dict[str, Any]) -> Table:
     return table
 
 
-def _read_column(element: dict[str, Any]) -> Column:
+def _read_column(element: dict[str, Any], has_bounds: bool) -> Column:
     shown, kind = _of(str, element["name"]), _of(str, element["kind"])
     if kind not in KINDS:
         raise ValueError
     column = Column(_of(str, element.get(keys.OURS, shown)), shown, kind, _of(int, element["width"]))
-    column.no_key = _of(str, element.get(keys.NO_KEY, ""))
+    column.no_key, column.type = (_of(str, element.get(it, "")) for it in (keys.NO_KEY, keys.TYPE))
+    column.scale = min(MOST_SCALE, max(0, _of(int, element.get(keys.SCALE, 0))))
+    column.nulls = share_of(_of(float, element.get(keys.NULLS, 0.0)))
+    column.has_fractions = _of(bool, element.get(keys.FRACTIONS, False))
     if "distinct" in element:
         column.distinct = _of(int, element["distinct"])
     if kind != "text":
         column.low, column.high = _end(kind, element.get("low")), _end(kind, element.get("high"))
+        if has_bounds and "bounds" in element:
+            column.bounds = _read_bounds(kind, _of(list, element["bounds"]))
     return column
+
+
+def _read_bounds(kind: str, values: list[Any]) -> list[int]:
+    found = [end for it in values if (end := _end(kind, it)) is not None]
+    if not 2 <= len(found) <= MOST_PARTS + 1 or found != sorted(found):
+        raise ValueError
+    return found
 
 
 def _end(kind: str, value: Any) -> int | None:

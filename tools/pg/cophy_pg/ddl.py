@@ -1,15 +1,11 @@
-"""`ddl`: the statements that make the picks of an advice."""
+"""The indexes that stand for the picks of an advice, with the statements that make them."""
 from __future__ import annotations
 
-import argparse
-import json
 import re
 from dataclasses import dataclass
-from typing import Any
 
-from cophy_text.answers import Advice, Candidate, megabytes, read_advice
-from cophy_pg import files
-from cophy_pg.catalogue import read_schema
+from cophy_text import files
+from cophy_text.answers import Advice, Candidate, read_advice
 from cophy_pg.schema import Schema, Table
 
 LONGEST = 63
@@ -20,29 +16,52 @@ class NoIndex(Exception):
     """A pick that isn't of this catalogue."""
 
 
+@dataclass(frozen=True)
+class Named:
+    """An index that is to be made: its name, its table, its columns, of which the first `keys` are keys, and whether it is
+    made CONCURRENTLY."""
+
+    name: str
+    where: tuple[str, str]
+    columns: list[str]
+    keys: int
+    is_concurrent: bool
+
+    def shown(self) -> str:
+        """Its name with its schema, as it is written."""
+        return f"{written_name(self.where[0])}.{written_name(self.name)}"
+
+    def columns_text(self) -> str:
+        """Its columns as they are written."""
+        keys, others = (
+            ", ".join(map(written_name, it)) for it in (self.columns[: self.keys], self.columns[self.keys :])
+        )
+        return f"({keys})" + (f" INCLUDE ({others})" if others else "")
+
+    def statement(self) -> str:
+        """The statement that makes it."""
+        concurrently = "CONCURRENTLY " if self.is_concurrent else ""
+        table = ".".join(map(written_name, self.where))
+        return f"CREATE INDEX {concurrently}{written_name(self.name)} ON {table} {self.columns_text()};"
+
+
 @dataclass
 class Made:
-    """A pick with the name of its index and the statements that make it, or why no index can be made."""
+    """A pick with the indexes that stand for it, or why none can be made."""
 
     pick: Candidate
-    name: str = ""
-    statements: tuple[str, ...] = ()
+    indexes: tuple[Named, ...] = ()
     why_not: str = ""
 
+    @property
+    def name(self) -> str:
+        """The name of the first index."""
+        return self.indexes[0].name if self.indexes else ""
 
-def add_ddl(commands: argparse._SubParsersAction[argparse.ArgumentParser]) -> None:
-    """The words of `ddl`."""
-    parser = commands.add_parser(
-        "ddl",
-        help="print the statements CREATE INDEX of an advice",
-        description="Prints CREATE INDEX CONCURRENTLY for each pick of an advice, with PostgreSQL's own names. Each runs by "
-        "itself, outside a transaction; psql -f runs them in turn. A pick that PostgreSQL can't make is left out, with "
-        "the reason.",
-    )
-    parser.add_argument("catalogue", metavar="CATALOGUE", help="the catalogue that the advice is of")
-    parser.add_argument("advice", metavar="ADVICE", help="what cophy advise printed; - for the standard input")
-    parser.add_argument("--json", action="store_true", help="print JSON instead")
-    parser.set_defaults(run=ddl)
+    @property
+    def statements(self) -> list[str]:
+        """The statements that make the indexes."""
+        return [it.statement() for it in self.indexes]
 
 
 def advice_of(file: str) -> Advice:
@@ -80,39 +99,44 @@ def why_not(schema: Schema, pick: Candidate) -> str:
 
 def written_name(name: str) -> str:
     """A name in PostgreSQL's quotes, in printable ASCII whatever it holds."""
-    if _PLAIN.match(name):
-        return '"' + name.replace('"', '""') + '"'
+    return _written(name, '"', _PLAIN.match(name) is not None)
+
+
+def written_text(text: str) -> str:
+    """A text as a literal in printable ASCII, whatever it holds and however the server takes a backslash."""
+    return _written(text, "'", _PLAIN.match(text) is not None and "\\" not in text)
+
+
+def _written(text: str, quote: str, is_plain: bool) -> str:
+    if is_plain:
+        return quote + text.replace(quote, 2 * quote) + quote
     shown = []
-    for it in name:
+    for it in text:
         code = ord(it)
-        if it in '"\\':
+        if it in (quote, "\\"):
             shown.append(it * 2)
         else:
             shown.append(it if 32 <= code < 127 else f"\\{code:04x}" if code < 0x10000 else f"\\+{code:06x}")
-    return 'U&"' + "".join(shown) + '"'
+    return f"U&{quote}{''.join(shown)}{quote}"
 
 
-def create(schema: Schema, pick: Candidate, taken: set[str]) -> Made:
-    """The index that is to be made; of a table that others inherit from, one for each of them too."""
+def create(schema: Schema, pick: Candidate, taken: set[str], keys: int | None = None) -> Made:
+    """The index that is to be made, of whose columns the first ones, or else all, are keys; of a table that others inherit
+    from, one for each of them too."""
     why = why_not(schema, pick)
     if why:
         return Made(pick, why_not=why)
     table, columns = names_of(schema, pick)
     name = _free(f"{table.shown}_{'_'.join(pick.columns)}", taken)
-    statements = [_statement(name, (table.schema, table.name), columns, table.is_partitioned)]
+    count = len(columns) if keys is None else keys
+    indexes = [Named(name, (table.schema, table.name), columns, count, not table.is_partitioned)]
     for child in table.children:
         known = schema.tables.get(child)
         if known is None or not any(it.keys == columns for it in known.indexes):
             stem = known.shown if known is not None else re.sub(r"[^A-Za-z0-9_]", "_", child[1])
             own = _free(f"{stem}_{'_'.join(pick.columns)}", taken)
-            statements.append(_statement(own, child, columns, False))
-    return Made(pick, name, tuple(statements))
-
-
-def _statement(name: str, where: tuple[str, str], columns: list[str], is_partitioned: bool) -> str:
-    listed, table = ", ".join(map(written_name, columns)), ".".join(map(written_name, where))
-    concurrently = "" if is_partitioned else "CONCURRENTLY "
-    return f"CREATE INDEX {concurrently}{written_name(name)} ON {table} ({listed});"
+            indexes.append(Named(own, child, columns, count, True))
+    return Made(pick, tuple(indexes))
 
 
 def _free(stem: str, taken: set[str]) -> str:
@@ -132,50 +156,3 @@ def taken_names(schema: Schema) -> set[str]:
     tables = schema.tables.values()
     names = {it.name.lower() for it in tables} | {index.name.lower() for it in tables for index in it.indexes}
     return names | {it.lower() for it in schema.taken}
-
-
-def ddl(words: argparse.Namespace) -> int:
-    """Prints the statements."""
-    schema, advice = read_schema(files.read(words.catalogue)), advice_of(words.advice)
-    taken = taken_names(schema)
-    made = [create(schema, it, taken) for it in advice.picks]
-    if words.json:
-        print(json.dumps(_as_json(advice, made), indent=2))
-        return 0
-    end = "the bound is reached: no other choice costs less" if advice.is_finished else "the bound isn't reached"
-    print(
-        f"-- budget {advice.budget} pages ({megabytes(advice.budget)}), size {advice.size} pages ({megabytes(advice.size)})"
-    )
-    print(f"-- cost {advice.cost}, bound {advice.bound}, gap {advice.gap}: {end}")
-    for it in made:
-        print(f"\n-- pick {it.pick.number}: {it.pick.pages} pages ({megabytes(it.pick.pages)})")
-        print("\n".join(it.statements) if not it.why_not else f"-- left out, {_comment(it.why_not)}")
-    return 0
-
-
-def _comment(text: str) -> str:
-    """A text of one line of printable ASCII."""
-    return "".join(it if 32 <= ord(it) < 127 else "?" for it in text)
-
-
-def _as_json(advice: Advice, made: list[Made]) -> dict[str, Any]:
-    return {
-        "budget": advice.budget,
-        "size": advice.size,
-        "cost": advice.cost,
-        "bound": advice.bound,
-        "gap": advice.gap,
-        "finished": advice.is_finished,
-        "picks": [
-            {
-                "number": it.pick.number,
-                "table": it.pick.table,
-                "columns": it.pick.columns,
-                "pages": it.pick.pages,
-                "name": it.name or None,
-                "statement": "\n".join(it.statements) or None,
-                **({"left_out": it.why_not} if it.why_not else {}),
-            }
-            for it in made
-        ],
-    }

@@ -8,20 +8,22 @@ from dataclasses import dataclass, field
 from typing import Any
 
 from pglast import ast
-from pglast.enums import SubLinkType
+from pglast.enums import CTEMaterialize, SubLinkType
 from pglast.parser import ParseError
 from pglast.stream import RawStream
 
 from cophy_pg.rewrite.expressions import nodes_of
 from cophy_pg.rewrite.parse import parsed
 from cophy_pg.rewrite.rewriter import INNER
-from cophy_pg.server import Server, ServerFault, quoted_name
+from cophy_pg.parameters import UNTYPED, Columns, choices, of_columns
+from cophy_pg.server import Server, ServerFault
 from cophy_pg.trust import Names
 
 _TYPES = "date|time|timetz|timestamp|timestamptz|interval|numeric|int|integer|bigint|text|uuid|inet|json|jsonb|bytea|money|point|bit"
 _TYPED = re.compile(rf"\b((?:{_TYPES})(?:\s+with(?:out)?\s+time\s+zone)?)\s+(\$\d+)", re.IGNORECASE)
 _EXTRACT = re.compile(r"\bextract\s*\(\s*\$\d+\s+from\b", re.IGNORECASE)
-_UNTYPED = frozenset(("42P18", "42P08", "42725", "42804", "42846", "42883"))
+_MOST_ATTEMPTS = 40
+"""So often, at most, are other types tried for a statement's parameters, from each beginning."""
 
 
 class NoStatement(Exception):
@@ -71,6 +73,50 @@ def _read_of(tree: Any) -> Any:
     """What a statement reads, as a query; nothing where it reads nothing."""
     while type(tree) in INNER:
         tree = getattr(tree, INNER[type(tree)])
+    clause = getattr(tree, "withClause", None)
+    changes = [it for it in (clause.ctes if clause else ()) if not isinstance(it.ctequery, ast.SelectStmt)]
+    if not changes:
+        return _query_of(tree)
+    for it in changes:
+        # The server makes it whole, whatever is read of it.
+        it.ctequery, it.ctematerialized = _returned(it.ctequery), CTEMaterialize.CTEMaterializeAlways
+    return _with_all(_query_of(tree) or ast.SelectStmt(withClause=clause), [it.ctename for it in changes])
+
+
+def _returned(tree: Any) -> Any:
+    """What a statement that writes within WITH reads, as a query for the rows that it returns."""
+    returned = getattr(tree, "returningList", None)
+    if isinstance(tree, ast.InsertStmt) and returned:
+        raise NoStatement("an INSERT within WITH that returns rows")
+    query = _query_of(tree)
+    if returned:
+        read = (it for it in query.targetList[1:] if any(isinstance(node, ast.SubLink) for node in nodes_of(it)))
+        query.targetList = (*returned, *read)
+    return query or ast.SelectStmt()
+
+
+def _with_all(query: Any, changes: list[str]) -> Any:
+    """A query that reads all of these in its WITH, since the server passes over what nothing reads, unless it writes."""
+    body = (getattr(query, it) for it in query if it != "withClause")
+    named = {it.relname for part in body for it in nodes_of(part) if isinstance(it, ast.RangeVar)}
+    unread = [it for it in changes if it not in named]
+    query = _query_like(query)
+    if unread:
+        if query.op or query.valuesLists:
+            raise NoStatement("a statement within WITH that writes and that nothing reads")
+        query.targetList = (*(query.targetList or ()), *(ast.ResTarget(val=_count_of(it)) for it in unread))
+    return query
+
+
+def _count_of(name: str) -> Any:
+    """The number of rows of what stands under a name in WITH, as a value."""
+    every = ast.FuncCall(funcname=(ast.String("pg_catalog"), ast.String("count")), agg_star=True)
+    source = ast.RangeVar(relname=name, inh=True, relpersistence="p")
+    read = ast.SelectStmt(targetList=(ast.ResTarget(val=every),), fromClause=(source,))
+    return ast.SubLink(subLinkType=SubLinkType.EXPR_SUBLINK, subselect=read)
+
+
+def _query_of(tree: Any) -> Any:
     if isinstance(tree, ast.SelectStmt):
         if tree.intoClause is not None:
             tree.intoClause = None
@@ -153,103 +199,6 @@ def add_names(names: Names, tree: Any) -> None:
             names.columns |= {part.sval for part in it.indirection if isinstance(part, ast.String)}
 
 
-@dataclass
-class Columns:
-    """The types of all columns of tables, by the table's number."""
-
-    types: dict[int, dict[str, str]] = field(default_factory=dict)
-
-    @staticmethod
-    def read(server: Server, tables: Iterable[int]) -> Columns:
-        found = Columns()
-        rows = server.rows(
-            "SELECT a.attrelid::int8, a.attname::text, n.nspname::text, t.typname::text FROM pg_catalog.pg_attribute a "
-            "JOIN pg_catalog.pg_type t ON t.oid = a.atttypid JOIN pg_catalog.pg_namespace n ON n.oid = t.typnamespace "
-            "WHERE a.attrelid = ANY(%s::oid[]) AND a.attnum > 0 AND NOT a.attisdropped",
-            ([*tables],),
-        )
-        for table, name, schema, kind in rows:
-            found.types.setdefault(int(table), {})[str(name)] = f"{quoted_name(schema)}.{quoted_name(kind)}"
-        return found
-
-    def type_of(self, column: Any, sources: dict[str, int]) -> str | None:
-        """The type of a column reference; nothing where several columns may be meant."""
-        *before, name = [it.sval if isinstance(it, ast.String) else "*" for it in column.fields]
-        tables = [sources[before[-1]]] if before and before[-1] in sources else sources.values()
-        found = {kind for it in tables if (kind := self.types.get(it, {}).get(name))}
-        return found.pop() if len(found) == 1 else None
-
-
-def guesses(statement: Statement, columns: Columns) -> Iterator[dict[int, str]]:
-    """Types for the parameters: first what the server finds itself, then those of the columns that they are compared with,
-    then what else stands beside them, and one type for all others."""
-    yield {}
-    sources = {}
-    for it in nodes_of(statement.tree):
-        if isinstance(it, ast.RangeVar) and (number := statement.numbers.get((it.schemaname, it.relname))):
-            sources[it.alias.aliasname if it.alias else it.relname] = number
-    compared: dict[int, str] = {}
-    beside: dict[int, str] = {}
-    others = {*range(1, statement.parameters + 1)}
-    for terms, is_compared in _groups(statement.tree):
-        types = [columns.type_of(it, sources) for it in terms if isinstance(it, ast.ColumnRef)]
-        kind = next((it for it in types if it), None)
-        for it in terms:
-            if isinstance(it, ast.ParamRef) and (kind or not is_compared):
-                (compared if is_compared else beside).setdefault(it.number, kind or _known("numeric"))
-            if isinstance(it, ast.ParamRef) and is_compared and types:
-                others.discard(it.number)
-    for known in (compared, beside | compared):
-        yield known
-        for other in ("text", "int4", "numeric", "interval", "timestamptz"):
-            yield dict.fromkeys(others, _known(other)) | known
-
-
-def _known(name: str) -> str:
-    return f'"pg_catalog"."{name}"'
-
-
-def _groups(tree: Any) -> Iterator[tuple[list[Any], bool]]:
-    """Terms that have one type where they are compared, and mostly one where they are computed with."""
-    for it in nodes_of(tree):
-        if isinstance(it, ast.A_Expr):
-            left, right = _row(it.lexpr), _row(it.rexpr)
-            pairs = zip(left, right) if left and len(left) == len(right) else [(it.lexpr, it.rexpr)]
-            for pair in pairs:
-                if not _is_computed(it):
-                    yield [*_terms(pair, False)], True
-                yield [*_terms(pair, True)], False
-        elif isinstance(it, ast.CaseExpr):
-            yield [*_terms((*(when.result for when in it.args), it.defresult), True)], False
-            if it.arg is not None:
-                yield [*_terms((it.arg, *(when.expr for when in it.args)), False)], True
-        elif isinstance(it, (ast.CoalesceExpr, ast.MinMaxExpr)):
-            yield [*_terms(it.args, False)], True
-        elif isinstance(it, ast.FuncCall) and it.funcname[-1].sval in ("sum", "avg", "abs", "round"):
-            yield [*_terms(it.args or (), True)], False
-
-
-def _row(node: Any) -> tuple[Any, ...]:
-    return (*node.args,) if isinstance(node, ast.RowExpr) else ()
-
-
-def _is_computed(node: Any) -> bool:
-    return isinstance(node, ast.A_Expr) and node.name[-1].sval in ("+", "-", "*", "/", "%")
-
-
-def _terms(node: Any, is_deep: bool) -> Iterator[Any]:
-    """The columns and parameters that a side consists of, or those below what is computed too."""
-    if isinstance(node, (ast.ColumnRef, ast.ParamRef)):
-        yield node
-    elif isinstance(node, tuple):
-        for it in node:
-            yield from _terms(it, is_deep)
-    elif isinstance(node, ast.A_ArrayExpr):
-        yield from _terms(node.elements or (), is_deep)
-    elif is_deep and _is_computed(node):
-        yield from _terms((node.lexpr, node.rexpr), True)
-
-
 class Explainer:
     """Explains statements in a transaction of the server."""
 
@@ -257,21 +206,41 @@ class Explainer:
         self.server, self.columns = server, columns
 
     def explain(self, statement: Statement) -> Any:
-        """The plan of a statement. The fault is that of its first attempt."""
+        """The plan of a statement. Types of parameters are first the server's own, then those of columns, and where it can't
+        tell them then either what else it takes. The fault is that of its first attempt."""
         if statement.types is not None:
             return self._plan(statement, statement.types)
-        first = None
-        for types in guesses(statement, self.columns):
+        try:
+            return self._typed(statement, {})
+        except ServerFault as fault:
+            if statement.parameters == 0 or fault.code not in UNTYPED:
+                raise
+            first = fault
+        for types in of_columns(statement.tree, statement.numbers, self.columns):
+            if (plan := self._search(statement, types)) is not None:
+                return plan
+        raise first
+
+    def _search(self, statement: Statement, types: dict[int, str]) -> Any:
+        """The plan with types for more and more parameters, from those that are given on; nothing where none is found."""
+        waiting = [types]
+        for _ in range(_MOST_ATTEMPTS):
+            if not waiting:
+                break
+            types = waiting.pop()
             try:
-                plan = self._plan(statement, types)
+                return self._typed(statement, types)
             except ServerFault as fault:
-                first = first or fault
-                if statement.parameters == 0 or fault.code not in _UNTYPED:
-                    break
-                continue
-            statement.types = types
-            return plan
-        raise first or ServerFault("no attempt was made")
+                if self.server.is_lost():
+                    raise
+                if fault.code in UNTYPED:
+                    waiting += reversed([types | it for it in choices(statement.text, fault, types)])
+        return None
+
+    def _typed(self, statement: Statement, types: dict[int, str]) -> Any:
+        plan = self._plan(statement, types)
+        statement.types = types
+        return plan
 
     def _plan(self, statement: Statement, types: dict[int, str]) -> Any:
         """The plan, in a savepoint: what functions of users do while it is made is undone, and no prepared statement of
@@ -282,12 +251,21 @@ class Explainer:
                 self.server.use_path(statement.path)
                 if parameters == 0:
                     return self._answer(f"EXPLAIN (FORMAT JSON) {text}")
-                listed = ", ".join(types.get(it, "unknown") for it in range(1, parameters + 1))
-                self.server.rows(f"PREPARE cophy_pg ({listed}) AS {text}")
+                self._prepare(text, [types.get(it, "unknown") for it in range(1, parameters + 1)])
                 return self._answer(f"EXPLAIN (FORMAT JSON) EXECUTE cophy_pg ({', '.join(['NULL'] * parameters)})")
         finally:
             if not self.server.is_lost():
                 self.server.rows("DEALLOCATE ALL")
+
+    def _prepare(self, text: str, types: list[str]) -> None:
+        """Prepares a statement; the place of a fault is one in its text."""
+        head = f"PREPARE cophy_pg ({', '.join(types)}) AS "
+        try:
+            self.server.rows(head + text)
+        except ServerFault as fault:
+            if fault.place is not None:
+                fault.place = max(0, fault.place - len(head))
+            raise
 
     def _answer(self, query: str) -> Any:
         found = self.server.rows(query)[0][0]

@@ -3,11 +3,16 @@ from __future__ import annotations
 
 import argparse
 
-from cophy_pg import files, inputs
+from cophy_text import files
+from cophy_text.answers import counted
+from cophy_pg import inputs
 from cophy_pg.catalogue import catalogue_text, read_schema
+from cophy_pg.program import add_program
 from cophy_pg.progress import Progress, say
+from cophy_pg.ranking import rank, ready
 from cophy_pg.report import each, summary
-from cophy_pg.rewrite import Options, Rewriter
+from cophy_pg.rewrite import Rewriter, options
+from cophy_pg.selection import Selection, add_selection, selection_of
 from cophy_pg.server import Server, add_connection, connected, reading
 from cophy_pg.statistics import Found, read_database
 from cophy_pg.workload import Workload, made, mentioned
@@ -23,7 +28,7 @@ def add_export(commands: argparse._SubParsersAction[argparse.ArgumentParser]) ->
         help="write a catalogue and a workload from a server",
         description="Reads a database in read-only transactions and writes a catalogue and a workload. The connection "
         "is that of psql's environment (PGHOST, PGDATABASE, PGSERVICE, ..), or of --dsn. The catalogue holds the least and "
-        "the greatest value of columns, as PostgreSQL's statistics have them.",
+        "the greatest value of columns and values between them, as PostgreSQL's statistics have them.",
     )
     parser.add_argument("catalogue", metavar="CATALOGUE", help="the file of the catalogue")
     parser.add_argument("workload", metavar="WORKLOAD", help="the file of the workload")
@@ -33,7 +38,9 @@ def add_export(commands: argparse._SubParsersAction[argparse.ArgumentParser]) ->
         "--sql", metavar="FILE", help="statements from a file of SQL, with weights in comments '-- weight N'"
     )
     source.add_argument("--log", metavar="FILE", help="statements from a log (stderr, csvlog or jsonlog)")
-    _add_options(parser)
+    add_selection(parser)
+    add_options(parser)
+    add_program(parser)
     parser.set_defaults(run=export)
 
 
@@ -47,80 +54,93 @@ def add_rewrite(commands: argparse._SubParsersAction[argparse.ArgumentParser]) -
     parser.add_argument("catalogue", metavar="CATALOGUE", help="a catalogue that is there")
     parser.add_argument("sql", metavar="SQL", help="a file of SQL, with weights in comments '-- weight N'")
     parser.add_argument("workload", metavar="WORKLOAD", help="the file of the workload")
-    _add_options(parser)
+    add_options(parser)
     parser.set_defaults(run=rewrite)
 
 
-def _add_options(parser: argparse.ArgumentParser) -> None:
-    parser.add_argument("--report", metavar="FILE", help="a report on each statement; a summary goes to standard error")
-    parser.add_argument(
-        "--no-ranges",
-        action="store_true",
-        help="leave ranges of parameters as they are, which the model takes for a quarter of the table; "
-        "else they become literal ranges of 0.5 %% of the column, as in PostgreSQL's generic plan",
-    )
-    parser.add_argument(
-        "--look-ups",
-        action="store_true",
-        help="say by IN what PostgreSQL would look up by a nested loop, which the model doesn't have",
-    )
-
-
-def _options(words: argparse.Namespace) -> Options:
-    return Options(not words.no_ranges, words.look_ups)
+def add_options(parser: argparse.ArgumentParser, has_report: bool = True) -> None:
+    """The words of a report, and of what statements are written as."""
+    if has_report:
+        parser.add_argument(
+            "--report", metavar="FILE", help="a report on each statement; a summary goes to standard error"
+        )
+    options.add_options(parser)
 
 
 def export(words: argparse.Namespace) -> int:
     """Reads the server and writes both files."""
-    progress = Progress()
+    progress, selection = Progress(), selection_of(words)
     given = None
-    files.check([words.catalogue, words.workload, words.report], [words.sql, words.log])
+    files.check([words.catalogue, words.workload, words.report], [words.sql, words.log, words.since])
     if words.sql:
         given = inputs.from_sql(files.read(words.sql))
     elif words.log:
         given = inputs.from_log(files.read(words.log))
     with connected(words.dsn, words.timeout) as server:
-        listed, found, warnings, name = _read(server, given, progress)
-    workload = made(listed, Rewriter(found.schema, _options(words)), progress)
-    head = [f"The database {name!a}, exported by cophy-pg.", "A cost divided by 1000 is in the unit of EXPLAIN."]
-    catalogue = catalogue_text(found.schema, found.rates, head)
-    _write(workload, warnings, words, [files.File(words.catalogue, catalogue.encode("ascii"))])
+        listed, found, warnings, name = read(server, given, selection, progress)
+    workload = made(listed, Rewriter(found.schema, options.options_of(words)), progress)
+    catalogue = catalogue_of(found, name)
+    if ready(words.program):
+        progress("ordering the statements by their cost")
+        rank(workload, catalogue, words.program, is_ordered=given is None)
+    elif given is not None:
+        workload.remarks.append(
+            "the statements are in the order of the input: the program, which prices them, isn't built"
+        )
+    _write(workload, warnings, words, [files.File(words.catalogue, catalogue)])
     return 0
 
 
-def _read(
-    server: Server, given: list[inputs.Input] | None, progress: Progress
+def read(
+    server: Server, given: list[inputs.Input] | None, selection: Selection, progress: Progress
 ) -> tuple[list[inputs.Input], Found, list[str], str]:
     """The statements, what the database is, what to warn of, and its name. No transaction is open when this returns."""
     progress("reading statements")
+    warnings: list[str] = []
     with reading(server):
         if given is None:
-            given = inputs.from_server(server)
+            given = inputs.from_server(server, warnings.append)
         else:
             inputs.look_up(server, given)
+        given = selection.of(server, given)
         name = str(server.value("SELECT pg_catalog.current_database()::text"))
     listed = [it for it in given if it.text != HIDDEN]
     found = read_database(server, *mentioned(listed), progress)
     hidden = len(given) - len(listed)
-    warnings = [f"the texts of {hidden} statements of other users can't be read"] if hidden else []
+    if hidden:
+        warnings.append(f"the texts of {counted(hidden, 'statement')} of other users can't be read")
     return listed, found, [*warnings, *found.warnings], name
+
+
+def catalogue_of(found: Found, name: str) -> bytes:
+    """The catalogue of what was found in a database of this name."""
+    head = [f"The database {name!a}, exported by cophy-pg.", "A cost divided by 1000 is in the unit of EXPLAIN."]
+    return catalogue_text(found.schema, found.rates, head).encode("ascii")
 
 
 def rewrite(words: argparse.Namespace) -> int:
     """Rewrites a file over a catalogue."""
     files.check([words.workload, words.report], [words.catalogue, words.sql])
     schema = read_schema(files.read(words.catalogue))
-    workload = made(inputs.from_sql(files.read(words.sql)), Rewriter(schema, _options(words)), Progress())
+    workload = made(inputs.from_sql(files.read(words.sql)), Rewriter(schema, options.options_of(words)), Progress())
     _write(workload, [], words, [])
     return 0
 
 
 def _write(workload: Workload, warnings: list[str], words: argparse.Namespace, others: list[files.File]) -> None:
     """Writes all files together, and says what became of the statements."""
-    told = [*(f"warning: {it}" for it in warnings), *summary(workload)]
     listed = [*others, files.File(words.workload, workload.text().encode(errors="replace"))]
     if words.report:
-        listed.append(files.File(words.report, ("\n".join([*told, *each(workload)]) + "\n").encode("ascii", "replace")))
+        listed.append(files.File(words.report, report_of(workload, warnings)))
     files.write(listed)
-    for it in told:
+    for it in _told(workload, warnings):
         say(it)
+
+
+def _told(workload: Workload, warnings: list[str]) -> list[str]:
+    return [*(f"warning: {it}" for it in warnings), *summary(workload)]
+
+
+def report_of(workload: Workload, warnings: list[str]) -> bytes:
+    """The report on each statement, which holds no literal."""
+    return ("\n".join([*_told(workload, warnings), *each(workload)]) + "\n").encode("ascii", "replace")

@@ -5,16 +5,20 @@ import csv
 import io
 import json
 import re
-from collections.abc import Iterator
+from collections.abc import Callable, Iterator
 from dataclasses import dataclass
 
-from pglast import parser
 from pglast.parser import ParseError
 
 from cophy_text.tokens import tokens
 from cophy_pg.paths import path_set_by, read_paths
 from cophy_pg.pieces import pieces
+from cophy_pg.progress import say
+from cophy_pg.rewrite.parse import fingerprint_of
 from cophy_pg.server import OWN, Row, Server, ServerFault, quoted_name, version_of
+from cophy_pg.trust import has_power, view_of
+
+EXTENSION = "pg_stat_statements"
 
 _LOGGED = re.compile(
     r"(?:LOG|DEBUG\d?):\s+(?:duration: (?P<ms>[0-9]{1,15}(?:\.[0-9]+)?) ms\s+)?"
@@ -40,20 +44,26 @@ class Input:
     path: tuple[str, ...] | None = None
 
 
-def from_server(server: Server) -> list[Input]:
+def from_server(server: Server, warn: Callable[[str], None] = say, is_trusted: bool = False) -> list[Input]:
     """The statements of pg_stat_statements in the connected database, the longest time first."""
-    where = server.value(
-        "SELECT n.nspname::text FROM pg_catalog.pg_extension e JOIN pg_catalog.pg_namespace n ON n.oid = e.extnamespace "
-        "WHERE e.extname = 'pg_stat_statements'"
-    )
-    if where is None:
-        raise NoInput("the extension pg_stat_statements isn't there: give the statements by --sql or --log")
-    view = f"{quoted_name(where)}.pg_stat_statements"
+    found = view_of(server, EXTENSION)
+    if found is None:
+        raise NoInput(f"the extension {EXTENSION} isn't there: give the statements by --sql or --log")
+    where, number, others = found
+    if others:
+        who = (
+            f"{' and '.join(map(ascii, others))} may put another view in the place of {EXTENSION}, in schema {where!a}"
+        )
+        if not is_trusted and has_power(server):
+            raise NoInput(
+                f"{who}, and its code would have this role's rights: tools/pg/advisor_role.sql makes a role with few; "
+                "or give the statements by --sql or --log, or the schema to a superuser"
+            )
+        warn(who)
+    view = f"{quoted_name(where)}.{EXTENSION}"
     names = {
         str(it[0])
-        for it in server.rows(
-            "SELECT attname::text FROM pg_catalog.pg_attribute WHERE attrelid = %s::regclass", (view,)
-        )
+        for it in server.rows("SELECT attname::text FROM pg_catalog.pg_attribute WHERE attrelid = %s::oid", (number,))
     }
     time = "total_exec_time" if "total_exec_time" in names else "total_time"
     rows = _rows_of(
@@ -65,18 +75,18 @@ def from_server(server: Server) -> list[Input]:
     )
     has_numbers = version_of(server) < 160000
     paths = read_paths(server)
-    found: dict[tuple[str, tuple[str, ...]], Input] = {}
+    inputs: dict[tuple[str, tuple[str, ...]], Input] = {}
     for text, role, calls, seconds, count in rows:
         shown = within(str(text), float(count) > 0, has_numbers) if text is not None else None
         if shown is not None:
             path = paths.of(str(role or ""))
-            it = found.setdefault((shown, path), Input(shown, 0, 0.0, 0.0, role=str(role or ""), path=path))
+            it = inputs.setdefault((shown, path), Input(shown, 0, 0.0, 0.0, role=str(role or ""), path=path))
             it.calls += max(1, int(calls))
             it.seconds = (it.seconds or 0.0) + float(seconds)
             it.rows = (it.rows or 0.0) + float(count)
-    for it in found.values():
+    for it in inputs.values():
         it.rows = (it.rows or 0.0) / it.calls
-    return [*found.values()]
+    return [*inputs.values()]
 
 
 _EXPLAIN = re.compile(
@@ -159,8 +169,8 @@ def from_log(content: bytes) -> list[Input]:
         if sql.startswith(OWN):
             continue
         try:
-            form = parser.fingerprint(sql)
-        except (ParseError, ValueError):
+            form = fingerprint_of(sql)
+        except (ParseError, RecursionError, ValueError):
             form = sql
         known = forms.setdefault((form, role), Input(sql, 0, None, role=role))
         known.calls += 1

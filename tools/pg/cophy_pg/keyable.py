@@ -1,13 +1,13 @@
 """Which columns a B-tree index can have: those whose type has an order and whose values fit in an entry."""
 from __future__ import annotations
 
-from collections.abc import Callable, Iterable
+from collections.abc import Callable
 from dataclasses import dataclass
 
-from cophy_pg import catalogs
 from cophy_pg.schema import Column, Table
-from cophy_pg.server import Row, Server, ServerFault, quoted_name, reading, version_of
-from cophy_pg.trust import may_plan
+from cophy_pg.server import Row, Server, ServerFault, quoted_name, reading
+from cophy_pg.trust import MOST_NAMES, may_plan, runs_functions
+from cophy_pg.types import Base, Orders
 
 LONGEST_ENTRY = 2600
 """An entry has at most a third of a page, 2704 bytes, with its header and the gaps between its columns."""
@@ -22,26 +22,24 @@ TEXTS = frozenset(("text", "varchar", "bpchar", "bytea"))
 
 @dataclass
 class Stored:
-    """How a column is stored: its type's number and name, its length or -1, its modifier, its storage, and whether it
-    isn't stored at all, but made by an expression, which may call what users made."""
+    """How a column is stored: its type without domains, its modifier, its storage, and whether it isn't stored at all, but
+    made by an expression, which may call what users made."""
 
     column: Column
-    type: int
-    name: str
-    length: int
+    base: Base
     modifier: int
     storage: str
     is_virtual: bool = False
 
     def most(self) -> int | None:
         """The most bytes that a value may have; nothing where its type has no limit."""
-        if self.length > 0:
-            return self.length
-        if self.name in ("varchar", "bpchar") and self.modifier > 4:
+        if self.base.length > 0:
+            return self.base.length
+        if self.base.name in ("varchar", "bpchar") and self.modifier > 4:
             return (self.modifier - 4) * 4 + 4
-        if self.name in ("bit", "varbit") and self.modifier > 0:
+        if self.base.name in ("bit", "varbit") and self.modifier > 0:
             return self.modifier // 8 + 9
-        if self.name == "numeric" and self.modifier > 4:
+        if self.base.name == "numeric" and self.modifier > 4:
             return (((self.modifier - 4) >> 16) & 0xFFFF) // 2 + 12
         return None
 
@@ -53,66 +51,54 @@ class Stored:
     def bytes_of(self) -> str:
         """What SQL says of a value's length, without the call of any function that a user made."""
         name = quoted_name(self.column.name)
-        return f"pg_catalog.{'octet_length' if self.name in TEXTS else 'pg_column_size'}({name})"
+        return f"pg_catalog.{'octet_length' if self.base.name in TEXTS else 'pg_column_size'}({name})"
 
 
 @dataclass
 class Part:
-    """A table that holds rows: its names, its pages, the bytes of its values out of line, and whether long values may
-    stay in line; each number is None where the table is locked."""
+    """A table that holds rows: its names, its pages, the bytes of its values out of line, whether long values may stay in
+    line, and its number; the pages and the bytes are None where the table is locked."""
 
     schema: str
     name: str
-    kind: str
     pages: int | None
     out_of_line: int | None
     stays_in_line: bool = False
+    oid: int = 0
 
 
-class Orders:
-    """Which types have an order, by their numbers."""
+@dataclass
+class Sampled:
+    """A table of which a sample is taken: its columns that vary in length, its parts, and its columns that are keys of an
+    index, so that their values fit."""
 
-    def __init__(self, server: Server, tables: Iterable[int]) -> None:
-        before_14 = version_of(server) < 140000
-        query = catalogs.ORDERS.replace(*catalogs.BEFORE_14) if before_14 else catalogs.ORDERS
-        rows = server.rows(query, ([*tables],))
-        self.types = {int(it[0]): it for it in rows}
-
-    def why_not(self, number: int) -> str:
-        """Why a type has no order; nothing where it has one."""
-        waiting, seen = [number], set[int]()
-        while waiting:
-            one = waiting.pop()
-            if one in seen or one not in self.types:
-                continue
-            seen.add(one)
-            _, name, kind, parts, has_class = self.types[one]
-            if has_class or kind in ("e", "r", "m"):
-                continue
-            if parts is None:
-                return f"the type {name} has no order"
-            waiting += map(int, reversed(parts))
-        return ""
+    table: Table
+    varying: list[Stored]
+    parts: list[Part]
+    indexed: set[str]
 
 
 class Lengths:
-    """Reads how long the values of a table's columns are, and marks the columns that no index can have."""
+    """Reads how long the values of tables' columns are, and marks the columns that no index can have."""
 
     def __init__(self, server: Server, orders: Orders, warn: Callable[[str], None]) -> None:
         self.server, self.orders, self.warn = server, orders, warn
         self.faults = 0
+        self.waiting: list[Sampled] = []
+        self.lost_at = ""
 
     def mark(self, table: Table, stored: list[Stored], parts: list[Part], indexed: set[str]) -> None:
-        """Marks columns of a table; those in `indexed` are keys of a B-tree index, so their values fit."""
+        """Marks the columns of a table that no index can have for their types; the table waits for `sample` where its
+        values may be long."""
         for it in stored:
-            why = self.orders.why_not(it.type)
+            why = self.orders.why_not(it.base.number)
             most = it.most()
-            if not why and it.length > 0 and most is not None and most > LONGEST_ENTRY:
+            if not why and it.base.length > 0 and most is not None and most > LONGEST_ENTRY:
                 why = "its values take more than a third of a page"
             it.column.no_key = "it isn't stored" if it.is_virtual else why
-        varying = [it for it in stored if it.length < 0 and not it.is_virtual]
+        varying = [it for it in stored if it.base.length < 0 and not it.is_virtual]
         if varying and self._is_long(table, varying, parts):
-            self._sample(table, varying, parts, indexed)
+            self.waiting.append(Sampled(table, varying, parts, indexed))
 
     @staticmethod
     def _is_long(table: Table, varying: list[Stored], parts: list[Part]) -> bool:
@@ -123,12 +109,42 @@ class Lengths:
             or any(it.is_open() and (it.storage in "pm" or it.column.width > SHORT) for it in varying)
         )
 
-    def _sample(self, table: Table, varying: list[Stored], parts: list[Part], indexed: set[str]) -> None:
+    def sample(self) -> None:
+        """Takes samples of the tables that wait. Those whose functions of users may run are the last: what such a function
+        costs, the time or the connection, it costs none of the others."""
+        lost: list[str] = []
+        for it in sorted(self.waiting, key=self._may_run):
+            names = [] if self._is_sampled(it) else self._unread(it)
+            if names and self.lost_at:
+                lost.append(it.table.shown)
+            elif names:
+                why = f"its columns {', '.join(names)} may have long values, so no index has them"
+                self.warn(f"{it.table.shown} can't be read: {why}")
+        if self.lost_at:
+            some = ", ".join(lost[:MOST_NAMES]) + (f" and {len(lost) - MOST_NAMES} more" if lost[MOST_NAMES:] else "")
+            what = f"no index has columns of {some} whose values may be long" if lost else "it cost nothing more"
+            self.warn(f"the connection was lost at a sample of {self.lost_at}: {what}")
+
+    def _may_run(self, sampled: Sampled) -> bool:
+        """Whether a sample of a table may run functions of users."""
+        try:
+            with reading(self.server):
+                return runs_functions(self.server, [it.oid for it in _chosen(sampled.parts)])
+        except ServerFault:
+            self._note_loss(sampled.parts[0])
+            return True
+
+    def _note_loss(self, part: Part) -> None:
+        if self.server.is_lost() and not self.lost_at:
+            self.lost_at = f"{part.schema!a}.{part.name!a}"
+
+    def _is_sampled(self, sampled: Sampled) -> bool:
+        """Gives columns their widths and marks by a sample, or says that it can't be taken."""
+        varying = sampled.varying
         shown = [f"avg({it.bytes_of()})::float8, max({it.bytes_of()})::int8" for it in varying]
-        found = self._read(parts, ", ".join(["count(*)::int8", *shown]))
+        found = self._read(sampled.parts, ", ".join(["count(*)::int8", *shown]))
         if found is None:
-            self._unread(table, varying, parts, indexed)
-            return
+            return False
         longest: dict[str, int] = {}
         for at, it in enumerate(varying):
             means = [(int(row[0]), float(row[1 + 2 * at])) for row in found if row[1 + 2 * at] is not None]
@@ -139,10 +155,11 @@ class Lengths:
             if count:
                 it.column.width = min(WIDEST, max(1, round(sum(rows * mean for rows, mean in means) / count)))
         for it in varying:
-            is_known = it.column.name in indexed or not it.is_open()
+            is_known = it.column.name in sampled.indexed or not it.is_open()
             if not it.column.no_key and not is_known and longest[it.column.name] > LONGEST_ENTRY // 2:
                 self._mark_long(it)
-        self._mark_together(varying, parts, longest)
+        self._mark_together(varying, sampled.parts, longest)
+        return True
 
     @staticmethod
     def _mark_long(it: Stored) -> None:
@@ -156,25 +173,24 @@ class Lengths:
                 return
             sums = " + ".join(f"coalesce({it.bytes_of()}, 0)" for it in left)
             found = self._read(parts, f"max({sums})::int8")
-            if found is None or all(it[0] is None or int(it[0]) <= LONGEST_ENTRY for it in found):
+            if found is not None and all(it[0] is None or int(it[0]) <= LONGEST_ENTRY for it in found):
                 return
             self._mark_long(max(left, key=lambda it: longest[it.column.name]))
 
-    def _unread(self, table: Table, varying: list[Stored], parts: list[Part], indexed: set[str]) -> None:
-        """What can't be read may be long where something is out of line, and isn't where nothing is."""
-        if all(it.out_of_line == 0 and not it.stays_in_line for it in parts):
-            return
+    def _unread(self, sampled: Sampled) -> list[str]:
+        """Marks what may be long where it can't be read, which nothing is where nothing is out of line: the columns' names."""
+        if all(it.out_of_line == 0 and not it.stays_in_line for it in sampled.parts):
+            return []
+        varying, indexed = sampled.varying, sampled.indexed
         listed = [it for it in varying if it.is_open() and not it.column.no_key and it.column.name not in indexed]
         for it in listed:
             it.column.width = WIDEST
             self._mark_long(it)
-        if listed:
-            names = ", ".join(it.column.shown for it in listed)
-            self.warn(f"{table.shown} can't be read: its columns {names} may have long values, so no index has them")
+        return [it.column.shown for it in listed]
 
     def _read(self, parts: list[Part], listed: str) -> list[Row] | None:
         """A row of a sample of each of the largest parts; nothing where one can't be read."""
-        chosen = sorted(parts, key=lambda it: -(it.pages or 0))[:SAMPLED_PARTS]
+        chosen = _chosen(parts)
         if not chosen:
             return []
         if self.faults >= MOST_WAITS or self.server.is_lost():
@@ -186,14 +202,16 @@ class Lengths:
             query = f"SELECT {listed} FROM ONLY {where} TABLESAMPLE pg_catalog.system ({share:.6f}) REPEATABLE (0)"
             try:
                 with reading(self.server, "READ COMMITTED"):
-                    if not may_plan(self.server, it.schema, it.name):
+                    if not may_plan(self.server):
                         return None
                     found += self.server.rows(query)
             except ServerFault as fault:
-                if self.server.is_lost():
-                    self.warn(
-                        f"the connection was lost at a sample of {it.schema!a}.{it.name!a}, so no table after it has one"
-                    )
+                self._note_loss(it)
                 self.faults += fault.code in WAITED
                 return None
         return found
+
+
+def _chosen(parts: list[Part]) -> list[Part]:
+    """The largest parts of a table, of which samples are taken."""
+    return sorted(parts, key=lambda it: -(it.pages or 0))[:SAMPLED_PARTS]

@@ -8,24 +8,43 @@ import signal
 import sys
 from typing import Any
 
+from cophy_pg.advise import add_advise
 from cophy_pg.catalogue import NoCatalogue
-from cophy_pg.ddl import NoIndex, add_ddl
+from cophy_pg.curve import add_curve
+from cophy_pg.ddl import NoIndex
 from cophy_pg.export import add_export, add_rewrite
-from cophy_pg.files import ENDS, NoFile
+from cophy_text.files import ENDS, NoFile
+from cophy_pg.health import add_health
 from cophy_pg.inputs import NoInput
+from cophy_pg.making import add_ddl
+from cophy_pg.page import NoReport, add_report
 from cophy_pg.program import ProgramFault
 from cophy_pg.progress import say
 from cophy_pg.server import ServerFault
+from cophy_pg.snapshots import add_snapshot
 from cophy_pg.verify import add_verify
-from cophy_pg.why import add_curve, add_why
+from cophy_pg.why import add_why
+from cophy_text import VERSION
 from cophy_text.answers import NoAnswer
 
 
 def main() -> int:
     """Runs the command that the words name. Status 1 says that it couldn't do its work, 2 that the words are faulty."""
     parser = argparse.ArgumentParser(prog="cophy-pg", description=__import__("cophy_pg").__doc__)
+    parser.add_argument("--version", action="version", version=f"cophy-pg {VERSION}")
     commands = parser.add_subparsers(required=True, metavar="COMMAND")
-    for add in (add_export, add_rewrite, add_ddl, add_verify, add_why, add_curve):
+    for add in (
+        add_advise,
+        add_report,
+        add_health,
+        add_snapshot,
+        add_export,
+        add_rewrite,
+        add_ddl,
+        add_verify,
+        add_why,
+        add_curve,
+    ):
         add(commands)
     for stream in (sys.stdout, sys.stderr):
         if isinstance(stream, io.TextIOWrapper):
@@ -52,7 +71,7 @@ def main() -> int:
 def _run(words: argparse.Namespace) -> int:
     try:
         return int(words.run(words))
-    except (ServerFault, NoInput, NoAnswer, NoIndex, NoFile, ProgramFault) as fault:
+    except (ServerFault, NoInput, NoAnswer, NoIndex, NoFile, NoReport, ProgramFault) as fault:
         say(str(fault))
     except NoCatalogue:
         say("the catalogue can't be read: cophy says where its fault is")

@@ -4,7 +4,7 @@ from __future__ import annotations
 import re
 from dataclasses import dataclass, field
 
-from cophy_text.answers import Candidate
+from cophy_text.answers import Candidate, counted
 from cophy_pg.explain import Statement
 from cophy_pg.inputs import Input
 from cophy_pg.workload import FROM
@@ -43,7 +43,8 @@ class Verdict:
 @dataclass
 class Outcome:
     """A pick as `taken`, `not taken` or `unknown`, the latter with its reasons and the statements of each; `exists` is the
-    index of the server that has the pick's columns in its order, or begins with them."""
+    index of the server that has the pick's columns in its order, or begins with them, and `stored` the pages that PostgreSQL
+    takes for it."""
 
     pick: Candidate
     name: str = "unknown"
@@ -51,10 +52,11 @@ class Outcome:
     reasons: dict[str, str] = field(default_factory=dict)
     exists: str = ""
     begins: str = ""
+    stored: int | None = None
 
     def shown(self) -> str:
         """The outcome in a few words."""
-        words = {"taken": f"taken by {self.users} statements", "not taken": "taken by no statement"}
+        words = {"taken": f"taken by {counted(self.users, 'statement')}", "not taken": "taken by no statement"}
         text = words.get(self.name, "unknown")
         if self.exists:
             return f"{text}; it is there already, as {self.exists}"

@@ -9,6 +9,8 @@ from cophy_pg.ddl import names_of, why_not
 from cophy_pg.outcomes import Outcome
 from cophy_pg.schema import Schema, Table
 from cophy_pg.server import Server, ServerFault, quoted_name
+from cophy_pg.sizes import stored_pages
+from cophy_pg.trust import callable_of
 
 _INDEXES = """
 SELECT n.nspname::text, x.relname::text, i.indnkeyatts::int4,
@@ -21,12 +23,8 @@ WHERE s.nspname = %s AND c.relname = %s AND m.amname = 'btree' AND i.indisvalid 
     AND i.indpred IS NULL AND i.indexprs IS NULL
 ORDER BY 1, 2"""
 
-_HYPOPG = """
-SELECT n.nspname::text FROM pg_catalog.pg_extension e
-JOIN pg_catalog.pg_namespace n ON n.oid = e.extnamespace
-JOIN pg_catalog.pg_depend d ON d.refclassid = 'pg_catalog.pg_extension'::regclass AND d.refobjid = e.oid AND d.deptype = 'e'
-JOIN pg_catalog.pg_proc p ON d.classid = 'pg_catalog.pg_proc'::regclass AND p.oid = d.objid AND p.pronamespace = n.oid
-WHERE e.extname = 'hypopg' AND p.proname = 'hypopg_create_index'"""
+_CALLED = {"hypopg_create_index": "text", "hypopg_reset": ""}
+"""The functions of hypopg that are called, with the types that they take."""
 
 
 def index_names(plan: Any) -> set[str]:
@@ -37,16 +35,27 @@ def index_names(plan: Any) -> set[str]:
 
 def home_of(server: Server) -> str:
     """The schema of hypopg, as it is written; what was made in the session before is gone."""
-    found = server.value(_HYPOPG)
-    if found is None:
-        raise ServerFault(
-            "the extension hypopg isn't there: tools/pg/advisor_role.sql makes it, and it changes nothing else"
-        )
-    home = quoted_name(found)
+    home = quoted_name(_hypopg(server)[0])
     # Others may have made a second function of that name there, by which the call isn't unique.
     with suppress(ServerFault), server.savepoint():
         server.rows(f"SELECT {home}.hypopg_reset()")
     return home
+
+
+def replaceable(server: Server) -> list[str]:
+    """The functions of hypopg in whose place a role that is no superuser may put others, with this role."""
+    home, others = _hypopg(server)
+    names = ", ".join(map(ascii, others))
+    return [f"{home!a}.{it!a}, in whose place {names} may put another" for it in _CALLED] if others else []
+
+
+def _hypopg(server: Server) -> tuple[str, list[str]]:
+    found = callable_of(server, "hypopg", _CALLED)
+    if found is None:
+        raise ServerFault(
+            "the extension hypopg isn't there: tools/pg/advisor_role.sql makes it, and it changes nothing else"
+        )
+    return found
 
 
 def hypothetical(server: Server, home: str, table: Table, columns: list[str]) -> str:
@@ -68,6 +77,7 @@ def make(server: Server, schema: Schema, advice: Advice) -> tuple[list[Outcome],
             outcome.reasons[f"it can't be made: {why}"] = ""
             continue
         table, columns = names_of(schema, it)
+        outcome.stored = stored_pages(schema, it)
         try:
             name = _there(server, table, columns, outcome) or hypothetical(server, home, table, columns)
             for child in table.children:

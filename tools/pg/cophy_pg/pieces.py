@@ -8,10 +8,12 @@ from dataclasses import dataclass
 from pglast import parser
 from pglast.parser import ParseError
 
+from cophy_pg.rewrite.parse import GOES_ON, after_comment
+
 _TOKEN = re.compile(
-    r"""(?P<line>--[^\n]*)
+    rf"""(?P<line>--[^\n\r]*)
     |(?P<block>/\*)
-    |(?P<escaped>(?<![\w$])[eE]'[^'\\]*(?:(?:\\.|'')[^'\\]*)*(?:'|\Z))
+    |(?P<escaped>(?<![\w$])[eE]'[^'\\]*(?:(?:\\.|''|{GOES_ON})[^'\\]*)*(?:'|\Z))
     |(?P<text>'[^']*(?:''[^']*)*(?:'|\Z))
     |(?P<quoted>"[^"]*(?:""[^"]*)*(?:"|\Z))
     |(?P<dollar>(?<![\w$])\$(?P<tag>(?:[^\W\d]\w*)?)\$)
@@ -23,15 +25,14 @@ _TOKEN = re.compile(
     re.VERBOSE | re.DOTALL | re.IGNORECASE,
 )
 _VARIABLE = re.compile(
-    r"(?<![:\w]):(?:'([A-Za-z_]\w*)'|\"([A-Za-z_]\w*)\"|([A-Za-z_]\w*))(?!:)|'[^']*'|\"[^\"]*\"|--[^\n]*|/\*(?:.*?\*/|.*)",
+    r"(?<![:\w]):(?:'([A-Za-z_]\w*)'|\"([A-Za-z_]\w*)\"|([A-Za-z_]\w*))(?!:)|'[^']*'|\"[^\"]*\"|--[^\n\r]*|/\*(?:.*?\*/|.*)",
     re.DOTALL,
 )
 _SENDS = re.compile(r"\\(?:g|gx|gexec|gset|gdesc|bind|crosstabview|watch)", re.IGNORECASE)
 _FROM_INPUT = re.compile(r"\s*COPY\b.*\bFROM\s+STDIN\b", re.IGNORECASE | re.DOTALL)
-_BLANK = re.compile(r"\s+|--[^\n]*|(?P<block>/\*)")
+_BLANK = re.compile(r"\s+|--[^\n\r]*|(?P<block>/\*)")
 _UNSENT = re.compile(_BLANK.pattern + r"|\\[^\n]*")
 _LINE_END = re.compile(r";[ \t\r]*(?:--[^\n]*)?(?:\n|\Z)")
-_COMMENT = re.compile(r"/\*|\*/")
 _DATA_END = re.compile(r"^\\\.[ \t\r]*$", re.MULTILINE)
 FREE = 1 << 20
 """What is read beyond the end of a bad statement is read again. These are at most so many characters more than stand before
@@ -80,7 +81,7 @@ def _begin_of(text: str, passed: re.Pattern[str]) -> int:
     """The place of the first token of a text, after blanks and comments."""
     at = 0
     while (found := passed.match(text, at)) is not None:
-        at = _after_comment(text, found.end(), len(text)) if found["block"] else found.end()
+        at = after_comment(text, found.end(), len(text)) if found["block"] else found.end()
     return at
 
 
@@ -92,7 +93,7 @@ def _end_of(text: str, at: int, limit: int) -> tuple[int, list[tuple[int, int]]]
     while (found := _TOKEN.search(text, at, limit)) is not None:
         kind, at = found.lastgroup, found.end()
         if kind == "block":
-            at = _after_comment(text, at, limit)
+            at = after_comment(text, at, limit)
         elif found["dollar"] is not None:
             end = text.find(found["dollar"], at, limit)
             at = limit if end < 0 else end + len(found["dollar"])
@@ -109,16 +110,6 @@ def _end_of(text: str, at: int, limit: int) -> tuple[int, list[tuple[int, int]]]
         elif kind == "end" and not blocks:
             return at, commands
     return limit, commands
-
-
-def _after_comment(text: str, at: int, limit: int) -> int:
-    """The place after a comment, in which others may stand."""
-    depth = 1
-    for found in _COMMENT.finditer(text, at, limit):
-        depth += 1 if found[0] == "/*" else -1
-        if depth == 0:
-            return found.end()
-    return limit
 
 
 def _without(raw: str, at: int, commands: list[tuple[int, int]]) -> str:
@@ -152,7 +143,8 @@ def _readable(text: str) -> str | None:
 
 def _parses(text: str) -> bool:
     try:
-        parser.fingerprint(text)
+        # This makes no tree that has to be walked, so no text is too deep for it.
+        parser.split(text, with_parser=True)
         return True
     except (ParseError, ValueError):
         return False

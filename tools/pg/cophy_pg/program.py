@@ -3,14 +3,17 @@ from __future__ import annotations
 
 import argparse
 import os
+import shutil
 import subprocess
 import tempfile
 from collections.abc import Iterable
 from pathlib import Path
 
 from cophy_text.answers import Advice, Prices, read_advice, read_prices
+from cophy_text.files import shown
 
 SCRIPT = Path(__file__).resolve().parents[3] / "cophy"
+NAME = "cophy"
 
 
 class ProgramFault(Exception):
@@ -21,10 +24,25 @@ def add_program(parser: argparse.ArgumentParser) -> None:
     """The word that names the program."""
     parser.add_argument(
         "--program",
-        default=os.environ.get("COPHY_PROGRAM", str(SCRIPT)),
+        default=found_program(),
         metavar="FILE",
-        help="the program; else that of COPHY_PROGRAM, and else the script cophy of this repository",
+        help="the program; else that of COPHY_PROGRAM, the script cophy of this repository, or cophy on the path",
     )
+
+
+def found_program() -> str:
+    """The program where no word names it: that of COPHY_PROGRAM, the script of the repository that this module stands in, or
+    the one on the path."""
+    return os.environ.get("COPHY_PROGRAM") or (str(SCRIPT) if SCRIPT.is_file() else NAME)
+
+
+def program_file(name: str) -> str:
+    """The file of a program; a name alone is one on the path, of which only folders that are named whole count."""
+    path = os.pathsep.join(it for it in os.get_exec_path() if os.path.isabs(it))
+    found = name if os.sep in name else shutil.which(name, path=path)
+    if found is None or not os.path.isfile(found):
+        raise ProgramFault(f"the program {shown(name)} isn't there: name it by --program or COPHY_PROGRAM")
+    return found
 
 
 class Program:
@@ -36,7 +54,7 @@ class Program:
     def text(self, command: str, *more: str) -> str:
         """What a command prints. The program gets nothing of the connection to a server."""
         kept = {it: value for it, value in os.environ.items() if not it.startswith("PG")}
-        words = [self.file, command, self.catalogue, self.workload, *more]
+        words = [program_file(self.file), command, self.catalogue, self.workload, *more]
         ran = subprocess.run(
             words, stdin=subprocess.DEVNULL, stdout=subprocess.PIPE, env={**kept, "COPHY_HINTS": "0"}, check=False
         )

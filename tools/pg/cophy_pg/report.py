@@ -3,7 +3,11 @@ from __future__ import annotations
 
 from collections.abc import Iterable
 
+from cophy_text.answers import counted
+from cophy_text.shown import short
+from cophy_pg.outcomes import numbered
 from cophy_pg.rewrite import CHANGES
+from cophy_pg.rewrite.parse import without_literals
 from cophy_pg.workload import Record, Workload
 
 MOST_LINES = 20
@@ -35,7 +39,7 @@ class Shares:
 def summary(workload: Workload) -> list[str]:
     """How many inputs were kept, changed and skipped, and by which changes."""
     shares, records = Shares(workload.records), workload.records
-    lines = [f"{len(records)} statements, written as {len(workload.statements)}"]
+    lines = [f"{counted(len(records), 'statement')}, written as {len(workload.statements)}"]
     for outcome in ("kept", "changed", "skipped"):
         lines.append(f"  {outcome:8s} {shares.of(it for it in records if it.found.outcome == outcome)}")
     if workload.divisor > 1:
@@ -47,8 +51,8 @@ def summary(workload: Workload) -> list[str]:
             "changes (accepted isn't equal: " + "; ".join(f"{it}: {text}" for it, text in EFFECTS.items()) + ")"
         )
     for name in shown:
-        lines.append(f"  {CHANGES[name].effect}  {shares.of(counts[name])}  {name}: {CHANGES[name].text}")
-    return lines + _skipped(shares, records)
+        lines.append(f"  {CHANGES[name].effect}  {shares.of(counts[name])}  {name}: {CHANGES[name].shown()}")
+    return [*lines, *_skipped(shares, records), *workload.remarks]
 
 
 def _skipped(shares: Shares, records: list[Record]) -> list[str]:
@@ -67,21 +71,15 @@ def _skipped(shares: Shares, records: list[Record]) -> list[str]:
 
 
 def each(workload: Workload) -> list[str]:
-    """A line for each input."""
-    lines = ["each statement, in the order of the input"]
-    for number, it in enumerate(workload.records, 1):
-        found = it.found
-        line = f"line {it.input.line}, " if it.input.line else ""
-        calls = f"{line}calls {it.input.calls}" + (
-            f", {it.input.seconds:.3f} s" if it.input.seconds is not None else ""
-        )
-        if found.skipped:
-            lines.append(f"  {number} skipped ({calls}): {found.skipped}")
-            continue
-        written = ", ".join(map(str, it.numbers)) or "none"
-        lines.append(
-            f"  {number} {found.outcome} ({calls}), statement {written}"
-            + (": " if found.changes else "")
-            + ", ".join(found.changes)
-        )
-    return lines
+    """A line for each input, by its statements in the workload."""
+    return ["each statement, in the order of the input, ? for its literals", *map(_line, workload.records)]
+
+
+def _line(record: Record) -> str:
+    given, found = record.input, record.found
+    line = f"line {given.line}, " if given.line else ""
+    seconds = f", {given.seconds:.3f} s" if given.seconds is not None else ""
+    name = numbered("statement", record.numbers) + " " if record.numbers else ""
+    why = found.skipped or ", ".join(found.changes)
+    what = "; ".join(it for it in (why, short(without_literals(given.text))) if it)
+    return f"  {name}{found.outcome} ({line}calls {given.calls}{seconds}): {what}"

@@ -1,6 +1,7 @@
 """What is known of a database: its tables with their columns, indexes and statistics, and the names that stand for them."""
 from __future__ import annotations
 
+import math
 import re
 from collections.abc import Iterable
 from dataclasses import dataclass, field
@@ -17,7 +18,11 @@ _NAME = re.compile(r"[A-Za-z_][A-Za-z0-9_]{0,63}\Z")
 class Column:
     """A column: its name in PostgreSQL and in the catalogue, and its statistics, of which each may be unknown.
 
-    `low` and `high` are whole numbers: values of a column of kind `int`, days since 1970-01-01 of one of kind `date`.
+    `low` and `high` are whole numbers: values of a column of kind `int`, or seconds since 1970 of its timestamps, and days
+    since 1970-01-01 of one of kind `date`;
+    `bounds` are such numbers too, between each two of which lie as many rows. They are values times ten to the power of
+    `scale`; `has_fractions` says that values lie between them.
+    `nulls` is the share of the rows that have no value.
     `no_key` says why no index can have the column, and is empty where one can.
     """
 
@@ -30,10 +35,20 @@ class Column:
     high: int | None = None
     type: str = ""
     no_key: str = ""
+    bounds: list[int] = field(default_factory=list)
+    scale: int = 0
+    has_fractions: bool = False
+    nulls: float = 0.0
 
     def has_range(self) -> bool:
-        """Whether a literal of this column can be priced by its place between low and high."""
-        return self.kind != "text" and self.low is not None and self.high is not None and self.low < self.high
+        """Whether a literal of this column can be priced by its place: between low and high, or by the histogram."""
+        return (
+            bool(self.bounds)
+            or self.kind != "text"
+            and self.low is not None
+            and self.high is not None
+            and self.low < self.high
+        )
 
 
 @dataclass(eq=False)
@@ -70,9 +85,9 @@ class Table:
     spares: list[Column] = field(default_factory=list)
     children: list[tuple[str, str]] = field(default_factory=list)
 
-    def add_spares(self) -> None:
-        """Adds the spare columns, where some column needs them."""
-        if not self.spares and any(it.no_key for it in self.columns.values()):
+    def add_spares(self, is_needed: bool = False) -> None:
+        """Adds the spare columns, where they are needed, be it for some column."""
+        if not self.spares and (is_needed or any(it.no_key for it in self.columns.values())):
             taken = {it.shown.lower() for it in self.columns.values()}
             shown = (cleaned(f"no_index_{number}", taken) for number in range(1, SPARES + 1))
             self.spares = [Column("", it, width=1, distinct=1) for it in shown]
@@ -86,7 +101,8 @@ class Table:
 
 
 class Schema:
-    """The tables of a database, found as PostgreSQL finds them. `taken` are names of other relations."""
+    """The tables of a database, found as PostgreSQL finds them. `taken` are names of other relations; `is_written` says that
+    the catalogue is there already."""
 
     def __init__(self, tables: Iterable[Table], path: Iterable[str] = ("public",)) -> None:
         self.tables = {(it.schema, it.name): it for it in tables}
@@ -96,6 +112,13 @@ class Schema:
         self.parents: dict[tuple[str, str], tuple[str, str]] = {}
         self.left_out: dict[tuple[str, str], str] = {}
         self.aggregates: frozenset[str] = frozenset()
+        self.is_written = False
+
+    def is_never_covered(self, table: Table) -> bool:
+        """Whether no index covers a statement that needs all columns of a table, which gets spare ones for that where it may."""
+        if len(table.columns) <= MOST_KEYS and not self.is_written:
+            table.add_spares(is_needed=True)
+        return len(table.columns) + len(table.spares) > MOST_KEYS
 
     def key_of(self, schema: str | None, name: str, path: Iterable[str] | None = None) -> tuple[str, str] | None:
         """The schema and the name of a table or a view; without a schema the path decides, and then a single match."""
@@ -107,6 +130,11 @@ class Schema:
                 return it, name
         others = {it for it in known if it[1] == name}
         return others.pop() if len(others) == 1 else None
+
+
+def share_of(number: float) -> float:
+    """A share from 0 to 1; the owner of a table may set its numbers to what is none."""
+    return 0.0 if math.isnan(number) else min(1.0, max(0.0, number))
 
 
 def quoted(name: str) -> str:

@@ -7,6 +7,7 @@ from __future__ import annotations
 
 import argparse
 import os
+import re
 import socket
 import threading
 from collections.abc import Iterator, Mapping, Sequence
@@ -97,21 +98,15 @@ _FAULTS = {
     "57P01": "the server ended the session",
 }
 
-MOST_NAMES = 20
-_HIDDEN = """
-SELECT n.nspname::text, c.relname::text FROM pg_catalog.pg_class c JOIN pg_catalog.pg_namespace n ON n.oid = c.relnamespace
-WHERE c.oid = ANY(%s::oid[])
-    AND (NOT pg_catalog.has_any_column_privilege(c.oid, 'SELECT') OR pg_catalog.row_security_active(c.oid))
-ORDER BY 1, 2"""
-
 
 class ServerFault(Exception):
     """What went wrong on the server, in words that hold nothing of the connection or of the database, with the SQLSTATE
-    where there is one."""
+    where there is one. `place` counts the characters of a query before what is wrong in it, and `parameter` is the number
+    of one that is."""
 
-    def __init__(self, text: str, code: str = "") -> None:
+    def __init__(self, text: str, code: str = "", place: int | None = None, parameter: int = 0) -> None:
         super().__init__(text)
-        self.code = code
+        self.code, self.place, self.parameter = code, place, parameter
 
     def shown(self) -> str:
         """The SQLSTATE and what it says."""
@@ -151,8 +146,7 @@ class Server:
                 cursor.execute(f"{OWN} {query}", values or None, binary=True)
                 return list(cursor.fetchall()) if cursor.description else []
         except psycopg.Error as fault:
-            code = fault.sqlstate or ("08006" if self.is_lost() else "none")
-            raise ServerFault(f"the server answers a query with the error {code}", code) from None
+            raise self._told(fault) from None
         except UnicodeError:
             raise ServerFault("a text can't be written in the database's encoding", "22021") from None
         except BaseException:
@@ -163,6 +157,22 @@ class Server:
             raise
         finally:
             limit.cancel()
+
+    def _told(self, fault: Any) -> ServerFault:
+        """A fault by its code, its place and the number of a parameter alone."""
+        if self.is_lost():
+            return ServerFault("the connection to the server was lost", fault.sqlstate or "08006")
+        code, place = fault.sqlstate or "none", str(fault.diag.statement_position or "")
+        before = len(OWN) + 2
+        number = re.search(r"\$(\d{1,5})\b", str(fault.diag.message_primary or "")) if code == "42P18" else None
+        said = f", {_FAULTS[code]}" if code in _FAULTS else ""
+        return ServerFault(
+            f"the server answers a query with the error {code}{said}"
+            + "; --timeout gives it more seconds" * (code == "57014"),
+            code,
+            max(0, int(place) - before) if place.isdecimal() else None,
+            int(number[1]) if number else 0,
+        )
 
     def value(self, query: str, values: Values = ()) -> Any:
         """The first value of the first row, if there is one."""
@@ -302,20 +312,3 @@ def quoted_name(name: str) -> str:
 def version_of(server: Server) -> int:
     """The server's version, as 150018."""
     return int(server.value("SELECT pg_catalog.current_setting('server_version_num')"))
-
-
-def rights(server: Server, tables: Sequence[int]) -> list[str]:
-    """What to warn of: rights that the role lacks to see everything, tables that it can't see, and rights that it doesn't
-    need."""
-    if server.value("SELECT rolsuper FROM pg_catalog.pg_roles WHERE rolname = session_user"):
-        return [
-            "the role is a superuser, so no table is sampled: tools/pg/advisor_role.sql makes one whose rights suffice"
-        ]
-    wanted = ["pg_read_all_stats"] + ["pg_read_all_data"] * (version_of(server) >= 140000)
-    lacks = [it for it in wanted if not server.value("SELECT pg_has_role(current_user, %s, 'USAGE')", (it,))]
-    told = [f"the role isn't a member of {it}, so some statements or statistics may be missing" for it in lacks]
-    hidden = [".".join(map(ascii, it)) for it in server.rows(_HIDDEN, ([*tables],))]
-    if hidden:
-        some = ", ".join(hidden[:MOST_NAMES]) + (f" and {len(hidden) - MOST_NAMES} more" if hidden[MOST_NAMES:] else "")
-        told.append(f"without the right to read them, or for a policy, there are no statistics of {some}")
-    return told

@@ -4,20 +4,22 @@ from __future__ import annotations
 import math
 from collections.abc import Callable, Iterable
 from dataclasses import dataclass
-from datetime import date
-from decimal import Decimal, InvalidOperation
 from typing import Any
 
+from cophy_text.answers import counted
 from cophy_pg import catalogs, indexes
-from cophy_pg.keyable import WIDEST, Lengths, Orders, Part, Stored
-from cophy_pg.rewrite.terms import day_number
-from cophy_pg.schema import SPARES, Column, Schema, Table, cleaned
-from cophy_pg.server import Row, Server, ServerFault, reading, rights
+from cophy_pg.bounds import bounds_of, parts_for
+from cophy_pg.keyable import WIDEST, Lengths, Part, Stored
+from cophy_pg.places import MOMENTS, ends, place, set_scale, within_limits
+from cophy_pg.schema import SPARES, Column, Schema, Table, cleaned, share_of
+from cophy_pg.server import Row, Server, ServerFault, reading
+from cophy_pg.trust import rights
+from cophy_pg.types import Base, Orders, Types
 
 MOST_TABLES, MOST_COLUMNS = 200, 200
-MOST_NUMBER, MOST_ROWS = 10**18, 10**12
+MOST_ROWS = 10**12
 INTS = frozenset(("int2", "int4", "int8", "numeric", "float4", "float8", "oid"))
-DATES = frozenset(("date", "timestamp", "timestamptz"))
+DATES = frozenset(("date",))
 
 Progress = Callable[[str], None]
 
@@ -51,24 +53,25 @@ class Relation:
         return self.schema, self.name
 
     def part(self) -> Part:
-        return Part(self.schema, self.name, self.kind, self.pages, self.out_of_line, self.stays_in_line)
+        return Part(self.schema, self.name, self.pages, self.out_of_line, self.stays_in_line, self.oid)
 
 
 def read_database(server: Server, named: set[str], words: set[str], progress: Progress) -> Found:
     """Reads the tables that the workload names first, and of wide ones the columns that it names first. How long values are
     is read last, since code of others that runs then may end the connection."""
-    kinds = [*INTS, *DATES]
     with reading(server):
         progress("reading tables")
         reader = Reader(server, words)
         reader.choose({*named})
-        progress(f"reading columns and statistics of {len(reader.tables)} tables")
-        reader.add_columns(server.rows(catalogs.COLUMNS))
-        reader.add_statistics(server.rows(catalogs.STATS, (kinds, kinds)))
+        progress(f"reading columns and statistics of {counted(len(reader.tables), 'table')}")
+        types = reader.add_columns(server.rows(catalogs.COLUMNS))
+        numbers = types.named(INTS | DATES | MOMENTS)
+        reader.add_statistics(server.rows(catalogs.STATS, (numbers, numbers)))
+        reader.add_bounds()
         progress("reading indexes")
         listed = reader.given_indexes(server.rows(catalogs.INDEXES))
         names = [str(it[0]) for it in server.rows(catalogs.NAMES)]
-        orders = Orders(server, reader.tables)
+        orders = Orders(types)
         aggregates = server.rows("SELECT DISTINCT proname::text FROM pg_catalog.pg_proc WHERE prokind = 'a'")
         path, rates = server.own_path(), read_rates(server)
         warnings = rights(server, [oid for oid, it in reader.tables.items() if it.columns])
@@ -117,6 +120,7 @@ class Reader:
         self.stored: dict[int, list[Stored]] = {}
         self.numbers: dict[int, dict[int, str]] = {}
         self.correlations: dict[int, dict[str, float]] = {}
+        self.distributions: dict[Column, tuple[list[tuple[Any, float]], list[Any], float]] = {}
 
     def choose(self, named: set[str]) -> None:
         """Reads which relations there are, and chooses the tables of the catalogue."""
@@ -192,11 +196,13 @@ class Reader:
             schema, name = self.relations[oid].key()
             self.warnings.append(f"{schema!a}.{name!a}: {fault.shown()}, so {lost}")
 
-    def add_columns(self, rows: list[Row]) -> None:
-        """Adds the columns, with the widths of their types."""
+    def add_columns(self, rows: list[Row]) -> Types:
+        """Adds the columns, with the widths of their types, which are the answer."""
         by_table: dict[int, list[Row]] = {}
         for it in rows:
-            by_table.setdefault(int(it[0]), []).append(it)
+            if int(it[0]) in self.tables:
+                by_table.setdefault(int(it[0]), []).append(it)
+        types = Types(self.server, {int(it[3]) for listed in by_table.values() for it in listed})
         for oid, table in self.tables.items():
             listed = by_table.get(oid, [])
             if len(listed) > MOST_COLUMNS:
@@ -204,22 +210,22 @@ class Reader:
                 listed.sort(key=lambda it: (it[2] not in self.words, it[1]))
                 listed = sorted(listed[:MOST_COLUMNS], key=lambda it: int(it[1]))
             taken: set[str] = set()
-            for _, number, name, kind, length, modifier, base, storage, is_virtual in listed:
-                shown = cleaned(str(name), taken)
-                width = length if length > 0 else min(32, modifier - 4) if modifier > 4 else 32
-                kinds = "int" if kind in INTS else "date" if kind in DATES else "text"
-                column = Column(str(name), shown, kinds, min(WIDEST, max(1, width)), type=str(kind))
+            for _, number, name, kind, modifier, storage, is_virtual in listed:
+                base = types.of[int(kind)]
+                length = int(modifier) if modifier >= 0 else base.modifier
+                column = _column(str(name), cleaned(str(name), taken), base, length)
+                stored = Stored(column, base, length, str(storage), bool(is_virtual))
                 table.columns[str(name)] = column
                 self.numbers.setdefault(oid, {})[int(number)] = str(name)
-                stored = Stored(
-                    column, int(base), str(kind), int(length), int(modifier), str(storage), bool(is_virtual)
-                )
                 self.stored.setdefault(oid, []).append(stored)
             self._count_rows(oid, table)
         self.left_out |= {(it.schema, it.name): "it has no column" for it in self.tables.values() if not it.columns}
+        return types
 
     def _tell_left_out(self, table: Table, count: int) -> None:
-        self.warnings.append(f"{table.shown}: {count} columns over {MOST_COLUMNS} are left out")
+        self.warnings.append(
+            f"{table.shown}: {counted(count, 'column')} over {MOST_COLUMNS} {'is' if count == 1 else 'are'} left out"
+        )
 
     def _count_rows(self, oid: int, table: Table) -> None:
         """Rows as the planner takes them: so many a page at the last ANALYZE, over the pages of today."""
@@ -239,7 +245,7 @@ class Reader:
 
     def add_statistics(self, rows: list[Row]) -> None:
         """Adds distinct values, widths and ends; of a table with parts, those over all of them."""
-        for oid, name, distinct, width, correlation, common, bounds, inherited in rows:
+        for oid, name, distinct, width, correlation, common, bounds, inherited, masses, missing in rows:
             table = self.tables.get(int(oid))
             column = table.columns.get(str(name)) if table else None
             if table is None or column is None or (inherited and not (table.is_partitioned or table.children)):
@@ -247,9 +253,24 @@ class Reader:
             column.width = min(WIDEST, max(1, int(width)))
             count = distinct if distinct > 0 else -distinct * table.rows
             column.distinct = within(count, 1, MOST_ROWS) if distinct else None
-            column.low, column.high = ends(column.kind, [*(common or ()), *(bounds or ())])
+            column.nulls = round(share_of(float(missing)), 3)
+            known = [*(common or ()), *(bounds or ())]
+            set_scale(column, known)
+            column.low, column.high = ends(column, known)
+            if column.low is not None:
+                frequent = [*zip(common or (), map(float, masses or ()))]
+                self.distributions[column] = frequent, [*(bounds or ())], 1 - float(missing)
             if correlation is not None and not table.children:
                 self.correlations.setdefault(int(oid), {})[str(name)] = float(correlation)
+
+    def add_bounds(self) -> None:
+        """Adds the histograms, those of many columns with fewer parts."""
+        parts = parts_for(len(self.distributions))
+        for column, (frequent, bounds, present) in self.distributions.items():
+            points = [(number, mass) for it, mass in frequent if (number := place(column, it)) is not None]
+            listed = [it for it in (place(column, it) for it in bounds) if it is not None]
+            rest = present - sum(mass for _, mass in frequent)
+            column.bounds = within_limits(column, bounds_of(points, sorted(listed), rest if listed else 0.0, parts))
 
     def given_indexes(self, rows: list[Row]) -> dict[int, list[indexes.Given]]:
         """The indexes of the tables as the server has them."""
@@ -264,6 +285,8 @@ class Reader:
         for oid, table in self.tables.items():
             parts = [it.part() for it in self.parts.get(oid, ())]
             lengths.mark(table, self.stored.get(oid, []), parts, indexes.fitting(listed.get(oid, [])))
+        lengths.sample()
+        for table in self.tables.values():
             table.add_spares()
             over = len(table.columns) + len(table.spares) - MOST_COLUMNS
             if over > 0:
@@ -301,34 +324,13 @@ class Reader:
         return [it for it in dict.fromkeys(names) if it not in known and it.lower().startswith(stems)]
 
 
+def _column(name: str, shown: str, base: Base, modifier: int) -> Column:
+    """A column of which nothing but its type is known."""
+    width = base.length if base.length > 0 else min(32, modifier - 4) if modifier > 4 else 32
+    kind = "int" if base.name in INTS | MOMENTS else "date" if base.name in DATES else "text"
+    return Column(name, shown, kind, min(WIDEST, max(1, width)), type=base.name)
+
+
 def within(number: float, least: int, most: int) -> int:
     """The nearest whole number between two; the owner of a table may set its numbers to what is none, or has no end."""
     return least if math.isnan(number) else round(min(most, max(least, number)))
-
-
-def ends(kind: str, values: list[Any]) -> tuple[int | None, int | None]:
-    """The least and the greatest of values as a catalogue writes them: ints rounded outwards, days cut."""
-    if kind == "text":
-        return None, None
-    found = [it for it in map(_whole if kind == "int" else _day, values) if it is not None]
-    if not found:
-        return None, None
-    low, high = min(it[0] for it in found), max(it[1] for it in found)
-    return (low, high) if -MOST_NUMBER <= low and high <= MOST_NUMBER else (None, None)
-
-
-def _whole(value: Any) -> tuple[int, int] | None:
-    try:
-        number = Decimal(str(value))
-        return (math.floor(number), math.ceil(number)) if number.is_finite() else None
-    except InvalidOperation:
-        return None
-
-
-def _day(value: Any) -> tuple[int, int] | None:
-    text = str(value)
-    try:
-        number = day_number(date.fromisoformat(text[:10])) if not text.endswith("BC") and text[4:5] == "-" else None
-    except ValueError:
-        return None
-    return (number, number) if number is not None else None

@@ -5,10 +5,10 @@ operators, and of functions below types, in a statement as well as in views, ind
 """
 from __future__ import annotations
 
-from collections.abc import Iterable, Sequence
+from collections.abc import Iterable, Mapping, Sequence
 from dataclasses import dataclass, field, fields
 
-from cophy_pg.server import Server, ServerFault, quoted_name
+from cophy_pg.server import Server, ServerFault, quoted_name, version_of
 
 POWERS = (
     "pg_execute_server_program",
@@ -18,8 +18,15 @@ POWERS = (
     "pg_signal_backend",
 )
 """Roles whose rights reach beyond a read-only transaction, or beyond the database."""
+BETTER = "tools/pg/advisor_role.sql makes one whose rights suffice"
 COMPARISONS = frozenset(("=", "<>", "<", "<=", ">", ">="))
 
+MOST_NAMES = 20
+_HIDDEN = """
+SELECT n.nspname::text, c.relname::text FROM pg_catalog.pg_class c JOIN pg_catalog.pg_namespace n ON n.oid = c.relnamespace
+WHERE c.oid = ANY(%s::oid[])
+    AND (NOT pg_catalog.has_any_column_privilege(c.oid, 'SELECT') OR pg_catalog.row_security_active(c.oid))
+ORDER BY 1, 2"""
 _POWER = """
 SELECT CASE WHEN r.rolsuper THEN '' ELSE r.rolname::text END
 FROM pg_catalog.pg_roles r
@@ -27,9 +34,47 @@ WHERE (r.rolsuper OR r.rolreplication OR r.rolname = ANY(%s))
     AND (pg_catalog.pg_has_role(session_user, r.oid, 'MEMBER') OR pg_catalog.pg_has_role(current_user, r.oid, 'MEMBER'))
 ORDER BY r.rolsuper DESC, r.rolname LIMIT 1"""
 
+# What is read or called goes by the extension's own list of its parts, never by its name alone. Who owns the database has the
+# rights of pg_database_owner.
+_PARTS = """
+WITH parts AS (
+    SELECT e.oid AS extension, e.extnamespace AS home, d.classid, d.objid FROM pg_catalog.pg_extension e
+    JOIN pg_catalog.pg_depend d ON d.refclassid = 'pg_catalog.pg_extension'::regclass AND d.refobjid = e.oid AND d.deptype = 'e'
+    WHERE e.extname = %s
+), owners(oid) AS (
+    SELECT e.extowner FROM pg_catalog.pg_extension e JOIN parts p ON p.extension = e.oid
+    UNION SELECT n.nspowner FROM pg_catalog.pg_namespace n JOIN parts p ON p.home = n.oid
+    UNION SELECT c.relowner FROM pg_catalog.pg_class c JOIN parts p ON p.objid = c.oid
+        AND p.classid = 'pg_catalog.pg_class'::regclass
+    UNION SELECT f.proowner FROM pg_catalog.pg_proc f JOIN parts p ON p.objid = f.oid
+        AND p.classid = 'pg_catalog.pg_proc'::regclass
+    UNION SELECT b.datdba FROM pg_catalog.pg_database b WHERE b.datname = pg_catalog.current_database() AND EXISTS (
+        SELECT FROM pg_catalog.pg_namespace n JOIN parts p ON p.home = n.oid
+        JOIN pg_catalog.pg_roles r ON r.oid = n.nspowner WHERE r.rolname = 'pg_database_owner')
+), others(names) AS (
+    SELECT ARRAY(SELECT r.rolname::text FROM owners o JOIN pg_catalog.pg_roles r ON r.oid = o.oid
+        WHERE NOT r.rolsuper AND r.rolname NOT IN ('pg_database_owner', session_user) ORDER BY 1)
+)"""
+_VIEW = f"""{_PARTS}
+SELECT n.nspname::text, c.oid::int8, o.names
+FROM others o CROSS JOIN parts p JOIN pg_catalog.pg_class c ON c.oid = p.objid AND c.relnamespace = p.home AND c.relkind = 'v'
+JOIN pg_catalog.pg_namespace n ON n.oid = p.home
+WHERE p.classid = 'pg_catalog.pg_class'::regclass AND c.relname = %s"""
+_CALLED = f"""{_PARTS}
+SELECT n.nspname::text, p.proname::text, pg_catalog.oidvectortypes(p.proargtypes), w.rolname::text, l.lanname = 'c',
+    w.rolsuper OR w.rolname = session_user, o.names
+FROM others o CROSS JOIN parts JOIN pg_catalog.pg_proc p ON p.oid = parts.objid AND p.pronamespace = parts.home
+JOIN pg_catalog.pg_namespace n ON n.oid = parts.home JOIN pg_catalog.pg_language l ON l.oid = p.prolang
+JOIN pg_catalog.pg_roles w ON w.oid = p.proowner
+WHERE parts.classid = 'pg_catalog.pg_proc'::regclass AND p.proname = ANY(%s)"""
+
+# Whether the role, or one that it is a member of, owns anything in the database, or a database.
 _OWNS = """
-SELECT pg_catalog.pg_has_role(session_user, c.relowner, 'MEMBER')
-FROM pg_catalog.pg_class c JOIN pg_catalog.pg_namespace n ON n.oid = c.relnamespace WHERE n.nspname = %s AND c.relname = %s"""
+SELECT EXISTS (
+    SELECT FROM pg_catalog.pg_shdepend d JOIN pg_catalog.pg_roles r ON r.oid = d.refobjid
+    WHERE d.refclassid = 'pg_catalog.pg_authid'::regclass AND d.deptype = 'o'
+        AND d.dbid IN (0, (SELECT b.oid FROM pg_catalog.pg_database b WHERE b.datname = pg_catalog.current_database()))
+        AND (pg_catalog.pg_has_role(session_user, r.oid, 'MEMBER') OR pg_catalog.pg_has_role(current_user, r.oid, 'MEMBER')))"""
 
 # Asked in the path of statements, so each name has its schema, and there is no operator.
 _RESOLVED = """
@@ -77,7 +122,7 @@ WITH RECURSIVE reached(oid) AS (
 ), functions(oid) AS (
     SELECT refobjid FROM used WHERE refclassid = 'pg_catalog.pg_proc'::regclass
     UNION SELECT o.oprcode FROM pg_catalog.pg_operator o JOIN operators m ON o.oid IN (m.oid, m.oprcom, m.oprnegate)
-    UNION SELECT castfunc FROM pg_catalog.pg_cast WHERE castfunc <> 0
+    UNION SELECT castfunc FROM pg_catalog.pg_cast WHERE castfunc <> 0 AND %(casts)s
     UNION SELECT oid FROM pg_catalog.pg_proc WHERE proname = ANY(%(functions)s)
         OR pronargs = 1 AND proname = ANY(%(columns)s)
 )"""
@@ -135,10 +180,40 @@ def refuse_powers(server: Server) -> None:
         raise NotTrusted(f"a member of {found}" if found else "a superuser")
 
 
-def may_plan(server: Server, schema: str, table: str) -> bool:
-    """Whether a query over a table is planned with rights to read alone. Planning it may run functions of the table's
-    indexes, constraints and statistics, whatever the query asks for."""
-    return server.value(_POWER, ([*POWERS],)) is None and server.value(_OWNS, (schema, table)) is False
+def view_of(server: Server, extension: str, name: str = "") -> tuple[str, int, list[str]] | None:
+    """The view of a name, or else of the extension's, that is a part of it: its schema, its number, and who may put another in its place but
+    is no superuser. Nothing where there is none."""
+    rows = server.rows(_VIEW, (extension, name or extension))
+    return (str(rows[0][0]), int(rows[0][1]), [*map(str, rows[0][2])]) if rows else None
+
+
+def callable_of(server: Server, extension: str, functions: Mapping[str, str]) -> tuple[str, list[str]] | None:
+    """The schema of an extension's functions, by their names with the types that they take, and who may put others in their
+    place but is no superuser. Nothing where one isn't there; refuses one that is no longer the extension's own."""
+    rows = server.rows(_CALLED, (extension, [*functions]))
+    found = [it for it in rows if functions[it[1]] == it[2]]
+    for schema, name, _, owner, is_in_c, is_safe, _ in found:
+        if not is_in_c or not is_safe:
+            why = f"{schema!a}.{name!a} isn't called, since {owner!a} owns it" + " and has replaced it" * (not is_in_c)
+            raise ServerFault(f"the function {why}: make the extension {extension} anew as a superuser")
+    return (str(found[0][0]), [*map(str, found[0][6])]) if len(found) == len(functions) else None
+
+
+def has_power(server: Server) -> bool:
+    """Whether the role has a power that code could use in a read-only transaction."""
+    return server.value(_POWER, ([*POWERS],)) is not None
+
+
+def may_plan(server: Server) -> bool:
+    """Whether the role may plan queries over all tables: planning may run functions of a table's indexes, constraints and
+    statistics, whatever a query asks for, and these have the rights of the role, so it has to be one that only reads.
+    """
+    return not has_power(server) and server.value(_OWNS) is False
+
+
+def runs_functions(server: Server, tables: Iterable[int]) -> bool:
+    """Whether planning queries over tables may run functions of users."""
+    return bool(server.rows(_FUNCTIONS, _values(Names(operators=set()), tables) | {"casts": False}))
 
 
 def refuse_owner(server: Server, names: Names, tables: Iterable[int]) -> None:
@@ -156,6 +231,24 @@ def functions_of_users(server: Server, names: Names, tables: Iterable[int]) -> l
     return [f"{_plain(f'{schema}.{name}({given})')} of {_plain(owner)}" for schema, name, given, owner, _ in rows]
 
 
+def rights(server: Server, tables: Sequence[int]) -> list[str]:
+    """What to warn of: rights that the role lacks to see everything, tables that it can't see, and rights that it doesn't
+    need."""
+    is_super = server.value("SELECT rolsuper FROM pg_catalog.pg_roles WHERE rolname = session_user")
+    what = "is a superuser" if is_super else "owns something here, or may do more than read"
+    told = [] if may_plan(server) else [f"the role {what}, so no table is sampled: {BETTER}"]
+    if is_super:
+        return told
+    wanted = ["pg_read_all_stats"] + ["pg_read_all_data"] * (version_of(server) >= 140000)
+    lacks = [it for it in wanted if not server.value("SELECT pg_has_role(current_user, %s, 'USAGE')", (it,))]
+    told += [f"the role isn't a member of {it}, so some statements or statistics may be missing" for it in lacks]
+    hidden = [".".join(map(ascii, it)) for it in server.rows(_HIDDEN, ([*tables],))]
+    if hidden:
+        some = ", ".join(hidden[:MOST_NAMES]) + (f" and {len(hidden) - MOST_NAMES} more" if hidden[MOST_NAMES:] else "")
+        told.append(f"without the right to read them, or for a policy, there are no statistics of {some}")
+    return told
+
+
 def resolved(
     server: Server, names: Iterable[tuple[str | None, str]], path: Sequence[str] | None
 ) -> dict[tuple[str | None, str], int]:
@@ -168,8 +261,8 @@ def resolved(
     return {name: int(row[0]) for name, row in zip(listed, rows, strict=True) if row[0] is not None}
 
 
-def _values(names: Names, tables: Iterable[int]) -> dict[str, list[object]]:
-    listed: dict[str, list[object]] = {"tables": [*tables]}
+def _values(names: Names, tables: Iterable[int]) -> dict[str, object]:
+    listed: dict[str, object] = {"tables": [*tables], "casts": True}
     return listed | {it: [*getattr(names, it)] for it in ("functions", "operators", "columns", "types")}
 
 

@@ -6,17 +6,22 @@ import json
 from dataclasses import dataclass
 from typing import Any
 
-from cophy_text.answers import Advice, NoAnswer, Prices, explained
-from cophy_pg import files, inputs
+from cophy_text import files
+from cophy_text.answers import Advice, NoAnswer, Prices, counted, explained
+from cophy_text.shown import short
+from cophy_pg import inputs
 from cophy_pg.catalogue import read_schema
 from cophy_pg.ddl import advice_of
-from cophy_pg.explain import Columns, Explainer, NoStatement, add_names, statement_of
+from cophy_pg.explain import Explainer, NoStatement, add_names, statement_of
 from cophy_pg.outcomes import Outcome, Verdict, outcomes, texts_in, unmatched
-from cophy_pg.picks import index_names, make
+from cophy_pg.parameters import Columns
+from cophy_pg.picks import index_names, make, replaceable
 from cophy_pg.program import Program, ProgramFault, add_program
 from cophy_pg.progress import Progress, say
 from cophy_pg.schema import Schema
+from cophy_pg.selection import add_selection, selection_of
 from cophy_pg.server import Server, ServerFault, add_connection, connected, reading
+from cophy_pg.sizes import both
 from cophy_pg.trust import Names, functions_of_users, refuse_owner, refuse_powers, resolved
 from cophy_pg.workload import form_of, forms_in
 
@@ -56,12 +61,8 @@ def add_verify(commands: argparse._SubParsersAction[argparse.ArgumentParser]) ->
     source = parser.add_mutually_exclusive_group()
     source.add_argument("--sql", metavar="FILE", help="the statements as export took them from a file of SQL")
     source.add_argument("--log", metavar="FILE", help="the statements as export took them from a log")
-    parser.add_argument(
-        "--i-trust-the-statements",
-        action="store_true",
-        dest="is_trusted",
-        help="explain them as a superuser or an owner too: functions of users may then do all that the role may",
-    )
+    add_selection(parser)
+    add_trust(parser)
     parser.add_argument(
         "--advice",
         metavar="FILE",
@@ -76,26 +77,23 @@ def add_verify(commands: argparse._SubParsersAction[argparse.ArgumentParser]) ->
     parser.set_defaults(run=verify)
 
 
+def add_trust(parser: argparse.ArgumentParser) -> None:
+    """The word that lifts what is refused for the sake of the role."""
+    parser.add_argument(
+        "--i-trust-the-statements",
+        action="store_true",
+        dest="is_trusted",
+        help="explain them as a superuser or an owner too: functions of users may then do all that the role may",
+    )
+
+
 def judge(
     server: Server, schema: Schema, advice: Advice, found: list[Verdict], is_trusted: bool, progress: Progress
 ) -> tuple[list[Outcome], list[str]]:
     """Explains statements without and with the picks, and fills their verdicts."""
-    names: dict[tuple[str, ...] | None, Names] = {}
-    for it in found:
-        try:
-            it.statement = statement_of(it.input.text, it.input.path)
-            add_names(names.setdefault(it.input.path, Names()), it.statement.tree)
-        except NoStatement as fault:
-            it.fault = str(fault)
     with reading(server, "READ COMMITTED"):
-        numbers = {path: resolved(server, it.tables, path) for path, it in names.items()}
-        for it in found:
-            if it.statement is not None:
-                it.statement.numbers = numbers[it.statement.path]
-        tables, every = {number for it in numbers.values() for number in it.values()}, Names.of(names.values())
-        if not is_trusted:
-            refuse_owner(server, every, tables)
-        functions = functions_of_users(server, every, tables)
+        tables, every = look_up(server, found, is_trusted)
+        functions = functions_of_users(server, every, tables) + replaceable(server)
         if functions:
             say(f"PostgreSQL may run these functions of users while it plans: {'; '.join(functions)}")
         explainer = Explainer(server, Columns.read(server, tables))
@@ -107,6 +105,25 @@ def judge(
             progress(f"explaining {it.shown()} with the picks")
             _explain(explainer, it, made, True)
     return listed, functions
+
+
+def look_up(server: Server, found: list[Verdict], is_trusted: bool) -> tuple[set[int], Names]:
+    """The tables that statements name, and all names in them; refuses a role that owns any of that."""
+    names: dict[tuple[str, ...] | None, Names] = {}
+    for it in found:
+        try:
+            it.statement = statement_of(it.input.text, it.input.path)
+            add_names(names.setdefault(it.input.path, Names()), it.statement.tree)
+        except NoStatement as fault:
+            it.fault = str(fault)
+    numbers = {path: resolved(server, it.tables, path) for path, it in names.items()}
+    for it in found:
+        if it.statement is not None:
+            it.statement.numbers = numbers[it.statement.path]
+    tables, every = {number for it in numbers.values() for number in it.values()}, Names.of(names.values())
+    if not is_trusted:
+        refuse_owner(server, every, tables)
+    return tables, every
 
 
 def _explain(explainer: Explainer, verdict: Verdict, made: dict[str, int], is_after: bool) -> None:
@@ -157,23 +174,24 @@ def verify(words: argparse.Namespace) -> int:
     kept = [it.pick.number for it in picks if it.name != "not taken" and not it.exists]
     prices = ours(words, [], [it.number for it in advice.picks], kept)
     if words.json:
-        print(json.dumps(_as_json(judged, prices), indent=2))
+        print(json.dumps(as_json(judged, prices), indent=2))
     else:
         _print(judged, prices)
     return _write(words, advice, judged, kept, prices)
 
 
 def _statements(server: Server, words: argparse.Namespace) -> list[inputs.Input]:
-    given = None
+    given, selection = None, selection_of(words)
     if words.sql:
         given = inputs.from_sql(files.read(words.sql))
     elif words.log:
         given = inputs.from_log(files.read(words.log))
     with reading(server):
         if given is None:
-            return inputs.from_server(server)
-        inputs.look_up(server, given)
-        return given
+            given = inputs.from_server(server, is_trusted=words.is_trusted)
+        else:
+            inputs.look_up(server, given)
+        return selection.of(server, given)
 
 
 def _write(
@@ -185,7 +203,7 @@ def _write(
         never = [f"never {it.pick.shown()}\n" for it in judged.outcomes if it.name == "not taken" and not it.exists]
         written.append(files.File(words.rules, "".join(never).encode("ascii"), False))
     if words.advice_file and prices is not None:
-        text = _advice_text(advice, kept, prices[2].total)
+        text = advice_text(advice, kept, prices[2].total)
         written.append(files.File(words.advice_file, text.encode("ascii"), False))
     files.write(written)
     if words.advice_file and prices is None:
@@ -194,7 +212,7 @@ def _write(
     return 0
 
 
-def _advice_text(advice: Advice, kept: list[int], cost: int) -> str:
+def advice_text(advice: Advice, kept: list[int], cost: int) -> str:
     """An advice of fewer picks. Its bound is that of the advice, which no set of picks undercuts."""
     picks = [it for it in advice.picks if it.number in kept]
     lines = [f"budget {advice.budget}", *(f"pick {it.number} {it.shown()} {it.pages} pages" for it in picks)]
@@ -214,20 +232,22 @@ def our_saving(verdict: Verdict, prices: list[Prices] | None) -> float | None:
 def _print(judged: Judged, prices: list[Prices] | None) -> None:
     for outcome in judged.outcomes:
         print(f"pick {outcome.pick.number} {outcome.pick.shown()}: {outcome.shown()}")
+        print(f"  {both(outcome.pick.pages, outcome.stored)}")
         users = [it for it in judged.verdicts if outcome.pick.number in it.taken]
         for it in sorted(users, key=lambda it: -it.calls * it.saved()):
             own = our_saving(it, prices)
-            shown = f", ours {own:.1f}" if own is not None else ""
-            costs = f"a call costs {it.before:.1f}, then {it.after:.1f}, saves {it.saved():.1f}{shown}"
-            print(f"  {it.shown()} (calls {it.calls}): {costs}")
+            shown = f", ours {own:,.1f}" if own is not None else ""
+            costs = f"a call costs {it.before:,.1f}, then {it.after:,.1f}, saves {it.saved():,.1f}{shown}"
+            print(f"  {it.shown()} (calls {it.calls:,}): {costs}: {short(it.input.text)}")
         for why, numbers in outcome.reasons.items():
             print(f"  {why}" + (f": {numbers}" if numbers else ""))
         print()
     for it in judged.verdicts:
         if it.saved() < -0.005 * max(1.0, it.before or 0):
-            print(f"{it.shown()}: a call costs more with the picks: {it.before:.1f}, then {it.after:.1f}")
+            costs = f"{it.before:,.1f}, then {it.after:,.1f}: {short(it.input.text)}"
+            print(f"{it.shown()}: a call costs more with the picks: {costs}")
         if it.fault:
-            print(f"{it.shown()}: not explained: {it.fault}")
+            print(f"{it.shown()}: not explained: {it.fault}: {short(it.input.text)}")
     print(_verdict(judged))
 
 
@@ -236,18 +256,21 @@ def _verdict(judged: Judged) -> str:
     number, before, after = judged.sums()
     counts = {name: sum(it.name == name for it in judged.outcomes) for name in ("taken", "not taken", "unknown")}
     exist = sum(bool(it.exists) for it in judged.outcomes)
-    text = f"verdict: of {len(judged.outcomes)} picks {counts['taken']} taken, {counts['not taken']} not taken, "
+    text = f"verdict: of {counted(len(judged.outcomes), 'pick')} {counts['taken']} taken, {counts['not taken']} not taken, "
     text += f"{counts['unknown']} unknown" + (f", {exist} there already" if exist else "")
     share = f" ({100 * (after - before) / before:+.1f} %)" if before else ""
-    return f"{text}; PostgreSQL's estimate for {number} statements: {before:.0f} without, {after:.0f} with them{share}"
+    costs = f"{before:,.0f} without, {after:,.0f} with them{share}"
+    return f"{text}; PostgreSQL's estimate for {counted(number, 'statement')}: {costs}"
 
 
-def _as_json(judged: Judged, prices: list[Prices] | None) -> dict[str, Any]:
+def as_json(judged: Judged, prices: list[Prices] | None) -> dict[str, Any]:
+    """All of it; statements go by their numbers in the workload."""
     statements = [
         {
-            "input": it.number,
+            "numbers": it.written,
+            "sql": short(it.input.text),
+            "line": it.input.line or None,
             "calls": it.calls,
-            "statements": it.written,
             "before": it.before,
             "after": it.after,
             "picks": it.taken,
@@ -260,8 +283,10 @@ def _as_json(judged: Judged, prices: list[Prices] | None) -> dict[str, Any]:
         {
             "number": it.pick.number,
             "index": it.pick.shown(),
+            "pages": it.pick.pages,
+            "stored_pages": it.stored,
             "outcome": it.name,
-            "taken_by": [v.number for v in judged.verdicts if it.pick.number in v.taken],
+            "taken_by": sorted({at for v in judged.verdicts if it.pick.number in v.taken for at in v.written}),
             "reasons": it.reasons,
             "exists": it.exists or None,
         }

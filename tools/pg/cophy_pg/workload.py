@@ -5,12 +5,12 @@ from collections.abc import Callable
 from dataclasses import dataclass, field
 
 from pglast import ast
-from pglast.parser import ParseError, fingerprint
+from pglast.parser import ParseError
 
 from cophy_pg.inputs import Input
 from cophy_pg.rewrite import Rewriter, Rewritten
 from cophy_pg.rewrite.expressions import nodes_of
-from cophy_pg.rewrite.parse import parsed
+from cophy_pg.rewrite.parse import fingerprint_of, parsed
 
 FROM = "from"
 MOST_STATEMENTS, MOST_SLOTS, MOST_WEIGHT, MOST_BYTES = 1000, 2000, 10**6, 16777216
@@ -27,11 +27,12 @@ class Record:
 
 @dataclass
 class Workload:
-    """The statements with their weights, and the record of each input in its order."""
+    """The statements with their weights, the record of each input in its order, and what there is to say of all."""
 
     records: list[Record]
     statements: list[tuple[str, int]]
     divisor: float = 1.0
+    remarks: list[str] = field(default_factory=list)
 
     def text(self) -> str:
         """The workload as a file. Before each statement stand the fingerprints of the inputs that it comes from."""
@@ -44,12 +45,24 @@ class Workload:
             for number, (text, weight) in enumerate(self.statements, 1)
         )
 
+    def reorder(self, order: list[int]) -> None:
+        """Puts the statements in another order, which has the places from 0 on that they had."""
+        self.statements = [self.statements[at] for at in order]
+        numbers = {at + 1: number for number, at in enumerate(order, 1)}
+        for it in self.records:
+            it.numbers = [numbers[number] for number in it.numbers]
+
+
+def text_of(statements: list[tuple[str, int]]) -> str:
+    """Statements with their weights, without more."""
+    return "".join(f"-- weight {weight}\n{text};\n" for text, weight in statements)
+
 
 def form_of(text: str) -> str:
     """PostgreSQL's fingerprint of a statement, which its literals don't change."""
     try:
-        return str(fingerprint(text))
-    except (ParseError, ValueError):
+        return fingerprint_of(text)
+    except (ParseError, RecursionError, ValueError):
         return "none"
 
 

@@ -18,7 +18,8 @@ HERE = Path(__file__).resolve().parent
 sys.path[:0] = [str(HERE.parent), str(HERE.parents[1] / "common")]
 
 from cophy_pg.catalogue import catalogue_text  # noqa: E402
-from cophy_pg.explain import Columns, Explainer, statement_of  # noqa: E402
+from cophy_pg.explain import Explainer, statement_of  # noqa: E402
+from cophy_pg.parameters import Columns  # noqa: E402
 from cophy_pg.picks import home_of, hypothetical, index_names  # noqa: E402
 from cophy_pg.rewrite import Options, Rewriter  # noqa: E402
 from cophy_pg.schema import Index  # noqa: E402
@@ -26,7 +27,8 @@ from cophy_pg.server import connected, reading  # noqa: E402
 from cophy_pg.statistics import read_database  # noqa: E402
 
 PAIR = re.compile(r"-- index (\w+) (.*)\n(.*);\n")
-SETTINGS = [(page, look_ups) for page in ("4", "1.1") for look_ups in (False, True)]
+SETTINGS = [(page, is_plain) for page in ("4", "1.1") for is_plain in (True, False)]
+PLAIN = Options(rows=False, limits=False, look_ups=False, deletes=False, insert_share=False)
 
 
 def pairs() -> list[tuple[str, list[str], str]]:
@@ -36,7 +38,7 @@ def pairs() -> list[tuple[str, list[str], str]]:
 
 def prepare(folder: Path) -> None:
     """Writes catalogues, workloads and words for the program, and what PostgreSQL says."""
-    for number, (page, look_ups) in enumerate(SETTINGS):
+    for number, (page, is_plain) in enumerate(SETTINGS):
         with connected() as server:
             server.rows(f"SET random_page_cost TO {page}")
             found, said = read_database(server, set(), set(), lambda _: None), []
@@ -50,7 +52,7 @@ def prepare(folder: Path) -> None:
                 home.indexes.append(Index("tried", "tried", columns))
                 case.with_suffix(".toml").write_text(catalogue_text(found.schema, found.rates, []))
                 home.indexes.pop()
-                written = Rewriter(found.schema, Options(look_ups=look_ups)).rewrite(query).statements
+                written = Rewriter(found.schema, PLAIN if is_plain else Options()).rewrite(query).statements
                 case.with_suffix(".sql").write_text(";\n".join(written) + ";\n")
             (folder / f"{number}.said").write_text("\n".join(said))
 
@@ -65,10 +67,10 @@ def ask(folder: Path, program: str) -> None:
 def judge(folder: Path) -> None:
     """Prints a line for each setting."""
     print(
-        "| random_page_cost | --look-ups | agree | both | neither | ours alone | PostgreSQL's alone | rank correlation | median ratio |"
+        "| random_page_cost | options | agree | both | neither | ours alone | PostgreSQL's alone | rank correlation | median ratio |"
     )
     print("|---|---|---|---|---|---|---|---|---|")
-    for number, (page, look_ups) in enumerate(SETTINGS):
+    for number, (page, is_plain) in enumerate(SETTINGS):
         counts, ours, theirs = {(it, other): 0 for it in (True, False) for other in (True, False)}, [], []
         for at, line in enumerate((folder / f"{number}.said").read_text().splitlines()):
             taken, cost = line.split()
@@ -79,7 +81,7 @@ def judge(folder: Path) -> None:
         ratio = statistics.median(one / other for one, other in zip(ours, theirs))
         both, neither, own, other = counts[True, True], counts[False, False], counts[True, False], counts[False, True]
         print(
-            f"| {page} | {'yes' if look_ups else 'no'} | {both + neither} of {len(ours)} | {both} | {neither} | {own} | {other} "
+            f"| {page} | {'ranges alone' if is_plain else 'all'} | {both + neither} of {len(ours)} | {both} | {neither} | {own} | {other} "
             f"| {correlation(ours, theirs):.2f} | {ratio:.2f} |"
         )
 

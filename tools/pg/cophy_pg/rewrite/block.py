@@ -51,7 +51,8 @@ Condition = Test | Tie
 class Block:
     """A SELECT, or what an UPDATE or a DELETE reads.
 
-    `group` is None where the statement doesn't group. `needed` are columns that no list or condition may mention.
+    `group` is None where the statement doesn't group. `needed` are columns that no list or condition may mention. `rows` are
+    those that a call gives or changes, where that is known, and `inner` the statements of its correlated subqueries.
     """
 
     slots: list[Slot] = field(default_factory=list)
@@ -64,6 +65,8 @@ class Block:
     limit: str = ""
     offset: str = ""
     needed: list[Col] = field(default_factory=list)
+    rows: float | None = None
+    inner: list[str] = field(default_factory=list)
 
     def add_slot(self, table: Table, name: str) -> tuple[Slot, bool]:
         """Adds a source under a name of its own, and says whether it had to be another than the one given."""

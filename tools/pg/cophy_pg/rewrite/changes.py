@@ -3,15 +3,22 @@ from __future__ import annotations
 
 from dataclasses import dataclass
 
+from cophy_pg.rewrite.options import word_of
+
 
 @dataclass(frozen=True)
 class Change:
-    """A kind of change. `effect` is `same` where the model has no notion that tells both forms apart, `near` where it
+    """A kind of change, and the option that makes it where one does. `effect` is `same` where the model has no notion that tells both forms apart, `near` where it
     would price them differently, and `less` where a part of the work isn't priced."""
 
     name: str
     effect: str
     text: str
+    option: str = ""
+
+    def shown(self) -> str:
+        """The text, with the word that turns it off."""
+        return f"{self.text} ({word_of(self.option)} turns this off)" if self.option else self.text
 
 
 _TABLE = """
@@ -70,9 +77,15 @@ copy|near|COPY into a table is INSERTs of as many rows as a call wrote, COPY out
 update from|near|a join of UPDATE or DELETE is a statement of its own, and its column is looked up for the rows of a call
 inner statement|same|a statement within DECLARE, PREPARE or CREATE TABLE AS stands for itself
 source dropped|near|of more than 8 sources small ones that hang on one other are left out
+range end|same|the model counts a range from above its low end up to its high one: c < 5 is c <= 4, BETWEEN 5 AND 9 is BETWEEN 4 AND 9
 bounds|near|a lower and an upper bound of a column are one BETWEEN
-parameter range|near|a range of parameters is a literal range of 0.5 % of the column, as PostgreSQL's generic plan takes it
-looked up|near|a column that a nested loop would look up is IN as many items as the outer side has rows
+parameter range|near|a range of parameters is a literal range of 0.5 % of the column, as PostgreSQL's generic plan takes it|ranges
+rows of a call|near|a range of parameters is a literal range that holds as many rows as a call gave or changed|rows
+limit range|near|ORDER BY with LIMIT is a literal range of its first column that holds as many rows as are left|limits
+looked up|near|a column that a nested loop would look up is IN as many items as the outer side has rows|look_ups
+correlated|near|a correlated subquery counts once for each row outside it|look_ups
+delete|near|a DELETE is a SELECT of the rows that it finds, since it touches no index|deletes
+insert share|near|an INSERT counts a quarter, as its upkeep was measured|insert_share
 no index|near|a column that no index can have: a test of it is LIKE, no list to join, group or order by has it, no index covers it
 alias|same|an alias that a workload can't have gets another name
 """

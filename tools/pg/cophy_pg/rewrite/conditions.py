@@ -10,8 +10,9 @@ from pglast.enums import BoolExprType, BoolTestType, NullTestType, SubLinkType
 
 from cophy_pg.rewrite.block import Block, Condition, Test, Tie
 from cophy_pg.rewrite.expressions import name_of
+from cophy_pg.rewrite.ranges import as_counted, fitted
 from cophy_pg.rewrite.scope import Scope
-from cophy_pg.rewrite.terms import ANY, Col, Term, Value, as_value, columns, has_unknown, is_value, literal_of_day
+from cophy_pg.rewrite.terms import ANY, Col, Term, Value, as_value, columns, has_unknown, is_value
 
 if TYPE_CHECKING:
     from cophy_pg.rewrite.rewriter import Rewriter
@@ -46,6 +47,12 @@ class Conditions:
         return as_value(term)
 
     def _test(self, col: Col, form: str, *values: Value) -> None:
+        counted = as_counted(col, form, values)
+        if counted is not None:
+            if counted.form != form or (form == "BETWEEN" and not col.column.has_fractions):
+                self.note("range end")
+            self.block.conditions.append(counted)
+            return
         fits = tuple(fitted(col, it) for it in values)
         if any(one == ANY != other for one, other in zip(fits, values)):
             self.note("value")
@@ -349,18 +356,7 @@ class Conditions:
                 self._need("own statement", self._term(left, scope))
                 rewriter.own_statement(node.subselect, scope)
         elif kind == SubLinkType.EXPR_SUBLINK:
-            rewriter.own_statement(node.subselect, scope)
+            rewriter.own_statement(node.subselect, scope, is_for_each=True)
         else:
             self._need("own statement", self._term(node.testexpr, scope))
             rewriter.own_statement(node.subselect, scope)
-
-
-def fitted(col: Col, value: Value) -> Value:
-    """A value as the kind of its column reads it: a day for a date, a whole number for an int."""
-    if col.column.kind == "date":
-        day = value.day()
-        return literal_of_day(day) if day is not None else value if value.text in ("NULL", "?") else ANY
-    if col.column.kind == "int" and isinstance(value.known, str):
-        text = value.known.strip()
-        return Value(str(int(text)), int(text)) if re.fullmatch(r"[+-]?\d{1,18}", text) else ANY
-    return value

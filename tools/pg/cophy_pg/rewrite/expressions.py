@@ -14,8 +14,8 @@ from cophy_pg.rewrite.scope import SYSTEM, NoSuchColumn, Scope
 from cophy_pg.rewrite.terms import (
     AGGREGATES,
     ANY,
-    DEEPEST,
     NOTHING,
+    SUBQUERY,
     Call,
     Col,
     Infix,
@@ -27,11 +27,12 @@ from cophy_pg.rewrite.terms import (
     Value,
     columns,
     day_of,
-    depth,
+    is_large,
     is_value,
     known,
     literal_of_day,
     mixed,
+    moment_of,
     shifted,
 )
 
@@ -66,7 +67,7 @@ class Expressions:
     def term(self, node: Any, scope: Scope) -> Term:
         """The term of an expression."""
         found = getattr(self, f"_{type(node).__name__}", self._other)(node, scope)
-        return mixed(found) if depth(found) > DEEPEST else found
+        return mixed(found) if is_large(found) else found
 
     def terms(self, nodes: Any, scope: Scope) -> list[Term]:
         return [self.term(it, scope) for it in nodes or ()]
@@ -156,7 +157,7 @@ class Expressions:
 
     def _cast_value(self, inner: Term, target: str, type_name: Any) -> Term:
         if isinstance(inner, Value) and isinstance(inner.known, str):
-            day = day_of(inner.known)
+            day = day_of(inner.known) if target == "date" else moment_of(inner.known)
             if target in DATES and day is not None:
                 if target != "date" or len(inner.known.strip()) > 10:
                     self.note("value")
@@ -290,9 +291,10 @@ class Expressions:
         return mixed(*args) if any(isinstance(it, (Mix, Unknown, Rows)) for it in args) else Call(name, tuple(args))
 
     def _SubLink(self, node: Any, scope: Scope) -> Term:
-        self.rewriter.own_statement(node.subselect, scope)
-        if node.subLinkType in (SubLinkType.EXPR_SUBLINK, SubLinkType.ARRAY_SUBLINK, SubLinkType.EXISTS_SUBLINK):
-            return ANY
+        gives_value = node.subLinkType in (SubLinkType.EXPR_SUBLINK, SubLinkType.ARRAY_SUBLINK)
+        self.rewriter.own_statement(node.subselect, scope, is_for_each=gives_value)
+        if gives_value or node.subLinkType == SubLinkType.EXISTS_SUBLINK:
+            return SUBQUERY
         return mixed(self.term(node.testexpr, scope))
 
     def _MultiAssignRef(self, node: Any, scope: Scope) -> Term:

@@ -3,8 +3,10 @@ from __future__ import annotations
 
 from collections.abc import Callable, Iterable
 
+from cophy_pg.bounds import narrow, share
+from cophy_pg.places import day_number, text_of_number
 from cophy_pg.rewrite.block import MOST_SLOTS, Block, Condition, Test, Tie, spares
-from cophy_pg.rewrite.terms import ANY, Col, Mix, Slot, Term, Value, day_number, text_of_number
+from cophy_pg.rewrite.terms import ANY, Col, Mix, Slot, Term, Value
 from cophy_pg.schema import Column
 
 Note = Callable[[str], None]
@@ -32,6 +34,8 @@ def is_parameter(value: Value) -> bool:
 
 def is_wide(column: Column) -> bool:
     """Whether a small share of a column's range can be written as a literal range."""
+    if column.bounds:
+        return narrow(column.bounds, 1 / GENERIC_PART) is not None
     return column.has_range() and column.high - column.low >= NARROWEST  # type: ignore[operator]
 
 
@@ -65,7 +69,7 @@ def _made(term: Term, note: Note) -> Term:
 
 
 def join_bounds(block: Block, note: Note) -> None:
-    """Writes a lower and an upper bound of a column as BETWEEN, and ranges of parameters as literal ones."""
+    """Writes a lower and an upper bound of a column as BETWEEN."""
     for col in dict.fromkeys(it.col for it in block.conditions if isinstance(it, Test)):
         if not col.column.has_range():
             continue
@@ -73,6 +77,10 @@ def join_bounds(block: Block, note: Note) -> None:
         highs = [it for it in block.conditions if isinstance(it, Test) and it.col == col and it.form in ("<", "<=")]
         if len(lows) == 1 and len(highs) == 1:
             _join_pair(block, lows[0], highs[0], note)
+
+
+def narrow_ranges(block: Block, note: Note) -> None:
+    """Writes ranges of parameters as literal ones."""
     for at, it in enumerate(block.conditions):
         if (
             isinstance(it, Test)
@@ -96,6 +104,10 @@ def _join_pair(block: Block, low: Test, high: Test, note: Note) -> None:
 
 
 def _narrow(column: Column) -> tuple[Value, Value]:
+    """The ends of a range that keeps about so much as a range of parameters does: by the histogram, or at the low end."""
+    ends = narrow(column.bounds, 1 / GENERIC_PART) if column.bounds else None
+    if ends is not None:
+        return tuple(Value(text_of_number(column, it)) for it in ends)  # type: ignore[return-value]
     assert column.low is not None and column.high is not None
     width = max(1, round((column.high - column.low) / GENERIC_PART))
     return tuple(Value(text_of_number(column, it)) for it in (column.low, column.low + width))  # type: ignore[return-value]
@@ -119,6 +131,8 @@ def _share_of_range(test: Test) -> float | None:
     """The share of a column's range that a test keeps; nothing where an end isn't known."""
     column = test.col.column
     known = [it for it in (number_of(column, value) for value in test.values) if it is not None]
+    if column.bounds and len(known) == len(test.values):
+        return _share_of_bounds(column.bounds, test.form.rstrip("="), known)
     if column.low is None or column.high is None or column.low >= column.high or len(known) < len(test.values):
         return None
     ends = {"BETWEEN": known, ">": [*known, column.high], "<": [column.low, *known]}.get(test.form.rstrip("="))
@@ -126,6 +140,13 @@ def _share_of_range(test: Test) -> float | None:
         return None
     share = (min(ends[1], column.high) - max(ends[0], column.low)) / (column.high - column.low)
     return min(1.0, max(1e-9, share))
+
+
+def _share_of_bounds(bounds: list[int], form: str, known: list[int]) -> float | None:
+    """The share that a histogram gives to a test."""
+    shares = [share(bounds, it) for it in known]
+    ends = {"BETWEEN": shares, ">": [*shares, 1.0], "<": [0.0, *shares]}.get(form)
+    return max(1e-9, ends[1] - ends[0]) if ends is not None and len(ends) == 2 else None
 
 
 def slot_rows(block: Block, slot: Slot) -> float:

@@ -9,6 +9,7 @@ from pglast.enums import JoinType, LimitOption, SetOperation, SortByDir, SortByN
 from cophy_pg.rewrite.block import Block
 from cophy_pg.rewrite.conditions import Conditions
 from cophy_pg.rewrite.expressions import OTHER_AGGREGATES, name_of, named_tables, nodes_of
+from cophy_pg.rewrite.rows import is_plain
 from cophy_pg.rewrite.scope import Common, Entry, Scope, entry_of
 from cophy_pg.rewrite.terms import (
     AGGREGATES,
@@ -68,6 +69,8 @@ class Queries:
         self._limit(node, block)
         if node.lockingClause:
             self.note("lock")
+        if is_plain(block):
+            block.rows = self.rewriter.rows_of(node)
         if block.slots:
             self.rewriter.finish(block)
         return scope
@@ -170,7 +173,7 @@ class Queries:
             listed = self.outputs(tree, inner)
             scope.entries.append(Entry(alias, dict(listed)).renamed(names))
             return
-        self.rewriter.own_statement(tree, scope)
+        self.rewriter.own_statement(tree, scope, is_for_each=True)
         scope.entries.append(
             Entry(alias, self._outputs(tree, names), is_open=True)
             if tree.valuesLists is None

@@ -12,7 +12,9 @@ from cophy_pg.rewrite import finish
 from cophy_pg.rewrite.block import Block, Tie, select_text
 from cophy_pg.rewrite.conditions import Conditions
 from cophy_pg.rewrite.expressions import Expressions, named_tables
+from cophy_pg.rewrite.options import Options
 from cophy_pg.rewrite.parse import parsed
+from cophy_pg.rewrite.rows import block_rows, hold_limit, hold_rows
 from cophy_pg.rewrite.queries import Queries, Skip, copied, is_simple
 from cophy_pg.rewrite.scope import NoSuchColumn, Scope
 from cophy_pg.rewrite.terms import Col, Rows, columns
@@ -44,14 +46,8 @@ WORDS = {
 
 MOST_SOURCES = 64
 """Of more sources than these, small ones aren't left out one by one."""
-
-
-@dataclass(frozen=True)
-class Options:
-    """`ranges`: a range of parameters becomes a literal one. `look_ups`: what a nested loop looks up is written as IN."""
-
-    ranges: bool = True
-    look_ups: bool = False
+MOST_VIEWS = 200
+"""So many views, views of views among them, are taken apart in one statement."""
 
 
 @dataclass
@@ -78,15 +74,17 @@ class Rewriter:
         self.expressions, self.queries, self.writes = Expressions(self), Queries(self), Writes(self)
         self.found = Rewritten()
         self.rows: float | None = None
+        self.top: Any = None
         self.path: Iterable[str] | None = None
         self.named: list[str] = []
-        self.no_joins = 0
+        self.no_joins = self.views = 0
         self._views: dict[tuple[str, str], Any] = {}
 
     def rewrite(self, text: str, rows: float | None = None, path: Iterable[str] | None = None) -> Rewritten:
         """Rewrites the text of one statement; `rows` are those that one call gave or changed, where that is known, and
         `path` the schemas in which its names are looked up, if they aren't the schema's own."""
         self.found, self.rows, self.path, self.no_joins = Rewritten(), rows, path, 0
+        self.views = 0
         try:
             self._parsed(text)
         except Skip as why:
@@ -112,6 +110,10 @@ class Rewriter:
         if len(trees) != 1:
             raise Skip("it holds no statement" if not trees else "it holds several statements")
         self.named = named_tables(trees)
+        self.top = trees[0].stmt
+        # A cursor gives its rows to FETCH.
+        while type(self.top) in INNER and not isinstance(self.top, ast.DeclareCursorStmt):
+            self.top = getattr(self.top, INNER[type(self.top)])
         self.statement(trees[0].stmt, None)
 
     def statement(self, node: Any, outer: Scope | None) -> None:
@@ -152,17 +154,36 @@ class Rewriter:
 
     def view(self, key: tuple[str, str]) -> Any:
         """The query of a view."""
+        self.views += 1
+        if self.views > MOST_VIEWS:
+            raise Skip(f"it reads more than {MOST_VIEWS} views, views of views among them")
         if key not in self._views:
             tree = parsed(self.schema.views[key])[0].stmt
             self._views[key] = tree
             self.named += named_tables(tree)
         return self._views[key]
 
-    def own_statement(self, tree: Any, scope: Scope) -> None:
-        """Writes a query as a statement of its own; the columns around it that it uses stay needed."""
+    def own_statement(self, tree: Any, scope: Scope, is_for_each: bool = False) -> None:
+        """Writes a query as a statement of its own; the columns around it that it uses stay needed. `is_for_each` says that it
+        runs for each row around it, where it uses any."""
         self.note("own statement")
+        before = len(self.found.statements)
         inner = self.queries.select(tree, scope, scope.common)
         scope.need(inner.used_outside)
+        if is_for_each and inner.used_outside and scope.block is not None and self.options.look_ups:
+            scope.block.inner += self.found.statements[before:]
+
+    def rows_of(self, node: Any) -> float | None:
+        """The rows that a call gave or changed, of the whole statement alone."""
+        return self.rows if node is self.top and self.options.rows else None
+
+    def weigh_inner(self, block: Block) -> None:
+        """Lets correlated subqueries count as often as there are rows outside them."""
+        for it in dict.fromkeys(block.inner):
+            if it in self.found.times:
+                self.note("correlated")
+                self.found.times[it] *= round(block_rows(block))
+        block.inner = []
 
     def join_subquery(self, block: Block, tree: Any, scope: Scope, compared: Any) -> bool:
         """Joins a query of EXISTS, or of IN with what is compared, where it is a plain join that ties; else changes
@@ -171,6 +192,7 @@ class Rewriter:
         if self.no_joins or not is_simple_without(tree, dropped):
             return False
         mark, changes, before = block.mark(), [*self.found.changes], [*self.found.statements]
+        correlated = [*block.inner]
         old = set(map(id, block.slots))
         inner = Scope(block, scope, outer_is_value=False)
         self.queries.from_clause(tree.fromClause, block, inner)
@@ -184,7 +206,7 @@ class Rewriter:
             self.note("subquery")
             return True
         block.reset(mark)
-        self.found.changes[:], self.found.statements[:] = changes, before
+        self.found.changes[:], self.found.statements[:], block.inner = changes, before, correlated
         return False
 
     def bound(self, block: Block) -> None:
@@ -192,6 +214,13 @@ class Rewriter:
         finish.without_keys(block, self.note)
         if self.options.ranges:
             finish.join_bounds(block, self.note)
+        # A window and DISTINCT ON read all rows, whatever the limit.
+        if self.options.limits and not {"window", "distinct on"} & {*self.found.changes}:
+            hold_limit(block, self.note)
+        if self.options.rows:
+            hold_rows(block, self.note)
+        if self.options.ranges:
+            finish.narrow_ranges(block, self.note)
         if self.options.look_ups:
             finish.add_look_ups(block, self.note)
 
@@ -199,6 +228,7 @@ class Rewriter:
         """Writes a SELECT, as several where its sources are apart or one kept within 8 sources."""
         if len(block.slots) > MOST_SOURCES:
             raise Skip(f"it has more than {MOST_SOURCES} sources")
+        self.weigh_inner(block)
         self.bound(block)
         groups = block.groups()
         if len(groups) > 1:

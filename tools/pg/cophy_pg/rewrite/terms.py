@@ -3,14 +3,14 @@ from __future__ import annotations
 
 from collections.abc import Iterator
 from dataclasses import dataclass
-from datetime import date, timedelta
+from datetime import date, datetime, time, timedelta
 from decimal import Decimal
+from itertools import islice
 
 from cophy_pg.schema import Column, Table, quoted
 
-DAY_0 = date(1970, 1, 1)
 AGGREGATES = frozenset(("count", "sum", "min", "max", "avg"))
-DEEPEST = 60
+DEEPEST, MOST_TERMS = 60, 500
 
 
 @dataclass(eq=False)
@@ -46,11 +46,11 @@ class Value:
     is_literal: bool = True
 
     def day(self) -> date | None:
-        """The day of a date or of a text that begins with one."""
+        """The day of a date or of a text that begins with one, with the time where one is given."""
         if isinstance(self.known, date):
             return self.known
         if isinstance(self.known, str):
-            return day_of(self.known)
+            return moment_of(self.known)
         return None
 
 
@@ -97,6 +97,8 @@ class Mix:
 
 Term = Col | Value | Unknown | Rows | Call | Infix | Mix
 ANY = Value("?", None, False)
+SUBQUERY = Value("?", None, False)
+"""What a subquery gives."""
 NOTHING = Value("", None, False)
 """The left side of a sign."""
 
@@ -107,6 +109,16 @@ def day_of(text: str) -> date | None:
         return date.fromisoformat(text.strip()[:10]) if len(text.strip()) >= 10 else None
     except ValueError:
         return None
+
+
+def moment_of(text: str) -> date | None:
+    """The day that a text begins with, with its time where that isn't the begin of the day; zones are passed over."""
+    day = day_of(text)
+    try:
+        found = datetime.fromisoformat(text.strip()).replace(tzinfo=None)
+    except ValueError:
+        return day
+    return found if day is not None and found.time() != time() else day
 
 
 def children(term: Term) -> tuple[Term, ...]:
@@ -187,19 +199,20 @@ def depth(term: Term) -> int:
     return 1 + max(map(depth, children(term)), default=0)
 
 
+def is_large(term: Term) -> bool:
+    """Whether a term is too deep, or has too many parts: each view may double those of the view below it."""
+    return depth(term) > DEEPEST or next(islice(_all(term), MOST_TERMS, None), None) is not None
+
+
+def _all(term: Term) -> Iterator[Term]:
+    yield term
+    for it in children(term):
+        yield from _all(it)
+
+
 def literal_of_day(day: date) -> Value:
     """A day as a literal."""
-    return Value(f"DATE '{day.isoformat()}'", day)
-
-
-def day_number(day: date) -> int:
-    """Days since 1970-01-01."""
-    return (day - DAY_0).days
-
-
-def text_of_number(column: Column, number: int) -> str:
-    """A number of a column's range as a literal."""
-    return f"DATE '{(DAY_0 + timedelta(days=number)).isoformat()}'" if column.kind == "date" else str(number)
+    return Value(f"DATE '{day.isoformat()[:10]}'", day)
 
 
 def shifted(day: date, by: Interval, sign: int) -> date | None:

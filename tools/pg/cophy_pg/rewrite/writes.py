@@ -5,12 +5,12 @@ from typing import TYPE_CHECKING, Any
 
 from pglast import ast
 
-from cophy_pg.rewrite.block import Block, Test, source_text, where_text
+from cophy_pg.rewrite.block import Block, Test, select_text, source_text, where_text
 from cophy_pg.rewrite.conditions import Conditions
 from cophy_pg.rewrite.finish import only
 from cophy_pg.rewrite.queries import Skip
 from cophy_pg.rewrite.scope import Scope
-from cophy_pg.rewrite.terms import ANY, Call, Printer, Slot, Term, Value, columns, is_value, mixed
+from cophy_pg.rewrite.terms import ANY, Call, Printer, Rows, Slot, Term, Value, columns, is_value, mixed
 from cophy_pg.schema import Table, quoted
 
 if TYPE_CHECKING:
@@ -19,6 +19,8 @@ if TYPE_CHECKING:
 LONG_ROWS = 20
 MOST_ROWS = 1000
 LEAST = 0.001
+INSERT_SHARE = 0.25
+"""So much of what the model charges for an INSERT's upkeep was measured."""
 
 
 class Writes:
@@ -64,6 +66,9 @@ class Writes:
     def _add_insert(self, table: Table, listed: list[str], rows: list[list[str]], times: float) -> None:
         names = ", ".join(quoted(table.columns[it].shown) for it in listed)
         shown = ", ".join(f"({', '.join(it)})" for it in rows)
+        if self.rewriter.options.insert_share:
+            self.note("insert share")
+            times *= INSERT_SHARE
         text = f"INSERT INTO {quoted(table.shown)}{f' ({names})' if names else ''}\nVALUES {shown}"
         self.rewriter.add(text, times=times)
 
@@ -112,6 +117,7 @@ class Writes:
         if not sets:
             raise Skip("it sets no column of the catalogue")
         block.items = [Call("count", (), star=True), *(it for _, it in sets if not is_value(it))]
+        block.rows = self.rewriter.rows_of(node)
         alone = self._alone(block, slot)
         printer = Printer(alone.slots)
         alone.items = [it for _, it in sets]
@@ -135,7 +141,13 @@ class Writes:
         self.rewriter.queries.from_clause(node.usingClause, block, scope)
         self._where(node, block, scope)
         block.items = [Call("count", (), star=True)]
+        block.rows = self.rewriter.rows_of(node)
         alone = self._alone(block, slot)
+        if self.rewriter.options.deletes and self.rewriter.schema.is_never_covered(slot.table):
+            self.note("delete")
+            alone.items = [Rows(slot)]
+            self.rewriter.add(select_text(alone))
+            return
         lines = [f"DELETE FROM {source_text(slot)}", *where_text(alone, Printer(alone.slots))]
         self.rewriter.add("\n".join(lines))
 
@@ -148,6 +160,7 @@ class Writes:
 
     def _alone(self, block: Block, slot: Slot) -> Block:
         """The target with its own conditions; where it is joined, the join is written as a statement of its own."""
+        self.rewriter.weigh_inner(block)
         if len(block.slots) == 1:
             self.rewriter.bound(block)
             return block

@@ -1,0 +1,257 @@
+"""`advise`: from the server to its indexes in one command."""
+from __future__ import annotations
+
+import argparse
+import json
+import os
+from datetime import UTC, datetime
+from typing import Any
+
+from cophy_lint.checks import catalogue_remarks, lines, workload_remarks
+from cophy_text import files
+from cophy_text.answers import Advice, read_advice
+from cophy_text.shown import grouped
+from cophy_pg import export, folder, inputs
+from cophy_pg.amounts import amount, whole
+from cophy_pg.budget import filled
+from cophy_pg.choice import Choice, Limits, drop_by_limits, drop_by_server
+from cophy_pg.commands import commands_text
+from cophy_pg.folder import Folder
+from cophy_pg.making import ddl_text
+from cophy_pg.outcomes import Verdict, outcomes
+from cophy_pg.overview import lines_of
+from cophy_pg.page import NoReport, page_of
+from cophy_pg.picks import home_of
+from cophy_pg.plans import plans_of
+from cophy_pg.program import Program, add_program, program_file
+from cophy_pg.progress import say
+from cophy_pg.ranking import rank
+from cophy_pg.report import summary
+from cophy_pg.result import Result
+from cophy_pg.rewrite import Rewriter
+from cophy_pg.rewrite.options import options_of
+from cophy_pg.schema import Schema
+from cophy_pg.script import ROWS_A_SECOND
+from cophy_pg.selection import add_selection, count, ran_once, selection_of
+from cophy_pg.server import Server, add_connection, connected, reading, version_of
+from cophy_pg.sizes import stored_size
+from cophy_pg.snapshots import taken_of
+from cophy_pg.statistics import Found
+from cophy_pg.steps import Steps
+from cophy_pg.trust import refuse_powers
+from cophy_pg.verify import Judged, add_trust, advice_text, as_json, judge, look_up
+from cophy_pg.why import reasons
+from cophy_pg.workload import Workload, made
+
+NOTHING = 3
+"""The status where no index is worth making."""
+
+
+def add_advise(commands: argparse._SubParsersAction[argparse.ArgumentParser]) -> None:
+    """The words of `advise`."""
+    parser = commands.add_parser(
+        "advise",
+        help="from a server to its indexes in one command",
+        description="Exports a database and its statements, advises on them with a certificate, checks that, asks the "
+        "server's planner about the picks, leaves out what no plan takes, and prints which indexes to make and what each "
+        "saves. All files are kept in a folder. Nothing is made on the server.",
+        epilog="The status is 0 where there are indexes to make, 3 where there are none; 1 says that it couldn't be done, "
+        "2 that the words are faulty.",
+    )
+    parser.add_argument(
+        "--budget",
+        type=amount,
+        required=True,
+        metavar="SPACE",
+        help="what the indexes may take as PostgreSQL stores them: 2GB, 500MB, or pages",
+    )
+    parser.add_argument("--folder", metavar="DIR", help="where all files go (cophy-advice- and the time)")
+    parser.add_argument(
+        "--min-saving", type=percent, default=0.0, metavar="PERCENT", help="what each index has to save"
+    )
+    parser.add_argument("--most-per-table", type=count, metavar="N", help="how many new indexes a table may get")
+    parser.add_argument("--nodes", type=whole, metavar="N", help="the node budget of the search")
+    parser.add_argument("--json", action="store_true", help="print all that was found as JSON instead")
+    source = parser.add_mutually_exclusive_group()
+    source.add_argument("--sql", metavar="FILE", help="statements from a file of SQL, as export takes them")
+    source.add_argument("--log", metavar="FILE", help="statements from a log, as export takes them")
+    add_selection(parser)
+    export.add_options(parser, has_report=False)
+    add_connection(parser)
+    add_trust(parser)
+    add_program(parser)
+    parser.set_defaults(run=advise)
+
+
+def percent(text: str) -> float:
+    """A share from 0 to 100."""
+    if not 0 <= float(text) <= 100:
+        raise ValueError
+    return float(text)
+
+
+def advise(words: argparse.Namespace) -> int:
+    """Takes all steps, and prints what was found."""
+    selection_of(words)
+    program_file(words.program)
+    given = [words.sql, words.log, words.since]
+    for name in (it for it in given if it):
+        files.read(name)
+    kept = Folder.made(words.folder)
+    files.check([kept.path(it) for it in (folder.CATALOGUE, folder.WORKLOAD, folder.RESULT)], given)
+    with kept.unless_empty(), Steps(words.json).all() as steps:
+        document = Run(words, kept, steps).document()
+    text = "\n".join([*lines_of(document), f"all files are in {files.shown(kept.name)}"]) + "\n"
+    kept.write({folder.RESULT: json.dumps(document, indent=2) + "\n", folder.SUMMARY: text})
+    try:
+        kept.write({folder.REPORT: page_of(kept)})
+    except NoReport as fault:
+        say(str(fault))
+    print(json.dumps(document, indent=2) if words.json else text, end="\n" if words.json else "")
+    return 0 if document["picks"] else NOTHING
+
+
+class Run:
+    """One call, with what its steps hand to each other."""
+
+    def __init__(self, words: argparse.Namespace, kept: Folder, steps: Steps) -> None:
+        self.words, self.folder, self.steps = words, kept, steps
+        paths = (kept.path(folder.CATALOGUE), kept.path(folder.WORKLOAD))
+        self.program = Program(words.program, *paths)
+        self.head: dict[str, Any] = {}
+        self.warnings: list[str] = []
+
+    def document(self) -> dict[str, Any]:
+        """Takes the steps in turn."""
+        files_of_steps = (folder.ADVICE, folder.CERTIFICATE, folder.CHECK, folder.VERIFY, folder.KEPT, folder.DDL)
+        self.folder.clear(*files_of_steps, folder.PLANS, folder.SUMMARY, folder.RESULT, folder.REPORT)
+        with self.steps.step("export", "reading the database and its statements"):
+            found, workload = self._export()
+        with self.steps.step("lint", "looking for what is probably wrong"):
+            lint = self._lint()
+        with self.steps.step("advise", "searching for the best indexes"):
+            advice = self._advise(found.schema)
+        with self.steps.step("check", "checking the certificate"):
+            proved = self._check()
+        choice = Choice(advice)
+        with connected(self.words.dsn, self.words.timeout) as server:
+            judged = self._settle(server, found.schema, workload, choice)
+            with self.steps.step("plans", "comparing plans", 2 * len(judged.verdicts)):
+                plans = plans_of(server, found.schema, choice.advice, judged.verdicts, self.steps)
+        with self.steps.step("why", "pricing the workload without each pick", len(choice.advice.picks)):
+            none, kept, reason = reasons(self.program, choice.advice, self.steps)
+            all_ = self.program.whatif(it.number for it in advice.picks)
+        # In a file of SQL a statement has the weight that it was given.
+        warnings = [*self.warnings, *([] if self.words.sql else ran_once(workload, none))]
+        told = {"warnings": warnings, "lint": lint, "rewriting": summary(workload)}
+        parts = (found.schema, workload, advice, choice, judged, plans, (none, kept, all_), reason, proved)
+        result = Result(*parts, self.head, told, self.steps.seconds)
+        self._write(result)
+        return result.document()
+
+    def _write(self, result: Result) -> None:
+        """Writes what the last steps found."""
+        none, kept, _ = result.prices
+        text = advice_text(result.advice, [it.number for it in result.choice.advice.picks], kept.total)
+        self.folder.write(
+            {
+                folder.VERIFY: json.dumps(as_json(result.judged, [none, kept, kept]), indent=2) + "\n",
+                folder.KEPT: text,
+                folder.DDL: ddl_text(result.schema, read_advice(text), rows_a_second=ROWS_A_SECOND),
+                folder.PLANS: json.dumps(result.plans.document(result.workload)) + "\n",
+                folder.COMMANDS: commands_text(self.words, self.folder, result.advice.budget),
+            }
+        )
+
+    def _export(self) -> tuple[Found, Workload]:
+        """Reads the server, and refuses at once what would be refused after the search."""
+        words, given = self.words, None
+        if words.sql or words.log:
+            given = inputs.from_sql(files.read(words.sql)) if words.sql else inputs.from_log(files.read(words.log))
+        contents: dict[str, bytes | str] = {}
+        with connected(words.dsn, words.timeout) as server:
+            with reading(server):
+                if not words.is_trusted:
+                    refuse_powers(server)
+                home_of(server)
+                if given is None:
+                    given = inputs.from_server(server, is_trusted=words.is_trusted)
+                    contents[folder.SNAPSHOT] = taken_of(server, given).text()
+                version = version_of(server)
+            listed, found, self.warnings, name = export.read(server, given, selection_of(words), self.steps)
+            with reading(server, "READ COMMITTED"):
+                look_up(server, [Verdict(at, it, []) for at, it in enumerate(listed, 1)], words.is_trusted)
+        workload = made(listed, Rewriter(found.schema, options_of(words)), self.steps)
+        self.head = {
+            "made": datetime.now(UTC).strftime("%Y-%m-%dT%H:%M:%SZ"),
+            "database": name,
+            "server": f"{version // 10000}.{version % 10000}",
+            "folder": os.path.abspath(self.folder.name),
+            "asked_pages": words.budget,
+            "options": {
+                "source": "sql" if words.sql else "log" if words.log else "pg_stat_statements",
+                "since": words.since,
+                "min_calls": words.min_calls,
+                "min_saving": words.min_saving,
+                "most_per_table": words.most_per_table,
+                "tables": words.tables,
+                "users": words.users,
+            },
+        }
+        catalogue = export.catalogue_of(found, name)
+        rank(workload, catalogue, words.program, is_ordered=not (words.sql or words.log))
+        contents[folder.CATALOGUE] = catalogue
+        contents[folder.WORKLOAD] = workload.text()
+        contents[folder.EXPORT] = export.report_of(workload, self.warnings)
+        self.folder.write(contents)
+        return found, workload
+
+    def _lint(self) -> list[str]:
+        workload = self.folder.read(folder.WORKLOAD)
+        remarks, document = catalogue_remarks(self.folder.read(folder.CATALOGUE), workload)
+        found = lines([*remarks, *workload_remarks(workload, document)])
+        self.folder.write({folder.LINT: "".join(f"{it}\n" for it in found)})
+        return found
+
+    def _advise(self, schema: Schema) -> Advice:
+        """The advice that fills the budget as PostgreSQL stores it, whose certificate the program puts into the folder."""
+        nodes = ("--nodes", str(self.words.nodes)) if self.words.nodes else ()
+        texts: dict[int, str] = {}
+
+        def advise_on(budget: int) -> Advice:
+            self.steps(f"advising for {grouped(budget)} pages by the model")
+            trial = self.folder.path(f"{folder.CERTIFICATE}-{budget}")
+            texts[budget] = self.program.text("advise", str(budget), *nodes, "--cert", trial)
+            os.chmod(trial, files.PRIVATE)
+            return read_advice(texts[budget])
+
+        try:
+            advice = filled(self.words.budget, advise_on, lambda it: stored_size(schema, it.picks))
+            os.replace(self.folder.path(f"{folder.CERTIFICATE}-{advice.budget}"), self.folder.path(folder.CERTIFICATE))
+        finally:
+            self.folder.clear(*(f"{folder.CERTIFICATE}-{it}" for it in texts))
+        self.folder.write({folder.ADVICE: texts[advice.budget]})
+        return advice
+
+    def _check(self) -> str:
+        text = self.program.text("check", self.folder.path(folder.CERTIFICATE))
+        self.folder.write({folder.CHECK: text})
+        return text.strip()
+
+    def _settle(self, server: Server, schema: Schema, workload: Workload, choice: Choice) -> Judged:
+        """Asks the planner until all picks that are left stay. Picks that were left out before are asked about no more."""
+        words = self.words
+        limits = Limits(words.min_saving, words.most_per_table)
+        while True:
+            found = [Verdict(at, it.input, it.numbers) for at, it in enumerate(workload.records, 1) if it.numbers]
+            with self.steps.step("verify", "asking the server's planner", 2 * len(found)):
+                with reading(server):
+                    home_of(server)
+                listed, functions = judge(server, schema, choice.advice, found, words.is_trusted, self.steps)
+                texts = {number: text for number, (text, _) in enumerate(workload.statements, 1)}
+                outcomes(listed, found, texts, [])
+            with self.steps.step("limits", "leaving out what isn't worth it"):
+                is_less = drop_by_server(choice, schema, listed)
+                is_less |= drop_by_limits(choice, self.program, limits, self.steps)
+            if not is_less:
+                return Judged(found, listed, functions)

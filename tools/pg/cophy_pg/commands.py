@@ -1,0 +1,47 @@
+"""The commands that take each step of `advise` alone, over the files of its folder."""
+from __future__ import annotations
+
+import argparse
+import shlex
+
+from cophy_text.files import shown
+from cophy_pg import folder
+from cophy_pg.folder import Folder
+from cophy_pg.rewrite.options import words_of
+
+
+def commands_text(words: argparse.Namespace, kept: Folder, budget: int) -> str:
+    """A line for each step, without the connection. The budget is the program's, in pages."""
+    both = [kept.path(folder.CATALOGUE), kept.path(folder.WORKLOAD)]
+    chosen = _chosen(words)
+    nodes = ["--nodes", str(words.nodes)] if words.nodes else []
+    trusted = ["--i-trust-the-statements"] if words.is_trusted else []
+    advice, certificate, curve = kept.path(folder.ADVICE), kept.path(folder.CERTIFICATE), kept.path(folder.CURVE)
+    steps = [
+        ["cophy-pg", "export", *both, "--report", kept.path(folder.EXPORT), *chosen, *words_of(words)],
+        ["cophy-lint", *both],
+        [words.program, "advise", *both, str(budget), *nodes, "--cert", certificate],
+        [words.program, "check", *both, certificate],
+        ["cophy-pg", "verify", *both, advice, *chosen, *trusted, "--advice", kept.path(folder.KEPT)],
+        ["cophy-pg", "why", *both, kept.path(folder.KEPT)],
+        ["cophy-pg", "ddl", both[0], kept.path(folder.KEPT), "--script"],
+        ["cophy-pg", "curve", *both, "--json"],
+        ["cophy-pg", "report", kept.name],
+    ]
+    head = [
+        "# Each step of cophy-pg advise alone. The connection is that of PGHOST, PGDATABASE and their like, or of --dsn.",
+        f"# What cophy advise prints goes to {shown(advice)}, what curve prints to {shown(curve)}.",
+    ]
+    return "\n".join([*head, *map(shlex.join, steps)]) + "\n"
+
+
+def _chosen(words: argparse.Namespace) -> list[str]:
+    """The words that say which statements count."""
+    listed = []
+    for name, value in (("--sql", words.sql), ("--log", words.log), ("--since", words.since)):
+        listed += [name, value] if value else []
+    listed += ["--min-calls", str(words.min_calls)] if words.min_calls > 1 else []
+    for name, values in (("--table", words.tables), ("--user", words.users)):
+        for it in values:
+            listed += [name, it]
+    return listed

@@ -1,0 +1,115 @@
+"""What is wrong with the indexes of a database: each finding names an index and the reasons."""
+from __future__ import annotations
+
+from dataclasses import dataclass, field
+
+from cophy_pg.existing import Column, Everything, Existing
+from cophy_pg.stored import ALIGNMENTS, LONG, NOT_SHARED, Part, pages
+
+BLOATED, LEAST_WASTE = 2.0, 128
+"""An index is bloated that has this many times the pages of a fresh one, and so many pages more."""
+INVALID, DUPLICATE, PREFIX, UNUSED, BLOAT = "invalid", "duplicate", "prefix", "unused", "bloated"
+DROPPED = (INVALID, DUPLICATE, PREFIX, UNUSED)
+"""The kinds of findings for which an index may go."""
+
+
+@dataclass
+class Finding:
+    """An index with what was found of it, by kinds; each with its reason."""
+
+    index: Existing
+    reasons: dict[str, str] = field(default_factory=dict)
+
+    def is_small(self, pages: int) -> bool:
+        """Whether it is said only that an index of fewer pages is unused."""
+        return {*self.reasons} == {UNUSED} and self.index.pages is not None and self.index.pages < pages
+
+    def may_go(self) -> bool:
+        """Whether a reason is one to drop the index."""
+        return any(it in DROPPED for it in self.reasons)
+
+
+def findings(found: Everything) -> list[Finding]:
+    """The findings, the largest indexes first."""
+    listed = {it.oid: Finding(it) for it in found.indexes}
+    by_table: dict[int, list[Existing]] = {}
+    for it in found.indexes:
+        by_table.setdefault(it.table_oid, []).append(it)
+        if not it.is_valid:
+            listed[it.oid].reasons[INVALID] = "INVALID: no query takes it, and each write may pay for it"
+    for several in by_table.values():
+        valid = [it for it in several if it.is_valid]
+        for it, other in _duplicates(valid):
+            listed[it.oid].reasons[DUPLICATE] = f"the same as {_name(other)}"
+        others = [it for it in valid if DUPLICATE not in listed[it.oid].reasons]
+        for it, other in _prefixes(others):
+            listed[it.oid].reasons[PREFIX] = f"its columns are the first ones of {_name(other)}"
+    for it in found.indexes:
+        if it.is_valid and it.scans == 0 and not it.is_bound and not it.is_unique:
+            listed[it.oid].reasons[UNUSED] = "no scan was counted" + (
+                f" since {found.since} UTC" if found.since else ""
+            )
+        _measure(it, found.columns.get(it.table_oid, {}))
+        if it.pages is not None and it.expected is not None and _is_bloated(it.pages, it.expected):
+            listed[it.oid].reasons[BLOAT] = f"{it.pages / it.expected:.1f} times as large as a fresh one would be"
+    return sorted((it for it in listed.values() if it.reasons), key=lambda it: (-(it.index.pages or 0), it.index.oid))
+
+
+def _name(it: Existing) -> str:
+    return f"{it.name!a}"
+
+
+def _is_bloated(real: int, expected: int) -> bool:
+    return real >= BLOATED * expected and real - expected >= LEAST_WASTE
+
+
+def _duplicates(listed: list[Existing]) -> list[tuple[Existing, Existing]]:
+    """Each index that another one stands for wholly, with that one."""
+    groups: dict[object, list[Existing]] = {}
+    for it in listed:
+        key = (it.method, it.keys, tuple(it.columns), tuple(it.parts), it.expressions, it.predicate)
+        groups.setdefault(key, []).append(it)
+    found = []
+    for several in groups.values():
+        best, *others = sorted(several, key=lambda it: (not it.is_bound, not it.is_unique, -(it.scans or 0), it.oid))
+        found += [(it, best) for it in others if not it.is_bound and (best.is_unique or not it.is_unique)]
+    return found
+
+
+def _prefixes(listed: list[Existing]) -> list[tuple[Existing, Existing]]:
+    """Each index whose keys another one begins with, with that one."""
+    found = []
+    for it in listed:
+        if it.method != "btree" or it.is_bound or it.is_unique or it.expressions:
+            continue
+        for other in listed:
+            begins = other.parts[: it.keys] == it.parts and other.keys > it.keys
+            holds = (
+                set(it.included()) <= set(other.columns) and other.predicate == it.predicate and not other.expressions
+            )
+            if other.method == "btree" and begins and holds and other.is_partitioned == it.is_partitioned:
+                found.append((it, other))
+                break
+    return found
+
+
+def _measure(it: Existing, columns: dict[int, Column]) -> None:
+    """Reckons how large the index would be if it were fresh, where its columns are known."""
+    listed = [columns.get(number) for number in it.columns]
+    if it.method != "btree" or it.is_partitioned or not it.is_valid or it.rows <= 0:
+        return
+    known = [column for column in listed if column is not None and (column.length > 0 or column.width is not None)]
+    if len(known) < len(listed):
+        return
+    is_shared = it.keys == len(it.columns) and not it.is_unique and not any(c.type in NOT_SHARED for c in known)
+    it.expected = pages(it.rows, [_part(c, it.rows) for c in known], is_shared)
+
+
+def _part(column: Column, rows: float) -> Part:
+    """A value's room; a short one without a fixed length isn't aligned."""
+    count = column.distinct or -1.0
+    distinct = count if count > 0 else -count * rows
+    if column.length > 0:
+        return Part(column.length, ALIGNMENTS[column.alignment], distinct, column.nulls)
+    width = column.width or 1
+    return Part(width, 1 if width < LONG else ALIGNMENTS[column.alignment], distinct, column.nulls)

@@ -1,0 +1,86 @@
+"""The folder in which `advise` keeps what each of its steps reads and writes."""
+from __future__ import annotations
+
+import os
+import stat
+from collections.abc import Iterator
+from contextlib import contextmanager, suppress
+from datetime import datetime
+
+from cophy_text import files
+from cophy_text.files import File, NoFile, shown
+
+CATALOGUE, WORKLOAD, EXPORT = "catalogue.toml", "workload.sql", "export.txt"
+SNAPSHOT, LINT = "snapshot.json", "lint.txt"
+ADVICE, CERTIFICATE, CHECK = "advice.txt", "certificate", "check.txt"
+VERIFY, KEPT, DDL, PLANS = "verify.json", "kept.txt", "indexes.sql", "plans.json"
+SUMMARY, RESULT, REPORT, COMMANDS = "summary.txt", "advice.json", "report.html", "commands.txt"
+CURVE = "curve.json"
+
+
+class Folder:
+    """A folder that is its owner's alone."""
+
+    def __init__(self, name: str) -> None:
+        self.name = name
+
+    @staticmethod
+    def made(name: str | None) -> Folder:
+        """The folder of this name, or else a new one by the time; it is made where it isn't there."""
+        given = name or datetime.now().strftime("cophy-advice-%Y%m%d-%H%M%S")
+        try:
+            os.mkdir(given, 0o700)
+        except FileExistsError:
+            if name is None:
+                raise NoFile(f"{shown(given)} is there already") from None
+            _check(given)
+        except OSError as fault:
+            raise NoFile(f"{shown(given)}: {fault.strerror}") from None
+        return Folder(given)
+
+    @contextmanager
+    def unless_empty(self) -> Iterator[Folder]:
+        """Takes the folder away at the end where nothing was put into it."""
+        try:
+            yield self
+        finally:
+            with suppress(OSError):
+                os.rmdir(self.name)
+
+    def path(self, name: str) -> str:
+        """The path of a file in it."""
+        return os.path.join(self.name, name)
+
+    def write(self, contents: dict[str, bytes | str]) -> None:
+        """Writes files, all together."""
+        listed = ((name, it.encode(errors="replace") if isinstance(it, str) else it) for name, it in contents.items())
+        files.write([File(self.path(name), it) for name, it in listed])
+
+    def read(self, name: str) -> bytes:
+        """What a file in it holds."""
+        return files.read(self.path(name))
+
+    def has(self, name: str) -> bool:
+        """Whether it has such a file."""
+        return os.path.isfile(self.path(name))
+
+    def clear(self, *names: str) -> None:
+        """Takes files of an earlier run away."""
+        for it in names:
+            try:
+                os.unlink(self.path(it))
+            except FileNotFoundError:
+                pass
+            except OSError as fault:
+                raise NoFile(f"{shown(self.path(it))}: {fault.strerror}") from None
+
+
+def _check(name: str) -> None:
+    """Refuses what others could write to."""
+    found = os.lstat(name)
+    if stat.S_ISLNK(found.st_mode):
+        raise NoFile(f"{shown(name)} is a symbolic link, and nothing is written through one: name the folder itself")
+    if not stat.S_ISDIR(found.st_mode):
+        raise NoFile(f"{shown(name)} is no folder")
+    if found.st_uid != os.geteuid() or found.st_mode & 0o022:
+        raise NoFile(f"{shown(name)} belongs to others, or others may write to it: name another folder")

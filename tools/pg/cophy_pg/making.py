@@ -1,0 +1,157 @@
+"""`ddl`: the statements that make the picks of an advice, or a script that makes them with care."""
+from __future__ import annotations
+
+import argparse
+import json
+import os
+from contextlib import suppress
+from typing import Any
+
+from cophy_text import files
+from cophy_text.answers import Advice
+from cophy_text.shown import grouped
+from cophy_pg.catalogue import read_schema
+from cophy_pg.ddl import Made, advice_of, create, taken_names
+from cophy_pg.included import key_count, searched_columns
+from cophy_pg.progress import say
+from cophy_pg.schema import Schema
+from cophy_pg.sizes import both, stored_pages
+from cophy_pg.script import ROWS_A_SECOND, script_text
+
+OWNERS = [
+    "-- Let the owner of the tables run this, not a superuser: functions that an owner planted, as in a partition key or behind",
+    "-- an event trigger, would run with a superuser's rights. What --script prints refuses a superuser there.",
+]
+NEWER = "the catalogue is newer than the advice: if it has changed, export and advise again"
+
+
+def add_ddl(commands: argparse._SubParsersAction[argparse.ArgumentParser]) -> None:
+    """The words of `ddl`."""
+    parser = commands.add_parser(
+        "ddl",
+        help="print the statements CREATE INDEX of an advice",
+        description="Prints CREATE INDEX CONCURRENTLY for each pick of an advice, with PostgreSQL's own names. Each runs by "
+        "itself, outside a transaction; psql -f runs them in turn. A pick that PostgreSQL can't make is left out, with "
+        "the reason.",
+    )
+    parser.add_argument("catalogue", metavar="CATALOGUE", help="the catalogue that the advice is of")
+    parser.add_argument("advice", metavar="ADVICE", help="what cophy advise printed; - for the standard input")
+    parser.add_argument(
+        "--script",
+        action="store_true",
+        help="print a script of psql that can be run again after a fault, tells of INVALID indexes, makes those of partitions "
+        "one by one, and with -v undo=1 drops what it made",
+    )
+    parser.add_argument(
+        "--include",
+        metavar="WORKLOAD",
+        help="put columns that no statement of the workload compares, joins, groups or orders by behind INCLUDE",
+    )
+    parser.add_argument(
+        "--rows-a-second",
+        type=rate,
+        default=ROWS_A_SECOND,
+        metavar="N",
+        help=f"how fast an index is made, for the script's estimates ({ROWS_A_SECOND})",
+    )
+    parser.add_argument("--json", action="store_true", help="print JSON instead")
+    parser.set_defaults(run=ddl)
+
+
+def rate(text: str) -> int:
+    """A number of rows a second."""
+    if not 1 <= int(text) <= 10**12:
+        raise ValueError
+    return int(text)
+
+
+def ddl(words: argparse.Namespace) -> int:
+    """Prints the statements."""
+    schema, advice = read_schema(files.read(words.catalogue)), advice_of(words.advice)
+    searched = searched_columns(files.read(words.include)) if words.include else None
+    is_newer = _is_newer(words.catalogue, words.advice)
+    if is_newer:
+        say(NEWER)
+    if words.json:
+        print(
+            json.dumps(
+                _as_json(schema, advice, made_of(schema, advice, searched)) | {"catalogue_is_newer": is_newer}, indent=2
+            )
+        )
+    else:
+        more = [f"-- {NEWER}"] if is_newer else []
+        rows_a_second = words.rows_a_second if words.script else None
+        print(ddl_text(schema, advice, searched, rows_a_second, more), end="")
+    return 0
+
+
+def _is_newer(catalogue: str, advice: str) -> bool:
+    """Whether the catalogue was written after the advice; of what is no file it isn't known."""
+    with suppress(OSError):
+        return os.path.isfile(advice) and os.stat(catalogue).st_mtime_ns > os.stat(advice).st_mtime_ns
+    return False
+
+
+def made_of(schema: Schema, advice: Advice, searched: set[str] | None = None) -> list[Made]:
+    """The indexes of an advice. Of columns that are searched, where that is known, the last one ends the keys."""
+    taken = taken_names(schema)
+    keys = {it.number: key_count(it, searched) for it in advice.picks} if searched is not None else {}
+    return [create(schema, it, taken, keys.get(it.number)) for it in advice.picks]
+
+
+def ddl_text(
+    schema: Schema,
+    advice: Advice,
+    searched: set[str] | None = None,
+    rows_a_second: int | None = None,
+    more: list[str] | None = None,
+) -> str:
+    """The statements with comments on what they are of, or a script, where it is said how fast an index is made."""
+    end = "the bound is reached: no other choice costs less" if advice.is_finished else "the bound isn't reached"
+    made = made_of(schema, advice, searched)
+    budget, size = both(advice.budget, None), both(advice.size, sum(stored_of(schema, it) for it in made))
+    cost, bound, gap = map(grouped, (advice.cost, advice.bound, advice.gap))
+    head = [*(more or []), f"-- budget {budget}, size {size}", f"-- cost {cost}, bound {bound}, gap {gap}: {end}"]
+    left_out = [f"-- pick {it.pick.number} is left out, {_comment(it.why_not)}" for it in made if it.why_not]
+    if rows_a_second is not None:
+        return script_text(schema, made, [*head, *left_out], rows_a_second)
+    lines = [*head, *OWNERS]
+    for it in made:
+        lines += ["", f"-- pick {it.pick.number}: {both(it.pick.pages, stored_of(schema, it) or None)}"]
+        lines += it.statements if not it.why_not else [f"-- left out, {_comment(it.why_not)}"]
+    return "\n".join(lines) + "\n"
+
+
+def stored_of(schema: Schema, made: Made) -> int:
+    """The pages of a pick as PostgreSQL stores it; none of one that isn't made."""
+    return stored_pages(schema, made.pick, made.indexes[0].keys) or 0 if made.indexes else 0
+
+
+def _comment(text: str) -> str:
+    """A text of one line of printable ASCII."""
+    return "".join(it if 32 <= ord(it) < 127 else "?" for it in text)
+
+
+def _as_json(schema: Schema, advice: Advice, made: list[Made]) -> dict[str, Any]:
+    return {
+        "budget": advice.budget,
+        "size": advice.size,
+        "stored_size": sum(stored_of(schema, it) for it in made),
+        "cost": advice.cost,
+        "bound": advice.bound,
+        "gap": advice.gap,
+        "finished": advice.is_finished,
+        "picks": [
+            {
+                "number": it.pick.number,
+                "table": it.pick.table,
+                "columns": it.pick.columns,
+                "pages": it.pick.pages,
+                "stored_pages": stored_of(schema, it) or None,
+                "name": it.name or None,
+                "statement": "\n".join(it.statements) or None,
+                **({"left_out": it.why_not} if it.why_not else {}),
+            }
+            for it in made
+        ],
+    }

@@ -1,0 +1,83 @@
+"""The server's plans of statements without the picks of an advice, with them, and with all picks but one."""
+from __future__ import annotations
+
+from collections.abc import Iterable
+from dataclasses import dataclass, field, replace
+from typing import Any
+
+from cophy_text.answers import Advice, Candidate
+from cophy_pg.explain import Explainer
+from cophy_pg.outcomes import Verdict
+from cophy_pg.parameters import Columns
+from cophy_pg.picks import home_of, index_names, make
+from cophy_pg.progress import Progress
+from cophy_pg.schema import Schema
+from cophy_pg.server import Server, ServerFault, reading
+from cophy_pg.workload import Workload
+
+
+@dataclass
+class Plans:
+    """Plans by the numbers of their verdicts, and for each pick, by its number, what the statements that take it cost
+    without it. `shown` has the picks by the names of their indexes in plans."""
+
+    before: dict[int, Any] = field(default_factory=dict)
+    after: dict[int, Any] = field(default_factory=dict)
+    without: dict[int, dict[int, float]] = field(default_factory=dict)
+    shown: dict[str, str] = field(default_factory=dict)
+
+    def saved(self, pick: int, verdict: Verdict) -> float:
+        """What one call saves by a pick, where all others are there."""
+        cost = self.without.get(pick, {}).get(verdict.number)
+        return cost - float(self.after[verdict.number]["Total Cost"]) if cost is not None else 0.0
+
+    def document(self, workload: Workload) -> dict[str, Any]:
+        """The plans of each input of a workload, in their order, with the numbers of its statements."""
+        listed = [
+            {"numbers": it.numbers, "before": self.before.get(at), "after": self.after.get(at)}
+            for at, it in enumerate(workload.records, 1)
+        ]
+        return {"statements": listed, "shown": self.shown}
+
+
+def plans_of(server: Server, schema: Schema, advice: Advice, found: list[Verdict], progress: Progress) -> Plans:
+    """The plans of statements that were explained before."""
+    plans = Plans()
+    explainer = Explainer(server, Columns())
+    known = [it for it in found if it.statement is not None and not it.fault and not it.statement.is_empty]
+    with reading(server, "READ COMMITTED"):
+        home_of(server)
+        plans.before = _each(explainer, known, progress)
+        _, made = make(server, schema, advice)
+        plans.shown = {name: _shown(advice, number) for name, number in made.items()}
+        plans.after = _each(explainer, known, progress)
+        for pick in advice.picks:
+            names = {name for name, number in made.items() if number == pick.number}
+            users = [it for it in known if names & index_names(plans.after.get(it.number, {}))]
+            if users:
+                make(server, schema, _but(advice, pick))
+                costs = _each(explainer, users, progress)
+                plans.without[pick.number] = {at: float(it["Total Cost"]) for at, it in costs.items()}
+    return plans
+
+
+def _shown(advice: Advice, number: int) -> str:
+    return next(it.shown() for it in advice.picks if it.number == number)
+
+
+def _but(advice: Advice, pick: Candidate) -> Advice:
+    return replace(advice, picks=[it for it in advice.picks if it is not pick])
+
+
+def _each(explainer: Explainer, listed: Iterable[Verdict], progress: Progress) -> dict[int, Any]:
+    found: dict[int, Any] = {}
+    for it in listed:
+        progress(f"plans of {it.shown()}")
+        if it.statement is None:
+            continue
+        try:
+            found[it.number] = explainer.explain(it.statement)
+        except ServerFault as fault:
+            if explainer.server.is_lost():
+                raise ServerFault(f"the connection was lost at {it.shown()}", fault.code) from None
+    return found

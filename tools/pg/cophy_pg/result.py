@@ -1,0 +1,153 @@
+"""All that `advise` found, as one document of JSON, whose form is `advice.schema.json`."""
+from __future__ import annotations
+
+from dataclasses import dataclass, field
+from typing import Any
+
+from cophy_text import VERSION
+from cophy_text.answers import Advice, Candidate, Prices
+from cophy_text.shown import short
+from cophy_pg.choice import Choice
+from cophy_pg.ddl import create, taken_names
+from cophy_pg.plans import Plans
+from cophy_pg.schema import Schema
+from cophy_pg.sizes import stored_size
+from cophy_pg.verify import Judged
+from cophy_pg.why import Reason
+from cophy_pg.workload import Record, Workload
+
+
+@dataclass
+class Result:
+    """What each step found. `prices` are ours without picks, with those that stay, and with all of the advice; a price of
+    ours is in thousandths of a page read."""
+
+    schema: Schema
+    workload: Workload
+    advice: Advice
+    choice: Choice
+    judged: Judged
+    plans: Plans
+    prices: tuple[Prices, Prices, Prices]
+    reasons: list[Reason]
+    proved: str
+    head: dict[str, Any]
+    told: dict[str, list[str]]
+    seconds: dict[str, float] = field(default_factory=dict)
+
+    def document(self) -> dict[str, Any]:
+        """The document."""
+        none, kept, all_ = self.prices
+        count, before, after = self.judged.sums()
+        return {
+            "version": 1,
+            "tools": VERSION,
+            **self.head,
+            "budget_pages": self.advice.budget,
+            "size_pages": sum(it.pages for it in self.choice.advice.picks),
+            "stored_pages": stored_size(self.schema, self.choice.advice.picks),
+            "cost": {
+                "before": none.total,
+                "after": kept.total,
+                "advice": all_.total,
+                "bound": self.advice.bound,
+                "finished": self.advice.is_finished,
+            },
+            "server_cost": {"statements": count, "before": before, "after": after},
+            "proved": self.proved,
+            "calls_divided_by": self.workload.divisor,
+            **self.told,
+            "functions": self.judged.functions,
+            "picks": self._picks(),
+            "left_out": [{**_index(it), "why": why} for it, why in self.choice.left_out],
+            "statements": [self._statement(at, it) for at, it in enumerate(self.workload.records, 1)],
+            "seconds": {name: round(it, 3) for name, it in self.seconds.items()},
+        }
+
+    def _picks(self) -> list[dict[str, Any]]:
+        taken, found = taken_names(self.schema), []
+        outcomes = {it.pick.number: it for it in self.judged.outcomes}
+        for it in self.reasons:
+            made, outcome = create(self.schema, it.pick, taken), outcomes[it.pick.number]
+            found.append(
+                {
+                    **_index(it.pick),
+                    "stored_pages": stored_size(self.schema, [it.pick]),
+                    "name": made.name,
+                    "statements": [*made.statements],
+                    "outcome": outcome.name,
+                    "unknown_for": [f"{why}: {where}" if where else why for why, where in outcome.reasons.items()],
+                    "begins": outcome.begins or None,
+                    "saves": self._saves(it),
+                    "changes": self._changes(it),
+                }
+            )
+        return sorted(found, key=lambda it: (-max(it["saves"]["ours"], it["saves"]["server"]), it["number"]))
+
+    def _saves(self, reason: Reason) -> dict[str, float]:
+        """What the workload would cost more without a pick, in percent of what it costs without any."""
+        ours = _percent(reason.total_without - self.prices[1].total, self.prices[0].total)
+        before = self.judged.sums()[1]
+        saved = sum(it.calls * self.plans.saved(reason.pick.number, it) for it in self.judged.verdicts)
+        return {"ours": ours, "server": _percent(saved, before), "cost_without": reason.total_without}
+
+    def _changes(self, reason: Reason) -> list[dict[str, Any]]:
+        """The statements that a pick changes the cost of, by our model or by the server's, what all calls save in percent of
+        the workload's cost; less than 0 where they cost more with it. Inputs that are written as the same statements are
+        one."""
+        before, server_before = self.prices[0].total, self.judged.sums()[1]
+        found: dict[tuple[int, ...], dict[str, Any]] = {}
+        for verdict in self.judged.verdicts:
+            ours = sum(reason.changes.get(it, 0) for it in verdict.written)
+            server = verdict.calls * self.plans.saved(reason.pick.number, verdict)
+            change = found.setdefault(
+                tuple(verdict.written),
+                {"numbers": verdict.written, "sql": short(verdict.input.text), "calls": 0, "ours": ours, "server": 0.0},
+            )
+            change["calls"] += verdict.calls
+            change["server"] += server
+        shares = [
+            it | {"ours": _percent(it["ours"], before), "server": _percent(it["server"], server_before)}
+            for it in found.values()
+            if it["ours"] or it["server"]
+        ]
+        return sorted(shares, key=lambda it: (-max(it["ours"], it["server"]), it["numbers"]))
+
+    def _statement(self, at: int, record: Record) -> dict[str, Any]:
+        given = record.input
+        verdict = next((it for it in self.judged.verdicts if it.number == at), None)
+        return {
+            "numbers": record.numbers,
+            "sql": given.text,
+            "line": given.line or None,
+            "role": given.role or None,
+            "calls": given.calls,
+            "seconds": given.seconds,
+            "outcome": record.found.outcome,
+            "changes": [*record.found.changes],
+            "skipped": record.found.skipped or None,
+            "cost": self._ours(record) if record.numbers else None,
+            "server_cost": _both(verdict.before, verdict.after) if verdict else None,
+            "not_explained": (verdict.fault or None) if verdict else None,
+            "picks": verdict.taken if verdict else [],
+        }
+
+    def _ours(self, record: Record) -> dict[str, int]:
+        """What a call costs by our model, over all statements that it is written as."""
+        times = {at: record.found.times.get(self.workload.statements[at - 1][0], 1.0) for at in record.numbers}
+        before, after = (
+            round(sum(count * it.statements[at].cost for at, count in times.items())) for it in self.prices[:2]
+        )
+        return {"before": before, "after": after}
+
+
+def _index(pick: Candidate) -> dict[str, Any]:
+    return {"number": pick.number, "table": pick.table, "columns": [*pick.columns], "pages": pick.pages}
+
+
+def _both(before: float | None, after: float | None) -> dict[str, float] | None:
+    return {"before": before, "after": after} if before is not None and after is not None else None
+
+
+def _percent(part: float, whole: float) -> float:
+    return round(100 * part / whole, 4) if whole else 0.0

@@ -1,0 +1,194 @@
+"""`ddl --script`: a script of psql that makes the picks of an advice, says what went wrong, and takes them back."""
+from __future__ import annotations
+
+from cophy_text import VERSION
+from cophy_text.answers import counted
+from cophy_text.shown import space
+from cophy_pg.ddl import Made, Named, written_text
+from cophy_pg.schema import Schema, Table
+from cophy_pg.sizes import stored_pages
+
+ROWS_A_SECOND = 350_000
+"""So many rows a second CREATE INDEX CONCURRENTLY took in, as measured: tools/pg/README.md."""
+BRIEF, PATIENT = "5s", "30min"
+
+_HEAD = f"""\\set ON_ERROR_STOP on
+\\set AUTOCOMMIT on
+SET search_path TO pg_catalog, pg_temp;
+SET standard_conforming_strings TO on;
+SET statement_timeout TO 0;
+SET client_min_messages TO warning;
+-- An index that another run is making looks like one that was left INVALID.
+SELECT pg_try_advisory_lock(1668247673, 1) AS is_alone \\gset
+\\if :is_alone
+\\else
+    DO 'BEGIN RAISE EXCEPTION ''another run of such a script is going on in this database''; END';
+\\endif
+-- What locks out writers gives up soon, so that nobody has to queue behind it; what is CONCURRENTLY waits for the transactions
+-- of others, and holds nobody up.
+\\set brief '{BRIEF}'
+\\set patient '{PATIENT}'
+PREPARE cophy_state (text, text, text, text[]) AS
+SELECT count(*) FILTER (WHERE NOT is_it) > 0 AS is_other, count(*) FILTER (WHERE is_it AND is_valid) > 0 AS is_there,
+    count(*) FILTER (WHERE is_it AND NOT is_valid) > 0 AS is_invalid
+FROM (
+    SELECT i.indisvalid AND i.indisready AS is_valid, coalesce(m.nspname = $1 AND t.relname = $3 AND $4 = ARRAY(
+        SELECT a.attname::text FROM unnest(i.indkey::int2[]) WITH ORDINALITY k(number, at)
+        JOIN pg_attribute a ON a.attrelid = i.indrelid AND a.attnum = k.number ORDER BY k.at), false) AS is_it
+    FROM pg_class c JOIN pg_namespace n ON n.oid = c.relnamespace LEFT JOIN pg_index i ON i.indexrelid = c.oid
+    LEFT JOIN pg_class t ON t.oid = i.indrelid LEFT JOIN pg_namespace m ON m.oid = t.relnamespace
+    WHERE n.nspname = $1 AND c.relname = $2) found;
+"""
+# Each part of a partitioned table with its index and that of the part above, by names of at most 63 bytes.
+_PARTS = """PREPARE cophy_parts (int, text, text, text, text) AS
+WITH tree AS (
+    SELECT p.relid, p.parentrelid, p.level, n.nspname, c.relname, c.relkind, c.relnamespace, CASE WHEN p.level = 0 THEN $4
+        ELSE CASE WHEN octet_length(c.relname::text) = length(c.relname) THEN left(c.relname, 24) ELSE 'part' END
+            || '_' || left($4, 20) || '_' || c.oid::text END AS index
+    FROM pg_partition_tree((SELECT t.oid FROM pg_class t JOIN pg_namespace s ON s.oid = t.relnamespace
+        WHERE s.nspname = $2 AND t.relname = $3)) p
+    JOIN pg_class c ON c.oid = p.relid JOIN pg_namespace n ON n.oid = c.relnamespace WHERE c.relkind IN ('r', 'p')
+), parts AS (
+    SELECT t.*, i.indexrelid, i.indisvalid AND i.indisready AS is_valid, u.nspname AS upper, u.index AS upper_index,
+        EXISTS (SELECT FROM pg_inherits h WHERE h.inhrelid = i.indexrelid) AS is_attached
+    FROM tree t LEFT JOIN tree u ON u.relid = t.parentrelid
+    LEFT JOIN pg_class x ON x.relname = t.index AND x.relnamespace = t.relnamespace
+    LEFT JOIN pg_index i ON i.indexrelid = x.oid AND i.indrelid = t.relid
+)
+SELECT CASE $1
+    WHEN 1 THEN format('DROP INDEX CONCURRENTLY %I.%I', nspname, index)
+    WHEN 2 THEN format('CREATE INDEX %I ON ONLY %I.%I %s', index, nspname, relname, $5)
+    WHEN 3 THEN format('CREATE INDEX CONCURRENTLY %I ON %I.%I %s', index, nspname, relname, $5)
+    WHEN 4 THEN format('ALTER INDEX %I.%I ATTACH PARTITION %I.%I', upper, upper_index, nspname, index)
+    ELSE format('DROP INDEX CONCURRENTLY %I.%I', nspname, index) END
+FROM parts
+WHERE CASE $1
+    WHEN 1 THEN relkind = 'r' AND NOT is_valid
+    WHEN 2 THEN relkind = 'p' AND indexrelid IS NULL
+    WHEN 3 THEN relkind = 'r' AND indexrelid IS NULL
+    WHEN 4 THEN level > 0 AND indexrelid IS NOT NULL AND NOT is_attached
+    ELSE relkind = 'r' AND indexrelid IS NOT NULL AND NOT is_attached END
+ORDER BY CASE $1 WHEN 4 THEN -level ELSE level END, nspname, relname;
+"""
+"""The steps of a partitioned table, by their numbers: what an earlier run left INVALID is dropped, the indexes of what has
+parts are made alone, those of the parts, and these are attached; the fifth drops what isn't attached."""
+
+
+def script_text(schema: Schema, made: list[Made], head: list[str], rows_a_second: int) -> str:
+    """The script. It can be run again after a fault, and with `-v undo=1` it drops what it made."""
+    listed = [it for it in made if not it.why_not]
+    has_parts = any(_table(schema, it).is_partitioned for it in listed)
+    lines = [f"-- Made by cophy-pg {VERSION}. The owner of the tables runs it: psql -X -f FILE"]
+    lines += ["-- It may be run again after a fault. To drop what it made: psql -X -v undo=1 -f FILE", *head, ""]
+    lines += [_HEAD + _refuse_powers(listed) + (_PARTS if has_parts else "") + "\\if :{?undo}"]
+    for it in reversed(listed):
+        lines += _undo(_table(schema, it), it)
+    lines += ["\\else"]
+    for at, it in enumerate(listed, 1):
+        table = _table(schema, it)
+        seconds = counted(max(1, round(table.rows / rows_a_second)), "second")
+        size = space(stored_pages(schema, it.pick, it.indexes[0].keys) or it.pick.pages)
+        lines += ["", f"\\echo '{at} of {len(listed)}: {it.pick.shown()}, about {size} and {seconds}'"]
+        lines += _make_parts(table, it) if table.is_partitioned else _make(it)
+    return "\n".join([*lines, "", "\\endif", "\\echo done", ""])
+
+
+def _refuse_powers(listed: list[Made]) -> str:
+    """Ends the script for a superuser, or who may become one, where a table, a partition or an event trigger's function is
+    another role's: what that planted there, as in a partition key, would run with all rights."""
+    names = sorted({f"({', '.join(map(written_text, index.where))})" for it in listed for index in it.indexes})
+    if not names:
+        return ""
+    return f"""WITH RECURSIVE touched AS (
+    SELECT c.oid FROM pg_class c JOIN pg_namespace n ON n.oid = c.relnamespace
+    WHERE (n.nspname::text, c.relname::text) IN ({', '.join(names)})
+    UNION SELECT i.inhrelid FROM pg_inherits i JOIN touched t ON i.inhparent = t.oid
+)
+SELECT count(*) > 0 AS is_others FROM pg_roles o
+WHERE NOT o.rolsuper AND o.rolname <> session_user AND (
+    EXISTS (SELECT FROM touched t JOIN pg_class c ON c.oid = t.oid WHERE c.relowner = o.oid)
+    OR EXISTS (SELECT FROM pg_event_trigger e JOIN pg_proc p ON p.oid = e.evtfoid WHERE p.proowner = o.oid AND e.evtenabled <> 'D'))
+    AND EXISTS (SELECT FROM pg_roles r WHERE r.rolsuper
+        AND (pg_has_role(session_user, r.oid, 'MEMBER') OR pg_has_role(current_user, r.oid, 'MEMBER'))) \\gset
+\\if :is_others
+    DO 'BEGIN RAISE EXCEPTION ''tables or event triggers of others: let their owner run the script, not a superuser''; END';
+\\endif
+"""
+
+
+def _table(schema: Schema, made: Made) -> Table:
+    return schema.tables[made.indexes[0].where]
+
+
+def _make(made: Made) -> list[str]:
+    lines = []
+    for index in made.indexes:
+        state = _state(index)
+        lines += ["SET lock_timeout TO :'patient';", state, *_refuse_other(made)]
+        lines += ["\\if :is_there", "    \\echo 'it is there already'", "\\else", "    \\if :is_invalid"]
+        lines += ["        \\echo 'an earlier run left it INVALID, so it is dropped first'"]
+        lines += [f"        DROP INDEX CONCURRENTLY {index.shown()};", "    \\endif", "    \\set ON_ERROR_STOP off"]
+        lines += [
+            f"    {index.statement()}",
+            "    \\set ON_ERROR_STOP on",
+            f"    {state}",
+            "    \\if :is_there",
+            "    \\else",
+        ]
+        lines += ["        \\if :is_invalid"]
+        lines += [
+            "            \\warn 'it is left INVALID: it serves no query, and each write pays for it'",
+            "        \\endif",
+        ]
+        lines += [
+            f"        {_fail(made, 'was not made: run the script again, or with -v undo=1')}",
+            "    \\endif",
+            "\\endif",
+        ]
+    return lines
+
+
+def _make_parts(table: Table, made: Made) -> list[str]:
+    state = _state(made.indexes[0])
+    lines = ["SET lock_timeout TO :'patient';", state, *_refuse_other(made), _step(table, made, 1)]
+    lines += [
+        "SET lock_timeout TO :'brief';",
+        _step(table, made, 2),
+        "SET lock_timeout TO :'patient';",
+        _step(table, made, 3),
+    ]
+    lines += ["SET lock_timeout TO :'brief';", _step(table, made, 4), state, "\\if :is_there", "\\else"]
+    return [*lines, f"    {_fail(made, 'is not valid yet: run the script again, or with -v undo=1')}", "\\endif"]
+
+
+def _undo(table: Table, made: Made) -> list[str]:
+    lines = []
+    for index in made.indexes:
+        wait, how = ("brief", "") if table.is_partitioned else ("patient", "CONCURRENTLY ")
+        lines += [f"SET lock_timeout TO :'{wait}';", _state(index)]
+        lines += ["SELECT :'is_there'::bool OR :'is_invalid'::bool AS is_it \\gset", "\\if :is_it"]
+        lines += [f"    DROP INDEX {how}{index.shown()};", "\\endif"]
+    return lines + (["SET lock_timeout TO :'patient';", _step(table, made, 5)] if table.is_partitioned else [])
+
+
+def _step(table: Table, made: Made, number: int) -> str:
+    """A step of a partitioned table, which is asked for when those before it are done."""
+    index = made.indexes[0]
+    values = ", ".join(map(written_text, (table.schema, table.name, index.name, index.columns_text())))
+    return f"EXECUTE cophy_parts ({number}, {values}) \\gexec"
+
+
+def _state(index: Named) -> str:
+    """Asks whether an index is there, and as what."""
+    columns = ", ".join(map(written_text, index.columns))
+    values = f"{', '.join(map(written_text, (index.where[0], index.name, index.where[1])))}, ARRAY[{columns}]"
+    return f"EXECUTE cophy_state ({values}) \\gset"
+
+
+def _refuse_other(made: Made) -> list[str]:
+    return ["\\if :is_other", f"    {_fail(made, 'can not be made: its name is taken by another')}", "\\endif"]
+
+
+def _fail(made: Made, why: str) -> str:
+    """A statement that ends the script with an error."""
+    return f"DO 'BEGIN RAISE EXCEPTION ''the index {made.pick.shown()} {why}''; END';"

@@ -1,0 +1,54 @@
+"""How large picks are as PostgreSQL stores them, beside the pages that the model counts."""
+from __future__ import annotations
+
+from collections.abc import Iterable
+
+from cophy_text.answers import Candidate, counted
+from cophy_text.shown import space
+from cophy_pg.ddl import NoIndex, names_of
+from cophy_pg.schema import Column, Schema
+from cophy_pg.stored import LONG, NOT_SHARED, Part, pages
+
+ALIGNED = {
+    **dict.fromkeys(("int8", "float8", "timestamp", "timestamptz", "time", "timetz", "interval", "money"), 8),
+    **dict.fromkeys(("int4", "float4", "date", "oid"), 4),
+    "int2": 2,
+}
+"""The types of a fixed length that stand at a multiple of so many bytes; others do where they are long."""
+
+
+def part_of(column: Column, rows: int) -> Part:
+    """A column in an entry; one whose type isn't known as its kind and its width let suppose."""
+    if column.type or column.kind == "text" or column.width not in (2, 4, 8):
+        alignment = ALIGNED.get(column.type, 4 if column.width >= LONG else 1)
+    else:
+        alignment = column.width
+    return Part(column.width, alignment, column.distinct or rows, column.nulls)
+
+
+def stored_pages(schema: Schema, pick: Candidate, keys: int | None = None) -> int | None:
+    """The pages of a pick as PostgreSQL stores it, whose first columns alone, where it is said how many, are keys; nothing
+    where it isn't of this catalogue."""
+    try:
+        table, names = names_of(schema, pick)
+    except NoIndex:
+        return None
+    columns = [table.columns[it] for it in names]
+    rows = max(1, table.rows)
+    is_shared = keys in (None, len(columns)) and not any(it.type in NOT_SHARED for it in columns)
+    return pages(rows, [part_of(it, rows) for it in columns], is_shared)
+
+
+def stored_size(schema: Schema, picks: Iterable[Candidate]) -> int:
+    """The pages of picks together."""
+    return sum(stored_pages(schema, it) or it.pages for it in picks)
+
+
+def both(model: int, stored: int | None) -> str:
+    """The pages that the model counts, and those that PostgreSQL takes, where that is known."""
+    more = f", as PostgreSQL stores it about {_shown(stored)}" if stored is not None else ""
+    return _shown(model) + more
+
+
+def _shown(pages: int) -> str:
+    return f"{counted(pages, 'page')} ({space(pages)})"

@@ -1,0 +1,64 @@
+"""The steps of a long command: how long each takes, with a bar for each on a terminal."""
+from __future__ import annotations
+
+import sys
+import time
+from collections.abc import Iterator
+from contextlib import contextmanager
+from typing import Any
+
+from cophy_pg.progress import Progress
+
+try:
+    from rich import progress as bars
+    from rich.console import Console
+except ImportError:
+    bars = None  # type: ignore[assignment]
+
+
+class Steps(Progress):
+    """A progress of several steps. Where the standard error is a terminal and python3-rich is there, a step is a bar."""
+
+    def __init__(self, is_quiet: bool = False) -> None:
+        super().__init__()
+        self.seconds: dict[str, float] = {}
+        self.shown: Any = None
+        self.task: Any = None
+        self.is_quiet = is_quiet
+
+    def __call__(self, text: str) -> None:
+        if self.shown is not None:
+            self.shown.advance(self.task)
+        elif not self.is_quiet:
+            super().__call__(text)
+
+    @contextmanager
+    def all(self) -> Iterator[Steps]:
+        """Shows the bars until the end."""
+        if self.is_quiet or bars is None or not sys.stderr.isatty():
+            yield self
+            return
+        columns = (
+            bars.TextColumn("{task.description}", markup=False),
+            bars.BarColumn(),
+            bars.MofNCompleteColumn(),
+            bars.TimeElapsedColumn(),
+        )
+        with bars.Progress(*columns, console=Console(stderr=True)) as self.shown:
+            try:
+                yield self
+            finally:
+                self.shown = None
+
+    @contextmanager
+    def step(self, name: str, text: str, count: int | None = None) -> Iterator[None]:
+        """One step; `count` says how often it is told that something is done. Steps of one name add up."""
+        begun = time.monotonic()
+        if self.shown is not None:
+            self.task = self.shown.add_task(text, total=count)
+        else:
+            self(text)
+        yield
+        if self.shown is not None:
+            self.shown.update(self.task, total=count or 1, completed=count or 1)
+        self.seconds[name] = self.seconds.get(name, 0.0) + time.monotonic() - begun

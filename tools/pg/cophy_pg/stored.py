@@ -1,0 +1,89 @@
+"""How large a B-tree index is as PostgreSQL stores it, freshly built, by the widths of its columns."""
+from __future__ import annotations
+
+import math
+from collections.abc import Iterable, Sequence
+from dataclasses import dataclass, replace
+
+ALIGNMENTS = {"c": 1, "s": 2, "i": 4, "d": 8}
+HEADER, HEADER_WITH_NULLS, POINTER, ROW_PLACE = 8, 16, 4, 6
+GAP = 3
+"""The bytes that are lost on average at the end of a list of rows, which takes a multiple of 8."""
+FILLED, ROOM = 0.9, 8150
+MOST_PLACES = 132
+"""So many rows at most share one stored key: those that fit in a tenth of a page."""
+FAN_OUT = 250
+LONG = 127
+"""A value without a fixed length stands at a multiple of its alignment from so many bytes on."""
+LEAST_NULLS = 0.02
+"""A smaller share of rows without a value changes little."""
+NOT_SHARED = frozenset(("numeric", "float4", "float8", "jsonb", "interval"))
+"""Types whose equal values may differ in their bytes, so that no key is stored for several rows."""
+
+
+@dataclass(frozen=True)
+class Part:
+    """A column in an entry: the average bytes of a value, its alignment, how many values there are, and the share of the
+    rows that have none."""
+
+    size: int
+    alignment: int
+    distinct: float
+    nulls: float = 0.0
+
+
+def pages(rows: float, columns: Sequence[Part], is_shared: bool) -> int:
+    """The pages of 8192 bytes of an index over so many rows; `is_shared` says whether its kind stores a key once for
+    several rows."""
+    leaves = max(1, math.ceil(_size(rows, columns, is_shared, HEADER) / (FILLED * ROOM)))
+    above, level = 0, leaves
+    while level > 1:
+        level = math.ceil(level / FAN_OUT)
+        above += level
+    return 1 + leaves + above
+
+
+def _size(rows: float, columns: Sequence[Part], is_shared: bool, header: int) -> float:
+    """The bytes of all entries, those without a value apart."""
+    at = next((at for at, it in enumerate(columns) if it.nulls >= LEAST_NULLS), None)
+    if at is not None:
+        share, before, after = columns[at].nulls, columns[:at], columns[at + 1 :]
+        with_value = _size(rows * (1 - share), [*before, replace(columns[at], nulls=0.0), *after], is_shared, header)
+        return with_value + _size(rows * share, [*before, *after], is_shared, HEADER_WITH_NULLS)
+    entry = _entry(columns, header)
+    if not is_shared or rows < 1:
+        return rows * entry
+    keys = _keys(rows, (it.distinct for it in columns))
+    alone = _alone(rows, keys)
+    keys = max(keys, rows / MOST_PLACES)
+    return keys * entry + (rows - alone) * ROW_PLACE + (keys - alone) * GAP
+
+
+def _entry(columns: Iterable[Part], header: int) -> int:
+    """The bytes of an entry with its pointer."""
+    size = header
+    for it in columns:
+        size = _aligned(size, it.alignment) + it.size
+    return POINTER + _aligned(size, 8)
+
+
+def _keys(rows: float, counts: Iterable[float]) -> float:
+    """The distinct keys of so many rows over columns of so many values each that have nothing to do with each other."""
+    found = 1.0
+    for it in sorted((max(1.0, min(rows, it)) for it in counts), reverse=True):
+        found *= it if found == 1 or it == 1 else it * -math.expm1(rows / found * math.log1p(-1 / it))
+    return min(rows, found)
+
+
+def _alone(rows: float, keys: float) -> float:
+    """How many rows have a key of their own, where it is chance which rows share one."""
+    low, high = 0.0, rows / keys
+    for _ in range(40):
+        middle = (low + high) / 2
+        is_more = middle > 0 and middle / -math.expm1(-middle) > rows / keys
+        low, high = (low, middle) if is_more else (middle, high)
+    return rows * math.exp(-low)
+
+
+def _aligned(size: int, alignment: int) -> int:
+    return (size + alignment - 1) // alignment * alignment
