@@ -8,8 +8,9 @@ import pwd
 import shutil
 import subprocess
 import tempfile
-import time
 from pathlib import Path
+
+from patience import LONG, until
 
 PACKAGES = ("psycopg", "pglast")
 SETTINGS = (
@@ -57,9 +58,9 @@ def _user() -> str | None:
 
 
 class PrivateServer:
-    """A server that runs from its making to `stop`."""
+    """A server that runs from its making to `stop`. Its data go with it, but for those of a folder that is given."""
 
-    def __init__(self, encoding: str = "UTF8", settings: tuple[str, ...] = ()) -> None:
+    def __init__(self, encoding: str = "UTF8", settings: tuple[str, ...] = (), data: Path | None = None) -> None:
         self.folder = Path(tempfile.mkdtemp(prefix="cophy-pg-"))
         self.how: dict[str, object] = {
             "stdin": subprocess.DEVNULL,
@@ -71,20 +72,29 @@ class PrivateServer:
             shutil.chown(self.folder, user)
             self.how["user"] = user
         self.folder.chmod(0o755)
-        data = str(self.folder / "data")
-        words = f"-D {data} -U cophy --auth=trust -E {encoding} --locale=C --no-sync".split()
-        subprocess.run([str(program("initdb")), *words], check=True, cwd="/", **self.how)  # type: ignore[call-overload]
+        place = data or self.folder / "data"
+        if not (place / "PG_VERSION").exists():
+            self._make(place, encoding)
         given = [word for it in (*SETTINGS, *settings) for word in ("-c", it)]
-        words = [str(program("postgres")), "-D", data, "-k", str(self.folder), *given]
+        words = [str(program("postgres")), "-D", str(place), "-k", str(self.folder), *given]
         self.process = subprocess.Popen(words, cwd="/", **self.how)  # type: ignore[call-overload]
         self._wait()
 
+    def _make(self, place: Path, encoding: str) -> None:
+        place.mkdir(parents=True)
+        if "user" in self.how:
+            shutil.chown(place, str(self.how["user"]))
+        words = f"-U cophy --auth=trust -E {encoding} --locale=C --no-sync".split()
+        subprocess.run([str(program("initdb")), "-D", str(place), *words], check=True, cwd="/", **self.how)  # type: ignore[call-overload]
+
     def _wait(self) -> None:
-        for _ in range(600):
-            if (self.folder / ".s.PGSQL.5432").exists() and self.psql("SELECT 1", check=False).returncode == 0:
-                return
-            time.sleep(0.1)
-        raise RuntimeError("the private server doesn't answer")
+        def answers() -> bool:
+            if self.process.poll() is not None:
+                raise RuntimeError("the private server ended")
+            socket = self.folder / ".s.PGSQL.5432"
+            return socket.exists() and self.psql("SELECT 1", check=False).returncode == 0
+
+        until(answers, "the private server answers")
 
     def environment(self, database: str = "postgres", **more: str) -> dict[str, str]:
         """The environment of a client."""
@@ -95,7 +105,7 @@ class PrivateServer:
         """Runs a script of SQL."""
         words = [str(program("psql")), "-X", "-q", "-A", "-t", "-v", "ON_ERROR_STOP=1"]
         ran = subprocess.run(
-            words, input=text, text=True, capture_output=True, env=self.environment(database), check=False, timeout=300
+            words, input=text, text=True, capture_output=True, env=self.environment(database), check=False, timeout=LONG
         )
         if check and ran.returncode:
             raise RuntimeError(f"psql: {ran.stderr}")
@@ -106,10 +116,10 @@ class PrivateServer:
         return self.psql(query, database).stdout.strip()
 
     def stop(self) -> None:
-        """Ends the server and removes its folder."""
+        """Ends the server and removes its own folder."""
         self.process.terminate()
         try:
-            self.process.wait(60)
+            self.process.wait(LONG)
         except subprocess.TimeoutExpired:
             self.process.kill()
             self.process.wait()

@@ -5,14 +5,14 @@ import importlib.util
 import json
 import re
 import subprocess
-import tempfile
 import tomllib
 import unittest
 from pathlib import Path
 
 from cophy_text import answers
-from private_server import PrivateServer, has_extension, missing
-from test_export import ADVISOR, TOOL, called, shop
+from fixtures import ADVISOR, TOOL, InFolder, OverShop, called
+from patience import LONG
+from private_server import has_extension, missing
 
 MISSING = missing()
 ADVICE = """budget 3000
@@ -75,86 +75,61 @@ class Texts(unittest.TestCase):
     importlib.util.find_spec("pglast") is None or not Path("/usr/bin/python3").exists(),
     "python3-pglast isn't installed",
 )
-class Programs(unittest.TestCase):
+class Programs(InFolder):
     """`why` and `curve`, over a program that is a script."""
 
     def setUp(self) -> None:
-        folder = tempfile.TemporaryDirectory()
-        self.addCleanup(folder.cleanup)
-        self.folder = Path(folder.name)
-        self.program = self.folder / "program"
-        self.program.write_text(PROGRAM)
-        self.program.chmod(0o755)
+        super().setUp()
+        self.program = self.lay_program(PROGRAM)
         (self.folder / "advice").write_text(TWO)
+        (self.folder / "l.sql").write_text("-- weight 10\nSELECT c\n  FROM t;\nUPDATE t SET c = 1;\n")
 
     def call(self, command: str, *more: str) -> str:
-        words = [str(TOOL), command, "c.toml", "l.sql", *more, "--program", str(self.program)]
-        ran = subprocess.run(words, cwd=self.folder, capture_output=True, text=True, check=False, timeout=300)
+        words = [str(TOOL), command, "c.toml", "l.sql", *more, "--program", self.program]
+        ran = subprocess.run(words, cwd=self.folder, capture_output=True, text=True, check=False, timeout=LONG)
         self.assertEqual(ran.returncode, 0, ran.stderr)
         return ran.stdout
 
     def test_why_tells_who_gains_and_who_loses(self) -> None:
         text = self.call("why", "advice")
-        self.assertIn("without any pick the workload costs 15000, with all 7100 (47.3 %)", text)
+        self.assertIn("without any pick the workload costs 15,000, with all 7,100 (47.3 %)", text)
         self.assertIn(
-            "pick 1 a(x), 3 pages (0.0 MB)\n  without it the workload costs 15100, 8000 more (212.7 %)\n  statement    1 gains 8000\n",
+            "pick 1 a(x), 3 pages (0.0 MB)\n  without it the workload costs 15,100, 8,000 more (212.7 %)\n"
+            "  statement 1 gains 8,000: SELECT c FROM t\n",
             text,
         )
         self.assertIn(
-            "pick 2 a(y), 4 pages (0.0 MB)\n  without it the workload costs 7000, -100 more (98.6 %)\n  statement    2 loses 100\n",
+            "pick 2 a(y), 4 pages (0.0 MB)\n  without it the workload costs 7,000, -100 more (98.6 %)\n"
+            "  statement 2 loses 100: UPDATE t SET c = 1\n",
             text,
         )
         found = json.loads(self.call("why", "advice", "--json"))
         self.assertEqual((found["total_without_picks"], found["total"]), (15000, 7100))
-        self.assertEqual(found["picks"][0]["statements"], {"1": 8000})
-
-    def test_curve_has_a_line_for_each_budget(self) -> None:
-        lines = self.call("curve", "--steps", "3").splitlines()
-        self.assertEqual([it.split()[0] for it in lines[1:]], ["0", "10", "20", "30"])
-        self.assertEqual(lines[4].split(), ["30", "0.2", "30", "1", "6000", "5000", "16.67", "%"])
-        found = json.loads(self.call("curve", "--budgets", "5,40", "--json"))
-        self.assertEqual(
-            [(it["budget"], it["cost"], it["picks"]) for it in found], [(5, 8500, []), (40, 6000, ["customer(city)"])]
-        )
-
-    @unittest.skipIf(importlib.util.find_spec("matplotlib") is None, "python3-matplotlib isn't installed")
-    def test_curve_draws_a_png(self) -> None:
-        self.call("curve", "--budgets", "0,10,40", "--png", "curve.png")
-        self.assertEqual((self.folder / "curve.png").read_bytes()[:4], b"\x89PNG")
+        self.assertEqual(found["picks"][0]["changes"], [{"number": 1, "sql": "SELECT c FROM t", "saves": 8000}])
 
     def test_a_refusal_of_the_program_is_told(self) -> None:
-        self.program.write_text("#!/bin/sh\necho 'refused: not toml'; exit 5\n")
-        words = [str(TOOL), "why", "c.toml", "l.sql", "advice", "--program", str(self.program)]
-        ran = subprocess.run(words, cwd=self.folder, capture_output=True, text=True, check=False, timeout=300)
+        self.lay_program("#!/bin/sh\necho 'refused: not toml'; exit 5\n")
+        words = [str(TOOL), "why", "c.toml", "l.sql", "advice", "--program", self.program]
+        ran = subprocess.run(words, cwd=self.folder, capture_output=True, text=True, check=False, timeout=LONG)
         self.assertEqual((ran.returncode, ran.stdout), (1, ""))
         self.assertIn("cophy whatif answers: refused: not toml", ran.stderr)
 
 
 @unittest.skipIf(MISSING, MISSING)
-class OnServer(unittest.TestCase):
-    server: PrivateServer
-
-    @classmethod
-    def setUpClass(cls) -> None:
-        cls.server = shop()
-
+class OnServer(OverShop):
     def setUp(self) -> None:
-        folder = tempfile.TemporaryDirectory()
-        self.addCleanup(folder.cleanup)
-        self.folder = Path(folder.name)
-        self.files = [str(self.folder / it) for it in ("catalogue.toml", "workload.sql", "advice")]
+        super().setUp()
+        self.files = self.in_folder("catalogue.toml", "workload.sql", "advice")
         (self.folder / "advice").write_text(ADVICE)
         self.call("export", *self.files[:2])
 
-    def call(self, *words: str) -> subprocess.CompletedProcess[str]:
-        ran = called(self.server, *words, PGUSER="cophy_advisor")
-        self.assertEqual(ran.returncode, 0, ran.stderr)
-        return ran
-
     def test_ddl_runs_on_the_server(self) -> None:
         text = self.call("ddl", self.files[0], self.files[2]).stdout
-        self.assertIn("-- budget 3000 pages (23.4 MB), size 132 pages (1.0 MB)", text)
-        self.assertIn("-- cost 583783100, bound 580000000, gap 3783100: the bound isn't reached", text)
+        self.assertIn("-- budget 3,000 pages (23.4 MB), size 132 pages (1.0 MB)", text)
+        stored = r"as PostgreSQL stores it about [\d,]+ pages? \(\d+\.\d MB\)"
+        self.assertRegex(text, rf"-- budget .*, {stored}\n")
+        self.assertRegex(text, rf"-- pick 1: 30 pages \(0\.2 MB\), {stored}\n")
+        self.assertIn("-- cost 583,783,100, bound 580,000,000, gap 3,783,100: the bound isn't reached", text)
         self.server.psql(text, "shop")
         made = self.server.value(
             "SELECT string_agg(indexdef, E'\\n' ORDER BY indexname) FROM pg_indexes WHERE indexname ~ '_idx$'"
@@ -181,13 +156,12 @@ class OnServer(unittest.TestCase):
 
     @unittest.skipUnless(has_extension("hypopg"), "postgresql-15-hypopg isn't installed")
     def test_verify_names_the_picks_that_plans_take(self) -> None:
-        program = self.folder / "program"
-        program.write_text(PROGRAM)
-        program.chmod(0o755)
-        words = ("verify", *self.files, "--program", str(program))
+        words = ("verify", *self.files, "--program", self.lay_program(PROGRAM))
         text = self.call(*words).stdout
         self.assertRegex(
-            text, r"pick 1 customer\(city\): taken by \d+ statements\n  statements? [0-9, ]+ \(calls 1\): a call costs"
+            text,
+            r"pick 1 customer\(city\): taken by \d+ statements?\n"
+            r"  30 pages \(0\.2 MB\), as PostgreSQL stores it about \d+ pages \(\d\.\d MB\)\n  statements? [0-9, ]+ \(calls 1\): a call costs",
         )
         self.assertIn("pick 2 Odd_Name(select, _n_code): taken by no statement", text)
         self.assertRegex(text.splitlines()[-1], r"^verdict: of 4 picks 3 taken, 1 not taken, 0 unknown; PostgreSQL's")

@@ -6,10 +6,10 @@ import os
 import shutil
 import signal
 import subprocess
-import time
 import unittest
 from pathlib import Path
 
+from patience import LONG, until
 from script_copy import OverCopy
 
 
@@ -17,9 +17,8 @@ class Build(OverCopy):
     def test_a_build_tells_each_crate_and_its_number(self) -> None:
         ran = self.copy.call("cost", "a", "b", FAKE_TEXT="done\\n", FAKE_STATUS="3")
         self.assertEqual((ran.returncode, ran.stdout), (3, b"done\n"))
-        self.assertIn(b"proving adv_base (1 of 2), 0 min 0", ran.stderr)
-        self.assertIn(b"building cophy_cli (2 of 2), 0 min 0", ran.stderr)
-        self.assertIn(b"built, in 0 min 0", ran.stderr)
+        for told in (r"proving adv_base \(1 of 2\),", r"building cophy_cli \(2 of 2\),", "built, in"):
+            self.assertRegex(ran.stderr.decode(), rf"{told} \d+ min \d\d")
         called = self.copy.called()
         self.assertEqual(called[0], "rt lib --jobs 1 in adv_base")
         self.assertTrue(called[1].startswith("rt run -- cost "))
@@ -38,8 +37,8 @@ class Build(OverCopy):
         self.lay_crates(["base:", "top: base", "cophy_cli: top"], {"base": 1, "top": 1})
         ran = self.copy.call("cost", "a", "b", COPHY_JOBS="4", FAKE_TEXT="done\\n")
         self.assertEqual((ran.returncode, ran.stdout), (0, b"done\n"))
-        self.assertIn(b"proving 3 crates, with at most 4 processes, 0 min 0", ran.stderr)
-        self.assertIn(b"building cophy_cli (3 of 3), 0 min 0", ran.stderr)
+        for told in ("proving 3 crates, with at most 4 processes", r"building cophy_cli \(3 of 3\)"):
+            self.assertRegex(ran.stderr.decode(), rf"{told}, \d+ min \d\d")
         called = self.copy.called()
         self.assertEqual(called.pop(0), "rt lib --jobs 3 in base")
         self.assertEqual(called[0], "rt lib --jobs 3 in top")
@@ -67,7 +66,7 @@ class Build(OverCopy):
         self.lay_crates(lines, {"base": 1, "small": 2, "large": 5, "top": 1, "other": 1})
         room = self.copy.folder / "room"
         room.mkdir()
-        ran = self.copy.call("cost", "a", "b", COPHY_JOBS="4", FAKE_SECONDS="1", TMPDIR=str(room))
+        ran = self.copy.call("cost", "a", "b", COPHY_JOBS="4", FAKE_TOGETHER="large small", TMPDIR=str(room))
         self.assertEqual(ran.returncode, 0)
         called = [it for it in self.copy.called() if it.startswith("rt lib")]
         self.assertEqual(called[0], "rt lib --jobs 3 in base")
@@ -82,15 +81,20 @@ class Build(OverCopy):
         self.assertEqual(self.copy.called()[0], "rt lib --jobs 4 in adv_base")
 
     def test_of_two_calls_at_once_the_second_waits_for_the_first_ones_build(self) -> None:
-        how = self.copy.environment(FAKE_SECONDS="1", FAKE_TEXT="done")
+        how = self.copy.environment(FAKE_UNTIL=str(self.copy.goes_on), FAKE_TEXT="done")
         root = self.copy.root
         words = [str(root / "cophy"), "cost", "a", "b"]
         pipe = subprocess.PIPE
-        calls = [subprocess.Popen(words, cwd=root, env=how, stdout=pipe, stderr=pipe, text=True) for _ in range(2)]
-        said, told = zip(*sorted((it.communicate(timeout=300) for it in calls), key=lambda it: str(it[1])))
-        self.assertEqual(([it.returncode for it in calls], said), ([0, 0], ("done", "done")))
-        self.assertIn("first use", told[0])
-        self.assertEqual(told[1], f"cophy: waiting for another build in {root}\n")
+        first = subprocess.Popen(words, cwd=root, env=how, stdout=pipe, stderr=pipe, text=True)
+        until(self.copy.called, "the first one builds")
+        second = subprocess.Popen(words, cwd=root, env=how, stdout=pipe, stderr=pipe, text=True)
+        assert second.stderr is not None
+        self.assertEqual(second.stderr.readline(), f"cophy: waiting for another build in {root}\n")
+        self.copy.goes_on.touch()
+        said, told = first.communicate(timeout=LONG)
+        self.assertEqual((first.returncode, said), (0, "done"))
+        self.assertIn("first use", told)
+        self.assertEqual((*second.communicate(timeout=LONG), second.returncode), ("done", "", 0))
         self.assertEqual(len([it for it in self.copy.called() if it.startswith("rt lib")]), 1)
 
     def test_a_checkout_that_cannot_be_written_is_told_in_a_line(self) -> None:
@@ -143,14 +147,14 @@ class Build(OverCopy):
                 with self.subTest(number=number, jobs=jobs):
                     started = self.begin(jobs, "900", signal.SIG_DFL)
                     os.kill(started.pid, number)
-                    self.assertEqual(started.wait(timeout=300), 130)
-                    self.assertEqual(self.running(), [])
+                    self.assertEqual(started.wait(timeout=LONG), 130)
+                    until(lambda: not self.running(), "all has ended")
 
     def test_an_interrupt_ends_what_is_begun_and_leaves_nothing(self) -> None:
         started = self.begin("4", "900", signal.SIG_DFL)
         os.killpg(started.pid, signal.SIGINT)
-        self.assertEqual(started.wait(timeout=300), 130)
-        self.assertEqual(self.running(), [])
+        self.assertEqual(started.wait(timeout=LONG), 130)
+        until(lambda: not self.running(), "all has ended")
         self.assertEqual(list((self.copy.folder / "room").iterdir()), [])
         self.assertEqual(sorted(it.name for it in (self.copy.root / "out").iterdir()), ["build.lock", "build.log"])
 
@@ -159,7 +163,7 @@ class Build(OverCopy):
             with self.subTest(number=number):
                 started = self.begin("4", "1", signal.SIG_IGN)
                 os.killpg(started.pid, number)
-                self.assertEqual(started.wait(timeout=300), 0)
+                self.assertEqual(started.wait(timeout=LONG), 0)
 
     def begin(self, jobs: str, seconds: str, what: signal.Handlers) -> subprocess.Popen[bytes]:
         """Begins a build whose steps take so long, and waits until a crate is begun. What an interrupt and a terminal that is
@@ -182,10 +186,7 @@ class Build(OverCopy):
             start_new_session=True,
             preexec_fn=prepare,
         )
-        for _ in range(1000):
-            if self.copy.called():
-                break
-            time.sleep(0.1)
+        until(self.copy.called, "a crate is begun")
         return started
 
     def running(self) -> list[str]:
@@ -239,8 +240,8 @@ class Build(OverCopy):
                 self.assertIn(b"install the Rattle kit", ran.stderr)
 
     def test_on_a_terminal_progress_is_one_line_that_is_written_over(self) -> None:
-        shown = self.copy.on_terminal("cost", "a", "b", FAKE_SECONDS="2.5")
-        self.assertRegex(shown, rb"\rcophy: proving adv_base \(1 of 2\), 0 min (?!00)[0-9]{2} s so far")
+        later = r"\rcophy: proving adv_base \(1 of 2\), [0-9]+ min (?!00)[0-9]{2} s so far"
+        self.assertRegex(self.copy.on_terminal("cost", "a", "b", goes_on_at=later).decode(), later)
 
 
 if __name__ == "__main__":

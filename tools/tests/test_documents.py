@@ -8,7 +8,8 @@ import tempfile
 import unittest
 from pathlib import Path
 
-from test_export import COPHY, ROOT
+from fixtures import COPHY, ROOT
+from patience import LONG
 
 STORED = ROOT / "crates" / "cophy_cli"
 BLOCK = re.compile(r"^```\n(\$ \./cophy .*?)^```$", re.MULTILINE | re.DOTALL)
@@ -40,7 +41,7 @@ class Documents(unittest.TestCase):
                 for words, output in shown(document):
                     with self.subTest(document=document, words=words):
                         ran = subprocess.run(
-                            [str(COPHY), *words], cwd=folder, capture_output=True, text=True, check=False, timeout=300
+                            [str(COPHY), *words], cwd=folder, capture_output=True, text=True, check=False, timeout=LONG
                         )
                         if output:
                             self.assertEqual(ran.stdout, output)

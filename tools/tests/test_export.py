@@ -1,8 +1,6 @@
 """`cophy-pg export` against a PostgreSQL of its own."""
 from __future__ import annotations
 
-import atexit
-import functools
 import os
 import re
 import subprocess
@@ -11,68 +9,21 @@ import tomllib
 import unittest
 from pathlib import Path
 
+from fixtures import COPHY, DATA, MISSING, OverShop, called, cost, shop
 from grammar import accepted
-from private_server import PrivateServer, missing, program
 
-HERE = Path(__file__).resolve().parent
-ROOT = HERE.parents[1]
-TOOL = ROOT / "tools" / "pg" / "cophy-pg"
-DATA = HERE / "data"
-ADVISOR = ROOT / "tools" / "pg" / "advisor_role.sql"
-COPHY = Path(os.environ.get("COPHY_PROGRAM") or ROOT / "crates" / "cophy_cli" / "out" / "cophy_cli")
-MISSING = missing()
-WAYS: list[list[str]] = [[], ["--no-ranges"], ["--look-ups"], ["--sql", str(DATA / "forms.sql")]]
-
-
-@functools.cache
-def shop() -> PrivateServer:
-    """A server with the database `shop`, on which pgbench and all forms have run."""
-    try:
-        server = PrivateServer()
-    except (OSError, RuntimeError, subprocess.CalledProcessError) as fault:
-        raise unittest.SkipTest(f"PostgreSQL doesn't start here: {type(fault).__name__}") from None
-    atexit.register(server.stop)
-    server.psql("CREATE DATABASE shop")
-    server.psql((DATA / "shop.sql").read_text(), "shop")
-    server.psql(ADVISOR.read_text(), "shop")
-    how = {"env": server.environment("shop"), "check": True, "capture_output": True, "timeout": 120}
-    subprocess.run([str(program("pgbench")), "-i", "-q", "-s", "1"], **how)  # type: ignore[call-overload]
-    server.psql("SELECT pg_stat_statements_reset()", "shop")
-    subprocess.run([str(program("pgbench")), "-n", "-t", "20", "-c", "2"], **how)  # type: ignore[call-overload]
-    server.psql((DATA / "forms.sql").read_text(), "shop")
-    return server
-
-
-def called(server: PrivateServer, *words: str, database: str = "shop", **more: str) -> subprocess.CompletedProcess[str]:
-    """A call of the tool."""
-    return subprocess.run(
-        [str(TOOL), *words],
-        env=server.environment(database, **more),
-        capture_output=True,
-        text=True,
-        check=False,
-        timeout=300,
-    )
-
-
-def cost(catalogue: Path, workload: Path) -> tuple[int, str]:
-    """The status and the text of the program on both files."""
-    ran = subprocess.run([COPHY, "cost", catalogue, workload], capture_output=True, text=True, check=False, timeout=300)
-    return ran.returncode, ran.stdout
+WAYS: list[list[str]] = [
+    [],
+    ["--no-ranges"],
+    ["--no-look-ups", "--no-limits", "--no-rows", "--no-deletes", "--no-insert-share"],
+    ["--sql", str(DATA / "forms.sql")],
+]
 
 
 @unittest.skipIf(MISSING, MISSING)
-class Export(unittest.TestCase):
-    server: PrivateServer
-
-    @classmethod
-    def setUpClass(cls) -> None:
-        cls.server = shop()
-
+class Export(OverShop):
     def setUp(self) -> None:
-        folder = tempfile.TemporaryDirectory()
-        self.addCleanup(folder.cleanup)
-        self.folder = Path(folder.name)
+        super().setUp()
         self.files = tuple(self.folder / it for it in ("catalogue.toml", "workload.sql", "report.txt"))
 
     def export(self, *more: str, database: str = "shop", **environment: str) -> subprocess.CompletedProcess[str]:
@@ -103,10 +54,11 @@ class Export(unittest.TestCase):
         self.assertGreater(count, 90)
         self.export()
         lines = self.files[2].read_text().splitlines()
-        listed = [it for it in lines if re.match(r"  \d+ (kept|changed|skipped) \(calls \d+", it)]
+        form = r"  (statements? [\d, ]+ (kept|changed)|skipped) \(calls \d+.*\): \w.*"
+        listed = [it for it in lines if re.fullmatch(form, it)]
         self.assertGreaterEqual(len(listed), count)
-        self.assertTrue(all(re.search(r"statement \d|skipped .*: \w", it) for it in listed), listed)
-        reasons = {it.split("): ")[1] for it in listed if " skipped " in it}
+        self.assertEqual(listed, [it for it in lines if "(calls " in it])
+        reasons = {it.split("): ")[1].split("; ")[0] for it in listed if "  skipped " in it}
         allowed = {
             "SET",
             "SHOW",
@@ -167,9 +119,9 @@ class Export(unittest.TestCase):
         table = [
             ("customer", "id", "int", "min(id)", "max(id)"),
             ("customer", "born", "date", "min(born)", "max(born)"),
-            ("customer", "created", "date", "min(created)::date", "max(created)::date"),
-            ("product", "price", "int", "floor(min(price))::int", "ceil(max(price))::int"),
-            ("product", "weight", "int", "floor(min(weight))::int", "ceil(max(weight))::int"),
+            ("customer", "created", "int", *(f"extract(epoch FROM {it}(created))::int8" for it in ("min", "max"))),
+            ("product", "price", "int", "floor(10 * min(price))::int", "ceil(10 * max(price))::int"),
+            ("product", "weight", "int", "floor(10000 * min(weight))::int", "ceil(10000 * max(weight))::int"),
             ("line", "quantity", "int", "min(quantity)", "max(quantity)"),
         ]
         for name, column, kind, low, high in table:
@@ -252,7 +204,7 @@ class Export(unittest.TestCase):
 
     def test_no_literal_stands_outside_the_workload(self) -> None:
         ran = self.export("--sql", str(DATA / "forms.sql"))
-        literals = set(re.findall(r"'([^']{4,})'", (DATA / "forms.sql").read_text()))
+        literals = {it for it in re.findall(r"'([^']*)'", (DATA / "forms.sql").read_text()) if len(it) >= 4}
         self.assertGreater(len(literals), 20)
         for text in (ran.stderr, self.files[2].read_text()):
             self.assertEqual([it for it in literals if it in text], [])
@@ -379,8 +331,10 @@ ANALYZE"""
         self.assertEqual((len(weights), max(weights)), (1000, 1000000))
         self.assertIn("calls were divided by 2.0", report)
         why = "beyond 1000 statements or 2000 sources: others cost more"
-        self.assertEqual(len(re.findall(rf"^  \d+ skipped \(line \d+, calls \d+\): {why}$", report, re.MULTILINE)), 101)
-        self.assertIn(f"  1 skipped (line 2, calls 1): {why}", report)
+        shown = r"SELECT a FROM t1 WHERE b = \?"
+        beyond = re.findall(rf"^  skipped \(line \d+, calls \d+\): {why}; {shown}$", report, re.MULTILINE)
+        self.assertEqual(len(beyond), 101)
+        self.assertIn(f"  skipped (line 2, calls 1): {why}", report)
 
 
 if __name__ == "__main__":

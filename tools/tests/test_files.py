@@ -12,6 +12,9 @@ import time
 import unittest
 from pathlib import Path
 
+from fixtures import InFolder
+from patience import LONG
+
 TOOL = Path(__file__).resolve().parents[2] / "tools" / "pg" / "cophy-pg"
 CATALOGUE = """version = 1
 [[table]]
@@ -30,11 +33,9 @@ ADVICE = (
 
 
 @unittest.skipIf(importlib.util.find_spec("pglast") is None, "python3-pglast isn't installed")
-class Written(unittest.TestCase):
+class Written(InFolder):
     def setUp(self) -> None:
-        folder = tempfile.TemporaryDirectory()
-        self.addCleanup(folder.cleanup)
-        self.folder = Path(folder.name)
+        super().setUp()
         (self.folder / "c.toml").write_text(CATALOGUE)
         (self.folder / "q.sql").write_text("SELECT a FROM t WHERE a = 5;\n")
 
@@ -139,7 +140,7 @@ class Written(unittest.TestCase):
         words = [str(TOOL), "rewrite", "c.toml", "q.sql", "shut/w.sql"]
         if os.geteuid() == 0:
             words = ["/usr/bin/setpriv", "--reuid=65534", "--regid=65534", "--clear-groups", *words]
-        ran = subprocess.run(words, cwd=self.folder, capture_output=True, text=True, check=False, timeout=300)
+        ran = subprocess.run(words, cwd=self.folder, capture_output=True, text=True, check=False, timeout=LONG)
         self.assertEqual(ran.returncode, 1)
         self.assertIn("shut may not be written to", ran.stderr)
 
@@ -170,7 +171,7 @@ class Written(unittest.TestCase):
                 capture_output=True,
                 text=True,
                 check=False,
-                timeout=300,
+                timeout=LONG,
             )
             self.assertNotIn("Traceback", ran.stderr)
             self.assertNotIn("BrokenPipe", ran.stderr)
@@ -185,7 +186,7 @@ class Written(unittest.TestCase):
                 stderr=subprocess.PIPE,
                 text=True,
                 check=False,
-                timeout=300,
+                timeout=LONG,
             )
         self.assertEqual((ran.returncode, ran.stderr), (1, "cophy-pg: the standard output: No space left on device\n"))
 
@@ -203,7 +204,7 @@ class Written(unittest.TestCase):
                     )
                     time.sleep(wait)
                     process.send_signal(number)
-                    _, said = process.communicate(timeout=300)
+                    _, said = process.communicate(timeout=LONG)
                     text = (self.folder / "w.sql").read_text()
                     self.assertTrue(text == old or text.count("SELECT a\n") == 900, text[:100])
                     self.assertEqual(self.names(), ["c.toml", "q.sql", "w.sql"])
@@ -214,7 +215,7 @@ class Written(unittest.TestCase):
 @unittest.skipIf(importlib.util.find_spec("pglast") is None, "python3-pglast isn't installed")
 class Module(unittest.TestCase):
     def test_of_several_files_all_are_put_in_place_or_none(self) -> None:
-        from cophy_pg import files
+        from cophy_text import files
 
         with tempfile.TemporaryDirectory() as name:
             one, other = Path(name) / "one", Path(name) / "other"
@@ -233,7 +234,7 @@ class Module(unittest.TestCase):
     @staticmethod
     def _full_at(number: int, beside: object) -> object:
         """A writer whose disk is full at the file of this number."""
-        from cophy_pg import files
+        from cophy_text import files
 
         calls: list[str] = []
 

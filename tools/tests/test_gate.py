@@ -72,7 +72,7 @@ class Completion(unittest.TestCase):
             ("_cophy", ("cophy", "cost", "a", "b", ""), []),
             ("_cophy", ("cophy", "advise", "a", "b", "9", "--cert", "examples/shop."), files),
             ("_cophy_pg", ("cophy-pg", "ex"), ["export"]),
-            ("_cophy_pg", ("cophy-pg", "export", "--s"), ["--sql"]),
+            ("_cophy_pg", ("cophy-pg", "export", "--s"), ["--since", "--sql"]),
             ("_cophy_lint", ("cophy-lint", "examples/shop."), files),
             ("_cophy_lint", ("cophy-lint", "--v"), ["--version"]),
         ]

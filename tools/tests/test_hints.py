@@ -217,12 +217,14 @@ class Plain(unittest.TestCase):
         }
         self.assertEqual(set(heads), set(keys.KNOWN))
         parts = {"rates", "table", "column", "index"}
-        listed = {it for known in keys.KNOWN.values() for it in known} - parts
-        for part, head in heads.items():
-            for key in sorted(listed | {"postgres", "wdth"}):
-                with self.subTest(part=part, key=key):
-                    is_known = key in keys.KNOWN[part] or key == keys.OURS
-                    self.assertEqual(self.is_plain(f"version = 1\n{head}\n  {key}= 5 # note\n"), is_known)
+        listed = {it for part in heads for it in keys.known(part, 2)} - parts
+        for version in (1, 2):
+            for part, head in heads.items():
+                for key in sorted(listed | {"postgres", "wdth"}):
+                    with self.subTest(version=version, part=part, key=key):
+                        is_known = key in keys.known(part, version) or key == keys.OURS
+                        text = f"version = {version} # note\n{head}\n  {key}= 5 # note\n"
+                        self.assertEqual(self.is_plain(text), is_known)
 
     def test_other_forms_are_looked_at(self) -> None:
         for line in ("[rate]", "[table.x]", "[[column]]", "rates.x = 1", '"version" = 1', "table = [{rowz = 1}]"):

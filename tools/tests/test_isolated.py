@@ -7,18 +7,28 @@ from __future__ import annotations
 
 import importlib.util
 import os
+import re
 import subprocess
 import sys
 import unittest
 from pathlib import Path
 
+from patience import LONG
 from script_copy import ROOT, OverCopy
 
 TOOLS = ROOT / "tools"
-OURS = ("cophy_text", "cophy_wrapper", "cophy_lint", "cophy_pg", "grammar", "private_server")
+FOLDERS = ("tools", "bench", ".ci")
+PYTHON = re.compile(rb"#![^\n]*python3")
+OURS = ("cophy_text", "cophy_wrapper", "cophy_lint", "cophy_pg", "cophy_fleet", "grammar", "private_server")
 STARTED = ("sitecustomize", "usercustomize", "encodings", "site", "matplotlib", "psycopg", "pglast", "numpy")
 CATALOGUE = 'version = 1\n[[table]]\nname = "t"\nrows = 1\npages = 1\nrowz = 2\n'
 HAS_PARSER = importlib.util.find_spec("pglast") is not None
+
+
+def scripts() -> list[Path]:
+    """All files whose first line names Python."""
+    listed = [it for folder in FOLDERS for it in (ROOT / folder).rglob("*")]
+    return sorted(it for it in (*listed, *ROOT.glob("*")) if it.is_file() and PYTHON.match(it.read_bytes()))
 
 
 class Isolated(OverCopy):
@@ -60,7 +70,7 @@ class Isolated(OverCopy):
             capture_output=True,
             text=True,
             check=False,
-            timeout=300,
+            timeout=LONG,
         )
         self.assertFalse(self.marker.exists())
         return ran
@@ -68,6 +78,26 @@ class Isolated(OverCopy):
     def test_the_folder_would_be_run_otherwise(self) -> None:
         with self.assertRaises(AssertionError):
             self.call(sys.executable, "-c", "import json")
+
+    def test_every_script(self) -> None:
+        found = scripts()
+        names = {str(it.relative_to(ROOT)) for it in found}
+        self.assertLessEqual({"tools/pg/cophy-pg", "tools/pg/measure/agree.py", "tools/tests/run"}, names)
+        self.assertEqual(len([it for it in names if it.startswith("bench/")]), 13)
+        for it in found:
+            with self.subTest(script=it.name):
+                self.assertRegex(it.read_bytes().split(b"\n")[0], rb"python3 -I\w*\Z")
+                self.assertTrue(os.access(it, os.X_OK))
+                ran = self.call(it, "--help")
+                if it.name not in ("run", "cophy-wrapper"):
+                    self.assertNotIn("Traceback", ran.stderr)
+                    self.assertEqual(ran.returncode, 0)
+
+    def test_what_bench_starts(self) -> None:
+        started = [
+            it for it in (ROOT / "bench").glob("*.py") if re.search(r"sys\.executable(?!, \"-I)", it.read_text())
+        ]
+        self.assertEqual(started, [])
 
     def test_hints(self) -> None:
         self.copy.build()
@@ -112,6 +142,23 @@ class Isolated(OverCopy):
                 ran = self.call(tool, *words)
                 self.assertRegex(ran.stderr, r"\A(cophy-pg: .*\n)+\Z")
 
+    def test_fleet(self) -> None:
+        """Its workers' processes, too."""
+        self.copy.build()
+        fleet = (
+            'version = 1\nsteps = 1\nretries = 0\n[[database]]\nname = "a"\ncatalogue = "c.toml"\nworkload = "l.sql"\n'
+        )
+        (self.here / "fleet.toml").write_text(fleet)
+        tool = TOOLS / "fleet" / "cophy-fleet"
+        self.assertEqual(self.call(tool, "--help").returncode, 0)
+        for it in ("distributed", "rich", "scipy"):
+            if importlib.util.find_spec(it) is None:
+                self.skipTest(f"python3-{it} isn't installed")
+        self.assertIn("no results", self.call(tool, "share", "5", "fleet.toml").stderr)
+        program = self.copy.root / "crates" / "cophy_cli" / "out" / "cophy_cli"
+        ran = self.call(tool, "run", "fleet.toml", "--workers", "1", "--program", program, FAKE_STATUS="7")
+        self.assertIn('"fault": "cophy advise stopped with status 7"', ran.stdout)
+
     @unittest.skipUnless(HAS_PARSER, "python3-pglast isn't installed")
     def test_rewriting(self) -> None:
         ran = self.call(TOOLS / "pg" / "cophy-pg", "rewrite", "c.toml", "l.sql", "out.sql")
@@ -125,8 +172,8 @@ class Isolated(OverCopy):
         words = ("curve", "c.toml", "l.sql", "--budgets", "0", "--png", "curve.png", "--program")
         program = self.copy.root / "crates" / "cophy_cli" / "out" / "cophy_cli"
         ran = self.call(TOOLS / "pg" / "cophy-pg", *words, program, FAKE_TEXT=text)
-        # On a slow machine it says that it builds its cache of fonts.
-        said = [it for it in ran.stderr.splitlines() if "building the font cache" not in it]
+        # On a slow machine it says that it builds its cache of fonts, and how long it takes.
+        said = [it for it in ran.stderr.splitlines() if "building the font cache" not in it and "s so far" not in it]
         self.assertEqual((ran.returncode, said), (0, []))
         self.assertTrue((self.here / "curve.png").exists())
 

@@ -27,6 +27,18 @@ class Lint(unittest.TestCase):
         self.assertEqual(self.linted(HEAD + COLUMN), (0, ""))
         self.assertEqual(self.linted(HEAD + COLUMN, "SELECT c FROM t WHERE c = ? AND c > 5"), (0, ""))
 
+    def test_each_version_has_its_keys(self) -> None:
+        catalogue = HEAD + "may_cluster = true\n" + COLUMN + "bounds = [1, 2]\n"
+        status, text = self.linted(catalogue)
+        self.assertEqual(status, 1)
+        for path in ("table[1].may_cluster", "table[1].column[1].bounds"):
+            self.assertIn(f"c: {path}: means nothing and is passed over: version 2 has it", text)
+        self.assertEqual(self.linted(catalogue.replace("version = 1", "version = 2")), (0, ""))
+        misspelt = catalogue.replace("version = 1", "version = 2").replace("bounds", "bound")
+        self.assertIn(
+            "table[1].column[1].bound: means nothing and is passed over: did you mean bounds?", self.linted(misspelt)[1]
+        )
+
     def test_each_warning_has_its_place_and_its_reason(self) -> None:
         table = [
             (
@@ -96,6 +108,16 @@ class Lint(unittest.TestCase):
         self.assertIn("statement 1, line 1 ('c' and 'x'); statement 2, line 2 ('c'); statement 3, line 4 ('c'", bounds)
         self.assertTrue(limits.endswith("statement 30, line 44"), limits)
         self.assertEqual(limits.count("statement "), 31)
+
+    def test_what_no_statement_names_counts_for_nothing(self) -> None:
+        other = '[[table]]\nname = "other"\nrows = 0\npages = 0\n' + COLUMN.replace("distinct = 50\n", "")
+        catalogue = HEAD + COLUMN + TEXT.replace("distinct = 9\n", "") + other
+        self.assertEqual(self.linted(catalogue), (0, ""))
+        self.assertIn("'t.x'", self.linted(catalogue, "SELECT X FROM t")[1])
+        status, text = self.linted(catalogue, 'SELECT c FROM "Other"')
+        self.assertEqual((status, "'other' has no rows" in text, "'other.c'" in text), (1, True, True))
+        # A key that means nothing is told of any table.
+        self.assertIn("table[2].row: means nothing", self.linted(catalogue.replace("rows = 0", "row = 0"))[1])
 
     def test_warnings_come_first_and_give_the_status(self) -> None:
         status, text = self.linted(HEAD + COLUMN.replace("distinct", "distnct"), "SELECT TOP (5) c FROM t LIMIT 5")

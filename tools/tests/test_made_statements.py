@@ -11,12 +11,13 @@ import unittest
 from pathlib import Path
 
 from grammar import accepted
+from patience import LONG
 
 HAS_PARSER = importlib.util.find_spec("pglast") is not None
 if HAS_PARSER:
     from cophy_pg.catalogue import catalogue_text
     from cophy_pg.rewrite import Options, Rewriter
-    from test_export import COPHY
+    from fixtures import COPHY
     from test_rewrite import schema
 
 COLUMNS = {
@@ -252,7 +253,7 @@ class Made(unittest.TestCase):
         tables = {it.shown: [column.shown for column in it.columns.values()] for it in schema().tables.values()}
         maker, written, skipped = Maker(7), [], {}
         for number in range(1500):
-            text, options = maker.statement(), Options(number % 2 == 0, number % 3 == 0)
+            text, options = maker.statement(), Options(ranges=number % 2 == 0, look_ups=number % 3 == 0)
             found = Rewriter(schema(), options).rewrite(text)
             if found.skipped:
                 skipped[found.skipped] = text
@@ -282,7 +283,7 @@ class Made(unittest.TestCase):
             files = [Path(folder) / it for it in ("c.toml", "l.sql")]
             files[0].write_text(catalogue_text(schema(), rates, []))
             files[1].write_text(";\n".join(written[:900]) + ";\n")
-            ran = subprocess.run([COPHY, "cost", *files], capture_output=True, text=True, check=False, timeout=300)
+            ran = subprocess.run([COPHY, "cost", *files], capture_output=True, text=True, check=False, timeout=LONG)
             self.assertEqual(
                 (ran.returncode, ran.stdout.count("statement ")), (0, min(900, len(written))), ran.stdout[:100]
             )

@@ -11,9 +11,10 @@ from pathlib import Path
 from typing import TYPE_CHECKING
 
 from cophy_text import answers
+from fixtures import COPHY, DATA, MISSING, called, shop
 from grammar import accepted
+from patience import LONG
 from private_server import PrivateServer, program
-from test_export import COPHY, DATA, MISSING, called, shop
 
 if TYPE_CHECKING:
     from cophy_pg.schema import Schema
@@ -115,7 +116,7 @@ class Objects(unittest.TestCase):
             capture_output=True,
             env=self.server.environment("objects"),
             check=False,
-            timeout=300,
+            timeout=LONG,
         )
         self.assertEqual(done.returncode, 0, done.stderr)
         more = int(self.server.value(count, "objects")) - before
@@ -245,7 +246,7 @@ class Objects(unittest.TestCase):
             capture_output=True,
             text=True,
             check=False,
-            timeout=300,
+            timeout=LONG,
         )
         self.assertEqual(ran.returncode, 0, ran.stdout)
         found = answers.read_candidates(ran.stdout)

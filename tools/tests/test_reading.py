@@ -9,14 +9,14 @@ import re
 import signal
 import subprocess
 import sys
-import tempfile
 import unittest
 from pathlib import Path
 from typing import Any
 from unittest import mock
 
+from fixtures import TOOL, InFolder, called, shop
+from patience import LONG
 from private_server import missing
-from test_export import TOOL, called, shop
 from test_files import ADVICE, CATALOGUE
 
 MISSING = missing()
@@ -211,8 +211,9 @@ class Rewriting(unittest.TestCase):
     """Statements over tables that are made here."""
 
     @staticmethod
-    def rewritten(text: str, rows: float | None = None, path: tuple[str, ...] | None = None) -> Any:
+    def rewritten(text: str, rows: float | None = None, path: tuple[str, ...] | None = None, **options: bool) -> Any:
         from cophy_pg.rewrite import Rewriter
+        from cophy_pg.rewrite.options import Options
         from cophy_pg.schema import Column, Schema, Table
 
         tables = []
@@ -223,7 +224,7 @@ class Rewriting(unittest.TestCase):
         docs = Table("public", "docs", "docs", 1000, 20)
         docs.columns = {"id": Column("id", "id", "int", 4), "doc": Column("doc", "doc", width=1000, no_key="json")}
         docs.add_spares()
-        return Rewriter(Schema([*tables, docs])).rewrite(text, rows, path)
+        return Rewriter(Schema([*tables, docs]), Options(**options)).rewrite(text, rows, path)
 
     def test_a_table_goes_by_the_path(self) -> None:
         for path, shown in (
@@ -245,10 +246,11 @@ class Rewriting(unittest.TestCase):
                 (0.25, 1, 0.25),
                 (None, 1, 1.0),
             ):
-                with self.subTest(text=text, rows=rows):
-                    found = self.rewritten(text, rows)
-                    insert = next(it for it in found.statements if it.startswith("INSERT"))
-                    self.assertEqual((insert.count("(?)"), found.times[insert]), (count, times))
+                for has_share, share in ((True, 0.25), (False, 1.0)):
+                    with self.subTest(text=text, rows=rows, has_share=has_share):
+                        found = self.rewritten(text, rows, insert_share=has_share)
+                        insert = next(it for it in found.statements if it.startswith("INSERT"))
+                        self.assertEqual((insert.count("(?)"), found.times[insert]), (count, share * times))
 
     def test_copy_out_is_its_query(self) -> None:
         self.assertEqual(self.rewritten("COPY t (b) TO STDOUT").statements, ["SELECT b\nFROM t"])
@@ -264,8 +266,10 @@ class Rewriting(unittest.TestCase):
         from cophy_pg.workload import made
 
         table = Table("public", "t", "t", 1000, 20, {"a": Column("a", "a", "int", 4)})
-        found = made([Input("COPY t FROM STDIN", 4, None, 50000.0)], Rewriter(Schema([table])), lambda text: None)
-        self.assertEqual([weight for _, weight in found.statements], [200])
+        # 50 INSERTs of 1000 rows a call, each of a quarter's weight; no weight is less than 1.
+        for calls, rows, weight in ((4, 50000.0, 50), (1, 1.0, 1)):
+            found = made([Input("COPY t FROM STDIN", calls, None, rows)], Rewriter(Schema([table])), lambda text: None)
+            self.assertEqual([it for _, it in found.statements], [weight])
 
     def test_a_column_that_no_index_can_have_is_no_key(self) -> None:
         spares = " AND ".join(f"no_index_{it} IS NOT NULL" for it in range(1, 8))
@@ -280,13 +284,12 @@ class Rewriting(unittest.TestCase):
                 f"SELECT DISTINCT any_of(doc)\nFROM docs\nWHERE {spares} AND no_index_8 IS NOT NULL",
             ),
             ("UPDATE docs SET doc = '1' WHERE id = 1", "UPDATE docs\nSET doc = '1'\nWHERE id = 1"),
-            (
-                "DELETE FROM docs WHERE doc > '1' AND id = 1",
-                f"DELETE FROM docs\nWHERE doc LIKE ? AND id = 1 AND {spares}",
-            ),
+            ("DELETE FROM docs WHERE doc > '1' AND id = 1", "SELECT *\nFROM docs\nWHERE doc LIKE ? AND id = 1"),
         ):
             with self.subTest(text=text):
                 self.assertEqual(self.rewritten(text).statements, [written])
+        deleted = self.rewritten("DELETE FROM docs WHERE doc > '1' AND id = 1", deletes=False).statements
+        self.assertEqual(deleted, [f"DELETE FROM docs\nWHERE doc LIKE ? AND id = 1 AND {spares}"])
         grouped = self.rewritten("SELECT count(*) FROM docs GROUP BY doc, id").statements[0]
         self.assertTrue(grouped.endswith("GROUP BY id"), grouped)
         joined = self.rewritten("SELECT a FROM t JOIN docs ON t.a = docs.doc").statements
@@ -411,13 +414,11 @@ class Entries(unittest.TestCase):
 
 
 @unittest.skipUnless(HAS_PARSER, "python3-pglast isn't installed")
-class Messages(unittest.TestCase):
+class Messages(InFolder):
     """No input and no terminal gives a traceback."""
 
     def setUp(self) -> None:
-        folder = tempfile.TemporaryDirectory()
-        self.addCleanup(folder.cleanup)
-        self.folder = Path(folder.name)
+        super().setUp()
         (self.folder / "c.toml").write_text(CATALOGUE)
         (self.folder / "q.sql").write_text("SELECT a FROM t;\nSELEC 1;\n")
         (self.folder / "advice").write_text(ADVICE)
@@ -429,7 +430,7 @@ class Messages(unittest.TestCase):
             capture_output=True,
             env={**os.environ, **environment},
             check=False,
-            timeout=300,
+            timeout=LONG,
             text=True,
             encoding="latin-1",
         )
@@ -440,9 +441,9 @@ class Messages(unittest.TestCase):
         ran = self.call("rewrite", "c.toml", "q.sql", "w.sql", "--report", "r.txt")
         self.assertIn("2 statements, written as 1", ran.stderr)
         self.assertRegex(ran.stderr, r"1   50\.0 % .*PostgreSQL's parser doesn't take it \(line 2\)")
-        self.assertIn(
-            "2 skipped (line 2, calls 1): PostgreSQL's parser doesn't take it", (self.folder / "r.txt").read_text()
-        )
+        report = (self.folder / "r.txt").read_text()
+        self.assertIn("\n  statement 1 kept (line 1, calls 1): SELECT a FROM t\n", report)
+        self.assertIn("\n  skipped (line 2, calls 1): PostgreSQL's parser doesn't take it; SELEC ?\n", report)
 
     def test_words_that_mean_nothing_are_told(self) -> None:
         for words in (
@@ -531,11 +532,9 @@ class Messages(unittest.TestCase):
 
 
 @unittest.skipIf(MISSING, MISSING)
-class OnServer(unittest.TestCase):
+class OnServer(InFolder):
     def setUp(self) -> None:
-        folder = tempfile.TemporaryDirectory()
-        self.addCleanup(folder.cleanup)
-        self.folder = Path(folder.name)
+        super().setUp()
         self.files = [str(self.folder / it) for it in ("catalogue.toml", "workload.sql", "report.txt")]
 
     def test_statements_of_roles_with_paths_and_within_explain(self) -> None:
@@ -565,7 +564,7 @@ class OnServer(unittest.TestCase):
 
             words = [str(program("psql")), "-X", "-q", "-v", "ON_ERROR_STOP=1", "-c", text]
             subprocess.run(
-                words, env=server.environment("reading", PGUSER=role), check=True, capture_output=True, timeout=300
+                words, env=server.environment("reading", PGUSER=role), check=True, capture_output=True, timeout=LONG
             )
         for _ in range(2):
             ran = called(

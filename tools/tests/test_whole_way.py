@@ -8,8 +8,9 @@ import unittest
 from pathlib import Path
 
 from cophy_text import answers
+from fixtures import COPHY, MISSING, called, shop
+from patience import LONG
 from private_server import PrivateServer, has_extension
-from test_export import COPHY, MISSING, called, shop
 
 QUERIES = """SELECT id, name FROM customer WHERE city = 'City 3';
 SELECT id FROM sales.orders WHERE total = 17.75 ORDER BY id;
@@ -40,7 +41,7 @@ class WholeWay(unittest.TestCase):
         ran = called(cls.server, *words, PGUSER="cophy_advisor")
         assert ran.returncode == 0, ran.stderr
         told = subprocess.run(
-            [str(COPHY), "advise", *cls.files[:2], "1000000"], capture_output=True, text=True, check=True, timeout=300
+            [str(COPHY), "advise", *cls.files[:2], "1000000"], capture_output=True, text=True, check=True, timeout=LONG
         )
         cls.advice = answers.read_advice(told.stdout)
         Path(cls.files[2]).write_text(told.stdout)

@@ -3,6 +3,7 @@ from __future__ import annotations
 
 import unittest
 
+from cophy_text import VERSION
 from script_copy import OverCopy
 
 
@@ -15,6 +16,8 @@ class Wrapper(OverCopy):
                 self.copy.build()
             table = [(it, b"cophy explain CAT") for it in helped]
             table += [(it, b"is built" if is_built else b"isn't built yet") for it in versions]
+            table += [(it, b"; catalogue versions 1 and 2, certificate version 1\n") for it in versions]
+            table += [(it, f"cophy {VERSION}, commit ".encode()) for it in versions]
             for words, told in table:
                 with self.subTest(words=words, is_built=is_built):
                     ran = self.copy.call(*words, FAKE_TEXT="its own bytes", FAKE_STATUS="2", COPHY_HINTS="1")

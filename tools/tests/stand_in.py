@@ -1,0 +1,81 @@
+#!/usr/bin/python3 -IB
+"""Stands for the program in tests: its answers have the program's form and none of its sense.
+
+A statement costs 900000. A candidate is an index over one column of a table of the catalogue that a statement names; a
+statement that names table and column costs a tenth of that under it, and one that writes its table 1000 more. Advice is
+what saves something, in the order of the candidates, as long as it fits.
+"""
+from __future__ import annotations
+
+import re
+import sys
+import tomllib
+from pathlib import Path
+
+
+def main() -> int:
+    if len(sys.argv) < 4:
+        print(__doc__)
+        return 0
+    command, catalogue, workload, *more = sys.argv[1:]
+    listed = re.findall(r"^-- weight (\d+)\n((?:(?!^--).*\n?)*)", Path(workload).read_text(), re.MULTILINE)
+    every = [(int(weight), text.lower()) for weight, text in listed]
+    indexes = candidates(Path(catalogue).read_text(), " ".join(text for _, text in every))
+    if command in ("cost", "whatif"):
+        chosen = [int(it) for it in Path(more[0]).read_text().split()] if more else []
+        print(f"size {sum(indexes[it - 1][2] for it in chosen)}")
+        for at, (weight, text) in enumerate(every, 1):
+            print(f"statement {at} weight {weight} cost {price(text, [indexes[it - 1] for it in chosen])}")
+        print(f"total {total(every, [indexes[it - 1] for it in chosen])}")
+    elif command == "advise":
+        budget, size, picks = int(more[0]), 0, list[int]()
+        for at, it in enumerate(indexes, 1):
+            is_good = total(every, [it]) < total(every, []) and size + it[2] <= budget
+            picks, size = (picks + [at], size + it[2]) if is_good else (picks, size)
+        cost = total(every, [indexes[it - 1] for it in picks])
+        print(f"budget {budget}\ncandidates {len(indexes)} left over 0")
+        for at in picks:
+            print(f"pick {at} {indexes[at - 1][0]}({indexes[at - 1][1]}) {indexes[at - 1][2]} pages")
+        print(f"size {size}\ncost {cost}\nbound {cost}\ngap 0\nnodes 1 of 20000\nfinished")
+        if "--cert" in more:
+            Path(more[more.index("--cert") + 1]).write_text(f"proved cost {cost} bound {cost} budget {budget}\n")
+    elif command == "candidates":
+        for at, (table, column, pages) in enumerate(indexes[:256], 1):
+            print(f"{at} {table}({column}) {pages} pages")
+        print(f"left over {max(0, len(indexes) - 256)}")
+    elif command == "check":
+        print(Path(more[0]).read_text(), end="")
+    elif command == "explain":
+        print(f"statement {more[1]} plan 900000 upkeep 0")
+    return 0
+
+
+def candidates(catalogue: str, texts: str) -> list[tuple[str, str, int]]:
+    """The table, the column and the pages of each candidate."""
+    found = []
+    for table in tomllib.loads(catalogue)["table"]:
+        keys = {tuple(it["keys"][:1]) for it in table.get("index", ())}
+        for it in table["column"]:
+            is_named = all(re.search(rf"\b{name.lower()}\b", texts) for name in (table["name"], it["name"]))
+            if is_named and (it["name"],) not in keys and "postgres_no_key" not in it and it.get("postgres") != "":
+                found.append((table["name"], it["name"], table["pages"] // 4 + 2))
+    return found
+
+
+def price(text: str, indexes: list[tuple[str, str, int]]) -> int:
+    cost = 900000
+    for table, column, _ in indexes:
+        names = re.search(rf"\b{table.lower()}\b", text)
+        if names and not text.startswith("select"):
+            cost += 1000
+        elif names and re.search(rf"\b{column.lower()}\b", text.partition("\nwhere")[2]):
+            cost = min(cost, 90000)
+    return cost
+
+
+def total(every: list[tuple[int, str]], indexes: list[tuple[str, str, int]]) -> int:
+    return sum(weight * price(text, indexes) for weight, text in every)
+
+
+if __name__ == "__main__":
+    sys.exit(main())

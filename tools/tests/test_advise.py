@@ -1,0 +1,306 @@
+"""`cophy-pg advise`, each of its steps alone, and `snapshot`: over a stand-in for the program, and over the program itself."""
+from __future__ import annotations
+
+import argparse
+import importlib.util
+import json
+import re
+import shlex
+import stat
+import subprocess
+import tempfile
+import unittest
+from pathlib import Path
+from typing import Any
+
+from cophy_text import answers, shown
+from cophy_text.tokens import statements
+from fixtures import COPHY, HERE, ROOT, called, shop
+from private_server import PrivateServer, has_extension, missing
+from schema_check import faults
+
+MISSING = missing() or ("" if has_extension("hypopg") else "postgresql-15-hypopg isn't installed")
+STAND_IN = HERE / "stand_in.py"
+SCHEMA = json.loads((ROOT / "tools" / "pg" / "cophy_pg" / "advice.schema.json").read_text())
+QUERIES = """SELECT id, name FROM customer WHERE city = 'City 3';
+-- weight 40
+SELECT id FROM sales.orders WHERE total = 17.75 ORDER BY id;
+SELECT p.title FROM line l JOIN product p ON l.product_id = p.id WHERE p.category = 3 AND l.quantity = 4;
+UPDATE customer SET city = 'City 9' WHERE id = 12;
+SELECT name FROM customer WHERE no_function(city) = 1;
+"""
+FILES = (
+    "advice.json advice.txt catalogue.toml certificate check.txt commands.txt export.txt indexes.sql kept.txt lint.txt "
+    "plans.json summary.txt verify.json workload.sql"
+).split()
+HAS_JINJA = importlib.util.find_spec("jinja2") is not None
+
+
+class Shown(unittest.TestCase):
+    def test_amounts_are_pages_or_have_a_unit(self) -> None:
+        table = {"0": 0, "12800": 12800, "1 page": 1, "7pages": 7, "100MB": 12800, "2GB": 262144, "1.5 gb": 196608}
+        table |= {"8kB": 1, "7kB": 0, "1TB": 134217728, " 64 MB ": 8192, "0.5MB": 64}
+        for text, pages in table.items():
+            with self.subTest(text=text):
+                self.assertEqual(shown.pages_of(text), pages)
+        for text in ("", "-1", "1PB", "MB", "1 2", "1e3", "1000000000001", "8000TB", "0x10", "1,000"):
+            with self.subTest(text=text):
+                self.assertRaises(ValueError, shown.pages_of, text)
+
+    def test_numbers_and_statements(self) -> None:
+        self.assertEqual((shown.grouped(1234567), shown.grouped(1234.6)), ("1,234,567", "1,235"))
+        self.assertEqual(
+            (shown.space(1280), shown.space(1310720), shown.space(262144)), ("10.0 MB", "10.0 GB", "2,048.0 MB")
+        )
+        self.assertEqual((shown.percent(-0.01), shown.percent(1234.56)), ("0.0 %", "1,234.6 %"))
+        self.assertEqual((answers.counted(1, "call"), answers.counted(1000, "call")), ("1 call", "1,000 calls"))
+        self.assertEqual(shown.short("-- a\n/* b */ SELECT  a,\n\tb\x1b[2J FROM t"), "SELECT a, b?[2J FROM t")
+        self.assertEqual(len(shown.short("SELECT " + "x" * 200)), 60)
+
+    def test_no_name_of_a_folder_ends_a_comment_of_its_commands(self) -> None:
+        from cophy_pg.commands import commands_text
+        from cophy_pg.folder import Folder
+        from cophy_pg.rewrite.options import TEXTS
+
+        given: dict[str, object] = {"nodes": None, "is_trusted": False, **dict.fromkeys(TEXTS, True), "min_calls": 1}
+        given |= {"program": "cophy", "sql": None, "log": None, "since": None, "tables": [], "users": []}
+        text = commands_text(argparse.Namespace(**given), Folder("a\nb '$(c)"), 5)
+        head, steps = text.split("cophy-pg export", 1)
+        self.assertTrue(all(it.startswith("#") for it in head.splitlines()), head)
+        self.assertEqual(shlex.split(steps)[0], "a\nb '$(c)/catalogue.toml")
+
+    def test_statements_of_a_workload_by_their_numbers(self) -> None:
+        found = statements(b"-- from 1\n-- weight 5\nSELECT ';' FROM t; ; -- x\nSELECT 2\n FROM u")
+        self.assertEqual(found, {1: "SELECT ';' FROM t", 2: "SELECT 2\n FROM u"})
+
+
+@unittest.skipIf(MISSING, MISSING)
+class Advise(unittest.TestCase):
+    server: PrivateServer
+    kept: Path
+    first: dict[str, Any]
+
+    @classmethod
+    def setUpClass(cls) -> None:
+        cls.server = shop()
+        folder = tempfile.TemporaryDirectory()
+        cls.addClassCleanup(folder.cleanup)
+        cls.kept = Path(folder.name) / "found"
+        sql = Path(folder.name) / "queries.sql"
+        sql.write_text(QUERIES)
+        words = ("advise", "--sql", str(sql), "--budget", "20MB", "--folder", str(cls.kept), "--json")
+        ran = called(cls.server, *words, PGUSER="cophy_advisor", COPHY_PROGRAM=str(STAND_IN))
+        assert ran.returncode == 0, ran.stderr
+        cls.first = json.loads(ran.stdout)
+
+    def setUp(self) -> None:
+        folder = tempfile.TemporaryDirectory()
+        self.addCleanup(folder.cleanup)
+        self.here = Path(folder.name)
+        self.sql = self.here / "queries.sql"
+        self.sql.write_text(QUERIES)
+        self.folder = self.here / "found"
+
+    def call(self, *words: str, status: int = 0, **more: str) -> subprocess.CompletedProcess[str]:
+        given = {"PGUSER": "cophy_advisor", "COPHY_PROGRAM": str(STAND_IN)} | more
+        ran = called(self.server, *words, **given)
+        self.assertNotIn("Traceback", ran.stderr)
+        self.assertEqual(ran.returncode, status, ran.stderr)
+        return ran
+
+    def advise(self, *more: str, status: int = 0, **environment: str) -> dict[str, Any]:
+        """The document of a call over the file of SQL."""
+        words = ("advise", "--sql", str(self.sql), "--budget", "20MB", "--folder", str(self.folder), "--json")
+        found: dict[str, Any] = json.loads(self.call(*words, *more, status=status, **environment).stdout)
+        self.assertEqual([*faults(found, SCHEMA, SCHEMA)], [])
+        return found
+
+    def test_it_finds_what_to_make_and_says_what_each_saves(self) -> None:
+        found = self.first
+        self.assertEqual([*faults(found, SCHEMA, SCHEMA)], [])
+        picks = {f"{it['table']}({', '.join(it['columns'])})": it for it in found["picks"]}
+        self.assertLessEqual({"customer(city)", "sales_orders(total)"}, set(picks))
+        self.assertEqual({it["outcome"] for it in picks.values()}, {"taken"})
+        total = picks["sales_orders(total)"]
+        self.assertEqual([*picks][0], "sales_orders(total)")
+        shown = "SELECT id FROM sales.orders WHERE total = 17.75 ORDER BY id"
+        self.assertEqual([(it["numbers"], it["sql"], it["calls"]) for it in total["changes"]], [([1], shown, 40)])
+        self.assertGreater(min(total["saves"]["ours"], total["saves"]["server"]), 20)
+        self.assertEqual(
+            total["statements"], ['CREATE INDEX CONCURRENTLY "sales_orders_total_idx" ON "sales"."orders" ("total");']
+        )
+        self.assertLess(found["server_cost"]["after"], found["server_cost"]["before"])
+        self.assertEqual(found["server_cost"]["statements"], 4)
+        second = found["statements"][1]
+        self.assertEqual((second["numbers"], second["line"], second["calls"]), ([1], 3, 40))
+        self.assertEqual(second["picks"], [total["number"]])
+        self.assertEqual(found["statements"][4]["not_explained"], "42883 a function or an operator isn't there")
+        self.assertEqual(
+            self.server.value("SELECT count(*) FROM pg_indexes WHERE indexname LIKE '%total_idx'", "shop"), "0"
+        )
+
+    def test_costs_add_up(self) -> None:
+        found = self.first
+        for side in ("before", "after"):
+            calls = ((it["calls"], it["server_cost"]) for it in found["statements"] if it["server_cost"])
+            self.assertAlmostEqual(found["server_cost"][side], sum(n * it[side] for n, it in calls), 3)
+            ours = sum(it["calls"] * it["cost"][side] for it in found["statements"] if it["cost"])
+            self.assertEqual(found["cost"][side], ours)
+        plan = json.loads(
+            self.server.value("EXPLAIN (FORMAT JSON) SELECT id, name FROM customer WHERE city = 'City 3'", "shop")
+        )
+        self.assertEqual(found["statements"][0]["server_cost"]["before"], plan[0]["Plan"]["Total Cost"])
+        for pick in found["picks"]:
+            saved = pick["saves"]["cost_without"] - found["cost"]["after"]
+            self.assertAlmostEqual(pick["saves"]["ours"], 100 * saved / found["cost"]["before"], 3)
+
+    def test_the_folder_has_each_step_and_each_can_be_taken_alone(self) -> None:
+        self.assertEqual(sorted(it.name for it in self.kept.iterdir()), sorted([*FILES, *["report.html"] * HAS_JINJA]))
+        self.assertEqual(stat.S_IMODE(self.kept.stat().st_mode), 0o700)
+        self.assertEqual({stat.S_IMODE(it.stat().st_mode) for it in self.kept.iterdir()}, {0o600})
+        self.assertEqual(json.loads((self.kept / "advice.json").read_text()), self.first)
+        lines = (self.kept / "commands.txt").read_text().splitlines()
+        kept = (self.kept / "kept.txt").read_text()
+        for step in (shlex.split(it) for it in lines if it.startswith("cophy-pg") and " curve " not in it):
+            if step[1] == "report" and not HAS_JINJA:
+                continue
+            ran = self.call(*step[1:])
+            if step[1] == "ddl":
+                self.assertEqual(ran.stdout, (self.kept / "indexes.sql").read_text())
+        self.assertEqual((self.kept / "kept.txt").read_text(), kept)
+
+    def test_text_for_people(self) -> None:
+        words = ("advise", "--sql", str(self.sql), "--budget", "2560", "--folder", str(self.folder))
+        text = self.call(*words).stdout
+        self.assertEqual(text, (self.folder / "summary.txt").read_text())
+        self.assertRegex(text, r"\A\d+ indexes to make, [0-9.]+ MB of 20\.0 MB: database 'shop', 5 of 5 statements, ")
+        self.assertRegex(text, r"\n1\. CREATE INDEX CONCURRENTLY \"sales_orders_total_idx\" ON ")
+        self.assertRegex(
+            text,
+            r"\n +\d+\.\d % +\d+\.\d %  statement 1, 40 calls: SELECT id FROM sales\.orders WHERE total = 17\.75 ORDER BY id\n",
+        )
+        self.assertRegex(text, r"\nour model +[0-9,]+ +[0-9,]+ +\d+\.\d %  +[0-9,]+\nthe server's +[0-9,]+ +[0-9,]+ ")
+        self.assertIn("statement 5: 42883 a function or an operator isn't there", text)
+        ends = r"certificate, for a budget of ([\d,]+) pages as our model counts them: proved cost \d+ bound \d+ budget (\d+)\n"
+        found = re.search(ends, text)
+        assert found is not None
+        self.assertEqual(found[1].replace(",", ""), found[2])
+
+    def test_what_no_plan_takes_is_left_out(self) -> None:
+        self.sql.write_text(QUERIES + "SELECT id FROM product WHERE stock > 0;\n")
+        found = self.advise()
+        why = {f"{it['table']}({', '.join(it['columns'])})": it["why"] for it in found["left_out"]}
+        self.assertEqual(why.get("product(stock)"), "no plan of the server takes it")
+        self.assertGreater(found["cost"]["after"], found["cost"]["bound"])
+        self.assertNotIn("product(stock)", (self.folder / "kept.txt").read_text())
+        self.assertIn("product(stock)", (self.folder / "advice.txt").read_text())
+
+    def test_limits_leave_out_what_saves_the_least(self) -> None:
+        self.sql.write_text(QUERIES + "-- weight 5\nSELECT id FROM customer WHERE name = 'Name 3';\n")
+        found = self.advise("--most-per-table", "1")
+        tables = [it["table"] for it in found["picks"]]
+        self.assertEqual(len(tables), len({*tables}))
+        self.assertEqual([it["columns"] for it in found["picks"] if it["table"] == "customer"], [["name"]])
+        found = self.advise("--min-saving", "30")
+        self.assertEqual([it["table"] for it in found["picks"]], ["sales_orders"])
+        why = {it["why"] for it in found["left_out"] if it["table"] == "customer"}
+        self.assertTrue(why and all(it.endswith(" % by our model, and 30 % are asked for") for it in why), why)
+
+    def test_statements_are_chosen_by_calls_tables_and_users(self) -> None:
+        found = self.advise("--min-calls", "2")
+        self.assertEqual([it["line"] for it in found["statements"]], [3])
+        found = self.advise("--table", "line", "--table", "sales.orders")
+        self.assertEqual([it["line"] for it in found["statements"]], [3, 4])
+        ran = self.call(
+            "advise",
+            "--budget",
+            "1MB",
+            "--sql",
+            str(self.sql),
+            "--user",
+            "cophy",
+            "--folder",
+            str(self.folder),
+            status=1,
+        )
+        self.assertIn("it is known who ran it", ran.stderr)
+
+    def test_statuses(self) -> None:
+        self.sql.write_text("SELECT id FROM customer WHERE id = 3;\n")
+        self.assertEqual(self.advise(status=3)["picks"], [])
+        self.assertIn("no index is worth making: database 'shop'", (self.folder / "summary.txt").read_text())
+        words = ("advise", "--sql", str(self.sql), "--folder", str(self.folder), "--budget")
+        for budget in ("2PB", "-1", "lots"):
+            self.assertIn("is no amount of space", self.call(*words, budget, status=2).stderr)
+        ran = self.call(*words, "1MB", status=1, COPHY_PROGRAM="/nowhere/cophy")
+        self.assertIn("the program /nowhere/cophy isn't there", ran.stderr)
+        self.assertTrue((self.folder / "advice.json").exists())
+        self.call(*words, "1MB", status=1, COPHY_PROGRAM="/bin/false")
+        self.assertFalse((self.folder / "advice.json").exists())
+        self.call(*words, "1MB", "--since", str(self.sql), status=1)
+
+    def test_a_role_with_powers_is_refused_before_anything_is_made(self) -> None:
+        words = ("advise", "--sql", str(self.sql), "--budget", "1MB", "--folder", str(self.folder))
+        ran = self.call(*words, status=1, PGUSER="cophy")
+        self.assertIn("verify doesn't explain statements as a superuser", ran.stderr)
+        self.assertFalse(self.folder.exists())
+        self.call(*words, "--i-trust-the-statements", PGUSER="cophy")
+
+    def test_a_folder_of_others_or_behind_a_link_is_refused(self) -> None:
+        words = ("advise", "--sql", str(self.sql), "--budget", "1MB", "--folder")
+        (self.here / "real").mkdir()
+        (self.here / "link").symlink_to(self.here / "real")
+        self.assertIn("is a symbolic link", self.call(*words, str(self.here / "link"), status=1).stderr)
+        (self.here / "real").chmod(0o777)
+        self.assertIn("others may write to it", self.call(*words, str(self.here / "real"), status=1).stderr)
+        self.assertIn("is no folder", self.call(*words, str(self.sql), status=1).stderr)
+        self.assertEqual([*(self.here / "real").iterdir()], [])
+
+    def test_since_a_snapshot_only_what_came_after_it_counts(self) -> None:
+        self.server.psql("CREATE DATABASE daily")
+        script = "CREATE EXTENSION pg_stat_statements; CREATE TABLE t AS SELECT i AS a, i % 700 AS b, i % 90 AS c, repeat('x', 90) AS d FROM generate_series(1, 9000) i; ANALYZE t;"
+        self.server.psql(script + (ROOT / "tools" / "pg" / "advisor_role.sql").read_text(), "daily")
+        self.addCleanup(self.server.psql, "DROP DATABASE daily")
+        self.server.psql("SELECT a FROM t WHERE b = 5;" * 9, "daily")
+        kept = str(self.here / "before.json")
+        given = {"PGUSER": "cophy_advisor", "COPHY_PROGRAM": str(STAND_IN)}
+        self.assertEqual(called(self.server, "snapshot", kept, database="daily", **given).returncode, 0)
+        self.assertNotIn("SELECT", Path(kept).read_text())
+        self.server.psql(
+            "SELECT a FROM t WHERE b = 7; SELECT a FROM t WHERE b = 7; SELECT a FROM t WHERE c = 7", "daily"
+        )
+        words = ("advise", "--budget", "9MB", "--json", "--table", "t", "--user", "cophy")
+        for more, counts in (((), [11, 1]), (("--since", kept), [2, 1])):
+            folder = str(self.here / f"f{len(more)}")
+            ran = called(self.server, *words, *more, "--folder", folder, database="daily", **given)
+            self.assertEqual(ran.returncode, 0, ran.stderr)
+            found = json.loads(ran.stdout)
+            listed = {it["sql"]: it["calls"] for it in found["statements"] if it["sql"].startswith("SELECT a")}
+            self.assertEqual([listed[f"SELECT a FROM t WHERE {it} = $1"] for it in "bc"], counts)
+            self.assertEqual(json.loads((Path(folder) / "snapshot.json").read_text())["version"], 1)
+        once = "statements that ran once have 33.3 % of the workload's cost by our model: --min-calls 2 leaves them out"
+        self.assertEqual([once in it for it in found["warnings"]], [True])
+        older = json.loads(Path(kept).read_text()) | {"begun": "1700000000.5"}
+        Path(kept).write_text(json.dumps(older))
+        ran = called(self.server, *words, "--since", kept, "--folder", str(self.here / "f3"), database="daily", **given)
+        self.assertIn("began to count anew", ran.stderr)
+
+    @unittest.skipUnless(COPHY.exists(), "the program isn't built")
+    def test_with_the_program_itself(self) -> None:
+        found = self.advise(COPHY_PROGRAM=str(COPHY))
+        self.assertTrue(found["cost"]["finished"])
+        self.assertEqual(
+            found["proved"],
+            f"proved cost {found['cost']['advice']} bound {found['cost']['bound']} budget {found['budget_pages']}",
+        )
+        self.assertLessEqual(found["stored_pages"], found["asked_pages"])
+        self.assertIn("customer", {it["table"] for it in found["picks"]})
+        step = (self.folder / "commands.txt").read_text().splitlines()[5]
+        self.assertEqual(
+            subprocess.run(shlex.split(step), capture_output=True, check=True).stdout,
+            (self.folder / "check.txt").read_bytes(),
+        )
+
+
+if __name__ == "__main__":
+    unittest.main()

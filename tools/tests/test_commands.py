@@ -1,0 +1,155 @@
+"""Each command that a document shows in a block is run here, or its block is marked with what it needs.
+
+Marks stand behind the word `sh` of a block: `needs-root`, `needs-server` and `needs-kit`.
+"""
+from __future__ import annotations
+
+import importlib.util
+import os
+import re
+import shlex
+import subprocess
+import tempfile
+import unittest
+from collections.abc import Iterator
+from pathlib import Path
+
+from private_server import PrivateServer, has_extension, missing
+from fixtures import COPHY, HERE, ROOT, shop
+from patience import LONG
+
+MISSING = missing() or ("" if has_extension("hypopg") else "postgresql-15-hypopg isn't installed")
+MISSING = MISSING or ("" if importlib.util.find_spec("jinja2") else "python3-jinja2 isn't installed")
+BLOCK = re.compile(r"^```([^\n]*)\n(.*?)^```$", re.MULTILINE | re.DOTALL)
+COMMAND = re.compile(r"(?:\./cophy|cophy-[a-z]+|tools/|apt-get|service|su|psql|export|rt|pip|python3|make)\b")
+STATEMENTS = """SELECT id, name FROM customer WHERE city = 'City 3';
+SELECT id FROM sales.orders WHERE total = 17.75 ORDER BY id;
+UPDATE customer SET name = 'Name 9' WHERE id = 12;
+DELETE FROM line WHERE order_id = 7;"""
+MARKS = {"sh", "sh needs-root", "sh needs-server", "sh needs-kit"}
+
+
+def documents() -> list[str]:
+    """All documents of the repository."""
+    found = (it.relative_to(ROOT) for it in ROOT.rglob("*.md"))
+    return sorted(str(it) for it in found if not {"out", ".git"} & {*it.parts})
+
+
+def blocks(document: str) -> list[tuple[str, str]]:
+    """The blocks of a document, each with what stands behind its first mark."""
+    return BLOCK.findall((ROOT / document).read_text())
+
+
+def commands(document: str) -> Iterator[str]:
+    """The commands of the blocks that are to be run."""
+    for mark, text in blocks(document):
+        if mark == "sh":
+            yield from (shlex.join(shlex.split(it, comments=True)) for it in text.splitlines())
+
+
+class Marks(unittest.TestCase):
+    def test_each_block_with_commands_is_run_or_marked(self) -> None:
+        found = 0
+        for document in documents():
+            for mark, text in blocks(document):
+                with self.subTest(document=document, text=text[:60]):
+                    if COMMAND.match(text):
+                        self.assertIn(mark, MARKS)
+                        found += 1
+                    else:
+                        self.assertFalse(mark.startswith("sh"), mark)
+        self.assertGreater(found, 15)
+
+    def test_all_that_is_to_be_run_is_in_a_document_whose_commands_are(self) -> None:
+        run = {"README.md", "docs/POSTGRES.md", "examples/README.md"}
+        self.assertLessEqual({it for it in documents() if [*commands(it)]}, run)
+
+
+@unittest.skipUnless(os.access(COPHY, os.X_OK), "the program isn't built")
+class OfTheProgram(unittest.TestCase):
+    def run_one(self, words: list[str], folder: str) -> str:
+        ran = subprocess.run(
+            [str(COPHY), *words], cwd=folder, stdout=subprocess.PIPE, text=True, check=False, timeout=LONG
+        )
+        self.assertIn(ran.returncode, (0, 1), ran.stdout)
+        return ran.stdout
+
+    def test_what_the_examples_print_is_what_stands_behind_them(self) -> None:
+        waiting = list[list[str]]()
+        for mark, text in blocks("examples/README.md"):
+            if mark == "sh":
+                waiting += [shlex.split(it)[1:] for it in text.splitlines()]
+            elif waiting and not mark and not text.startswith("$"):
+                words = waiting.pop(0)
+                with self.subTest(words=words):
+                    self.assertEqual(self.run_one(words, str(ROOT)), text)
+        self.assertEqual(waiting, [])
+
+    def test_the_program_takes_the_words_of_the_documents(self) -> None:
+        given = {"catalogue.toml": "shop.toml", "workload.sql": "shop.sql", "my.conf": "shop.conf"}
+        text = "\n".join((ROOT / it).read_text() for it in ("README.md", "docs/POSTGRES.md"))
+        found = set(re.findall(r"(?:^|`)\./cophy ((?!--)[a-z]+ [^`#>\n]*)", text, re.MULTILINE))
+        self.assertGreater(len(found), 4)
+        with tempfile.TemporaryDirectory() as folder:
+            (Path(folder) / "examples").symlink_to(ROOT / "examples")
+            for line in sorted(found):
+                words = line.split()
+                for at, word in enumerate(words):
+                    if word.split("/")[-1] in given:
+                        words[at] = str(ROOT / "examples" / given[word.split("/")[-1]])
+                with self.subTest(line=line):
+                    self.run_one(words, folder)
+
+
+@unittest.skipIf(MISSING, MISSING)
+class Walk(unittest.TestCase):
+    """The walk of POSTGRES.md as it stands there, by the role that it makes, over a stand-in for the program."""
+
+    server: PrivateServer
+
+    @classmethod
+    def setUpClass(cls) -> None:
+        cls.server = shop()
+        # Few statements, so that the walk takes little time.
+        cls.server.psql("SELECT pg_stat_statements_reset()", "shop")
+        cls.server.psql(STATEMENTS, "shop")
+
+    def setUp(self) -> None:
+        folder = tempfile.TemporaryDirectory()
+        self.addCleanup(folder.cleanup)
+        self.here = Path(folder.name)
+        (self.here / "tools").symlink_to(ROOT / "tools")
+        (self.here / "cophy").symlink_to(HERE / "stand_in.py")
+
+    def bash(self, line: str, **more: str) -> subprocess.CompletedProcess[str]:
+        given = {"PGUSER": "cophy_advisor", "HOME": str(self.here), "COPHY_PROGRAM": str(HERE / "stand_in.py")}
+        environment = self.server.environment("shop", **given | more)
+        return subprocess.run(
+            ["bash", "-c", line],
+            cwd=self.here,
+            env=environment,
+            capture_output=True,
+            text=True,
+            check=False,
+            timeout=LONG,
+        )
+
+    def test_each_command_does_what_it_says(self) -> None:
+        lines = [line for mark, text in blocks("docs/POSTGRES.md") if mark == "sh" for line in text.splitlines()]
+        self.assertGreater(len(lines), 10)
+        for line in (it for it in lines if not it.startswith("export ")):
+            with self.subTest(line=line):
+                is_owner = "OWNER" in line
+                ran = self.bash(line.replace("OWNER", "cophy"), **({"PGUSER": "cophy"} if is_owner else {}))
+                # Three says that there are no indexes to make, or that there are some to look at.
+                self.assertIn(ran.returncode, (0, 3) if "health" in line else (0,), ran.stderr)
+        # The first command names no folder, and makes one.
+        self.assertEqual(len([*self.here.glob("cophy-advice-*/report.html")]), 1)
+        for it in "report.html advice.txt kept.txt indexes.sql summary.txt".split():
+            self.assertTrue((self.here / "advice" / it).stat().st_size, it)
+        ran = self.bash("psql -X -U cophy -v undo=1 -f ~/advice/indexes.sql", PGUSER="cophy")
+        self.assertEqual(ran.returncode, 0, ran.stderr)
+
+
+if __name__ == "__main__":
+    unittest.main()

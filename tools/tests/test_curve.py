@@ -1,0 +1,140 @@
+"""`cophy-pg curve`: its budgets, its lines, and its picture."""
+from __future__ import annotations
+
+import importlib.util
+import json
+import random
+import subprocess
+import tempfile
+import unittest
+from pathlib import Path
+
+from cophy_text.answers import Advice, Candidate
+from fixtures import TOOL
+from patience import LONG
+
+HAS_PARSER = importlib.util.find_spec("pglast") is not None
+HAS_MATPLOTLIB = importlib.util.find_spec("matplotlib") is not None
+if HAS_PARSER:
+    from cophy_pg.curve import Search, between
+    from cophy_pg.curves import Point, bound_steps, cost_steps
+    from cophy_pg.program import Program
+
+# Indexes of 3, 40 and 300 pages that save 5000, 2000 and 1000 of 9000; the bound is 100 below the cost.
+SIZES = ((3, 5000), (40, 2000), (300, 1000))
+PROGRAM = """#!/bin/sh
+[ "$1" = advise ] || { printf "size 0\\nstatement 1 weight 1 cost 9000\\ntotal 9000\\n"; exit 0; }
+size=0 cost=9000 picks=""
+for it in 3:5000 40:2000 300:1000; do
+    if [ "$4" -ge $((size + ${it%:*})) ]; then
+        size=$((size + ${it%:*})) cost=$((cost - ${it#*:}))
+        picks="${picks}pick ${it%:*} t(c${it%:*}) ${it%:*} pages\\n"
+    fi
+done
+printf "budget $4\\ncandidates 3 left over 0\\n$picks"
+printf "size $size\\ncost $cost\\nbound $((cost - 100))\\ngap 100\\nnodes 3 of 9\\nstopped\\n"
+"""
+
+
+def best(budget: int) -> int:
+    """What the workload costs at best within a budget: the indexes of SIZES, taken in turn."""
+    cost, size = 9000, 0
+    for pages, saved in SIZES:
+        if budget >= size + pages:
+            cost, size = cost - saved, size + pages
+    return cost
+
+
+@unittest.skipUnless(HAS_PARSER, "python3-pglast isn't installed")
+class Lines(unittest.TestCase):
+    """What the lines say is true between the points too."""
+
+    def test_no_indexes_cost_more_than_the_one_line_or_less_than_the_other(self) -> None:
+        chance = random.Random(7)
+        for _ in range(100):
+            points = []
+            for budget in {chance.randrange(400) for _ in range(6)}:
+                # Advice that isn't the best, and a bound that isn't reached.
+                taken = chance.randrange(budget + 1)
+                worse, lower = chance.choice((0, 0, 300)), chance.choice((0, 0, 500))
+                points.append(Point(budget, taken, best(taken) + worse, best(budget) - lower, 1))
+            costs, bounds = cost_steps(points), bound_steps(points)
+            self.assertEqual([it.cost for it in costs], sorted({it.cost for it in costs}, reverse=True))
+            self.assertEqual([it.cost for it in bounds], sorted({it.cost for it in bounds}, reverse=True))
+            for budget in range(400):
+                for cost in (it.cost for it in costs if it.pages <= budget):
+                    self.assertGreaterEqual(cost, best(budget))
+                for bound in (it.cost for it in bounds if it.pages >= budget):
+                    self.assertLessEqual(bound, best(budget))
+
+    def test_most_budgets_lie_where_the_curve_is_steep(self) -> None:
+        class Falling(Program):
+            def advise(self, budget: int, nodes: int | None = None) -> Advice:
+                size = min(budget, 10000)
+                return Advice(budget, [Candidate(1, "t", ("c",), size)], size, 10**9 // (100 + size), 0)
+
+        found = [it.budget for it in Search(Falling("", "", ""), None).along(16)]
+        self.assertEqual((len(found), found[0], found[-1]), (17, 0, 10000))
+        self.assertGreater(sum(it < 2500 for it in found), 10)
+
+    def test_the_next_budget_lies_where_the_most_is_unknown(self) -> None:
+        def advice(budget: int, size: int, cost: int) -> Advice:
+            return Advice(budget, [Candidate(1, "t", ("c",), size)], size, cost)
+
+        self.assertEqual(between([advice(0, 0, 900), advice(100, 100, 100), advice(900, 900, 50)]), 50)
+        self.assertEqual(between([advice(0, 0, 900), advice(100, 20, 100), advice(900, 900, 50)]), 500)
+        # Of an advice that takes less than its budget nothing is unknown from its size on.
+        self.assertEqual(between([advice(0, 0, 900), advice(100, 20, 100)]), 10)
+        self.assertIsNone(between([advice(0, 0, 900), advice(100, 1, 100), advice(300, 1, 100)]))
+
+
+@unittest.skipUnless(HAS_PARSER and Path("/usr/bin/python3").exists(), "python3-pglast isn't installed")
+class Command(unittest.TestCase):
+    def setUp(self) -> None:
+        folder = tempfile.TemporaryDirectory()
+        self.addCleanup(folder.cleanup)
+        self.folder = Path(folder.name)
+        self.program = self.folder / "program"
+        self.program.write_text(PROGRAM)
+        self.program.chmod(0o755)
+        (self.folder / "c.toml").write_text("# The database 'sh$o_p', exported by cophy-pg.\nversion = 2\n")
+        (self.folder / "l.sql").write_text("SELECT c FROM t;\n")
+
+    def call(self, *more: str) -> str:
+        words = [str(TOOL), "curve", "c.toml", "l.sql", *more, "--program", str(self.program)]
+        ran = subprocess.run(words, cwd=self.folder, capture_output=True, text=True, check=False, timeout=LONG)
+        self.assertEqual(ran.returncode, 0, ran.stderr)
+        return ran.stdout
+
+    def test_it_has_a_line_for_each_budget(self) -> None:
+        lines = self.call("--budgets", "0,2,400kB,343").splitlines()
+        self.assertEqual([it.split()[0] for it in lines[1:]], ["0", "2", "50", "343"])
+        shown = ["50", "0.4", "MB", "43", "2", "2,000", "77.8", "%", "1,900", "5.00", "%"]
+        self.assertEqual(lines[3].split(), shown)
+        found = json.loads(self.call("--budgets", "0,5", "--json"))
+        self.assertEqual(
+            [(it["budget"], it["saved"], it["picks"]) for it in found], [(0, 0.0, []), (5, 55.5556, ["t(c3)"])]
+        )
+
+    def test_budgets_lie_where_the_curve_bends(self) -> None:
+        found = json.loads(self.call("--steps", "4", "--json"))
+        self.assertEqual([it["budget"] for it in found], [0, 21, 171, 257, 343])
+        self.assertEqual({it["size"] for it in found}, {0, 3, 43, 343})
+
+    def test_it_ends_where_nothing_is_unknown(self) -> None:
+        found = Search(Program(str(self.program), "c", "w"), None).along(1000)
+        self.assertLess(len(found), 40)
+        self.assertEqual([it.budget for it in found], sorted({it.budget for it in found}))
+        known = {(it.size, it.cost) for it in found}
+        self.assertEqual(known, {(0, 9000), (3, 4000), (43, 2000), (343, 1000)})
+
+    @unittest.skipUnless(HAS_MATPLOTLIB, "python3-matplotlib isn't installed")
+    def test_it_draws_a_png(self) -> None:
+        for budgets in (("--budgets", "0"), ("--budgets", "40,9000000"), ("--steps", "3")):
+            with self.subTest(budgets=budgets):
+                self.call(*budgets, "--png", "curve.png")
+                self.assertEqual((self.folder / "curve.png").read_bytes()[:4], b"\x89PNG")
+
+
+if __name__ == "__main__":
+    unittest.main()

@@ -1,0 +1,220 @@
+"""`cophy-pg health`: what it finds of indexes and foreign keys, and how near its sizes are to the real ones."""
+from __future__ import annotations
+
+import json
+import math
+import subprocess
+import tempfile
+import unittest
+from pathlib import Path
+from typing import Any
+
+from cophy_pg.stored import Part, pages
+from fixtures import ADVISOR, HERE, called, shop
+from patience import LONG
+from private_server import PrivateServer, has_extension, missing, program
+
+MISSING = missing()
+TABLES = """CREATE TABLE city (id int PRIMARY KEY, name text);
+CREATE TABLE people (id int PRIMARY KEY, city int REFERENCES city, boss int REFERENCES people, born date, name text, note text);
+INSERT INTO city SELECT i, 'City ' || i FROM generate_series(1, 90) i;
+INSERT INTO people SELECT i, 1 + i % 90, i / 2 + 1, date '1950-01-01' + i % 9000, 'Name ' || i % 5000, md5(i::text)
+    FROM generate_series(1, 60000) i;
+CREATE INDEX people_boss ON people (boss);
+CREATE INDEX people_name ON people (name);
+CREATE INDEX people_name_again ON people (name);
+CREATE INDEX people_name_born ON people (name, born);
+CREATE INDEX people_down ON people (name DESC, note);
+CREATE INDEX people_some ON people (born) WHERE city = 3;
+CREATE INDEX people_some_more ON people (born, note) WHERE city = 4;
+CREATE INDEX people_lower ON people (lower(name));
+CREATE INDEX people_note ON people (note);
+CREATE UNIQUE INDEX people_unique ON people (id, note);
+CREATE UNIQUE INDEX people_key ON people (id);
+CREATE INDEX "people ""odd" ON people (born);
+UPDATE pg_index SET indisvalid = false WHERE indexrelid = '"people ""odd"'::regclass;
+CREATE TABLE part (day date, kind int) PARTITION BY RANGE (day);
+CREATE TABLE part_1 PARTITION OF part FOR VALUES FROM ('2020-01-01') TO ('2030-01-01');
+CREATE INDEX part_day ON part (day); CREATE INDEX part_kind ON part (kind);
+INSERT INTO part SELECT date '2021-01-01' + i % 900, i % 7 FROM generate_series(1, 3000) i;
+CREATE TABLE wide AS SELECT i AS a, i % 300 AS b, i::numeric / 7 AS c, md5(i::text) AS d, repeat('y', 1 + i % 30) AS e,
+    i::bigint * 7919 % 100003 AS f, i % 2 = 0 AS g FROM generate_series(1, 100000) i;
+CREATE INDEX w1 ON wide (a); CREATE INDEX w2 ON wide (b); CREATE INDEX w3 ON wide (c); CREATE INDEX w4 ON wide (d);
+CREATE INDEX w5 ON wide (e, a); CREATE INDEX w6 ON wide (f, b); CREATE INDEX w7 ON wide (g); CREATE INDEX w8 ON wide (a) INCLUDE (d);
+CREATE INDEX w9 ON wide (b, g);
+VACUUM ANALYZE;
+"""
+SCANS = """SET enable_seqscan = off; SET enable_bitmapscan = off;
+SELECT count(*) FROM people WHERE boss = 3; SELECT count(*) FROM people WHERE name = 'Name 7' AND born = '1999-01-01';
+SELECT count(*) FROM part WHERE day = '2021-05-05';"""
+
+
+class Stored(unittest.TestCase):
+    def test_entries_and_pages(self) -> None:
+        four, few = Part(4, 4, 1000000), Part(4, 4, 50)
+        # 20,000,000 bytes are 2727 leaves of 7335, and 11 pages and a root stand above them, and one before all.
+        self.assertEqual(pages(1000000, [four], True), 1 + 2727 + 11 + 1)
+        for parts, entry in (
+            ([four, four], 20),
+            ([four, Part(8, 8, 9)], 28),
+            ([Part(9, 1, 9)], 28),
+            ([Part(1, 1, 9), four], 20),
+        ):
+            leaves = math.ceil(1000000 * entry / 7335)
+            self.assertEqual(pages(1000000, parts, False), 1 + leaves + math.ceil(leaves / 250) + 1)
+        # 50 keys of 20,000 rows each are stored as 7576 of 132.
+        self.assertEqual(pages(1000000, [few], True), 1 + 842 + 4 + 1)
+        self.assertEqual(pages(1000000, [few], False), 1 + 2727 + 11 + 1)
+        # Of rows without a value the key is stored as seldom.
+        self.assertEqual(pages(1000000, [Part(4, 4, 1000, 1.0)], True), 1 + 842 + 4 + 1)
+        self.assertEqual(pages(1000000, [Part(4, 4, 500000, 0.5)], True), 1 + 1785 + 8 + 1)
+        self.assertEqual(pages(0, [four], True), 2)
+
+
+@unittest.skipIf(MISSING, MISSING)
+class Health(unittest.TestCase):
+    server: PrivateServer
+    found: dict[str, Any]
+
+    @classmethod
+    def setUpClass(cls) -> None:
+        cls.server = shop()
+        cls.server.psql("CREATE DATABASE health")
+        cls.server.psql(TABLES, "health")
+        cls.server.psql(ADVISOR.read_text(), "health")
+        # A session tells its counts when it ends.
+        cls.server.psql(SCANS, "health")
+        cls.server.psql("DELETE FROM people WHERE id > 6000", "health")
+        cls.server.psql("VACUUM ANALYZE people", "health")
+        cls.found = json.loads(cls.call("--json", status=3).stdout)
+
+    @classmethod
+    def tearDownClass(cls) -> None:
+        cls.server.psql("DROP DATABASE health")
+
+    @classmethod
+    def call(cls, *words: str, status: int = 0, database: str = "health") -> subprocess.CompletedProcess[str]:
+        ran = called(
+            cls.server,
+            *("health", "--min-size", "0", *words),
+            database=database,
+            PGUSER="cophy_advisor",
+            COPHY_PROGRAM=str(HERE / "stand_in.py"),
+        )
+        assert ran.returncode == status, ran.stderr
+        return ran
+
+    def reasons(self) -> dict[str, dict[str, str]]:
+        return {it["name"]: it["reasons"] for it in self.found["indexes"]}
+
+    def test_each_index_with_its_reasons(self) -> None:
+        kinds = {name: {*it} - {"bloated"} for name, it in self.reasons().items() if not name.startswith("w")}
+        wanted = {
+            'people "odd': {"invalid"},
+            "people_name": {"prefix", "unused"},
+            "people_name_again": {"duplicate", "unused"},
+            "people_down": {"unused"},
+            "people_some": {"unused"},
+            "people_some_more": {"unused"},
+            "people_lower": {"unused"},
+            "people_note": {"unused"},
+            "people_key": {"duplicate"},
+            "part_kind": {"unused"},
+        }
+        self.assertEqual({name: it for name, it in kinds.items() if it}, wanted)
+        self.assertEqual(
+            self.reasons()["people_name"]["prefix"], "its columns are the first ones of 'people_name_born'"
+        )
+        self.assertEqual(self.reasons()["people_key"]["duplicate"], "the same as 'people_pkey'")
+        statements = {it["name"]: it["statement"] for it in self.found["indexes"]}
+        self.assertEqual(statements['people "odd'], 'DROP INDEX CONCURRENTLY "public"."people ""odd";')
+        self.assertEqual(statements["part_kind"], 'DROP INDEX "public"."part_kind";')
+
+    def test_bloat_is_what_a_fresh_index_has_not(self) -> None:
+        bloated = {name for name, it in self.reasons().items() if "bloated" in it}
+        self.assertLessEqual({"people_note", "people_unique"}, bloated)
+        self.assertFalse([it for it in bloated if it.startswith(("w", "part"))], bloated)
+        statements = {it["name"]: it["statement"] for it in self.found["indexes"]}
+        self.assertEqual(statements["people_unique"], 'REINDEX INDEX CONCURRENTLY "public"."people_unique";')
+        size = self.server.value("SELECT pg_relation_size('people_unique') / 8192", "health")
+        self.assertEqual(str(next(it["pages"] for it in self.found["indexes"] if it["name"] == "people_unique")), size)
+
+    def test_sizes_are_near_the_real_ones(self) -> None:
+        listed = {
+            it["name"]: (it["pages"], it["fresh_pages"]) for it in self.found["indexes"] if it["name"].startswith("w")
+        }
+        self.assertEqual(len(listed), 9)
+        for name, (real, expected) in listed.items():
+            with self.subTest(name=name, real=real, expected=expected):
+                self.assertLess(0.75 * expected, real)
+                self.assertLess(real, 1.3 * expected)
+
+    def test_a_foreign_key_without_an_index(self) -> None:
+        self.assertEqual([it["name"] for it in self.found["foreign_keys"]], ["people_city_fkey"])
+        self.assertEqual(
+            self.found["foreign_keys"][0]["statement"], 'CREATE INDEX CONCURRENTLY ON "public"."people" ("city");'
+        )
+
+    def test_the_text_is_all_comments(self) -> None:
+        text = self.call(status=3).stdout
+        self.assertTrue(all(it.startswith("--") or not it for it in text.splitlines()), text)
+        self.assertTrue(text.isascii())
+        self.assertIn('-- DROP INDEX CONCURRENTLY "public"."people_name_again";', text)
+        self.assertIn("-- the foreign key 'people_city_fkey' of \"people\" to 'city' has no index:", text)
+        self.server.psql(text, "health")
+
+    def test_a_lock_costs_the_index_that_it_is_on(self) -> None:
+        words = [str(program("psql")), "-X", "-q", "-A", "-t"]
+        with subprocess.Popen(
+            words, stdin=subprocess.PIPE, stdout=subprocess.PIPE, text=True, env=self.server.environment("health")
+        ) as holder:
+            assert holder.stdin is not None and holder.stdout is not None
+            holder.stdin.write("BEGIN; LOCK TABLE part, wide; REINDEX INDEX w1; DROP INDEX part_kind; \\echo held\n")
+            holder.stdin.flush()
+            holder.stdout.readline()
+            ran = self.call("--json", status=3)
+            holder.communicate("ROLLBACK;\n", timeout=LONG)
+        self.assertIn("'public'.'part_kind': 55P03 a lock wasn't given in time", ran.stderr)
+        found = {it["name"]: it for it in json.loads(ran.stdout)["indexes"]}
+        self.assertIsNone(found["w1"]["pages"])
+        self.assertIn("people_name", found)
+
+    def test_small_ones_are_counted_alone(self) -> None:
+        words = ("--min-size", "1MB")
+        text = self.call(*words, status=3).stdout
+        self.assertRegex(text, r"\n-- \d of under 1\.0 MB that no scan was counted of aren't listed\n\Z")
+        self.assertNotIn("part_kind", text)
+        self.assertIn("people_name_again", text)
+
+    def test_nothing_found_is_status_0(self) -> None:
+        self.server.psql("CREATE DATABASE well")
+        self.addCleanup(self.server.psql, "DROP DATABASE well")
+        self.server.psql("CREATE TABLE t (id int PRIMARY KEY);" + ADVISOR.read_text(), "well")
+        self.assertEqual(self.call(database="well").stdout, "-- of 1 indexes 0 to look at\n")
+
+    @unittest.skipUnless(has_extension("hypopg"), "postgresql-15-hypopg isn't installed")
+    def test_with_a_folder_the_workload_is_priced_without_each(self) -> None:
+        folder = tempfile.TemporaryDirectory()
+        self.addCleanup(folder.cleanup)
+        kept = Path(folder.name)
+        (kept / "q.sql").write_text("SELECT id FROM people WHERE name = 'Name 7';\n")
+        words = ("export", str(kept / "catalogue.toml"), str(kept / "workload.sql"), "--sql", str(kept / "q.sql"))
+        ran = called(self.server, *words, database="health", PGUSER="cophy_advisor")
+        self.assertEqual(ran.returncode, 0, ran.stderr)
+        found = json.loads(self.call("--folder", folder.name, "--json", status=3).stdout)
+        costs = {it["name"]: it["cost"] for it in found["indexes"]}
+        self.assertEqual(costs["people_name"], {"before": 900000, "without": 900000})
+        self.assertIsNone(costs["people_lower"])
+        self.assertIsNone(costs["people_unique"])
+        text = (kept / "catalogue.toml").read_text()
+        self.assertIn('name = "people_name"', text)
+        fake = kept / "program"
+        fake.write_text('#!/bin/sh\nn=$(grep -c "table.index" "$2")\necho "total $((90000 - 1000 * n))"\n')
+        fake.chmod(0o755)
+        said = self.call("--folder", folder.name, "--program", str(fake), status=3).stdout
+        count = text.count("[[table.index]]")
+        self.assertIn(f"--   by our model the workload costs {91 - count} without it, ", said)
+
+
+if __name__ == "__main__":
+    unittest.main()

@@ -1,0 +1,289 @@
+"""`cophy-pg report`: the page of a folder, as text and in a browser."""
+from __future__ import annotations
+
+import html
+import importlib.util
+import json
+import os
+import re
+import shutil
+import stat
+import subprocess
+import tempfile
+import unittest
+from pathlib import Path
+from typing import Any
+
+from fixtures import ROOT, TOOL
+from patience import LONG
+from schema_check import faults
+
+MISSING = next(
+    (f"python3-{it} isn't installed" for it in ("jinja2", "pglast") if importlib.util.find_spec(it) is None), ""
+)
+BROWSER = shutil.which("chromium") or shutil.which("google-chrome")
+SCHEMA = json.loads((ROOT / "tools" / "pg" / "cophy_pg" / "advice.schema.json").read_text())
+ODD = "SELECT a FROM t WHERE b = '<script>alert(1)</script>{{ 7 * 7 }}\u202e\x1b&'"
+
+
+def statement(number: int, sql: str, calls: int, after: float, picks: list[int]) -> dict[str, Any]:
+    """A statement of a document that costs 900 before."""
+    return {
+        "numbers": [number],
+        "sql": sql,
+        "line": None,
+        "role": "app",
+        "calls": calls,
+        "seconds": 1.5,
+        "outcome": "changed",
+        "changes": ["outer join", "value"],
+        "skipped": None,
+        "cost": {"before": 900000, "after": round(1000 * after)},
+        "server_cost": {"before": 900.0, "after": after},
+        "not_explained": None,
+        "picks": picks,
+    }
+
+
+def change(number: int, sql: str, ours: float, server: float) -> dict[str, Any]:
+    """What a pick changes of a statement."""
+    return {"numbers": [number], "sql": sql, "calls": 9, "ours": ours, "server": server}
+
+
+def document(folder: str) -> dict[str, Any]:
+    """A document with a pick, a statement of hostile text, one with a long word, and a skipped one."""
+    options = {"source": "sql", "since": None, "min_calls": 1, "min_saving": 0.0, "most_per_table": None}
+    skipped = statement(1, "SHOW x", 5, 900.0, []) | {
+        "numbers": [],
+        "outcome": "skipped",
+        "skipped": "SHOW",
+        "changes": [],
+    }
+    return {
+        "version": 1,
+        "tools": "1.0.0",
+        "made": "2026-11-29T10:55:00Z",
+        "database": "shop & <b>",
+        "server": "15.18",
+        "folder": folder,
+        "options": options | {"tables": [], "users": []},
+        "asked_pages": 262144,
+        "budget_pages": 262144,
+        "size_pages": 30,
+        "stored_pages": 20,
+        "cost": {"before": 9000000, "after": 1800000, "advice": 1800000, "bound": 1800000, "finished": True},
+        "server_cost": {"statements": 2, "before": 9000.0, "after": 1000.0},
+        "proved": "proved cost 1800000 bound 1800000 budget 262144",
+        "calls_divided_by": 1.0,
+        "warnings": ["t was never analysed: run ANALYZE, its numbers are guesses"],
+        "lint": ["note: LIMIT costs and saves nothing, the whole statement is priced: statement 1"],
+        "rewriting": ["3 statements, written as 2"],
+        "functions": [],
+        "picks": [
+            {
+                "number": 4,
+                "table": "t",
+                "columns": ["b"],
+                "pages": 30,
+                "stored_pages": 20,
+                "name": "t_b_idx",
+                "statements": ['CREATE INDEX CONCURRENTLY "t_b_idx" ON "public"."t" ("b");'],
+                "outcome": "unknown",
+                "unknown_for": ["42883 a function or an operator isn't there: statement 2"],
+                "begins": None,
+                "saves": {"ours": 80.0, "server": 88.8889, "cost_without": 9000000},
+                "changes": [change(1, ODD, 81.0, 88.8889), change(2, "UPDATE t SET b = 1", -1.0, 0.0)],
+            }
+        ],
+        "left_out": [
+            {"number": 5, "table": "t", "columns": ["c"], "pages": 9, "why": "no plan of the server takes it"}
+        ],
+        "statements": [
+            statement(1, ODD, 9, 100.0, [4]),
+            statement(2, "UPDATE t SET b = 1 WHERE " + "x" * 300 + " = 2", 1, 900.0, []),
+            skipped,
+        ],
+        "seconds": {"export": 1.25},
+    }
+
+
+def plans() -> dict[str, Any]:
+    """The plans of the first statement."""
+    scan = {"Node Type": "Seq Scan", "Relation Name": "t", "Alias": "t", "Startup Cost": 0.0, "Total Cost": 900.0}
+    index = {"Node Type": "Index Scan", "Index Name": "<13>btree_t_b", "Relation Name": "t", "Alias": "x"}
+    before = {**scan, "Plan Rows": 1, "Filter": "(b = '<i>'::text)"}
+    after = {**index, "Startup Cost": 0.5, "Total Cost": 100.0, "Plan Rows": 1, "Index Cond": "(b = $1)"}
+    nothing = {"before": None, "after": None}
+    listed = [{"numbers": [1], "before": before, "after": after}, {"numbers": [2]} | nothing, {"numbers": []} | nothing]
+    return {"statements": listed, "shown": {"<13>btree_t_b": "t(b)"}}
+
+
+@unittest.skipIf(MISSING, MISSING)
+class Page(unittest.TestCase):
+    def setUp(self) -> None:
+        folder = tempfile.TemporaryDirectory()
+        self.addCleanup(folder.cleanup)
+        self.here = Path(folder.name)
+        self.document = document(folder.name)
+        self.write()
+
+    def write(self) -> None:
+        (self.here / "advice.json").write_text(json.dumps(self.document))
+        (self.here / "plans.json").write_text(json.dumps(plans()))
+
+    def call(self, *words: str, status: int = 0) -> str:
+        ran = subprocess.run([str(TOOL), "report", *words], capture_output=True, text=True, check=False, timeout=LONG)
+        self.assertEqual(ran.returncode, status, ran.stderr)
+        return ran.stderr
+
+    def page(self) -> str:
+        self.call(str(self.here))
+        return (self.here / "report.html").read_text()
+
+    def test_the_document_is_one_of_advise(self) -> None:
+        self.assertEqual([*faults(self.document, SCHEMA, SCHEMA)], [])
+
+    def test_it_has_each_index_statement_and_reason(self) -> None:
+        text = self.page()
+        for part in (
+            "1 index to make for shop &amp; &lt;b&gt;",
+            "CREATE INDEX CONCURRENTLY &#34;t_b_idx&#34;",
+            "<b>80.0 %</b> by our model and <b>88.9 %</b> by the server's planner",
+            "Without it the workload costs 9,000 by our model, with it 1,800.",
+            "42883 a function or an operator isn&#39;t there: statement 2",
+            "no plan of the server takes it",
+            "900.0 → 100.0",
+            "Seq Scan on t  (cost=0.00..900.00 rows=1)\n  Filter: (b = &#39;&lt;i&gt;&#39;::text)",
+            "Index Scan using the new index t(b) on t x  (cost=0.50..100.00 rows=1)\n  Index Cond: (b = $1)",
+            "an outer join is an inner one",
+            "<li>SHOW: 1 statement<br><code>SHOW x</code></li>",
+            f"cophy check {self.here}/catalogue.toml {self.here}/workload.sql {self.here}/certificate",
+            "proved cost 1800000 bound 1800000 budget 262144",
+            "t was never analysed",
+        ):
+            with self.subTest(part=part):
+                self.assertIn(part, text)
+        self.assertNotIn("What a budget buys", text)
+        self.assertEqual(stat.S_IMODE((self.here / "report.html").stat().st_mode), 0o600)
+
+    def test_nothing_in_it_is_code_or_fetched(self) -> None:
+        text = self.page()
+        self.assertIn("&lt;script&gt;alert(1)&lt;/script&gt;{{ 7 * 7 }}", text)
+        self.assertIn("default-src 'none'", text)
+        for part in (
+            "<script",
+            "<link",
+            "<img",
+            "<iframe",
+            "http:",
+            "https:",
+            "url(",
+            "@import",
+            "\u202e",
+            "\x1b",
+            " on",
+        ):
+            with self.subTest(part=part):
+                self.assertNotRegex(text, re.escape(part) + (r"\w+=" if part == " on" else ""))
+
+    def test_the_curve_of_the_folder_is_drawn(self) -> None:
+        points = [
+            {"budget": at, "size": at, "cost": cost, "bound": bound, "picks": ["t(b)"] * (at > 0)}
+            for at, cost, bound in ((0, 9000000, 9000000), (100, 5000000, 4000000), (200, 1800000, 1800000))
+        ]
+        (self.here / "curve.json").write_text(json.dumps(points))
+        text = self.page()
+        # At each point the cost steps down; the bound, which holds for smaller budgets, has come down before it.
+        self.assertIn('class="cost-line" d="M90.0 24.0H323.3V128.9H556.7V212.8H580.0"', text)
+        self.assertIn('class="bound-line" d="M90 24.0H90.0V155.1H323.3V212.8H556.7"', text)
+        for part in ("1.6 MB", "44.4 %", 'y="123.9">1</text>'):
+            self.assertIn(part, text)
+
+    def test_without_indexes(self) -> None:
+        self.document |= {"picks": [], "left_out": [], "size_pages": 0, "stored_pages": 0, "warnings": [], "lint": []}
+        self.write()
+        text = self.page()
+        self.assertIn("No index is worth making for shop", text)
+        self.assertIn("There are none.", text)
+
+    def test_what_is_no_folder_of_advise_is_refused(self) -> None:
+        (self.here / "link.html").symlink_to(self.here / "plans.json")
+        self.assertIn("symbolic link", self.call(str(self.here), "--output", str(self.here / "link.html"), status=1))
+        self.assertIn(
+            "it is the same file", self.call(str(self.here), "--output", str(self.here / "plans.json"), status=1)
+        )
+        lacking = {it: value for it, value in self.document.items() if it != "server"}
+        odd: list[dict[str, object]] = [
+            {"version": 2},
+            {"statements": []},
+            {"stored_pages": 10**400},
+            {"options": {}},
+        ]
+        broken = [json.dumps(it) for it in (lacking, *(self.document | it for it in odd))]
+        for content in ("{}", "[1]", "no JSON", *broken):
+            (self.here / "advice.json").write_text(content)
+            self.assertIn("is no folder of cophy-pg advise", self.call(str(self.here), status=1))
+        self.call(str(self.here / "nothing"), status=1)
+
+    @unittest.skipUnless(BROWSER, "chromium isn't installed")
+    def test_a_browser_shows_it_without_errors_at_any_width(self) -> None:
+        points = [{"budget": at, "size": at, "cost": 90 - at, "bound": 80 - at, "picks": []} for at in (0, 50)]
+        (self.here / "curve.json").write_text(json.dumps(points))
+        text = self.page()
+        said = self.browse(self.here / "report.html", 1280, "--dump-dom")
+        self.assertIn("Statements before and after", said.stdout)
+        self.assertNotIn("CONSOLE", said.stderr)
+        # A window has a least width, so a copy is measured in a frame. All is opened there.
+        inner = re.sub(r"<meta http-equiv=.*>\n", "", text).replace("<details ", "<details open ")
+        script = """function measure(frame) {
+            const root = frame.contentDocument.documentElement;
+            document.title = [frame.contentWindow.innerWidth, root.scrollWidth, getComputedStyle(root.lastChild).fontSize];
+        }"""
+        for width in (1280, 400):
+            with self.subTest(width=width):
+                style = f"width: {width}px; height: 900px; border: 0"
+                frame = f'<iframe style="{style}" onload="measure(this)" srcdoc="{html.escape(inner)}"></iframe>'
+                (self.here / "measured.html").write_text(f"<script>{script}</script>{frame}")
+                said = self.browse(self.here / "measured.html", 1400, "--dump-dom")
+                found = re.search(r"<title>(\d+),(\d+),(\d+)px</title>", said.stdout)
+                self.assertIsNotNone(found, said.stdout[-300:])
+                shown, needed, size = map(int, found.groups() if found else ())
+                self.assertEqual(shown, width)
+                self.assertLessEqual(needed, shown)
+                self.assertGreaterEqual(size, 15)
+        self.assertEqual(*self.colours("--blink-settings=preferredColorScheme=1"))
+        self.assertNotEqual(*self.colours("--blink-settings=preferredColorScheme=0"))
+        self.browse(self.here / "report.html", 1280, f"--print-to-pdf={self.here / 'printed.pdf'}")
+        self.assertEqual((self.here / "printed.pdf").read_bytes()[:5], b"%PDF-")
+
+    def colours(self, scheme: str) -> tuple[str, str]:
+        """The colour of the page in a scheme, and white."""
+        script = "<script>document.title = getComputedStyle(document.body).backgroundColor</script>"
+        text = re.sub(r"<meta http-equiv=.*>\n", "", (self.here / "report.html").read_text()) + script
+        (self.here / "scheme.html").write_text(text)
+        found = re.search(
+            r"<title>(rgb.*)</title>", self.browse(self.here / "scheme.html", 1280, "--dump-dom", scheme).stdout
+        )
+        return found[1] if found else "none", "rgb(255, 255, 255)"
+
+    def browse(self, file: Path, width: int, *more: str) -> subprocess.CompletedProcess[str]:
+        words = (
+            f"--headless=new --disable-gpu --disable-dev-shm-usage --hide-scrollbars --window-size={width},900".split()
+        )
+        words += ["--no-sandbox"] * (os.geteuid() == 0) + [
+            "--enable-logging=stderr",
+            f"--user-data-dir={self.here / 'user'}",
+        ]
+        kept = {**os.environ, "HOME": str(self.here)}
+        return subprocess.run(
+            [str(BROWSER), *words, *more, file.as_uri()],
+            capture_output=True,
+            text=True,
+            check=True,
+            timeout=LONG,
+            env=kept,
+        )
+
+
+if __name__ == "__main__":
+    unittest.main()

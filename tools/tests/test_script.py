@@ -1,0 +1,190 @@
+"""`cophy-pg ddl --script` and `--include`: the script run by psql, over tables of all kinds, and after faults."""
+from __future__ import annotations
+
+import os
+import subprocess
+import tempfile
+import unittest
+from pathlib import Path
+
+from cophy_pg.included import searched_columns
+from fixtures import ADVISOR, called, shop
+from patience import LONG
+from private_server import PrivateServer, missing, program
+
+MISSING = missing()
+TABLES = """CREATE TABLE plain (id int PRIMARY KEY, a int, b int, c text);
+INSERT INTO plain SELECT i, i % 70, i % 9, 'c' || i FROM generate_series(1, 9000) i;
+CREATE SCHEMA "Odd: 's";
+CREATE TABLE "Odd: 's"."t\\x ""é" (":a" int, "b'\\c" int);
+CREATE TABLE parted (day date, kind int, note text) PARTITION BY RANGE (day);
+CREATE TABLE parted_old PARTITION OF parted FOR VALUES FROM ('2020-01-01') TO ('2021-01-01');
+CREATE TABLE "parted_Ü" PARTITION OF parted FOR VALUES FROM ('2021-01-01') TO ('2022-01-01') PARTITION BY LIST (kind);
+CREATE TABLE parted_one PARTITION OF "parted_Ü" FOR VALUES IN (1);
+CREATE TABLE parted_rest PARTITION OF "parted_Ü" DEFAULT;
+INSERT INTO parted SELECT date '2020-01-01' + i % 700, i % 3, 'n' FROM generate_series(1, 3000) i;
+CREATE TABLE parent (id int, a int); CREATE TABLE child () INHERITS (parent);
+INSERT INTO child SELECT i, i FROM generate_series(1, 900) i;
+ANALYZE;
+"""
+PICKS = ("plain(a, b)", "Odd___s_t_x___(_a, b__c)", "parted(kind, day)", "parent(a)")
+NAMES = """SELECT c.relname || CASE WHEN i.indisvalid THEN '' ELSE ' INVALID' END FROM pg_index i JOIN pg_class c ON c.oid = i.indexrelid
+JOIN pg_namespace n ON n.oid = c.relnamespace WHERE n.nspname !~ '^pg_' AND c.relname <> 'plain_pkey' ORDER BY 1"""
+QUERIES = """SELECT c, b FROM plain WHERE a = 3;
+SELECT a FROM plain WHERE a > 5 AND c IS NOT NULL;
+SELECT count(*) FROM parted WHERE kind = 3 GROUP BY day;
+SELECT id FROM parent WHERE a = 4;
+SELECT ":a" FROM "Odd: 's"."t\\x ""é" WHERE ":a" = 3;
+"""
+
+
+class Included(unittest.TestCase):
+    def test_what_is_compared_joined_grouped_or_ordered_is_searched(self) -> None:
+        text = b"""-- weight 5
+SELECT x.read1, max(x.read2), any_of(x.read3) FROM t x JOIN u ON x.joined = u.other AND (x.compared = ? OR within IN (1, 2))
+WHERE x.read4 IS NOT NULL AND any_of(read5, read6) AND "QUOTED" < 'text ORDER BY no' GROUP BY x.grouped ORDER BY ordered DESC;
+UPDATE t SET read7 = 5, read8 = read9 WHERE found = 3; INSERT INTO t (read10) VALUES (?); SELECT read11 FROM t;"""
+        wanted = {"joined", "other", "compared", "within", "quoted", "grouped", "ordered", "found"}
+        self.assertEqual(searched_columns(text), wanted)
+
+
+@unittest.skipIf(MISSING, MISSING)
+class Script(unittest.TestCase):
+    server: PrivateServer
+
+    @classmethod
+    def setUpClass(cls) -> None:
+        cls.server = shop()
+        cls.server.psql("CREATE DATABASE making")
+        cls.server.psql(TABLES + ADVISOR.read_text(), "making")
+
+    @classmethod
+    def tearDownClass(cls) -> None:
+        cls.server.psql("DROP DATABASE making")
+
+    def setUp(self) -> None:
+        folder = tempfile.TemporaryDirectory()
+        self.addCleanup(folder.cleanup)
+        self.here = Path(folder.name)
+        self.files = [str(self.here / it) for it in ("c.toml", "l.sql", "advice", "q.sql")]
+        (self.here / "q.sql").write_text(QUERIES)
+        ran = called(
+            self.server, "export", *self.files[:2], "--sql", self.files[3], database="making", PGUSER="cophy_advisor"
+        )
+        self.assertEqual(ran.returncode, 0, ran.stderr)
+
+    def script(self, picks: tuple[str, ...], *more: str) -> str:
+        lines = [f"pick {at} {it} 3 pages\n" for at, it in enumerate(picks, 1)]
+        head, end = "budget 99\ncandidates 9 left over 0\n", "size 12\ncost 9\nbound 9\ngap 0\nnodes 1 of 9\nfinished\n"
+        (self.here / "advice").write_text(head + "".join(lines) + end)
+        ran = called(self.server, "ddl", self.files[0], self.files[2], "--script", *more, database="making")
+        self.assertEqual(ran.returncode, 0, ran.stderr)
+        self.assertTrue(ran.stdout.isascii())
+        return ran.stdout
+
+    def run_script(self, text: str, *more: str, status: int = 0) -> str:
+        """What psql says of a script."""
+        (self.here / "script.sql").write_text(text)
+        words = [str(program("psql")), "-X", "-q", *more, "-f", str(self.here / "script.sql")]
+        environment = self.server.environment("making", PGUSER="cophy")
+        ran = subprocess.run(words, capture_output=True, text=True, env=environment, check=False, timeout=LONG)
+        self.assertEqual(ran.returncode, status, ran.stderr)
+        return ran.stdout + ran.stderr
+
+    def names(self) -> list[str]:
+        return self.server.value(NAMES, "making").splitlines()
+
+    def test_it_makes_all_makes_none_twice_and_takes_them_back(self) -> None:
+        text = self.script(PICKS)
+        said = self.run_script(text)
+        self.assertIn("1 of 4: plain(a, b), about 0.1 MB and 1 second\n", said)
+        made = self.names()
+        self.assertEqual(len(made), 4 + 4 + 1, made)
+        self.assertFalse([it for it in made if it.endswith("INVALID")])
+        shown = self.server.value("SELECT pg_get_indexdef('parted_kind_day_idx'::regclass)", "making")
+        self.assertEqual(shown, "CREATE INDEX parted_kind_day_idx ON ONLY public.parted USING btree (kind, day)")
+        count = "SELECT count(*) FROM pg_partition_tree('parted_kind_day_idx')"
+        self.assertEqual(self.server.value(count, "making"), "5")
+        self.assertEqual(self.run_script(text).count("it is there already"), 4)
+        self.assertEqual(self.names(), made)
+        self.server.psql("CREATE INDEX other ON plain (b)", "making")
+        self.run_script(text, "-v", "undo=1")
+        self.assertEqual(self.names(), ["other"])
+        self.server.psql("DROP INDEX other", "making")
+
+    def test_a_superuser_makes_none_where_a_partition_is_anothers(self) -> None:
+        text, before = self.script(("parted(kind, day)",)), self.names()
+        self.server.psql("CREATE ROLE stranger; ALTER TABLE parted_one OWNER TO stranger", "making")
+        self.addCleanup(self.server.psql, "ALTER TABLE parted_one OWNER TO cophy; DROP ROLE stranger", "making")
+        self.assertIn("let their owner run the script, not a superuser", self.run_script(text, status=3))
+        self.assertEqual(self.names(), before)
+
+    def test_what_an_earlier_run_left_is_made_again(self) -> None:
+        text = self.script(("plain(a, b)", "parted(kind)"))
+        self.run_script(text)
+        made = self.names()
+        part = next(it for it in made if it.startswith("parted_one"))
+        spoil = "UPDATE pg_index SET indisvalid = false WHERE indexrelid = '{}'::regclass"
+        self.server.psql(spoil.format("plain_a_b_idx"), "making")
+        self.server.psql("DROP INDEX parted_kind_idx", "making")
+        self.server.psql(f'CREATE INDEX "{part}" ON parted_one (kind); {spoil.format(part)}', "making")
+        self.assertIn(f"{part} INVALID", self.names())
+        self.assertIn("an earlier run left it INVALID", self.run_script(text))
+        self.assertEqual(self.names(), made)
+        self.server.psql("DROP INDEX parted_kind_idx", "making")
+        self.server.psql(f'CREATE INDEX "{part}" ON parted_one (kind)', "making")
+        self.run_script(text, "-v", "undo=1")
+        self.assertEqual(self.names(), [])
+
+    def test_a_lock_of_others_ends_it_and_is_told(self) -> None:
+        text = self.script(("plain(a)", "plain(b)")).replace("'30min'", "'3s'")
+        words = [str(program("psql")), "-X", "-q"]
+        holder = subprocess.Popen(
+            words, stdin=subprocess.PIPE, stdout=subprocess.PIPE, text=True, env=self.server.environment("making")
+        )
+        assert holder.stdin is not None and holder.stdout is not None
+        holder.stdin.write("BEGIN; UPDATE plain SET b = b WHERE id = 1; \\echo held\n")
+        holder.stdin.flush()
+        holder.stdout.readline()
+        said = self.run_script(text, status=3)
+        holder.communicate("ROLLBACK;\n", timeout=LONG)
+        self.assertIn("canceling statement due to lock timeout", said)
+        self.assertIn("it is left INVALID: it serves no query", said)
+        self.assertIn("the index plain(a) was not made: run the script again", said)
+        self.assertEqual(self.names(), ["plain_a_idx INVALID"])
+        self.run_script(text)
+        self.assertEqual(self.names(), ["plain_a_idx", "plain_b_idx"])
+        self.run_script(text, "-v", "undo=1")
+        self.assertEqual(self.names(), [])
+
+    def test_a_name_that_another_index_has_is_left_alone(self) -> None:
+        text = self.script(("plain(a)",))
+        self.server.psql("CREATE INDEX plain_a_idx ON plain (c)", "making")
+        self.assertIn("its name is taken by another", self.run_script(text, status=3))
+        self.run_script(text, "-v", "undo=1")
+        self.assertEqual(self.names(), ["plain_a_idx"])
+        self.server.psql("DROP INDEX plain_a_idx", "making")
+
+    def test_columns_that_are_only_read_are_included(self) -> None:
+        text = self.script(("plain(a, b, c)", "parted(kind, day, note)"), "--include", self.files[1])
+        self.assertIn('ON "public"."plain" ("a") INCLUDE ("b", "c");', text)
+        self.run_script(text)
+        shown = self.server.value("SELECT indexdef FROM pg_indexes WHERE indexname ~ '^parted_one'", "making")
+        self.assertTrue(shown.endswith("USING btree (kind, day) INCLUDE (note)"), shown)
+        self.assertEqual(self.run_script(text).count("it is there already"), 1)
+        self.run_script(text, "-v", "undo=1")
+        self.assertEqual(self.names(), [])
+
+    def test_a_newer_catalogue_is_told(self) -> None:
+        self.script(("plain(a)",))
+        os.utime(self.files[2], (1, 1))
+        ran = called(self.server, "ddl", *self.files[:1], self.files[2], database="making")
+        self.assertIn("the catalogue is newer than the advice", ran.stderr)
+        self.assertIn("-- the catalogue is newer than the advice", ran.stdout)
+
+    def test_estimates_go_by_a_rate(self) -> None:
+        self.assertIn("about 0.1 MB and 90 seconds", self.script(("plain(a)",), "--rows-a-second", "100"))
+
+
+if __name__ == "__main__":
+    unittest.main()

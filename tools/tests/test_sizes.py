@@ -1,0 +1,146 @@
+"""The sizes of indexes as PostgreSQL stores them: the formula beside real indexes, and where it is printed.
+
+`run test_sizes.Stored` prints the table of indexes where COPHY_TABLE is set.
+"""
+from __future__ import annotations
+
+import os
+import random
+import tempfile
+import unittest
+from pathlib import Path
+
+from private_server import PrivateServer, missing
+from fixtures import called, shop
+
+MISSING = missing()
+ROWS = 60000
+# By column: its type, and how its values are made of g, which goes from 1 to ROWS.
+COLUMNS = {
+    "id": ("int4", "g"),
+    "big": ("int8", "g * 1000003::int8"),
+    "small": ("int2", "g % 300"),
+    "flag": ("bool", "g % 7 = 0"),
+    "few": ("int4", "floor(20 * random() ^ 2)"),
+    "group_": ("int8", "floor(900 * random())"),
+    "many": ("int4", "floor(25000 * random())"),
+    "price": ("numeric(12, 2)", "round((random() * 5000)::numeric, 2)"),
+    "rate": ("float8", "round((random() * 100)::numeric, 1)::float8"),
+    "born": ("date", "date '1950-01-01' + floor(20000 * random())::int"),
+    "made": ("timestamptz", "timestamptz '2024-01-01' + random() * interval '300 days'"),
+    "code": ("varchar(12)", "'C' || lpad((g % 5000)::text, 7, '0')"),
+    "name": ("text", "md5(g::text)"),
+    "word": ("text", "(array['new', 'paid', 'shipped', 'returned'])[1 + floor(4 * random() ^ 2)::int]"),
+    "long": ("text", "repeat(md5(g::text), 5)"),
+    "key": ("uuid", "md5(g::text || 'k')::uuid"),
+    "host": ("inet", "inet '10.0.0.0' + floor(3000 * random())::int8"),
+    "seldom": ("int4", "CASE WHEN random() < 0.8 THEN NULL ELSE g END"),
+    "empty": ("text", "CASE WHEN random() < 0.5 THEN NULL ELSE 'v' || g % 400 END"),
+}
+INDEXES = """
+id|big|small|flag|few|group_|many|price|rate|born|made|code|name|word|long|key|host|seldom|empty
+id, few|few, id|small, group_|flag, word|word, flag, few|few, group_|group_, many|born, few|made, id|code, word|word, made
+key, id|name, flag|price, few|few, price|rate, id|host, small|flag, big|small, flag|few, word, id|born, made, price
+word, born|code, small, many|seldom, few|few, empty|big, flag, id, word|word, many|few, born
+""".replace(
+    "\n", "|"
+).split(
+    "|"
+)
+
+
+@unittest.skipIf(MISSING, MISSING)
+class Filling(unittest.TestCase):
+    """The search for a budget, over advice that takes what saves the most a page, one after the other."""
+
+    def filled(self, asked: int, sizes: list[tuple[int, int]]) -> tuple[int, int]:
+        """The pages that the picks take on the server, and how often advice was asked for; of each index its pages by the
+        model and on the server."""
+        from cophy_pg.budget import filled
+        from cophy_text.answers import Advice, Candidate
+
+        calls = []
+
+        def advise(budget: int) -> Advice:
+            calls.append(budget)
+            found = Advice(budget, cost=10**6)
+            for at, (model, _) in enumerate(sizes):
+                if found.size + model <= budget:
+                    found.picks.append(Candidate(at, "t", ("c",), model))
+                    found.size, found.cost = found.size + model, found.cost - 1000 + at
+            return found
+
+        def size_of(advice: Advice) -> int:
+            return sum(sizes[it.number][1] for it in advice.picks)
+
+        advice = filled(asked, advise, size_of)
+        return size_of(advice), len(calls)
+
+    def test_the_space_is_filled_and_never_exceeded(self) -> None:
+        drawn = random.Random(7)
+        for _ in range(300):
+            ratio = drawn.choice([0.3, 0.6, 1.0, 1.6])
+            models = [drawn.randrange(2, 40) for _ in range(200)]
+            sizes = [(it, max(1, round(it * ratio * drawn.uniform(0.8, 1.2)))) for it in models]
+            asked = drawn.randrange(800, 2500)
+            found, calls = self.filled(asked, sizes)
+            self.assertLessEqual(found, asked)
+            self.assertLessEqual(calls, 9)
+            self.assertGreaterEqual(found, 0.9 * min(asked, sum(it[1] for it in sizes)))
+
+    def test_what_never_fits_and_what_is_all(self) -> None:
+        self.assertEqual(self.filled(100, [(90, 150)] * 3)[0], 0)
+        self.assertEqual(self.filled(100, [(3, 2), (4, 3)])[0], 5)
+        self.assertEqual(self.filled(100, [])[0], 0)
+        # By the model it is too large, on the server it isn't.
+        self.assertEqual(self.filled(100, [(300, 90)])[0], 90)
+        self.assertEqual(self.filled(0, [(1, 1)]), (0, 1))
+
+
+@unittest.skipIf(MISSING, MISSING)
+class Stored(unittest.TestCase):
+    """Real indexes of several types, as they are freshly made, beside the formula over an exported catalogue."""
+
+    server: PrivateServer
+
+    def setUp(self) -> None:
+        self.server = shop()
+        self.server.psql("DROP DATABASE IF EXISTS sizes; CREATE DATABASE sizes")
+        self.addCleanup(self.server.psql, "DROP DATABASE sizes")
+        listed = ", ".join(f"{name} {kind}" for name, (kind, _) in COLUMNS.items())
+        made = ", ".join(f"({value})::{kind}" for kind, value in COLUMNS.values())
+        self.server.psql(
+            f"SELECT setseed(0.5); CREATE TABLE t ({listed});"
+            f"INSERT INTO t SELECT {made} FROM generate_series(1, {ROWS}) g; ANALYZE",
+            "sizes",
+        )
+
+    def test_sizes_are_near_the_real_ones(self) -> None:
+        from cophy_pg.catalogue import read_schema
+        from cophy_pg.sizes import stored_pages
+        from cophy_text.answers import Candidate
+
+        with tempfile.TemporaryDirectory() as name:
+            files = [Path(name) / it for it in ("catalogue.toml", "workload.sql", "given.sql")]
+            files[2].write_text("SELECT id FROM t;\n")
+            ran = called(self.server, "export", *map(str, files[:2]), "--sql", str(files[2]), database="sizes")
+            self.assertEqual(ran.returncode, 0, ran.stderr)
+            schema = read_schema(files[0].read_bytes())
+        lines, near = [], 0
+        listed = [it.strip() for it in INDEXES if it.strip()]
+        made = "".join(f"CREATE INDEX i{at} ON t ({it});" for at, it in enumerate(listed))
+        self.server.psql(made, "sizes")
+        for at, columns in enumerate(listed):
+            real = int(self.server.value(f"SELECT pg_relation_size('i{at}') / 8192", "sizes"))
+            ours = stored_pages(schema, Candidate(at, "t", tuple(columns.split(", ")), 0))
+            assert ours is not None
+            near += 0.9 <= real / ours <= 1.2
+            lines.append(f"{columns:24s} {real:6d} {ours:6d} {real / ours:6.2f}")
+        if os.environ.get("COPHY_TABLE"):
+            print("\n".join([f"{'index':24s} {'real':>6s} {'ours':>6s} {'ratio':>6s}", *lines, f"near {near}"]))
+        self.assertGreaterEqual(len(lines), 40)
+        self.assertGreaterEqual(near, 0.9 * len(lines), "\n".join(lines))
+
+
+if __name__ == "__main__":
+    unittest.main()
