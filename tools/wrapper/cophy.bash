@@ -32,16 +32,24 @@ _cophy() {
 
 _cophy_pg() {
     local current="${COMP_WORDS[COMP_CWORD]}" command="${COMP_WORDS[1]-}" options="--help"
+    local rewriting=" --no-ranges --no-rows --no-limits --no-look-ups --no-deletes --no-insert-share"
     COMPREPLY=()
     if [ "$COMP_CWORD" -eq 1 ]; then
-        _cophy_words "export rewrite ddl verify why curve --help" "$current"
+        _cophy_words "advise report health snapshot export rewrite ddl verify why curve --help --version" "$current"
         return
     fi
     case "$command" in
-        export) options+=" --dsn --sql --log --report --no-ranges --look-ups" ;;
-        rewrite) options+=" --report --no-ranges --look-ups" ;;
-        ddl) options+=" --json" ;;
-        verify) options+=" --dsn --sql --log --json --program" ;;
+        advise)
+            options+=" --budget --folder --since --min-calls --min-saving --most-per-table --table --user --nodes --sql --log"
+            options+="$rewriting --dsn --timeout --i-trust-the-statements --program --json"
+            ;;
+        health) options+=" --folder --min-size --dsn --timeout --program --json" ;;
+        report) options+=" --output" ;;
+        snapshot) options+=" --dsn --timeout" ;;
+        export) options+=" --dsn --sql --log --report --since --min-calls --table --user$rewriting --program" ;;
+        rewrite) options+=" --report$rewriting" ;;
+        ddl) options+=" --script --include --rows-a-second --json" ;;
+        verify) options+=" --dsn --sql --log --since --min-calls --table --user --advice --rules --json --program" ;;
         why) options+=" --json --program" ;;
         curve) options+=" --budgets --steps --nodes --png --json --program" ;;
     esac

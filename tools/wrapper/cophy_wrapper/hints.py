@@ -186,14 +186,13 @@ def _path(call: Call, fault: str, path: str) -> Iterator[str]:
     key = walked[-1][0]
     yield f"{call.files[0]}: {fault} {path}" + (f", in {', '.join(named)}" if named else "")
     if fault == "missing" and isinstance(element, dict):
-        near = keys.nearest(
-            key, [it for it in element if it not in keys.KNOWN.get(walked[-2][0] if len(walked) > 1 else "", ())]
-        )
+        known = keys.known(walked[-2][0] if len(walked) > 1 else "", document.get("version"))
+        near = keys.nearest(key, [it for it in element if it not in known])
         if near:
             yield f"the key {near} means nothing; did you mean {key}?"
     if key in keys.RANGES and fault in ("missing", "wrong kind", "out of range"):
         yield f"{key} is {keys.RANGES[key]}"
-    if fault == "wrong kind" and key in ("low", "high"):
+    if fault == "wrong kind" and key in ("low", "high", "bounds"):
         yield "a date stands in quotes"
 
 

@@ -24,14 +24,16 @@ class Progress:
         return f"{seconds // 60} min {seconds % 60:02d} s"
 
     def tell_while(self, what: Callable[[], str], runs: Callable[[], bool]) -> None:
-        """Tells of a step as long as it runs."""
+        """Tells of a step at once, and as long as it runs."""
         due = 0.0
         try:
-            while runs():
+            while True:
                 now = time.monotonic()
                 if now >= due:
                     due = now + (1 if self._is_terminal else 60)
                     self._tell(what())
+                if not runs():
+                    break
                 time.sleep(0.1)
         finally:
             if self._is_terminal:
