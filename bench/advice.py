@@ -11,8 +11,8 @@ from measure import ROOT
 from plain import plain
 
 
-USES = ("branch_bound", "lagrange_bound", "tuning", "workload_gen", "candidates", "binder", "catalogue", "sql_reader",
-        "plan_model", "bip_model", "adv_base")
+USES = ("branch_bound", "relaxations", "lagrange_bound", "tuning", "workload_gen", "candidates", "binder", "catalogue", "sql_reader",
+        "plan_model", "bip_model", "adv_shelf", "adv_base")
 ADVICE = Source("advice_bench", USES, ("programme", "1", "2", "1", "1"))
 
 

@@ -1,16 +1,18 @@
-#!/usr/bin/env python3
+#!/usr/bin/env -S python3 -IB
 """Caches of internal plans of chains, stars and cliques: how long one takes to build, how many templates it keeps of how many
 combinations, and how long a look-up takes beside one search of a least plan and PostgreSQL's planning of the same join."""
 import argparse
 import os
 import subprocess
+import sys
 from tempfile import TemporaryDirectory
 
-from builds import Source, built
-from joins import GRAPHS, select_text
-from measure import ROOT, print_row
-from postgres import Postgres
-from searches import numbers
+sys.path.insert(0, os.path.dirname(os.path.realpath(__file__)))
+from builds import Source, built  # noqa: E402
+from joins import GRAPHS, select_text  # noqa: E402
+from measure import ROOT, print_row  # noqa: E402
+from postgres import Postgres  # noqa: E402
+from searches import numbers  # noqa: E402
 
 # The offers and tasks are those of the planner's program.
 CACHE = Source(

@@ -1,13 +1,15 @@
-#!/usr/bin/env python3
+#!/usr/bin/env -S python3 -IB
 """Time to propose candidates: `cophy candidates` on workloads that grow to the limit of 2000 slots in all.
 
 Each statement joins so many slots over tables of 200 columns, and tests, joins and needs a hundred columns of each slot.
 Beside it, in the same run, `cophy candidates` on the first statement alone, so that reading the catalogue falls out.
 """
 import os
+import sys
 import tempfile
 
-from measure import arguments, need_program, need_status_0, print_row, run_lightest
+sys.path.insert(0, os.path.dirname(os.path.realpath(__file__)))
+from measure import arguments, need_program, need_status_0, print_row, run_lightest  # noqa: E402
 
 TABLES = 16
 COLUMNS = 200

@@ -1,14 +1,18 @@
-#!/usr/bin/env python3
+#!/usr/bin/env -S python3 -IB
 """`cophy check` beside `cophy advise --cert` on the same workloads of the generator: the processor's time of each, and the
-size of the certificate."""
+size of the certificate. With --large, the time and the memory of `cophy check` on a certificate with as many rents and
+nodes as one may have."""
 import os
+import sys
+from itertools import islice, product
 from tempfile import TemporaryDirectory
 
-from builds import run_built
-from measure import ROOT, arguments, need_program, need_status_0, print_row, run_lightest
-from plain import plain
-from searches import numbers
-from workloads import Workload, advice_of, budget_of, candidate_pages, put, workload_of
+sys.path.insert(0, os.path.dirname(os.path.realpath(__file__)))
+from builds import run_built  # noqa: E402
+from measure import ROOT, arguments, need_program, need_status_0, print_row, run_lightest  # noqa: E402
+from plain import plain  # noqa: E402
+from searches import numbers  # noqa: E402
+from workloads import Workload, advice_of, budget_of, candidate_pages, put, workload_of  # noqa: E402
 
 SHARES = (2, 5, 10, 20, 40, 70, 100)
 WORKLOADS = "1-5-20 3-10-50 6-10-100 8-10-200 13-20-500"
@@ -55,6 +59,38 @@ def by_calls(program: str, workload: Workload) -> list[tuple[float, float]]:
     return found
 
 
+RENTS = 1500000
+NODES = 999999
+# What a rent takes in memory, and the memory that the checker may take beside the rents.
+RENT_BYTES = 16
+MOST_MIB = 24
+
+
+def put_large(path: str) -> int:
+    """Writes a certificate of all these rents and nodes, and answers its bytes. It proves nothing."""
+    places = islice(product(range(1, 1001), range(1, 9), range(1, 257)), RENTS)
+    with open(path, "w", newline="") as file:
+        file.write(f"cophy certificate 1\nbudget 0\nconfig\ncost 0\nbound 0\nsets 1\nset 0 {RENTS}\n")
+        file.writelines(f"{statement} {slot} {candidate} {10**18}\n" for statement, slot, candidate in places)
+        file.write(f"tree {NODES}\n" + "B 256\nL 1\n" * (NODES // 2) + "L 1\nend\n")
+    return os.path.getsize(path)
+
+
+def measure_large(program: str, repeat: int) -> None:
+    with TemporaryDirectory() as folder:
+        catalogue, load = put(workload_of(QUICK.split()[0]), folder)
+        path = os.path.join(folder, "certificate")
+        size = put_large(path)
+        words = [program, "check", catalogue, load, path]
+        run = run_lightest(words, repeat)
+    if run.status != 6 or b"malformed" in run.output:
+        raise SystemExit(f"the large certificate isn't judged: status {run.status}, {run.output[:200]!r}")
+    beside = run.peak_mib - RENTS * RENT_BYTES / 2**20
+    print(f"{size} bytes: {1000 * run.processor:.0f} ms, {run.peak_mib:.0f} MiB, {beside:.0f} MiB beside the rents")
+    if beside > MOST_MIB:
+        print(f"NOT MET: at most {MOST_MIB} MiB beside the rents")
+
+
 def main() -> None:
     parser = arguments(__doc__)
     parser.set_defaults(repeat=1)
@@ -63,7 +99,12 @@ def main() -> None:
                         "unproved and built by rustc")
     parser.add_argument("--root", default=ROOT, help="the repository whose crates are built so (default: this one)")
     parser.add_argument("--quick", action="store_true", help=f"smaller workloads alone ({QUICK})")
+    parser.add_argument("--large", action="store_true", help="the largest certificate in place of the workloads")
     options = parser.parse_args()
+    if options.large:
+        need_program(options.program)
+        measure_large(options.program, options.repeat)
+        return
     listed = (options.workloads or (QUICK if options.quick else WORKLOADS)).split()
     if not options.plain:
         need_program(options.program)

@@ -1,4 +1,4 @@
-#!/usr/bin/env python3
+#!/usr/bin/env -S python3 -IB
 """`cophy` where memory is refused: a command is run again and again, and each time one more allocation succeeds before one is
 refused, until a run asks for no more. Each run has to end with status 7, write nothing and put no file, or with the answer and
 the certificate of a run in which none is refused. The commands: `explain` of a join of a chain of four tables, whose least plan
@@ -13,7 +13,8 @@ import sys
 from dataclasses import dataclass
 from tempfile import TemporaryDirectory
 
-from measure import ROOT, arguments, need_program, print_row
+sys.path.insert(0, os.path.dirname(os.path.realpath(__file__)))
+from measure import ROOT, arguments, need_program, print_row  # noqa: E402
 
 WIDTHS = (8, 8, 8, 8, 8)
 

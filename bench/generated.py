@@ -1,11 +1,14 @@
-#!/usr/bin/env python3
+#!/usr/bin/env -S python3 -IB
 """`cophy bench` at 20, 100, 200 and 500 statements, over ten seeds and four budgets: whether it finished, or the gap; time and
 memory, and how they grow."""
+import os
+import sys
 from dataclasses import dataclass
 from tempfile import TemporaryDirectory
 
-from measure import Run, arguments, need_answer, need_program, print_row, run_once
-from workloads import Advice, Workload, advice_of, budget_of, candidate_pages
+sys.path.insert(0, os.path.dirname(os.path.realpath(__file__)))
+from measure import Run, arguments, need_answer, need_program, print_row, run_once  # noqa: E402
+from workloads import Advice, Workload, advice_of, budget_of, candidate_pages  # noqa: E402
 
 TABLES = 20
 STATEMENTS = (20, 100, 200, 500)

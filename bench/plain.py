@@ -11,8 +11,9 @@ from measure import ROOT
 
 SOURCE = os.path.join(os.path.dirname(os.path.abspath(__file__)), "plain")
 # Lowest first.
-CRATES = ("adv_base", "plan_model", "planner", "cardinality", "hypo_indexes", "interesting_orders", "access_paths", "bip_model",
-          "inum_cache", "tuning", "lagrange_bound", "branch_bound", "certificate", "gap_checker", "candidates")
+CRATES = ("adv_base", "adv_shelf", "plan_model", "planner", "cardinality", "hypo_indexes", "interesting_orders",
+          "access_paths", "bip_model", "inum_cache", "slot_prices", "tuning", "lagrange_bound", "relaxations",
+          "branch_bound", "certificate", "gap_checker", "candidates")
 CLAUSE = re.compile(r"^[ \t]*(?:requires|ensures|decreases)\b(?![ \t]*[(:=.])[^\n{]*\{", re.M)
 GHOST = re.compile(r"^[ \t]*(?:pub(?:\([a-z]+\))? )?ghost (?!use\b)[\w ]*[:=]?[^\n{]*\{", re.M)
 # What is left out or written otherwise, in order.
@@ -23,7 +24,7 @@ CHANGES = (
     (r"#\[cfg\(test\)\]\s*mod tests;\n", ""),
     (r"^[ \t]*#\[error\([^\n]*\)\]\n", ""),
     (r"^use (thiserror::Error|std::marker::Model);\n", ""),
-    (r"^use std::alloc::", "use shim::"),
+    (r"^use std::(alloc|num)::", "use shim::"),
     (r"vec!\[in (\w+); ([^;\]]+); ([^;]+?)\]\?", r"shim::filled(\1, \2, \3)?"),
     (r"vec!\[in (\w+); ([^;\]]+)\]\?", r"shim::listed(\1, vec![\2])?"),
     (r"format!\(in \w+; ([^;]*?)\)\?", r"format!(\1)"),
@@ -86,6 +87,12 @@ def translate(root: str, crate: str, out: str) -> None:
                 continue
             with open(path) as file:
                 text = rust(file.read(), name == "lib.rt")
+            if crate == "adv_shelf":
+                # No file is read or written: of this crate the takers alone.
+                if name not in ("lib.rt", "taker.rt"):
+                    continue
+                if name == "lib.rt":
+                    text = "#![allow(warnings)]\nmod taker;\npub use taker::Taker;\n"
             if crate == "adv_base":
                 # No text is read, so no dates either.
                 text = "" if name == "days.rt" else text.replace("pub use days::day_of;\n", "")

@@ -1,15 +1,17 @@
-#!/usr/bin/env python3
+#!/usr/bin/env -S python3 -IB
 """Time to plan joins: chains, stars and cliques of 2 to 8 slots, each slot with 0, 4 or 16 indexes.
 
 In one run: a whole statement by `cophy cost`, the planner's calls alone, and PostgreSQL's planning of the same query.
 """
 import os
+import sys
 import tempfile
 
-from joins import GRAPHS, SLOTS, catalogue_text, select_text
-from measure import arguments, need_program, need_status_0, print_row, run_lightest
-from postgres import Postgres
-from searches import Searches
+sys.path.insert(0, os.path.dirname(os.path.realpath(__file__)))
+from joins import GRAPHS, SLOTS, catalogue_text, select_text  # noqa: E402
+from measure import arguments, need_program, need_status_0, print_row, run_lightest  # noqa: E402
+from postgres import Postgres  # noqa: E402
+from searches import Searches  # noqa: E402
 
 # The most slots that a workload may have in all.
 SLOTS_IN_ALL = 2000

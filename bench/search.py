@@ -1,18 +1,20 @@
-#!/usr/bin/env python3
+#!/usr/bin/env -S python3 -IB
 """Searches on workloads of the generator, seven budgets each: whether it closed, or the gap; nodes, sets, time. Beside it, in
 the same run, the open solvers cbc and glpk on the same programme, where they are installed. What takes less than 20
 milliseconds, a search or a solver, is run 14 times more, each in a process of its own, and the least time counts."""
 import argparse
 import os
+import sys
 from dataclasses import dataclass, field
 from tempfile import TemporaryDirectory
 
-from advice import Advice, add_options, made
-from measure import print_row
-from printed import Programme, cost, lp_text, programme_of, useful
-from searches import numbers
-from solvers import MOST_SECONDS, REPEATS, SHORT_SECONDS, Solved, installed
-from workloads import Workload, workload_of
+sys.path.insert(0, os.path.dirname(os.path.realpath(__file__)))
+from advice import Advice, add_options, made  # noqa: E402
+from measure import print_row  # noqa: E402
+from printed import Programme, cost, lp_text, programme_of, useful  # noqa: E402
+from searches import numbers  # noqa: E402
+from solvers import MOST_SECONDS, REPEATS, SHORT_SECONDS, Solved, installed  # noqa: E402
+from workloads import Workload, workload_of  # noqa: E402
 
 # Hundredths of the pages of all useful candidates; 100 stands for 10^12 pages.
 SHARES = (2, 5, 10, 20, 40, 70, 100)
@@ -25,7 +27,7 @@ WIDTHS = (10, 13, 7, 8, 6, 4, 6, 9, 9, 9)
 @dataclass
 class Row:
     """A search: the numbers that were printed, and what the solvers told."""
-    workload: Workload
+    workload: Workload | str
     told: dict[str, int]
     chosen: set[int]
     solved: dict[str, Solved] = field(default_factory=dict)
@@ -44,7 +46,7 @@ class Row:
         return self.told["microseconds"] / 1e6
 
 
-def rows_of(workload: Workload, text: str) -> list[Row]:
+def rows_of(workload: Workload | str, text: str) -> list[Row]:
     rows = []
     for line in text.splitlines():
         if line.startswith("budget"):

@@ -1,7 +1,10 @@
-"""Open solvers of such programmes, where they are installed: Debian's `coinor-cbc` and `glpk-utils`."""
+"""Open solvers of such programmes, where they are installed: Debian's `coinor-cbc`, `glpk-utils`, and HiGHS in
+`python3-scipy`."""
 import os
 import re
 import shutil
+import subprocess
+import sys
 from collections.abc import Callable
 from contextlib import suppress
 from dataclasses import dataclass
@@ -65,6 +68,31 @@ def glpk(file: str, most: float = MOST_SECONDS) -> Solved:
     return Solved(seconds, cost)
 
 
+def python_with_scipy() -> list[str] | None:
+    """A call of a Python that has scipy: of this one, or of the system's."""
+    for python in ([sys.executable, "-IB"], ["/usr/bin/python3", "-IB"]):
+        if subprocess.run([*python, "-c", "import scipy.optimize"], capture_output=True).returncode == 0:
+            return python
+    return None
+
+
+class Highs:
+    """HiGHS, whose time is that of the solver alone."""
+
+    def __init__(self, python: list[str]):
+        self.python = python
+
+    def solve(self, file: str, budget: int, most: float = MOST_SECONDS) -> Solved:
+        """Solves the programme of a file, as it was printed, for a budget."""
+        script = os.path.join(os.path.dirname(os.path.realpath(__file__)), "highs.py")
+        words = [*self.python, script, file, str(budget), str(most)]
+        found = [subprocess.run(words, capture_output=True, text=True, check=True).stdout.split()]
+        for _ in range(REPEATS - 1 if float(found[0][0]) < SHORT_SECONDS else 0):
+            found.append(subprocess.run(words, capture_output=True, text=True, check=True).stdout.split())
+        cost = found[0][1]
+        return Solved(min(float(it[0]) for it in found), None if cost == "-" else float(cost))
+
+
 def installed() -> dict[str, Callable[[str, float], Solved]]:
-    """The solvers that are here, by name."""
+    """The solvers of LP files that are here, by name."""
     return {name: call for name, word, call in (("cbc", "cbc", cbc), ("glpk", "glpsol", glpk)) if shutil.which(word)}

@@ -1,5 +1,7 @@
-#!/usr/bin/env python3
-"""Time and peak memory of `cost` on catalogues and workloads of 1, 4 and 16 MiB: growth should be linear."""
+#!/usr/bin/env -S python3 -IB
+"""Time and peak memory of `cost` on catalogues and workloads of 1, 4 and 16 MiB: growth should be linear.
+
+A text whose columns have histograms of 257 ends should be read as fast, and ranges over one priced as fast."""
 import ctypes
 import ctypes.util
 import os
@@ -7,7 +9,8 @@ import sys
 import tempfile
 import time
 
-from measure import arguments, need_program, need_status_0, print_row, run_best
+sys.path.insert(0, os.path.dirname(os.path.realpath(__file__)))
+from measure import arguments, need_program, need_status_0, print_row, run_best  # noqa: E402
 
 MIB = 1024 * 1024
 # 200 tables of 200 columns in 16 MiB; smaller catalogues have fewer tables of the same kind.
@@ -37,6 +40,7 @@ width = 4
 name = "t_c"
 keys = ["c", "d"]
 """
+BOUNDS = 257
 SMALL_WORKLOAD = "SELECT c FROM t ORDER BY d\n"
 
 
@@ -45,6 +49,32 @@ def column(number, note):
         f'[[table.column]]\nname = "column_{number}"\nkind = "int"\nwidth = 8\ndistinct = {1000 + number}\n'
         f'low = 1\nhigh = 1000000\nnote = "{note}"\n'
     )
+
+
+def bounds_line(step):
+    return "bounds = [" + ", ".join(str(end * step + 1) for end in range(BOUNDS)) + "]\n"
+
+
+def make_bounded(size):
+    """A catalogue of at most so many bytes whose columns have histograms, as many of them as there is room for."""
+    texts = ["version = 2\n"]
+    room = size - len(texts[0])
+    for table in range(200):
+        head = f'[[table]]\nname = "{f"t{table}" if table else "t"}"\nrows = 100000\npages = 2000\n'
+        listed = [column(number, "") + bounds_line(10**7) for number in range(COLUMNS)]
+        while listed and len(head) + sum(map(len, listed)) > room:
+            listed.pop()
+        if len(listed) < 3:
+            break
+        texts += [head, *listed]
+        room -= len(head) + sum(map(len, listed))
+    return "".join(texts).encode()
+
+
+def small_bounded():
+    """The small catalogue with a histogram of its column c."""
+    text = SMALL_CATALOGUE.replace("version = 1", "version = 2")
+    return text.replace("high = 100000\n", "high = 100000\n" + bounds_line(400))
 
 
 def index(number):
@@ -108,7 +138,7 @@ def cost(options, catalogue, workload, what):
 
 def tomllib_run(options, catalogue):
     read = "import sys, tomllib\nwith open(sys.argv[1], 'rb') as file: tomllib.load(file)"
-    return run_best([sys.executable, "-c", read, catalogue], options.repeat)
+    return run_best([sys.executable, "-Ic", read, catalogue], options.repeat)
 
 
 class ParseResult(ctypes.Structure):
@@ -162,8 +192,21 @@ def main():
                 ("catalogue", size, f"{run.seconds:.3f}", f"{size / run.seconds:.1f}", f"{run.peak_mib:.1f}",
                  f"{beside.seconds:.3f}", f"{beside.peak_mib:.1f}"), widths)
         for size in sizes:
+            text = make_bounded(size * MIB)
+            catalogue = put(folder, "b.toml", text)
+            one = put(folder, "one.sql", "SELECT column_1 FROM t WHERE column_2 < 100000 ORDER BY column_2\n")
+            run = cost(options, catalogue, one, f"a catalogue of {size} MiB with histograms")
+            beside = tomllib_run(options, catalogue)
+            print_row(
+                ("bounds", size, f"{run.seconds:.3f}", f"{len(text) / MIB / run.seconds:.1f}", f"{run.peak_mib:.1f}",
+                 f"{beside.seconds:.3f}", f"{beside.peak_mib:.1f}"), widths)
+        bounded_catalogue = put(folder, "bounded.toml", small_bounded())
+        for size in sizes:
             text = make_workload(size * MIB, ("c", "d"))
             workload = put(folder, "w.sql", text)
+            run = cost(options, bounded_catalogue, workload, f"a workload of {size} MiB over a histogram")
+            print_row(
+                ("ranges", size, f"{run.seconds:.3f}", f"{size / run.seconds:.1f}", f"{run.peak_mib:.1f}", "", ""), widths)
             run = cost(options, small_catalogue, workload, f"a workload of {size} MiB")
             beside = f"{parse_seconds(library, text):.3f}" if library else "-"
             print_row(

@@ -4,7 +4,7 @@
 use adv_base::*;
 use bip_model::*;
 use branch_bound::{Room, search};
-use lagrange_bound::{Ascent, CheaperParts, Ledger, Pace, PriceRows, Terms, ascend, bound, bound_by, carry, improve, open_ledger, rent, terms, total};
+use lagrange_bound::{CheaperParts, Ledger, PriceRows, Terms, bound, bound_by, carry, improve, open_ledger, rent, terms, total};
 use std::hint::black_box;
 use shim::{Global, Vec as V};
 use shim::Instant;
@@ -14,12 +14,12 @@ impl Draws { fn draw(&mut self, k: u64) -> u64 { self.0 = self.0.wrapping_mul(63
 fn list<T>(v: Vec<T>) -> List<T> { List { items: V(v) } }
 fn name(s: &str) -> Name { Name { items: V(s.as_bytes().to_vec()) } }
 fn column(n: &str, kind: Kind, width: u16, distinct: u64, ends: Option<(i64, i64)>) -> Column {
-    Column { name: name(n), kind, width, distinct: Some(distinct), low: ends.map(|e| e.0), high: ends.map(|e| e.1) }
+    Column { name: name(n), kind, width, distinct: Some(distinct), low: ends.map(|e| e.0), high: ends.map(|e| e.1), bounds: list(vec![]) }
 }
 const K: u16 = 0; const F: u16 = 1; const A: u16 = 2; const B: u16 = 3; const D: u16 = 4;
 fn table(i: u64, d: &mut Draws) -> Table {
     let rows = 1000 * (1 + d.draw(1000)); let da = 10 + d.draw(991); let db = 10 + d.draw(991);
-    Table { name: name(&format!("t{}", i + 1)), rows, pages: rows / 50, columns: list(vec![
+    Table { name: name(&format!("t{}", i + 1)), rows, pages: rows / 50, may_cluster: false, columns: list(vec![
         column("k", Kind::Int, 8, rows, None), column("f", Kind::Int, 8, 1000, None),
         column("a", Kind::Int, 4, da, Some((1, da as i64))), column("b", Kind::Int, 4, db, Some((1, db as i64))),
         column("d", Kind::Date, 4, 3653, Some((10957, 14609)))]),
@@ -108,15 +108,8 @@ fn programme(setting: &Setting, rounds: u64) {
         2 * n as u32
     });
     let i = fastest(rounds, || { let mut from = zeros(p); improve(p, budget, &free(), &mut from, &mut spare, 41); 41 });
-    let mut scratch = Ascent::new(Global, p).ok().unwrap();
-    let target = value(p, &Config::none());
-    let a = fastest(rounds, || {
-        let mut from = zeros(p);
-        ascend(p, budget, &free(), target, &mut from, &mut spare, &mut scratch, Pace { rounds: 300, step: 512, patience: 300 });
-        300
-    });
     println!("{}", counts(setting, p));
-    println!("programme {made} bound {b} lists {l} opened {o} terms {t} carry {c} total {s} carried {k} improve {i} ascend {a}");
+    println!("programme {made} bound {b} lists {l} opened {o} terms {t} carry {c} total {s} carried {k} improve {i}");
 }
 fn print_search(p: &Programme, budget: u64, nodes: u32) {
     let t = Instant::now();

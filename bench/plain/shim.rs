@@ -30,6 +30,11 @@ pub fn listed<T>(_: Global, v: std::vec::Vec<T>) -> Result<Vec<T>, AllocError> {
 pub trait Collect<T>: Iterator<Item = T> + Sized { fn collect_in(self, _: Global) -> Result<Vec<T>, AllocError> { Ok(Vec(self.collect())) } }
 impl<T, I: Iterator<Item = T>> Collect<T> for I {}
 pub fn boxed<T>(_: Global, x: T) -> Result<Box<T>, AllocError> { Ok(Box::new(x)) }
+pub fn nearest_i64_to_f64(n: i64) -> f64 { n as f64 }
+pub fn nearest_u64_to_f64(n: u64) -> f64 { n as f64 }
+pub fn nearest_usize_to_f64(n: usize) -> f64 { n as f64 }
+pub fn saturating_f64_to_i64(x: f64) -> i64 { x as i64 }
+pub fn saturating_f64_to_u64(x: f64) -> u64 { x as u64 }
 // the processor's time of this process, so that other work on the machine counts less
 #[derive(Clone, Copy)]
 pub struct Instant(u64);

@@ -1,0 +1,199 @@
+#!/usr/bin/python3 -IB
+"""The field: databases with rows, on which the indexes of `cophy-pg advise` are made and measured beside those of its rivals.
+
+    bench/field/field.py FOLDER                 # all steps; what a former call has measured is taken as it is
+    bench/field/field.py FOLDER --half tuning   # the other half of the statements
+"""
+from __future__ import annotations
+
+import argparse
+import json
+import signal
+import sys
+import time
+from dataclasses import asdict, dataclass
+from pathlib import Path
+
+HERE = Path(__file__).resolve().parent
+sys.path[:0] = [str(HERE), str(HERE.parents[1] / "tools" / "tests")]
+
+from databases import SCALES, collect, make  # noqa: E402
+from hypothetical import Planner  # noqa: E402
+from measuring import Measured, RealSizes, kept, measure  # noqa: E402
+from ours import advised  # noqa: E402
+from private_server import missing  # noqa: E402
+from rivals import RIVALS, Sizes  # noqa: E402
+from server import FieldServer  # noqa: E402
+from sessions import Index, index_of, session  # noqa: E402
+from statements import HALVES, Statement, statements_of  # noqa: E402
+from tables import text_of  # noqa: E402
+
+BUDGETS = (10, 25, 50, 100)
+SIZES = {"foreign keys": ("real",), "Dexter": ("real", "hypopg"), "greedy": ("real", "hypopg")}
+"""How a rival measures what its picks take: as they are when they are made, or as hypopg says before."""
+OURS = "cophy"
+BUILT = HERE.parents[1] / "crates" / "cophy_cli" / "out" / "cophy_cli"
+
+
+@dataclass
+class Field:
+    """One database with one half of its statements."""
+
+    server: FieldServer
+    words: argparse.Namespace
+    database: str
+
+    def __post_init__(self) -> None:
+        self.scale = SCALES[self.database] * self.words.scale
+        self.statements: list[Statement] = [
+            it for it in statements_of(self.database) if self.words.half in ("all", it.half)
+        ]
+        self.folder: Path = self.words.folder / self.words.half / self.database
+        self.folder.mkdir(parents=True, exist_ok=True)
+        self.sizes = RealSizes(self.server, self.database, self.words.folder / f"sizes_{self.database}.json")
+
+    def run(self) -> None:
+        """Measures what isn't measured yet."""
+        heap = self.server.heap_pages(self.database)
+        self.measured(self.folder / "none.json", [], budget=0, heap=heap)
+        budgets = {it: heap * it // 100 for it in self.words.budgets}
+        self._ours(budgets)
+        with session(self.server, self.database) as connection:
+            planner = Planner(connection, self.statements, self.scale)
+            for name in (it for it in RIVALS if it in self.words.advisors):
+                for sizes in SIZES[name]:
+                    for share, budget in budgets.items():
+                        self._rival(planner, name, sizes, share, budget)
+
+    def _rival(self, planner: Planner, name: str, sizes: str, share: int, budget: int) -> None:
+        file = self.folder / f"{name.replace(' ', '_')}-{sizes}-{share}.json"
+        if file.exists():
+            return
+        self.say(f"{name} at {share} %")
+        planner.begin()
+        pages: dict[str, Sizes] = {"real": self.sizes, "hypopg": planner.pages}
+        chosen = RIVALS[name](planner, pages[sizes], budget)
+        calls, took = planner.spent()
+        more = {"advisor": name, "sizes": sizes, "share": share, "budget": budget}
+        self.measured(file, chosen, **more, calls=calls, seconds_to_advise=took)
+
+    def _ours(self, budgets: dict[int, int]) -> None:
+        files = {share: self.folder / f"{self.words.name}-real-{share}.json" for share in budgets}
+        if OURS not in self.words.advisors or all(it.exists() for it in files.values()):
+            return
+        self.say("collecting")
+        collect(self.server, self.database, self.statements, self.scale)
+        chosen = {}
+        with session(self.server, self.database) as connection:
+            for share, budget in budgets.items():
+                began = time.monotonic()
+                folder = self.folder / f"{self.words.name}-advice-{share}"
+                self.say(f"{self.words.name} at {share} %")
+                indexes, document = advised(
+                    self.server, connection, budget, folder, ["--program", self.words.program, *self.words.passed]
+                )
+                chosen[share] = indexes, document, time.monotonic() - began
+        for share, (indexes, document, took) in chosen.items():
+            more = {
+                "advisor": self.words.name,
+                "sizes": "real",
+                "share": share,
+                "seconds_to_advise": took,
+                "budget": budgets[share],
+            }
+            parts = {
+                it: document[it]
+                for it in ("calls", "size_pages", "stored_pages", "left_out", "seconds", "cost", "server_cost")
+            }
+            self.measured(files[share], indexes, **more, **parts)
+
+    def measured(self, file: Path, indexes: list[Index], **more: object) -> None:
+        """Measures under a set of indexes and writes the file, if it isn't there; the same set is measured once."""
+        if file.exists():
+            return
+        same = [it for it in self.folder.glob("*.json") if same_indexes(it, indexes)]
+        self.say(f"measuring {file.stem} with {len(indexes)} indexes{', the same as ' + same[0].stem if same else ''}")
+        if same:
+            found = Measured(**{it: json.loads(same[0].read_text())[it] for it in asdict(Measured())})
+        else:
+            found = measure(self.server, self.database, indexes, self.statements, self.scale, self.words.runs)
+        kept(file, found, **more, calls_of={it.name: it.calls for it in self.statements})
+
+    def again(self) -> None:
+        """A further round under all indexes that were chosen before."""
+        done: dict[frozenset[str], Measured] = {}
+        for file in sorted(self.folder.glob("*.json")):
+            result = json.loads(file.read_text())
+            key = frozenset(result["pages"])
+            if key not in done:
+                self.say(f"measuring {file.stem} again, with {len(key)} indexes")
+                indexes = [index_of(f"ON {it}") for it in result["pages"]]
+                done[key] = measure(self.server, self.database, indexes, self.statements, self.scale, self.words.runs)
+            for what, found in (("times", done[key].times), ("processor", done[key].processor)):
+                for name, taken in found.items():
+                    result[what][name] += taken
+            file.write_text(json.dumps(result, indent=1) + "\n")
+
+    def say(self, text: str) -> None:
+        """Tells what goes on."""
+        print(f"{time.strftime('%H:%M:%S')} {self.database}: {text}", file=sys.stderr, flush=True)
+
+
+def same_indexes(file: Path, indexes: list[Index]) -> bool:
+    """Whether a file has what was measured under the same indexes."""
+    return set(json.loads(file.read_text())["pages"]) == {str(it) for it in indexes}
+
+
+def main() -> int:
+    """Takes all steps."""
+    parser = argparse.ArgumentParser(description=__doc__, formatter_class=argparse.RawDescriptionHelpFormatter)
+    parser.add_argument("folder", type=Path, help="where the server's data and all results are kept")
+    parser.add_argument("--half", choices=(*HALVES, "all"), default="table", help="which statements (table)")
+    parser.add_argument("--databases", default=",".join(SCALES), metavar="NAMES", help="which databases (all)")
+    parser.add_argument(
+        "--advisors", default=f"{OURS},{','.join(RIVALS)}", metavar="NAMES", help="which advisors (all)"
+    )
+    parser.add_argument("--budgets", default=BUDGETS, type=numbers, metavar="SHARES", help="in percent of the heap")
+    parser.add_argument("--scale", type=float, default=1.0, help="by what numbers of rows are multiplied (1)")
+    parser.add_argument("--name", default=OURS, help=f"by which the results of ours are kept ({OURS})")
+    parser.add_argument("--runs", type=int, default=5, help="how often each sample is run; the median counts (5)")
+    parser.add_argument("--again", action="store_true", help="a further round over all that was chosen before")
+    parser.add_argument("--program", default=str(BUILT), help="the built program (default: that of this repository)")
+    parser.add_argument(
+        "--pass", dest="passed", action="append", default=[], metavar="WORD", help="for cophy-pg advise"
+    )
+    words = parser.parse_args()
+    if missing():
+        sys.exit(missing())
+    names, words.advisors = words.databases.split(","), words.advisors.split(",")
+    if unknown := [it for it in names if it not in SCALES]:
+        sys.exit(f"there is no database {unknown[0]}: there are {', '.join(SCALES)}")
+    words.folder.mkdir(parents=True, exist_ok=True)
+    for ending in (signal.SIGINT, signal.SIGTERM):
+        # So that the server ends too.
+        signal.signal(ending, lambda number, _: sys.exit(128 + number))
+    server = FieldServer(words.folder)
+    try:
+        for it in names:
+            field = Field(server, words, it)
+            if it not in server.databases():
+                field.say("filling")
+                make(server, it, field.scale)
+            if words.again:
+                field.again()
+            field.run()
+        text = text_of(words.folder / words.half, names, words.budgets)
+        (words.folder / f"{words.half}.md").write_text(text)
+        print(text, end="")
+    finally:
+        server.stop()
+    return 0
+
+
+def numbers(text: str) -> tuple[int, ...]:
+    """Whole numbers between commas."""
+    return tuple(map(int, text.split(",")))
+
+
+if __name__ == "__main__":
+    sys.exit(main())

@@ -1,0 +1,40 @@
+"""What `cophy-pg advise` chooses, from what pg_stat_statements counted."""
+from __future__ import annotations
+
+import json
+import subprocess
+from pathlib import Path
+from typing import Any
+
+from server import HERE, FieldServer
+from sessions import Connection, Index, index_of
+
+TOOL = HERE.parents[1] / "tools" / "pg" / "cophy-pg"
+_CALLS = """
+SELECT coalesce(sum(s.calls), 0)::int FROM pg_stat_statements s JOIN pg_database d ON d.oid = s.dbid
+WHERE d.datname = current_database() AND s.query ~* '^\\s*(/\\*.*?\\*/)?\\s*EXPLAIN'"""
+NOTHING_TO_MAKE = 3
+
+
+def advised(
+    server: FieldServer, connection: Connection, budget: int, folder: Path, words: list[str]
+) -> tuple[list[Index], dict[str, Any]]:
+    """The indexes within so many pages, and what the advice says of itself."""
+    calls = _explains(connection)
+    ran = subprocess.run(
+        [str(TOOL), "advise", "--budget", str(budget), "--folder", str(folder), "--json", *words],
+        env=server.environment(connection.info.dbname, PGUSER="cophy_advisor"),
+        capture_output=True,
+        text=True,
+        check=False,
+    )
+    if ran.returncode not in (0, NOTHING_TO_MAKE):
+        raise RuntimeError(f"cophy-pg advise: {ran.stderr.strip().splitlines()[-1:]}")
+    document = json.loads(ran.stdout)
+    document["calls"] = _explains(connection) - calls
+    return [index_of(it["statements"][0]) for it in document["picks"]], document
+
+
+def _explains(connection: Connection) -> int:
+    row = connection.execute(_CALLS.encode()).fetchone()
+    return int(row[0]) if row else 0

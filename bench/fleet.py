@@ -1,0 +1,104 @@
+#!/usr/bin/python3 -IB
+"""A fleet of made databases on a local cluster: throughput by workers, a worker's memory, and what Dask takes a task."""
+import argparse
+import asyncio
+import os
+import resource
+import sys
+import tempfile
+import time
+from pathlib import Path
+
+ROOT = Path(__file__).resolve().parent.parent
+sys.path[:0] = [str(ROOT / "tools" / "fleet"), str(ROOT / "tools" / "common"), str(ROOT / "bench")]
+
+from cophy_fleet.cluster import client  # noqa: E402
+from cophy_fleet.run import Run  # noqa: E402
+from cophy_fleet.settings import Database, Fleet  # noqa: E402
+from cophy_fleet.store import opened  # noqa: E402
+from cophy_fleet import work  # noqa: E402
+import generator  # noqa: E402
+
+TASKS = 2000
+"""How many tasks without work are tried."""
+BUILT = ROOT / "crates" / "cophy_cli" / "out" / "cophy_cli"
+
+
+def peak() -> float:
+    """The largest resident set of a worker's process, in MiB."""
+    return resource.getrusage(resource.RUSAGE_SELF).ru_maxrss / 1024
+
+
+def nothing(number: int) -> int:
+    """A task without work."""
+    return number
+
+
+async def measure(fleet: Fleet, workers: int, program: str, folder: str) -> dict[str, float]:
+    """The seconds of a run, without the cluster's start, and what it took."""
+    settings = work.Settings(program, "cophy-pg", fleet.steps, fleet.nodes, fleet.timeout)
+    faults: list[str] = []
+    results = os.path.join(folder, f"results{workers}.sqlite")
+    with opened(results, is_new=True) as store:
+        async with client(None, workers) as found:
+            began, used = time.monotonic(), time.process_time()
+            await Run(found, fleet, settings, store, lambda answer, _: faults.append(answer.fault)).all()
+            took, ours = time.monotonic() - began, time.process_time() - used
+            largest = max((await found.run(peak)).values())
+            used = time.process_time()
+            await found.gather(found.map(nothing, range(TASKS), pure=False))
+            alone = (time.process_time() - used) / TASKS
+            began = time.monotonic()
+            await Run(found, fleet, settings, store, lambda *_: None).all()
+            again = time.monotonic() - began
+    bad = [it for it in faults if it]
+    if bad:
+        sys.exit(f"{len(bad)} databases have no answer: {bad[0]}")
+    return {"seconds": took, "client": ours, "peak": largest, "alone": alone, "again": again}
+
+
+def direct(fleet: Fleet, program: str, folder: str, count: int) -> float:
+    """The seconds that one database's calls take without a cluster, in the middle of some."""
+    settings = work.Settings(program, "", fleet.steps, fleet.nodes, fleet.timeout)
+    began = time.monotonic()
+    for database in fleet.databases[:count]:
+        for ending, name in (("catalogue.toml", database.catalogue), ("workload.sql", database.workload)):
+            Path(folder, ending).write_bytes(Path(name).read_bytes())
+        work.fault_of(folder, work.sweep(folder, settings), settings)
+    return (time.monotonic() - began) / count
+
+
+def main() -> None:
+    parser = argparse.ArgumentParser(description=__doc__)
+    parser.add_argument("--databases", type=int, default=200)
+    parser.add_argument("--tables", type=int, default=10)
+    parser.add_argument("--statements", type=int, default=100)
+    parser.add_argument("--workers", default="1,2,4")
+    parser.add_argument("--program", default=str(BUILT))
+    words = parser.parse_args()
+    with tempfile.TemporaryDirectory() as folder:
+        databases = []
+        for seed in range(words.databases):
+            files = [os.path.join(folder, f"db{seed}{ending}") for ending in (".toml", ".sql")]
+            for name, text in zip(files, generator.texts(seed, words.tables, words.statements)):
+                Path(name).write_text(text)
+            databases.append(Database(f"db{seed}", catalogue=files[0], workload=files[1]))
+        fleet = Fleet(tuple(databases))
+        alone = direct(fleet, words.program, folder, min(20, len(databases)))
+        print(f"{words.databases} databases of {words.statements} statements over {words.tables} tables, "
+              f"{fleet.steps + 1} budgets each; {os.cpu_count()} processors")
+        print(f"without a cluster, one after the other: {1000 * alone:.1f} ms a database")
+        print("workers  seconds  databases/s  times one  client+scheduler ms/task  empty task ms  worker MiB  again s")
+        first = None
+        for workers in map(int, words.workers.split(",")):
+            found = asyncio.run(measure(fleet, workers, words.program, folder))
+            first = first or found["seconds"]
+            rate = words.databases / found["seconds"]
+            print(f"{workers:7d}  {found['seconds']:7.1f}  {rate:11.1f}  {first / found['seconds']:9.2f}  "
+                  f"{1000 * found['client'] / (3 * words.databases):24.2f}  {1000 * found['alone']:13.2f}  "
+                  f"{found['peak']:10.0f}  {found['again']:7.1f}", flush=True)
+            print(f"         10,000 databases at this rate: {10000 / rate / 60:.1f} minutes")
+
+
+if __name__ == "__main__":
+    main()
