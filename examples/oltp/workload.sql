@@ -23,7 +23,7 @@ SET tbalance = tbalance + ?
 WHERE tid = ?;
 
 -- from 7ff3bc0e2a3ff59f
--- weight 2000
+-- weight 500
 INSERT INTO pgbench_history (tid, bid, aid, delta, mtime)
 VALUES (?, ?, ?, ?, ?);
 
