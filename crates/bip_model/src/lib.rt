@@ -7,8 +7,9 @@
 //! sequential page read. Making a programme, bounding it and searching are left to others.
 //!
 //! A `Programme` has `Part`s, these have `SlotPart`s, and these `Grant`s. A `Fix` is a node of a search, `Multipliers`
-//! are one set of rents and a price of a page, and an `Answer` has the tree, as `Node`s. `Rows` hold the least price of
-//! each order of each slot of a part, by which `cost_by_rows` tells what its plan costs.
+//! are one set of rents and a price of a page, and an `Answer` has the tree, as `Node`s; a `Point` is an answer at one of
+//! several budgets. `Rows` hold the least price of each order of each slot of a part, by which `cost_by_rows` tells what
+//! its plan costs.
 //!
 //! ```rust
 //! // Two statements, of weights 10 and 11: each costs 80000, with its candidate 13000 and 14000.
@@ -26,6 +27,7 @@ mod grant;
 mod laws;
 mod multipliers;
 mod part;
+mod point;
 mod programme;
 mod rows;
 mod slot_part;
@@ -41,6 +43,7 @@ pub use laws::{
 };
 pub use multipliers::{Multipliers, grant_count};
 pub use part::Part;
+pub use point::Point;
 pub use programme::Programme;
 pub use rows::{NO_PRICE, NO_ROWS, Row, Rows, cost_by_rows, lesser, word};
 pub use slot_part::SlotPart;
