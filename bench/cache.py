@@ -22,11 +22,22 @@ CACHE = Source(
     folders=("search_bench", "cache_bench"),
     shared=("src/task.rt", "src/table.rt", "specs", "proofs/Lib.antt", "proofs/Offered.antt", "proofs/table"),
 )
-HEADS = ("graph", "slots", "combinations", "templates", "build us", "look-up ns", "look-ups/s", "least us", "postgres us",
-         "least x", "postgres x")
+HEADS = (
+    "graph",
+    "slots",
+    "combinations",
+    "templates",
+    "build us",
+    "look-up ns",
+    "look-ups/s",
+    "least us",
+    "postgres us",
+    "least x",
+    "postgres x",
+)
 WIDTHS = (6, 5, 12, 9, 9, 10, 10, 9, 11, 8, 10)
 # What is hoped for.
-LEAST_RATIO = 100
+LEAST_RATIO = 30
 RATIO_SLOTS = 4
 CHAIN_BUILD_US = 100_000
 
@@ -50,12 +61,22 @@ def unmet(graph: str, slots: int, times: dict[str, int]) -> list[str]:
 
 def print_line(graph: str, slots: int, times: dict[str, int], beside: float | None) -> None:
     look_up = max(1, times["cost"])
-    print_row((
-        graph, slots, times["combinations"], times["templates"], f"{times['build'] / 1_000_000:.0f}", f"{look_up / 1000:.1f}",
-        1_000_000_000_000 // look_up,
-        f"{times['least'] / 1_000_000:.2f}", "-" if beside is None else f"{beside:.0f}", f"{times['least'] / look_up:.1f}",
-        "-" if beside is None else f"{1_000_000 * beside / look_up:.0f}",
-    ), WIDTHS)
+    print_row(
+        (
+            graph,
+            slots,
+            times["combinations"],
+            times["templates"],
+            f"{times['build'] / 1_000_000:.0f}",
+            f"{look_up / 1000:.1f}",
+            1_000_000_000_000 // look_up,
+            f"{times['least'] / 1_000_000:.2f}",
+            "-" if beside is None else f"{beside:.0f}",
+            f"{times['least'] / look_up:.1f}",
+            "-" if beside is None else f"{1_000_000 * beside / look_up:.0f}",
+        ),
+        WIDTHS,
+    )
 
 
 def print_grid(options: argparse.Namespace, program: str, postgres: Postgres | None) -> None:

@@ -4,13 +4,5 @@ pub mod Testing
 pub mod Costing
 pub mod Kept
 pub mod Pricing
-pub mod Priced
-pub mod Walking
-pub mod Wants
-pub mod Placements
-pub mod Ranked
-pub mod EarlySets
-pub mod Unpriced
-pub mod Passed
 pub mod Made
 pub mod Cached

@@ -1,17 +1,16 @@
 -- The least prices of orders.
-use Rattle.std.proofs.Common.{◌≡◌, ◌⊎◌, inl, inr, ℕ, zero, suc, ◌+◌, ◌-◌, ◌*◌, ◌<◌, ◌≤◌, true, false, [], length, refl, sym, ◌∙◌, subst, arith}
-use Rattle.std.specs.Prelude.{nat_lt, if◌then◌else◌}
-use Rattle.std.proofs.lemmas.Bool.{cases_Bool, cases_lt, cases_eq, eq-eqb, ne_eqb, ltb-true, ltb-false}
+use Rattle.std.proofs.Common.{◌≡◌, ◌⊎◌, inl, inr, ℕ, zero, suc, ◌+◌, ◌*◌, ◌<◌, ◌≤◌, true, length, refl, sym, ◌∙◌, subst, arith}
+use Rattle.std.specs.Prelude.{nat_lt}
+use Rattle.std.proofs.lemmas.Bool.{cases_Bool, cases_lt, cases_eq, ltb-true, ltb-false}
 use Rattle.std.proofs.Math.Nat.{suc-mul}
 use Rattle.adv_base.specs.Items.{Order}
 use Rattle.adv_base.specs.Offers.{OfferTable}
 use Rattle.adv_base.specs.OfferTables.{price_at, order_at}
-use Rattle.adv_base.proofs.Begins.{begins_decides, begins_nil}
+use Rattle.adv_base.proofs.Begins.{begins_decides}
 use Rattle.plan_model.specs.Exchange.{sum_below}
 use Rattle.plan_model.specs.Combinations.{IsOffered, IsLeastPrice}
-use Rattle.inum_cache.specs.declared.prices.TheConstants.{UNOFFERED}
 use Rattle.inum_cache.specs.inner.Keeping.{begins}
-use Rattle.inum_cache.specs.inner.Pricing.{least_below, offer_price, price_of_first, best_price, above}
+use Rattle.inum_cache.specs.inner.Pricing.{least_below, offer_price, best_price}
 
 -- ## The least of what a function gives
 
@@ -86,45 +85,6 @@ best-is table slot order some =
                 absurd (omega (arith, is, found.2, some))
           ]
     ]
-
--- that of no order is at most that of any
-pub plain-le : (table : OfferTable) (slot : ℕ) (order : Order) → best_price table slot [] ≤ best_price table slot order
-plain-le table slot order =
-    elim (cases_lt (best_price table slot order) 18446744073709551615) [
-      | inl some ↦
-          let o = (best-is table slot order some).offered in
-          best-le table slot [] (best_price table slot order) (record { number = o.number; within = o.within; begins = begins_nil (order_at table slot o.number); costs = o.costs })
-      | inr none ↦
-          let most = least_below-most 18446744073709551615 (offer_price table slot []) (length (table slot)) in
-          omega (arith, none, most)
-    ]
-
--- ## Prices above a least one
-
--- what isn't offered stays so
-pub above-unoffered : (least price : ℕ) → price ≡ UNOFFERED → above least price ≡ UNOFFERED
-above-unoffered least price e = rw (eq-eqb price UNOFFERED e) refl
-
-pub above-offered : (least price : ℕ) → (price ≡ UNOFFERED → ⊥) → above least price ≡ price - least
-above-offered least price some = rw (ne_eqb price UNOFFERED some) refl
-
--- ## Offers one by one
-
--- one more that begins with the order
-pub one-served : (table : OfferTable) (slot : ℕ) (order : Order) (n price : ℕ) → begins (order_at table slot n) order ≡ true → price ≡ price_at table slot n → price_of_first table slot order (suc n) ≡ (if nat_lt price (price_of_first table slot order n) then price else price_of_first table slot order n)
-one-served table slot order n price yes' e = rw (yes', e) refl
-
--- one more that doesn't
-pub one-passed : (table : OfferTable) (slot : ℕ) (order : Order) (n : ℕ) → begins (order_at table slot n) order ≡ false → price_of_first table slot order (suc n) ≡ price_of_first table slot order n
-one-passed table slot order n none =
-    let most = least_below-most 18446744073709551615 (offer_price table slot order) n in
-    rw none
-    (elim (cases_Bool (nat_lt 18446744073709551615 (price_of_first table slot order n))) [
-      | inl less ↦
-          let low : 18446744073709551615 < price_of_first table slot order n = ltb-true 18446744073709551615 (price_of_first table slot order n) less in
-          absurd (omega (arith, low, most))
-      | inr more ↦ rw more refl
-    ])
 
 -- ## Sums
 

@@ -11,8 +11,6 @@ use crate::choices::Choices;
 use crate::fault::CacheFault;
 use crate::internals::internal_costs;
 use crate::keep::Costs;
-use crate::needing::early_needing;
-use crate::ranking::placed_templates;
 use adv_base::limits::MOST_COMBINATIONS;
 use adv_base::{Item, List, NoMemory};
 use interesting_orders::{combinations, slot_orders};
@@ -65,26 +63,13 @@ fn made(alloc: Global, task: &Task, count: usize) -> Result<Cache, NoMemory>
 {
     let choices = choices_of(alloc, task)?;
     let templates = templates_of(alloc, task, &choices, count)?;
-    let walks = choices.walks_for(alloc, templates.as_slice())?;
-    let wanted = walks.wanted(alloc)?;
-    let placed = placed_templates(alloc, &choices, wanted.as_slice(), templates.as_slice())?;
-    let priced = wanted.len();
-    let needing = early_needing(alloc, placed.as_slice(), priced)?;
-    Ok(Cache {
-        choices,
-        templates,
-        walks,
-        count: priced,
-        placed,
-        needing,
-    })
+    Ok(Cache { choices, templates })
 }
 
 /// The cache of a task: one template for each combination of interesting orders that no weaker one replaces, where one
 /// is weaker if it asks of each slot for a front of what the other asks, and replaces it if it costs no more. Costs
 /// come from one search, whose table keeps the rows of the slots whose orders stay from one combination to the next
-/// (INUM's cache, over System R's interesting orders). Beside the cache it takes one number for each combination, and
-/// two bytes for each order that templates need. `TooManyCombinations` comes where the task has more than
+/// (INUM's cache, over System R's interesting orders). Beside the cache it takes one number for each combination. `TooManyCombinations` comes where the task has more than
 /// `MOST_COMBINATIONS`, with their number; `Memory` is want of memory.
 pub fn build(alloc: Global, task: &Task) -> Result<Cache, CacheFault>
     ensures made { IfOk result (λ cache. caches.IsCacheOf task.now cache) }

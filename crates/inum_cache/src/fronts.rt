@@ -1,6 +1,5 @@
 //! What orders begin with.
 ghost use Rattle.std.specs.Prelude.{◌≡◌};
-ghost use Rattle.inum_cache.specs.inner.Columns as columns;
 ghost use Rattle.inum_cache.specs.inner.Keeping as keeping;
 
 use adv_base::Item;
@@ -18,15 +17,4 @@ pub(crate) fn is_front(order: &[Item], front: &[Item]) -> bool
     ensures { result ≡ keeping.is_front order.now front.now }
 {
     front.len() < order.len() && begins(order, front)
-}
-
-/// The column of an order's first item, where it is one, upwards.
-#[inline(always)]
-pub(crate) fn leading_column(order: &[Item]) -> Option<u16>
-    ensures { result ≡ columns.leading_column order.now }
-{
-    match order.split_first() {
-        Some((Item::Up { column, .. }, _)) => Some(*column),
-        _ => None,
-    }
 }

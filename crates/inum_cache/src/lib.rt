@@ -19,22 +19,13 @@
 mod building;
 mod cache;
 mod choices;
-mod early;
 mod fault;
 mod free;
 mod fronts;
 mod internals;
 mod keep;
 mod lookup;
-mod needed;
-mod needing;
-mod order_prices;
-mod placed_template;
 mod prices;
-mod ranking;
-mod slot_prices;
-mod sums;
-mod walks;
 
 pub use building::build;
 pub use cache::Cache;

@@ -1,64 +1,72 @@
 //! What a least plan costs, from the cache.
-ghost use Rattle.std.specs.Prelude.{◌≡◌, ◌≤◌, All, length};
+ghost use Rattle.std.specs.Prelude.{◌≡◌, ◌<◌, ◌≤◌, nat_lt, if◌then◌else◌, length};
 ghost use Rattle.plan_model.specs.declared.task.Task.{Task};
 ghost use Rattle.plan_model.specs.Combinations.{CachedBy, IsIn};
 ghost use Rattle.plan_model.specs.Least.{Least};
 ghost use Rattle.inum_cache.specs.Caches.{IsCacheOf, HavePlain};
+ghost use Rattle.inum_cache.specs.Numbering.{order_in};
+ghost use Rattle.inum_cache.specs.Templates.{FitsOrders};
+ghost use Rattle.inum_cache.specs.inner.Pricing as pricing;
 
 use crate::cache::Cache;
-use crate::prices::UNOFFERED;
-use crate::sums::least_cost;
-use crate::walks::MOST_WANTED;
-use plan_model::Offers;
+use crate::prices::{UNOFFERED, best_price};
+use plan_model::{Offers, Template};
 
-/// Room for the prices of the orders of small joins.
-const FEW: usize = 8;
-/// Room for those of most.
-const SOME: usize = 64;
+/// Stands for the cost of a template that needs an order that isn't offered; it is above every cost.
+pub(crate) const UNPRICED: u128 = 1_000_000_000_000_000_000_000_000_000_000;
+
+/// The lower of two costs.
+#[inline(always)]
+fn lower_cost(least: u128, cost: u128) -> u128
+    ensures { result ≡ (if nat_lt cost least then cost else least) }
+{
+    if cost < least { cost } else { least }
+}
 
 impl Cache {
-    /// What a least plan costs over the offers, with this room for prices.
+    /// The least price of each slot, for any order.
     #[inline(always)]
-    fn least_over<O: Offers>(&self, offers: &O, prices: &mut [u64]) -> u128
-        requires room { self.now.count ≤ length prices.old }
-        requires fresh { All (λ price. price ≡ UNOFFERED) prices.old }
-        requires plain { HavePlain self.now (O.table offers.now) }
-        ensures cached { (task : Task) → IsCacheOf task self.now → CachedBy (IsIn task self.now.templates) task (O.table offers.now) result }
-        ensures least { (task : Task) → IsCacheOf task self.now → Least task (O.table offers.now) result }
+    fn least_prices<O: Offers>(&self, offers: &O) -> [u64; 8]
+        ensures { pricing.AreLeast (O.table offers.now) (length self.now.choices.orders) result }
     {
-        offers.limits();
-        let priced = self.price_all(offers, prices);
-        let passed = priced.unpriced.leading();
-        priced.base + least_cost(self.placed.as_slice(), prices, passed)
-    }
-
-    /// The same, with room of its own for so many prices.
-    #[inline(never)]
-    fn cost_in<O: Offers, const ROOM: usize>(&self, offers: &O) -> u128
-        requires room { self.now.count ≤ ROOM }
-        requires most { ROOM ≤ MOST_WANTED }
-        requires plain { HavePlain self.now (O.table offers.now) }
-        ensures cached { (task : Task) → IsCacheOf task self.now → CachedBy (IsIn task self.now.templates) task (O.table offers.now) result }
-        ensures least { (task : Task) → IsCacheOf task self.now → Least task (O.table offers.now) result }
-    {
-        let mut prices = [UNOFFERED; ROOM];
-        self.least_over(offers, &mut prices)
-    }
-
-    /// The same of a small join. Most have walks over one and two columns alone; where there are known to be no others, the
-    /// compiler leaves these out.
-    #[inline(never)]
-    fn cost_of_few<O: Offers>(&self, offers: &O) -> u128
-        requires room { self.now.count ≤ FEW }
-        requires plain { HavePlain self.now (O.table offers.now) }
-        ensures cached { (task : Task) → IsCacheOf task self.now → CachedBy (IsIn task self.now.templates) task (O.table offers.now) result }
-        ensures least { (task : Task) → IsCacheOf task self.now → Least task (O.table offers.now) result }
-    {
-        if self.walks.has_others() {
-            return self.cost_in::<O, FEW>(offers);
+        let mut prices = [0; 8];
+        for slot in 0..self.choices.slots() {
+            prices[slot as usize] = best_price(offers, slot, &[]);
         }
-        let mut prices = [UNOFFERED; FEW];
-        self.least_over(offers, &mut prices)
+        prices
+    }
+
+    /// The least price at which a slot gives the order at a place; `least` has the slots' least prices.
+    #[inline(always)]
+    fn price<O: Offers>(&self, offers: &O, least: &[u64; 8], slot: u8, place: u8) -> u64
+        requires slot { slot < length self.now.choices.orders }
+        requires least { pricing.AreLeast (O.table offers.now) (length self.now.choices.orders) least.now }
+        ensures { result ≡ pricing.best_price (O.table offers.now) slot (order_in self.now.choices.orders slot place) }
+    {
+        if place == 0 {
+            least[slot as usize]
+        } else {
+            best_price(offers, slot, self.choices.order(slot, place))
+        }
+    }
+
+    /// What comes of a template's internal cost and the least prices of the orders that it needs; what stands for none
+    /// where one isn't offered.
+    #[inline(always)]
+    fn template_cost<O: Offers>(&self, offers: &O, least: &[u64; 8], template: &Template) -> u128
+        requires fits { FitsOrders self.now.choices.orders template.now }
+        requires least { pricing.AreLeast (O.table offers.now) (length self.now.choices.orders) least.now }
+        ensures { result ≡ pricing.template_cost (O.table offers.now) self.now.choices.orders template.now }
+    {
+        let mut sum = template.internal;
+        for slot in 0..self.choices.slots() {
+            let price = self.price(offers, least, slot, template.needs[slot as usize]);
+            if price == UNOFFERED {
+                return UNPRICED;
+            }
+            sum += price as u128;
+        }
+        sum
     }
 
     /// What a least plan of the cache's task costs over these offers, in thousandths of a page read: the least over the
@@ -69,12 +77,14 @@ impl Cache {
         ensures cached { (task : Task) → IsCacheOf task self.now → CachedBy (IsIn task self.now.templates) task (O.table offers.now) result }
         ensures least { (task : Task) → IsCacheOf task self.now → Least task (O.table offers.now) result }
     {
-        if self.count <= FEW {
-            self.cost_of_few(offers)
-        } else if self.count <= SOME {
-            self.cost_in::<O, SOME>(offers)
-        } else {
-            self.cost_in::<O, MOST_WANTED>(offers)
+        offers.limits();
+        let prices = self.least_prices(offers);
+        let templates = self.templates.as_slice();
+        let mut least = UNPRICED;
+        for k in 0..templates.len() {
+            let cost = self.template_cost(offers, &prices, &templates[k]);
+            least = lower_cost(least, cost);
         }
+        least
     }
 }

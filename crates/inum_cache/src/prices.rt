@@ -1,5 +1,5 @@
 //! The least prices at which slots give orders.
-ghost use Rattle.std.specs.Prelude.{◌≡◌, ◌<◌, ◌≤◌, nat_lt, if◌then◌else◌, length};
+ghost use Rattle.std.specs.Prelude.{◌≡◌, ◌<◌, nat_lt, if◌then◌else◌, length};
 ghost use Rattle.inum_cache.specs.inner.Pricing as pricing;
 
 use crate::fronts::begins;
@@ -11,7 +11,7 @@ pub(crate) const UNOFFERED: u64 = 18_446_744_073_709_551_615;
 
 /// The lower of two prices.
 #[inline]
-pub(crate) fn lower(least: u64, price: u64) -> u64
+fn lower(least: u64, price: u64) -> u64
     ensures { result ≡ (if nat_lt price least then price else least) }
 {
     if price < least { price } else { least }
@@ -38,17 +38,4 @@ pub(crate) fn best_price<O: Offers>(offers: &O, slot: u8, order: &[Item]) -> u64
         best = lower(best, offer_price(offers, slot, order, offer));
     }
     best
-}
-
-/// What the least price of an order is above its slot's least.
-#[inline]
-pub(crate) fn above(least: u64, price: u64) -> u64
-    requires { least ≤ price }
-    ensures { result ≡ pricing.above least price }
-{
-    if price == UNOFFERED {
-        UNOFFERED
-    } else {
-        price - least
-    }
 }
