@@ -39,7 +39,7 @@ pub(crate) fn pages(programme: &Programme, config: &Config) -> u64 {
 }
 
 /// The least value of the 64 configurations that fits.
-fn least(programme: &Programme, budget: u64) -> u128 {
+pub(crate) fn least(programme: &Programme, budget: u64) -> u128 {
     let mut best = u128::MAX;
     for number in 0..64 {
         let config = configuration(number);
@@ -67,7 +67,7 @@ fn searched(
 }
 
 /// A bound lies below a cost.
-fn is_below(bound: i128, cost: u128) -> bool {
+pub(crate) fn is_below(bound: i128, cost: u128) -> bool {
     bound < 0 || (bound as u128) < cost
 }
 
@@ -126,37 +126,41 @@ fn costs(rt: &impl Abort, alloc: Global, programme: &Programme, budget: u64, cos
     assert!(rt; !is_below(answer.bound, cost));
 }
 
-/// The knapsack of two indexes, of 3 and 4 pages: a statement costs 80000 without its index, 13000 or 14000 with it. The
-/// four other candidates are of no use, and 7 is the upkeep of what exists.
+/// The knapsack of two indexes, of 3 and 4 pages: statements of weights 10 and 11 cost 80000 without their index, 13000 and
+/// 14000 with it. The four other candidates are of no use, and 7 is the upkeep of what exists.
+pub(crate) fn knapsack_programme(rt: &impl Abort, alloc: Global) -> Programme {
+    let one = wide_slot(
+        rt,
+        alloc,
+        30000,
+        ordered(rt, alloc, 1, 13000),
+        ordered(rt, alloc, 3, 90000),
+    );
+    let two = wide_slot(
+        rt,
+        alloc,
+        30000,
+        ordered(rt, alloc, 2, 14000),
+        ordered(rt, alloc, 4, 90000),
+    );
+    let three = wide_slot(
+        rt,
+        alloc,
+        0,
+        ordered(rt, alloc, 5, 0),
+        ordered(rt, alloc, 6, 0),
+    );
+    let first = part(rt, alloc, 1, 10, 50000, one);
+    let second = part(rt, alloc, 2, 11, 50000, two);
+    let third = part(rt, alloc, 3, 1, 0, three);
+    let sizes = [3, 4, 1, 1, 1, 1];
+    wide_programme(rt, alloc, sizes, [0; 6], first, second, third)
+}
+
 #[test]
 fn knapsack(rt: HostRuntime) {
     let alloc = rt.alloc();
-    let one = wide_slot(
-        &rt,
-        alloc,
-        30000,
-        ordered(&rt, alloc, 1, 13000),
-        ordered(&rt, alloc, 3, 90000),
-    );
-    let two = wide_slot(
-        &rt,
-        alloc,
-        30000,
-        ordered(&rt, alloc, 2, 14000),
-        ordered(&rt, alloc, 4, 90000),
-    );
-    let three = wide_slot(
-        &rt,
-        alloc,
-        0,
-        ordered(&rt, alloc, 5, 0),
-        ordered(&rt, alloc, 6, 0),
-    );
-    let first = part(&rt, alloc, 1, 10, 50000, one);
-    let second = part(&rt, alloc, 2, 11, 50000, two);
-    let third = part(&rt, alloc, 3, 1, 0, three);
-    let sizes = [3, 4, 1, 1, 1, 1];
-    let programme = wide_programme(&rt, alloc, sizes, [0; 6], first, second, third);
+    let programme = knapsack_programme(&rt, alloc);
     costs(&rt, alloc, &programme, 0, 1680007);
     costs(&rt, alloc, &programme, 3, 1010007);
     costs(&rt, alloc, &programme, 4, 954007);

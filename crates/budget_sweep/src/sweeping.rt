@@ -1,0 +1,98 @@
+//! The searches of a sweep, in order, and the curve that they make.
+ghost use Rattle.std.specs.Prelude.{◌≡◌, ◌+◌, ◌-◌, ◌*◌, ◌<◌, ◌≤◌, IfOk, length};
+ghost use Rattle.adv_base.specs.declared.limits.TheConstants.{MOST_NODES, MOST_ROWS};
+ghost use Rattle.budget_sweep.specs.Curves.{IsCurveForEach};
+ghost use Rattle.budget_sweep.specs.inner.Passes as passes;
+
+use crate::passes::{least_cost, put_lows};
+use crate::searching::searched;
+use adv_base::{List, NoMemory};
+use bip_model::{Point, Programme};
+use std::alloc::Global;
+
+/// A budget of a sweep, by its number from 0.
+fn budget_at(first: u64, step: u64, count: u32, number: u32) -> u64
+    requires within { number < count }
+    requires last { first + step * (count - 1) ≤ MOST_ROWS }
+    ensures budget { result ≡ first + step * number }
+    ensures most { result ≤ MOST_ROWS }
+{
+    first + step * number as u64
+}
+
+/// The point of a budget, behind those of smaller ones; its `low` is the bound of its own answer.
+fn next_point(
+    alloc: Global,
+    programme: &Programme,
+    budget: u64,
+    nodes: u32,
+    points: &[Point],
+) -> Result<Point, NoMemory>
+    requires budget { budget ≤ MOST_ROWS }
+    requires some_node { 1 ≤ nodes }
+    requires nodes { nodes ≤ MOST_NODES }
+    requires least { passes.AreLeast points.now }
+    ensures budget { IfOk result (λ point. point.budget ≡ budget) }
+    ensures answer { IfOk result (λ point. passes.IsFreeBest programme.now budget nodes point.answer) }
+    ensures best { IfOk result (λ point. passes.IsNextLeast points.now point) }
+{
+    let answer = searched(alloc, programme, budget, nodes)?;
+    let best = least_cost(points, &answer);
+    let low = answer.bound;
+    Ok(Point {
+        budget,
+        answer,
+        best,
+        low,
+    })
+}
+
+/// The points of a sweep, but for what later ones say of earlier ones.
+fn forward(
+    alloc: Global,
+    programme: &Programme,
+    first: u64,
+    step: u64,
+    count: u32,
+    nodes: u32,
+) -> Result<Vec<Point>, NoMemory>
+    requires last { first + step * (count - 1) ≤ MOST_ROWS }
+    requires some_node { 1 ≤ nodes }
+    requires nodes { nodes ≤ MOST_NODES }
+    ensures count { IfOk result (λ points. length points.items ≡ count) }
+    ensures answered { IfOk result (λ points. passes.AreAnswered programme.now first step nodes points.items) }
+    ensures least { IfOk result (λ points. passes.AreLeast points.items) }
+{
+    let mut points = Vec::with_capacity(alloc, count as usize)?;
+    for number in 0..count {
+        let budget = budget_at(first, step, count, number);
+        let point = next_point(alloc, programme, budget, nodes, points.as_slice())?;
+        points.push(point)?;
+    }
+    Ok(points)
+}
+
+/// A curve over space budgets: a best answer of a programme for each of `count` budgets, from `first` pages in steps of
+/// `step`, found by a search of at most `nodes` nodes each from the root that leaves every candidate free; with the least
+/// cost of the answers so far, and the greatest bound of those from there on. Costs are in thousandths of a page read. Want
+/// of memory is the one error.
+pub fn sweep(
+    alloc: Global,
+    programme: &Programme,
+    first: u64,
+    step: u64,
+    count: u32,
+    nodes: u32,
+) -> Result<List<Point>, NoMemory>
+    requires some_step { 1 ≤ step }
+    requires some { 1 ≤ count }
+    requires most { count ≤ 16 }
+    requires last { first + step * (count - 1) ≤ MOST_ROWS }
+    requires some_node { 1 ≤ nodes }
+    requires nodes { nodes ≤ MOST_NODES }
+    ensures { IfOk result (IsCurveForEach programme.now first step count nodes) }
+{
+    let mut points = forward(alloc, programme, first, step, count, nodes)?;
+    put_lows(points.as_mut_slice());
+    Ok(List { items: points })
+}
