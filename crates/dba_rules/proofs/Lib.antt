@@ -1,0 +1,10 @@
+pub mod Turns
+pub mod Words
+pub mod Columns
+pub mod States
+pub mod Texts
+pub mod Members
+pub mod Spelled
+pub mod BadLines
+pub mod Past
+pub mod Unique
