@@ -1,5 +1,5 @@
-//! Tests of the public calls of `adv_shelf`, `sql_tokens`, `sql_reader`, `catalogue` and `binder`, apart from them, so that
-//! they aren't proved twice: files, and texts with their tokens, their statements, what their names mean, or their faults.
+//! Tests of the public calls of `adv_shelf`, `sql_tokens`, `sql_reader`, `catalogue`, `binder` and `workload_fold`, apart from them, so that
+//! they aren't proved twice: files, and texts with their tokens, their statements, what their names mean, what they fold to, or their faults.
 //!
 //! Cases are data: each table has a case a line and one function that walks it.
 #![tactic(auto)]
@@ -8,6 +8,8 @@
 mod bindings;
 #[cfg(test)]
 mod catalogues;
+#[cfg(test)]
+mod foldings;
 #[cfg(test)]
 mod shelves;
 #[cfg(test)]

@@ -1,0 +1,9 @@
+pub mod Alike
+pub mod Groups
+pub mod Texts
+pub mod Pairs
+pub mod Places
+pub mod Readings
+pub mod Bindings
+pub mod Laws
+pub mod inner

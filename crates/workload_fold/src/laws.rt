@@ -1,0 +1,34 @@
+//! Laws of alike statements and of folded workloads, each proved of all catalogues, workloads and configurations.
+ghost use Rattle.workload_fold.specs.Bindings.{BindsAlike};
+ghost use Rattle.workload_fold.specs.Laws as laws;
+ghost use Rattle.workload_fold.specs.Readings.{StatementsReadAlike};
+
+/// Alike statements propose the same candidates, and cost the same under every configuration: their blocks have one task
+/// and one table of offers, and they have one upkeep.
+pub fn alike_cost_the_same()
+    ensures lists { laws.ProposeTheSame }
+    ensures task { laws.HaveOneTask }
+    ensures table { laws.HaveOneTable }
+    ensures upkeep { laws.HaveOneUpkeep }
+    ensures cost { laws.HaveOneCost }
+    ensures digest { laws.HaveOneDigest }
+{}
+
+/// A folded workload has the candidates of the whole, with as many left over, and one total with it under every
+/// configuration.
+pub fn folding_keeps_totals()
+    ensures lists { laws.FoldingKeepsCandidates }
+    ensures left_over { laws.FoldingKeepsLeftOver }
+    ensures total { laws.FoldingKeepsTotals }
+{}
+
+/// Reading is natural in places: terminals of two texts that agree in their kinds, numbers and bytes are read as statements
+/// that agree but for the places of names and texts.
+pub fn reading_is_natural()
+    ensures { StatementsReadAlike }
+{}
+
+/// Binding is natural in places: statements of two texts that agree but for the places of names and texts mean the same.
+pub fn binding_is_natural()
+    ensures { BindsAlike }
+{}
