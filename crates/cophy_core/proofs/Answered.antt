@@ -16,8 +16,8 @@ use Rattle.report.specs.declared.done.Refusal.TheVariants.{TooLong, Cat, Sql, Bi
 use Rattle.cophy_core.specs.declared.stop.Stop.{Stop}
 use Rattle.cophy_core.specs.declared.stop.Stop.TheVariants.{Memory, Failed, Refused}
 use Rattle.cophy_core.specs.Answers.{RefusesOver, GivesOver, files_put, PutsOver, OfSetting, Answers}
-use Rattle.cophy_core.specs.CommandLine.{PlainCommand, Candidates, Cost, WhatIf, Explain, Advise, Check, Bench}
-use Rattle.cophy_core.specs.Spellings.{IsInRange}
+use Rattle.command_line.specs.CommandLine.{PlainCommand, Candidates, Cost, WhatIf, Explain, Advise, Ruled, Check, Bench}
+use Rattle.command_line.specs.Spellings.{IsInRange}
 use Rattle.cophy_core.specs.Files.{InputFile, input_file, setting_files, files_of, AreInputs, input, ReadCounts}
 use Rattle.cophy_core.specs.Inputs.{HasInputs}
 use Rattle.cophy_core.specs.Reading.{StopsReading, StopsAtFiles}
@@ -42,6 +42,7 @@ IsCommandsOwn (answers.Explained explained) = Unit {0}
 IsCommandsOwn (answers.Advised advice) = Unit {0}
 IsCommandsOwn (answers.Checked checked) = Unit {0}
 IsCommandsOwn (answers.NotProved why) = Unit {0}
+IsCommandsOwn (answers.Ruled ruled) = Unit {0}
 IsCommandsOwn (answers.Benched bench) = Unit {0}
 IsCommandsOwn done = ⊥
 
@@ -58,6 +59,7 @@ second_short (Cost cat load) files inputs range are = second_file files cat load
 second_short (WhatIf cat load conf) files inputs range are = second_file files cat load (input_file Third conf MOST_FILE_BYTES ∷ []) inputs are
 second_short (Explain cat load conf number) files inputs range are = second_file files cat load (input_file Third conf MOST_FILE_BYTES ∷ []) inputs are
 second_short (Advise cat load budget nodes cert) files inputs range are = second_file files cat load [] inputs are
+second_short (Ruled cat load budget rules nodes cert) files inputs range are = second_file files cat load (input_file Third rules MOST_FILE_BYTES ∷ []) inputs are
 second_short (Check cat load cert) files inputs range are = second_file files cat load (input_file Third cert MOST_CERTIFICATE_BYTES ∷ []) inputs are
 second_short (Bench seed tables statements budget) files inputs range are =
     rw are (omega (arith, workload_short seed tables statements (omega (arith, range.tables_some)) range.tables_few range.statements_few))
@@ -98,6 +100,11 @@ own (Advise cat load budget nodes cert) inputs setting (Cat fault) h = h
 own (Advise cat load budget nodes cert) inputs setting (Sql fault) h = h
 own (Advise cat load budget nodes cert) inputs setting (Bind fault) h = h
 own (Advise cat load budget nodes cert) inputs setting why h = tt
+own (Ruled cat load budget rules nodes cert) inputs setting (TooLong role) h = h
+own (Ruled cat load budget rules nodes cert) inputs setting (Cat fault) h = h
+own (Ruled cat load budget rules nodes cert) inputs setting (Sql fault) h = h
+own (Ruled cat load budget rules nodes cert) inputs setting (Bind fault) h = h
+own (Ruled cat load budget rules nodes cert) inputs setting why h = tt
 own (Bench seed tables statements budget) inputs setting (TooLong role) h = h
 own (Bench seed tables statements budget) inputs setting (Cat fault) h = h
 own (Bench seed tables statements budget) inputs setting (Sql fault) h = h
@@ -133,6 +140,8 @@ given (Explain cat load conf number) inputs setting (answers.Explained explained
 given (Explain cat load conf number) inputs setting done h = absurd h
 given (Advise cat load budget nodes cert) inputs setting (answers.Advised advice) h = tt
 given (Advise cat load budget nodes cert) inputs setting done h = absurd h
+given (Ruled cat load budget rules nodes cert) inputs setting (answers.Ruled ruled) h = tt
+given (Ruled cat load budget rules nodes cert) inputs setting done h = absurd h
 given (Check cat load cert) inputs setting (answers.Checked checked) h = tt
 given (Check cat load cert) inputs setting (answers.NotProved why) h = tt
 given (Check cat load cert) inputs setting done h = absurd h
@@ -146,6 +155,7 @@ given_over command files (answers.Explained explained) is_given h = h
 given_over command files (answers.Advised advice) is_given h = h
 given_over command files (answers.Checked checked) is_given h = h
 given_over command files (answers.NotProved why) is_given h = h
+given_over command files (answers.Ruled ruled) is_given h = h
 given_over command files (answers.Benched bench) is_given h = h
 given_over command files done is_given h = absurd is_given
 
@@ -166,6 +176,8 @@ by_test false P Q whenever otherwise = otherwise refl
 none_put : (command : PlainCommand) (setting : TheSetting) (done : Done) (puts : List Put) → needs_setting done ≡ false → PutsOver command setting done puts → puts ≡ []
 none_put (Advise cat load budget nodes cert) setting (answers.Advised advice) puts other h = absurd cc
 none_put (Advise cat load budget nodes cert) setting done puts other h = h
+none_put (Ruled cat load budget rules nodes cert) setting (answers.Ruled ruled) puts other h = absurd cc
+none_put (Ruled cat load budget rules nodes cert) setting done puts other h = h
 none_put command setting done puts other h = h
 
 -- what is put are the files of the command, in turn
@@ -173,6 +185,9 @@ names_put : (command : PlainCommand) (inputs : List (List ℕ)) (setting : TheSe
 names_put (Advise cat load budget nodes (Some file)) inputs setting (answers.Advised advice) puts gives h = ap (map (λ (put : Put). put.name)) h.puts_are
 names_put (Advise cat load budget nodes None) inputs setting (answers.Advised advice) puts gives h = ap (map (λ (put : Put). put.name)) h
 names_put (Advise cat load budget nodes cert) inputs setting done puts gives h = absurd gives
+names_put (Ruled cat load budget rules nodes (Some file)) inputs setting (answers.Ruled ruled) puts gives h = ap (map (λ (put : Put). put.name)) h.puts_are
+names_put (Ruled cat load budget rules nodes None) inputs setting (answers.Ruled ruled) puts gives h = ap (map (λ (put : Put). put.name)) h
+names_put (Ruled cat load budget rules nodes cert) inputs setting done puts gives h = absurd gives
 names_put command inputs setting done puts gives h = ap (map (λ (put : Put). put.name)) h
 
 -- what is put for an answer is put over its setting

@@ -1,36 +1,17 @@
 -- What a file proves.
-use Rattle.std.proofs.Common.{◌≡◌, ◌≢◌, ℕ, List, Result, Ok, Err, IfOk, sym, ap, subst}
+use Rattle.std.proofs.Common.{◌≡◌, ℕ, List, Result, Ok, Err, ap, subst}
 use Rattle.adv_base.specs.Settings.{TheSetting}
 use Rattle.certificate.specs.declared.cert.Cert.{Cert}
-use Rattle.certificate.specs.declared.cert.CertFault.{CertFault}
-use Rattle.certificate.specs.declared.cert.CertFault.TheVariants as reading
-use Rattle.certificate.specs.Certificates.{OneBreak, OneCertificate, IsCertificate, Faults}
+use Rattle.certificate.specs.Certificates.{OneBreak, OneCertificate, IsCertificate}
 use Rattle.gap_checker.specs.declared.fault.Checked.{Checked}
 use Rattle.gap_checker.specs.declared.fault.CheckFault.{CheckFault}
-use Rattle.gap_checker.specs.declared.fault.CheckFault.TheVariants as check
 use Rattle.bip_model.specs.Proves.{free_node}
-use Rattle.gap_checker.specs.Faults.{IsFault}
 use Rattle.gap_checker.specs.Laws.{AnswersAreOne, IsAnswer}
 use Rattle.report.specs.declared.done.Done.{Done}
 use Rattle.report.specs.declared.done.Done.TheVariants.{Checked as CheckedDone, NotProved as NotProvedDone}
 use Rattle.report.specs.declared.done.NotProved.{NotProved}
 use Rattle.report.specs.declared.done.NotProved.TheVariants.{Malformed, Fault}
-use Rattle.cophy_core.specs.commands.Check.{IsProved, IsFaulty, ProvesNothing, IsUnread, Gives}
-
--- a fault of reading
-pub malformed : (setting : TheSetting) (bytes : List ℕ) (fault : CertFault) (why : NotProved) → Faults bytes fault → IsUnread fault why → ProvesNothing setting bytes why
-malformed setting bytes reading.Memory why breaks is = absurd is
-malformed setting bytes (reading.Malformed line) why breaks is = subst (ProvesNothing setting bytes) (sym is) breaks
-
--- a fault of the certificate
-pub faulty : (setting : TheSetting) (bytes : List ℕ) (cert : Cert) (fault : CheckFault) (why : NotProved) → IsCertificate bytes cert → fault ≢ check.Memory → IsFault setting free_node cert fault → why ≡ Fault fault → ProvesNothing setting bytes why
-faulty setting bytes cert fault why is some fails told =
-    subst (ProvesNothing setting bytes) (sym told) (record { cert = cert; cert_is = is; no_memory = some; fault_is = fails })
-
--- what is given of the certificate that bytes are
-pub given : {E : Type 0} (setting : TheSetting) (bytes : List ℕ) (cert : Cert) (result : Result Done E) → IsCertificate bytes cert → IfOk result (λ done. (text : List ℕ) → IsCertificate text cert → Gives text setting done) → IfOk result (Gives bytes setting)
-given setting bytes cert (Ok done) is h = h bytes is
-given setting bytes cert (Err e) is h = tt
+use Rattle.cophy_core.specs.commands.Check.{IsProved, IsFaulty, ProvesNothing, Gives}
 
 -- ## One answer
 

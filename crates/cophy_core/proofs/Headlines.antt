@@ -23,7 +23,7 @@ use Rattle.report.specs.declared.done.Done.{Done}
 use Rattle.report.specs.declared.done.Done.TheVariants.{ReadFault, WriteFault, Refused, Memory, Advised, Checked, NotProved}
 use Rattle.report.specs.declared.done.NotProved.TheVariants.{Malformed, Fault}
 use Rattle.report.specs.declared.done.Refusal.{Refusal}
-use Rattle.report.specs.declared.done.WordFault.{WordFault}
+use Rattle.command_line.specs.declared.fault.WordFault.{WordFault}
 use Rattle.report.specs.declared.done.Refusal.TheVariants.{TooLong, Cat, Sql, Bind, TooManyCombinations}
 use Rattle.report.specs.declared.done.Role.{Role}
 use Rattle.report.specs.declared.done.Role.TheVariants.{Catalogue, Workload}
@@ -34,7 +34,7 @@ use Rattle.cophy_core.specs.Causes.{IsSteady, WriteFaultIsTrue, gap_status, stat
 use Rattle.cophy_core.specs.Endings.{Put, Outside, put_all, EndsWhole}
 use Rattle.cophy_core.specs.Files.{InputFile, IsInput, AreInputs, input, input_file, setting_files, files_of, IsTooLong, ReadCounts}
 use Rattle.cophy_core.specs.Headline.{Asked, asked_command, IsAccepted, IsEnd, proved, Certifies, Headline}
-use Rattle.cophy_core.specs.CommandLine.{PlainCommand, Check, command_of}
+use Rattle.command_line.specs.CommandLine.{PlainCommand, Check, command_of}
 use Rattle.cophy_core.specs.Replies.{MayAnswer, MayAnswerWords, ArePuts, ArePutsTo, IsRun}
 use Rattle.cophy_core.specs.Settings.{IsSetting, HasCatFault, IsSqlRefusal, IsBindRefusal}
 use Rattle.cophy_core.specs.Laws.{ChecksStandAlone}

@@ -9,15 +9,15 @@ use Rattle.binder.specs.Statements.{statements_of}
 use Rattle.binder.specs.declared.fault.BindFault.{BindFault}
 use Rattle.catalogue.specs.declared.fault.CatFault.{CatFault}
 use Rattle.report.specs.declared.done.Done.{Done}
-use Rattle.report.specs.declared.done.Done.TheVariants.{Refused, Priced, Explained, Advised, Benched}
+use Rattle.report.specs.declared.done.Done.TheVariants.{Refused, Priced, Explained, Advised, Ruled as RuledDone, Benched}
 use Rattle.report.specs.declared.done.Refusal.{Refusal}
-use Rattle.report.specs.declared.done.Refusal.TheVariants.{TooLong, Cat, Sql, Bind, NoStatement, BadConf, TooManyCombinations}
+use Rattle.report.specs.declared.done.Refusal.TheVariants.{TooLong, Cat, Sql, Bind, NoStatement, BadConf, Rules, TooManyCombinations}
 use Rattle.report.specs.declared.done.Role.{Role}
 use Rattle.sql_reader.proofs.Unique.{one_workload, workload_or_fault, one_sql_fault}
 use Rattle.sql_reader.specs.declared.parsed.ParsedStatement.{ParsedStatement}
 use Rattle.sql_reader.specs.declared.parsed.SqlFault.{SqlFault}
 use Rattle.cophy_core.specs.Answers.{RefusesOver, GivesOver, OfFiles, OfSetting, Answers}
-use Rattle.cophy_core.specs.CommandLine.{PlainCommand, WhatIf, Explain, Advise, Check, Bench}
+use Rattle.command_line.specs.CommandLine.{PlainCommand, WhatIf, Explain, Advise, Ruled, Check, Bench}
 use Rattle.cophy_core.specs.Files.{InputFile, AreInputs, IsTooLong, files_of, input}
 use Rattle.cophy_core.specs.Inputs.{HasInputs}
 use Rattle.cophy_core.specs.Settings.{IsCatalogueOf, IsSetting, HasCatFault, IsSqlRefusal, IsBindRefusal}
@@ -25,6 +25,7 @@ use Rattle.cophy_core.specs.commands.Check.{OneAnswer}
 use Rattle.cophy_core.proofs.Combinations.{none_beyond, one_beyond}
 use Rattle.cophy_core.proofs.FilesRead.{one_each, none_long, one_long}
 use Rattle.cophy_core.proofs.Lines.{not_nothing, conf_or_fault, one_conf_fault}
+use Rattle.cophy_core.proofs.Obeying.{one_rule_fault, faulty_or_root}
 use Rattle.cophy_core.proofs.OneSetting.{one_catalogue, one_setting, few_shapes}
 
 -- ## The bytes that a command answers from
@@ -117,6 +118,14 @@ one_own (Explain cat load conf number) inputs setting why other few a b = absurd
 one_own (Advise cat load budget nodes cert) inputs setting (TooManyCombinations n count) (TooManyCombinations m other) few a b = too_many_same setting n m count other (one_beyond setting n m count other a b)
 one_own (Advise cat load budget nodes cert) inputs setting (TooManyCombinations n count) other few a b = absurd b
 one_own (Advise cat load budget nodes cert) inputs setting why other few a b = absurd a
+one_own (Ruled cat load budget rules nodes cert) inputs setting (Rules fault) (Rules other) few a b = ap Rules (one_rule_fault setting (input inputs 2) budget fault other a b)
+one_own (Ruled cat load budget rules nodes cert) inputs setting (Rules fault) (TooManyCombinations n count) few a b = absurd (faulty_or_root setting (input inputs 2) budget fault b.root a b.root_is)
+one_own (Ruled cat load budget rules nodes cert) inputs setting (TooManyCombinations n count) (Rules fault) few a b = absurd (faulty_or_root setting (input inputs 2) budget fault a.root b a.root_is)
+one_own (Ruled cat load budget rules nodes cert) inputs setting (TooManyCombinations n count) (TooManyCombinations m other) few a b =
+    too_many_same setting n m count other (one_beyond setting n m count other a.first b.first)
+one_own (Ruled cat load budget rules nodes cert) inputs setting (Rules fault) other few a b = absurd b
+one_own (Ruled cat load budget rules nodes cert) inputs setting (TooManyCombinations n count) other few a b = absurd b
+one_own (Ruled cat load budget rules nodes cert) inputs setting why other few a b = absurd a
 one_own (Bench seed tables statements budget) inputs setting (TooManyCombinations n count) (TooManyCombinations m other) few a b = too_many_same setting n m count other (one_beyond setting n m count other a b)
 one_own (Bench seed tables statements budget) inputs setting (TooManyCombinations n count) other few a b = absurd b
 one_own (Bench seed tables statements budget) inputs setting why other few a b = absurd a
@@ -135,6 +144,10 @@ refused_or_given (Explain cat load conf number) inputs setting why done few a b 
 refused_or_given (Advise cat load budget nodes cert) inputs setting (TooManyCombinations n count) (Advised advice) few a b = none_beyond setting n count b.few a
 refused_or_given (Advise cat load budget nodes cert) inputs setting why (Advised advice) few a b = absurd a
 refused_or_given (Advise cat load budget nodes cert) inputs setting why done few a b = absurd b
+refused_or_given (Ruled cat load budget rules nodes cert) inputs setting (Rules fault) (RuledDone ruled) few a b = faulty_or_root setting (input inputs 2) budget fault b.root a b.root_is
+refused_or_given (Ruled cat load budget rules nodes cert) inputs setting (TooManyCombinations n count) (RuledDone ruled) few a b = none_beyond setting n count b.advice_is.few a.first
+refused_or_given (Ruled cat load budget rules nodes cert) inputs setting why (RuledDone ruled) few a b = absurd a
+refused_or_given (Ruled cat load budget rules nodes cert) inputs setting why done few a b = absurd b
 refused_or_given (Bench seed tables statements budget) inputs setting (TooManyCombinations n count) (Benched bench) few a b = none_beyond setting n count b.advice_is.few a
 refused_or_given (Bench seed tables statements budget) inputs setting why (Benched bench) few a b = absurd a
 refused_or_given (Bench seed tables statements budget) inputs setting why done few a b = absurd b

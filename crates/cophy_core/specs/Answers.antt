@@ -12,9 +12,10 @@ use Rattle.cophy_core.specs.commands.Candidates as candidates
 use Rattle.cophy_core.specs.commands.Check as check
 use Rattle.cophy_core.specs.commands.Cost as cost
 use Rattle.cophy_core.specs.commands.Explain as explain
+use Rattle.cophy_core.specs.commands.Ruled as ruled
 use Rattle.cophy_core.specs.commands.WhatIf as what_if
 use Rattle.cophy_core.specs.Endings.{Put}
-use Rattle.cophy_core.specs.CommandLine.{PlainCommand, Candidates, Cost, WhatIf, Explain, Advise, Check, Bench}
+use Rattle.command_line.specs.CommandLine.{PlainCommand, Candidates, Cost, WhatIf, Explain, Advise, Ruled, Check, Bench}
 use Rattle.cophy_core.specs.Stops.{LacksProgramme}
 use Rattle.cophy_core.specs.Files.{files_of, input, IsTooLong}
 use Rattle.cophy_core.specs.Inputs.{HasInputs}
@@ -25,6 +26,7 @@ abbrev pub RefusesOver : PlainCommand → List (List ℕ) → TheSetting → Ref
 RefusesOver (WhatIf cat load conf) inputs setting why = what_if.Refuses (input inputs 2) setting why
 RefusesOver (Explain cat load conf number) inputs setting why = explain.Refuses number (input inputs 2) setting why
 RefusesOver (Advise cat load budget nodes cert) inputs setting why = LacksProgramme setting why
+RefusesOver (Ruled cat load budget rules nodes cert) inputs setting why = ruled.Refuses budget (input inputs 2) setting why
 RefusesOver (Bench seed tables statements budget) inputs setting why = LacksProgramme setting why
 RefusesOver command inputs setting why = ⊥
 
@@ -35,17 +37,20 @@ GivesOver (Cost cat load) inputs setting done = cost.Gives setting done
 GivesOver (WhatIf cat load conf) inputs setting done = what_if.Gives (input inputs 2) setting done
 GivesOver (Explain cat load conf number) inputs setting done = explain.Gives number (input inputs 2) setting done
 GivesOver (Advise cat load budget nodes cert) inputs setting done = advise.Gives budget nodes setting done
+GivesOver (Ruled cat load budget rules nodes cert) inputs setting done = ruled.Gives budget nodes (input inputs 2) setting done
 GivesOver (Check cat load cert) inputs setting done = check.Gives (input inputs 2) setting done
 GivesOver (Bench seed tables statements budget) inputs setting done = bench.Gives budget setting done
 
 -- the names of the files that a command puts, in turn
 abbrev pub files_put : PlainCommand → List (List ℕ)
 files_put (Advise cat load budget nodes cert) = option_to_list cert
+files_put (Ruled cat load budget rules nodes cert) = option_to_list cert
 files_put command = []
 
 -- what a command puts for an answer over a setting
 abbrev pub PutsOver : PlainCommand → TheSetting → Done → List Put → Type 0
 PutsOver (Advise cat load budget nodes cert) setting done puts = advise.Puts cert setting done puts
+PutsOver (Ruled cat load budget rules nodes cert) setting done puts = ruled.Puts cert setting done puts
 PutsOver command setting done puts = puts ≡ []
 
 -- a command answers from these bytes, which have P

@@ -10,9 +10,9 @@ use Rattle.report.specs.declared.done.Advice.{Advice}
 use Rattle.report.specs.declared.done.Done.{Done}
 use Rattle.report.specs.declared.done.Done.TheVariants.{Usage, ReadFault, WriteFault, Refused, Memory, Priced, Explained as ExplainedDone, Checked as CheckedDone, NotProved as NotProvedDone}
 use Rattle.report.specs.declared.done.NotProved.{NotProved}
-use Rattle.report.specs.declared.done.WordFault.{WordFault}
+use Rattle.command_line.specs.declared.fault.WordFault.{WordFault}
 use Rattle.cophy_core.specs.Answers.{Answers, OfSetting}
-use Rattle.cophy_core.specs.CommandLine.{PlainCommand, command_of, Check}
+use Rattle.command_line.specs.CommandLine.{PlainCommand, command_of, Check}
 use Rattle.cophy_core.specs.Files.{files_of, IsReadFault, input}
 use Rattle.cophy_core.specs.Endings.{Outside}
 use Rattle.cophy_core.specs.Left.{PutsFileTo, IsCutShort}

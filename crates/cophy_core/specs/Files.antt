@@ -6,7 +6,7 @@ use Rattle.adv_shelf.specs.Shelf.{Files, HasFile, IsFile}
 use Rattle.report.specs.declared.done.Role.{Role}
 use Rattle.report.specs.declared.done.Role.TheVariants.{Catalogue, Workload, Third}
 use Rattle.cophy_core.specs.declared.files.FileUse.{FileUse}
-use Rattle.cophy_core.specs.CommandLine.{PlainCommand, Candidates, Cost, WhatIf, Explain, Advise, Check, Bench}
+use Rattle.command_line.specs.CommandLine.{PlainCommand, Candidates, Cost, WhatIf, Explain, Advise, Ruled, Check, Bench}
 
 -- a file that a command reads: in which role, by what name, and of how many bytes at most
 pub record InputFile : Type 0 where
@@ -31,6 +31,7 @@ files_of (Cost cat load) = setting_files cat load
 files_of (WhatIf cat load conf) = setting_files cat load ++ input_file Third conf MOST_FILE_BYTES ∷ []
 files_of (Explain cat load conf number) = setting_files cat load ++ input_file Third conf MOST_FILE_BYTES ∷ []
 files_of (Advise cat load budget nodes cert) = setting_files cat load
+files_of (Ruled cat load budget rules nodes cert) = setting_files cat load ++ input_file Third rules MOST_FILE_BYTES ∷ []
 files_of (Check cat load cert) = setting_files cat load ++ input_file Third cert MOST_CERTIFICATE_BYTES ∷ []
 files_of (Bench seed tables statements budget) = []
 
@@ -39,7 +40,11 @@ pub record IsInput (files : Option Files) (file : InputFile) (bytes : List ℕ) 
   pub whole : IsFile files file.name bytes
   pub short : length bytes ≤ file.most
 
--- the same of each of the files
+-- some such bytes have P
+abbrev pub SomeInput : Option Files → InputFile → (List ℕ → Type 0) → Type 0
+SomeInput files file P = (bytes : List ℕ) × IsInput files file bytes × P bytes
+
+-- these bytes are so for each of the files
 abbrev pub AreInputs : Option Files → List InputFile → List (List ℕ) → Type 0
 AreInputs files [] [] = Unit {0}
 AreInputs files (file ∷ more) (bytes ∷ inputs) = IsInput files file bytes × AreInputs files more inputs

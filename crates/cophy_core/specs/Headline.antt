@@ -27,7 +27,7 @@ use Rattle.cophy_core.specs.commands.Check as check
 use Rattle.cophy_core.specs.Answers.{Answers}
 use Rattle.cophy_core.specs.Endings.{Outside}
 use Rattle.cophy_core.specs.Files.{IsInput, AreInputs, input_file, setting_files}
-use Rattle.cophy_core.specs.CommandLine.{PlainCommand, Advise, Check}
+use Rattle.command_line.specs.CommandLine.{PlainCommand, Advise, Check}
 use Rattle.cophy_core.specs.Settings.{IsSetting, IsSettingRefusal}
 
 -- what advice is asked with: the names of the files of a catalogue and a workload, a budget of pages, a budget of nodes, and

@@ -5,7 +5,7 @@ use Rattle.report.specs.declared.done.Done.{Done}
 use Rattle.report.specs.declared.done.Done.TheVariants.{Refused}
 use Rattle.report.specs.declared.done.Refusal.{Refusal}
 use Rattle.cophy_core.specs.Answers.{Answers}
-use Rattle.cophy_core.specs.CommandLine.{PlainCommand, Check}
+use Rattle.command_line.specs.CommandLine.{PlainCommand, Check}
 
 -- where the shelf tells its files and a command is refused over them, it has no other refusal and no other answer
 abbrev pub RefusalsStandAlone : Type 0

@@ -1,6 +1,3 @@
-pub mod Numbers
-pub mod CommandLine
-pub mod Spellings
 pub mod Confs
 pub mod Settings
 pub mod Opened

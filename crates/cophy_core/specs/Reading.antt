@@ -5,7 +5,7 @@ use Rattle.report.specs.declared.done.Refusal.TheVariants.{TooLong}
 use Rattle.cophy_core.specs.declared.stop.Stop.{Stop}
 use Rattle.cophy_core.specs.declared.stop.Stop.TheVariants.{Memory, Failed, Refused}
 use Rattle.cophy_core.specs.Answers.{Answers}
-use Rattle.cophy_core.specs.CommandLine.{PlainCommand}
+use Rattle.command_line.specs.CommandLine.{PlainCommand}
 use Rattle.cophy_core.specs.Files.{InputFile, ReadCounts, IsUnread, IsLong, IsReadFault, IsTooLong, files_of}
 use Rattle.report.specs.declared.done.Done.TheVariants as answers
 

@@ -6,9 +6,9 @@ use Rattle.report.specs.Advices.{needs_setting}
 use Rattle.report.specs.Texts.{done_text}
 use Rattle.report.specs.declared.done.Done.{Done}
 use Rattle.report.specs.declared.done.Done.TheVariants.{Usage, ReadFault, Memory}
-use Rattle.report.specs.declared.done.WordFault.{WordFault}
+use Rattle.command_line.specs.declared.fault.WordFault.{WordFault}
 use Rattle.cophy_core.specs.Answers.{GivesOver, files_put, PutsOver, OfSetting, Answers}
-use Rattle.cophy_core.specs.CommandLine.{PlainCommand, command_of}
+use Rattle.command_line.specs.CommandLine.{PlainCommand, command_of}
 use Rattle.cophy_core.specs.Endings.{Put, Outside, Ends}
 use Rattle.cophy_core.specs.Files.{files_of, ReadCounts, IsReadFault}
 

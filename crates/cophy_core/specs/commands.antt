@@ -5,3 +5,4 @@ pub mod Check
 pub mod Cost
 pub mod Explain
 pub mod WhatIf
+pub mod Ruled

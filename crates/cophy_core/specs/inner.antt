@@ -1,3 +1,3 @@
 -- What retells the loops of the code; nothing above this crate cites it.
 pub mod Parts
-pub mod Arguments
+pub mod Work

@@ -3,62 +3,73 @@ ghost use Rattle.std.specs.Prelude.{◌≡◌, ◌≤◌, ℕ, List, Some, Ok, I
 ghost use Rattle.adv_base.specs.Settings.{the_setting};
 ghost use Rattle.candidates.specs.Candidates.{AreCandidates};
 ghost use Rattle.report.specs.Texts.{FitsSetting};
-ghost use Rattle.cophy_core.specs.Answers.{RefusesOver, GivesOver, PutsOver};
+ghost use Rattle.cophy_core.specs.Answers.{PutsOver};
 ghost use Rattle.cophy_core.specs.Causes.{IsBounded};
-ghost use Rattle.cophy_core.specs.Spellings.{IsInRange};
-ghost use Rattle.cophy_core.specs.CommandLine.{texts, plain_command, command_of};
+ghost use Rattle.command_line.specs.Spellings.{IsInRange};
+ghost use Rattle.command_line.specs.CommandLine.{texts, plain_command, command_of};
 ghost use Rattle.cophy_core.specs.Endings.{plain_puts};
 ghost use Rattle.cophy_core.specs.Files.{counts};
 ghost use Rattle.cophy_core.specs.Reading.{StopsAtFiles};
 ghost use Rattle.cophy_core.specs.Replies.{IsReply, Replies};
-ghost use Rattle.cophy_core.specs.Stops.{StopsAt};
+ghost use Rattle.cophy_core.specs.Inputs.{HasRead};
+ghost use Rattle.cophy_core.specs.inner.Work.{GivesRead, StopsWork};
 
-use crate::command_line::{Command, read_words};
 use crate::commands::advise::advise;
 use crate::commands::bench::bench;
 use crate::commands::check::check;
 use crate::commands::cost::cost;
 use crate::commands::explain::explain;
 use crate::commands::list_candidates::list_candidates;
+use crate::commands::ruled::ruled;
 use crate::commands::what_if::what_if;
-use crate::files::{bytes_at, inputs_of};
+use crate::files::{Inputs, bytes_at, certificate_file, inputs_of};
 use crate::reply::Reply;
 use crate::setting::open;
 use crate::stop::Stop;
 use crate::worked::Worked;
-use adv_base::{Bytes, List, Setting};
+use adv_base::Setting;
 use adv_shelf::Shelf;
+use command_line::{Command, read_words};
 use report::{Done, text};
 use std::alloc::Global;
 
-/// What a command gives over the bytes that it answers from and their setting, whose workload proposes `left_over` indexes
-/// more, and the files that it puts for that.
-fn work(
+/// What a command gives over what was read for it and the setting of the first two files, whose workload proposes `left_over`
+/// indexes more, and the files that it puts for that.
+fn work<S: Shelf>(
     alloc: Global,
+    shelf: &mut S,
     command: &Command<'_>,
-    inputs: &List<Bytes>,
+    inputs: Inputs,
     setting: &Setting<'_>,
     left_over: u64,
 ) -> Result<Worked, Stop>
     requires range { IsInRange (plain_command command.now) }
+    requires read { HasRead (S.files shelf.old) (plain_command command.now) inputs }
     requires found { AreCandidates setting.now.cat.now setting.now.statements.now setting.now.shapes.now left_over }
-    ensures gives { IfOk result (λ worked. GivesOver (plain_command command.now) inputs.now (the_setting setting.now) worked.done) }
+    ensures gives { IfOk result (λ worked. GivesRead (S.files shelf.old) (plain_command command.now) inputs (the_setting setting.now) worked.done) }
     ensures puts { IfOk result (λ worked. PutsOver (plain_command command.now) (the_setting setting.now) worked.done (plain_puts worked.puts)) }
     ensures fits { IfOk result (λ worked. FitsSetting (Some (the_setting setting.now)) worked.done) }
     ensures bound { IfOk result (λ worked. IsBounded worked.done) }
-    ensures stop { IfErr result (StopsAt (RefusesOver (plain_command command.now) inputs.now (the_setting setting.now))) }
+    ensures stop { IfErr result (StopsWork (S.files shelf.old) (plain_command command.now) (counts (S.read_faults shelf.old) (S.read_faults_at shelf.old))
+        (counts (S.read_faults shelf.new) (S.read_faults_at shelf.new)) inputs (the_setting setting.now)) }
+
+    ensures files { S.files shelf.new ≡ S.files shelf.old }
+    ensures counts { S.read_faults shelf.old ≤ S.read_faults shelf.new }
+    ensures counts_at { (n : List ℕ) → S.read_faults_at shelf.old n ≤ S.read_faults_at shelf.new n }
+    ensures puts_kept { S.put_faults shelf.new ≡ S.put_faults shelf.old }
 {
+    let Inputs { whole, scanner } = inputs;
     match *command {
         Command::Cost { .. } => {
             let done = cost(alloc, setting)?;
             Ok(Worked::alone(alloc, done))
         }
         Command::WhatIf { .. } => {
-            let done = what_if(alloc, setting, bytes_at(inputs, 2))?;
+            let done = what_if(alloc, setting, bytes_at(&whole, 2))?;
             Ok(Worked::alone(alloc, done))
         }
         Command::Explain { number, .. } => {
-            let done = explain(alloc, setting, bytes_at(inputs, 2), number)?;
+            let done = explain(alloc, setting, bytes_at(&whole, 2), number)?;
             Ok(Worked::alone(alloc, done))
         }
         Command::Candidates { .. } => {
@@ -71,10 +82,23 @@ fn work(
             cert,
             ..
         } => advise(alloc, setting, left_over, budget, nodes, cert),
-        Command::Check { .. } => {
-            let done = check(alloc, setting, bytes_at(inputs, 2))?;
-            Ok(Worked::alone(alloc, done))
+        Command::Ruled {
+            budget,
+            nodes,
+            cert,
+            ..
+        } => {
+            let rules = bytes_at(&whole, 2);
+            ruled(alloc, setting, left_over, rules, budget, nodes, cert)
         }
+        Command::Check { cert, .. } => match scanner {
+            Some(scanner) => {
+                let file = certificate_file(cert);
+                let done = check(alloc, setting, shelf, &file, scanner)?;
+                Ok(Worked::alone(alloc, done))
+            }
+            None => unreachable!(),
+        },
         Command::Bench { budget, .. } => {
             let done = bench(alloc, setting, left_over, budget)?;
             Ok(Worked::alone(alloc, done))
@@ -101,9 +125,13 @@ fn answer<S: Shelf>(
     ensures puts { S.put_faults shelf.new ≡ S.put_faults shelf.old }
 {
     let inputs = inputs_of(alloc, shelf, command)?;
-    let opened = open(alloc, bytes_at(&inputs, 0), bytes_at(&inputs, 1))?;
+    let opened = open(
+        alloc,
+        bytes_at(&inputs.whole, 0),
+        bytes_at(&inputs.whole, 1),
+    )?;
     let setting = opened.setting();
-    let worked = work(alloc, command, &inputs, &setting, opened.left_over)?;
+    let worked = work(alloc, shelf, command, inputs, &setting, opened.left_over)?;
     let text = text(alloc, &worked.done, words, Some(&setting))?;
     Ok(Reply {
         done: worked.done,

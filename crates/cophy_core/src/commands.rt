@@ -5,4 +5,5 @@ pub(crate) mod check;
 pub(crate) mod cost;
 pub(crate) mod explain;
 pub(crate) mod list_candidates;
+pub(crate) mod ruled;
 pub(crate) mod what_if;

@@ -2,18 +2,20 @@
 ghost use Rattle.std.specs.Prelude.{◌≡◌, ◌≤◌, ◌<◌, ◌∷◌, [], ◌++◌, ℕ, List, Some, IfOk, IfErr, OnOk, length, slice_get};
 ghost use Rattle.adv_base.specs.declared.limits.TheConstants.{MOST_CERTIFICATE_BYTES, MOST_FILE_BYTES};
 ghost use Rattle.report.specs.declared.done.Role.TheVariants.{Third};
-ghost use Rattle.cophy_core.specs.CommandLine.{plain_command};
-ghost use Rattle.cophy_core.specs.Spellings.{IsInRange};
-ghost use Rattle.cophy_core.specs.Files.{counts, input, input_file, plain_uses, IsInput, AreInputs};
-ghost use Rattle.cophy_core.specs.Inputs.{HasInputs};
+ghost use Rattle.command_line.specs.CommandLine.{plain_command};
+ghost use Rattle.command_line.specs.Spellings.{IsInRange};
+ghost use Rattle.certificate.specs.Scanners.{StandsFor};
+ghost use Rattle.cophy_core.specs.Files.{counts, input, input_file, plain_uses, IsInput, SomeInput, AreInputs};
+ghost use Rattle.cophy_core.specs.Inputs.{HasWhole, HasRead};
 ghost use Rattle.cophy_core.specs.Reading.{IsUnreadFile, StopsReading, StopsAtFiles};
 
-use crate::Command;
 use crate::made::made_inputs;
 use crate::stop::Stop;
 use adv_base::limits::{MOST_CERTIFICATE_BYTES, MOST_FILE_BYTES};
 use adv_base::{Bytes, List, NoMemory};
-use adv_shelf::{GetFault, Shelf, read_all};
+use adv_shelf::{GetFault, Shelf, feed_all, read_all};
+use certificate::Scanner;
+use command_line::Command;
 use report::{Refusal, Role};
 use std::alloc::Global;
 
@@ -25,7 +27,15 @@ pub struct FileUse<'a> {
     pub most: u64,
 }
 
-/// A catalogue, a workload or a configuration.
+/// What was read of a command's files: the bytes of those that are read whole, and of a certificate behind them what a
+/// scanner keeps.
+#[derive(Drop)]
+pub(crate) struct Inputs {
+    pub whole: List<Bytes>,
+    pub scanner: Option<Scanner>,
+}
+
+/// A catalogue, a workload, a configuration or rules.
 fn plain_file<'a>(role: Role, name: &'a str) -> FileUse<'a>
     ensures { input_file result.role result.name.now result.most ≡ input_file role name.now MOST_FILE_BYTES }
 {
@@ -37,7 +47,7 @@ fn plain_file<'a>(role: Role, name: &'a str) -> FileUse<'a>
 }
 
 /// A certificate, the third file of a command.
-fn certificate_file<'a>(name: &'a str) -> FileUse<'a>
+pub(crate) fn certificate_file<'a>(name: &'a str) -> FileUse<'a>
     ensures { input_file result.role result.name.now result.most ≡ input_file Third name.now MOST_CERTIFICATE_BYTES }
 {
     FileUse {
@@ -60,6 +70,26 @@ fn read_file<S: Shelf>(alloc: Global, shelf: &mut S, file: &FileUse<'_>) -> Resu
 {
     match read_all(alloc, shelf, file.name, file.most) {
         Ok(bytes) => Ok(bytes),
+        Err(GetFault::Memory) => Err(Stop::Memory),
+        Err(GetFault::Failed) => Err(Stop::Failed(file.role)),
+        Err(GetFault::TooLong) => Err(Stop::Refused(Refusal::TooLong(file.role))),
+    }
+}
+
+/// A scanner that was handed a file, piece by piece to its end.
+fn scan_file<S: Shelf>(alloc: Global, shelf: &mut S, file: &FileUse<'_>) -> Result<Scanner, Stop>
+    ensures scanned { IfOk result (λ scanner. SomeInput (S.files shelf.old) (input_file file.now.role file.now.name.now file.now.most) (StandsFor scanner)) }
+    ensures stop { IfErr result (IsUnreadFile (S.files shelf.old) (counts (S.read_faults shelf.old) (S.read_faults_at shelf.old))
+        (counts (S.read_faults shelf.new) (S.read_faults_at shelf.new)) (input_file file.now.role file.now.name.now file.now.most)) }
+
+    ensures files { S.files shelf.new ≡ S.files shelf.old }
+    ensures counts { S.read_faults shelf.old ≤ S.read_faults shelf.new }
+    ensures counts_at { (n : List ℕ) → S.read_faults_at shelf.old n ≤ S.read_faults_at shelf.new n }
+    ensures puts { S.put_faults shelf.new ≡ S.put_faults shelf.old }
+{
+    let mut scanner = Scanner::new(alloc)?;
+    match feed_all(shelf, file.name, file.most, &mut scanner) {
+        Ok(_) => Ok(scanner),
         Err(GetFault::Memory) => Err(Stop::Memory),
         Err(GetFault::Failed) => Err(Stop::Failed(file.role)),
         Err(GetFault::TooLong) => Err(Stop::Refused(Refusal::TooLong(file.role))),
@@ -105,15 +135,15 @@ fn read_each<S: Shelf>(
     Ok(List { items: inputs })
 }
 
-/// The bytes that a command answers from: those of all its files, read in the order in which it names them; for `bench`,
-/// which reads none, those that are made.
-pub(crate) fn inputs_of<S: Shelf>(
+/// The bytes of the files that a command reads whole, in the order in which it names them; for `bench`, which reads none,
+/// those that are made.
+fn whole_of<S: Shelf>(
     alloc: Global,
     shelf: &mut S,
     command: &Command<'_>,
 ) -> Result<List<Bytes>, Stop>
     requires { IsInRange (plain_command command.now) }
-    ensures inputs { IfOk result (HasInputs (S.files shelf.old) (plain_command command.now)) }
+    ensures whole { IfOk result (HasWhole (S.files shelf.old) (plain_command command.now)) }
     ensures stop { IfErr result (StopsAtFiles (plain_command command.now) (S.files shelf.old)
         (counts (S.read_faults shelf.old) (S.read_faults_at shelf.old)) (counts (S.read_faults shelf.new) (S.read_faults_at shelf.new))) }
 
@@ -132,25 +162,34 @@ pub(crate) fn inputs_of<S: Shelf>(
             ];
             read_each(alloc, shelf, &files)
         }
-        Command::WhatIf { cat, load, conf }
+        Command::Check { cat, load, .. } => {
+            let files = [
+                plain_file(Role::Catalogue, cat),
+                plain_file(Role::Workload, load),
+            ];
+            read_each(alloc, shelf, &files)
+        }
+        Command::WhatIf {
+            cat,
+            load,
+            conf: third,
+        }
         | Command::Explain {
             cat,
             load,
-            conf,
+            conf: third,
+            ..
+        }
+        | Command::Ruled {
+            cat,
+            load,
+            rules: third,
             ..
         } => {
             let files = [
                 plain_file(Role::Catalogue, cat),
                 plain_file(Role::Workload, load),
-                plain_file(Role::Third, conf),
-            ];
-            read_each(alloc, shelf, &files)
-        }
-        Command::Check { cat, load, cert } => {
-            let files = [
-                plain_file(Role::Catalogue, cat),
-                plain_file(Role::Workload, load),
-                certificate_file(cert),
+                plain_file(Role::Third, third),
             ];
             read_each(alloc, shelf, &files)
         }
@@ -160,6 +199,38 @@ pub(crate) fn inputs_of<S: Shelf>(
             statements,
             ..
         } => Ok(made_inputs(alloc, seed, tables, statements)?),
+    }
+}
+
+/// What a command answers from, read in the order in which it names its files. A certificate is scanned, whatever it holds.
+pub(crate) fn inputs_of<S: Shelf>(
+    alloc: Global,
+    shelf: &mut S,
+    command: &Command<'_>,
+) -> Result<Inputs, Stop>
+    requires { IsInRange (plain_command command.now) }
+    ensures inputs { IfOk result (HasRead (S.files shelf.old) (plain_command command.now)) }
+    ensures stop { IfErr result (StopsAtFiles (plain_command command.now) (S.files shelf.old)
+        (counts (S.read_faults shelf.old) (S.read_faults_at shelf.old)) (counts (S.read_faults shelf.new) (S.read_faults_at shelf.new))) }
+
+    ensures files { S.files shelf.new ≡ S.files shelf.old }
+    ensures counts { S.read_faults shelf.old ≤ S.read_faults shelf.new }
+    ensures counts_at { (n : List ℕ) → S.read_faults_at shelf.old n ≤ S.read_faults_at shelf.new n }
+    ensures puts { S.put_faults shelf.new ≡ S.put_faults shelf.old }
+{
+    let whole = whole_of(alloc, shelf, command)?;
+    match *command {
+        Command::Check { cert, .. } => {
+            let scanner = scan_file(alloc, shelf, &certificate_file(cert))?;
+            Ok(Inputs {
+                whole,
+                scanner: Some(scanner),
+            })
+        }
+        _ => Ok(Inputs {
+            whole,
+            scanner: None,
+        }),
     }
 }
 

@@ -18,13 +18,11 @@
 #![tactic(auto)]
 
 mod answer;
-mod command_line;
 mod commands;
 mod conf;
 mod files;
 mod laws;
 mod made;
-mod number;
 mod opened;
 mod planned;
 mod reply;

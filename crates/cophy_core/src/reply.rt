@@ -4,7 +4,7 @@ ghost use Rattle.adv_shelf.specs.Faults.{Rose};
 ghost use Rattle.adv_shelf.specs.Sink.{append_to, AppendsPrefix};
 ghost use Rattle.report.specs.Texts.{done_text, FitsSetting};
 ghost use Rattle.cophy_core.specs.Causes.{IsBounded};
-ghost use Rattle.cophy_core.specs.CommandLine.{texts};
+ghost use Rattle.command_line.specs.CommandLine.{texts};
 ghost use Rattle.cophy_core.specs.Files.{counts};
 ghost use Rattle.cophy_core.specs.Endings.{outside, plain_puts, put_all, Ends, IsUnput};
 

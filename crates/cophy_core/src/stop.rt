@@ -3,7 +3,8 @@ ghost use Rattle.std.specs.Prelude.{◌≡◌, None};
 ghost use Rattle.report.specs.Texts.{FitsSetting};
 ghost use Rattle.binder.specs.declared.fault.BindFault.TheVariants as bind;
 ghost use Rattle.catalogue.specs.declared.fault.CatFault.TheVariants as cat;
-ghost use Rattle.report.specs.declared.done.Refusal.TheVariants.{Cat as RefusedCat, Sql as RefusedSql, Bind as RefusedBind};
+ghost use Rattle.dba_rules.specs.declared.fault.RuleFault.TheVariants as rules;
+ghost use Rattle.report.specs.declared.done.Refusal.TheVariants.{Cat as RefusedCat, Sql as RefusedSql, Bind as RefusedBind, Rules as RefusedRules};
 ghost use Rattle.sql_reader.specs.declared.parsed.SqlFault.TheVariants as sql;
 ghost use Rattle.cophy_core.specs.Causes.{IsBounded};
 ghost use Rattle.cophy_core.specs.Stops.{done_of, IsStopOf};
@@ -12,6 +13,7 @@ ghost use Rattle.cophy_core.specs.declared.stop.Stop.TheVariants.{Memory as OutO
 use adv_base::NoMemory;
 use binder::BindFault;
 use catalogue::CatFault;
+use dba_rules::RuleFault;
 use report::{Done, Refusal, Role};
 use sql_reader::SqlFault;
 
@@ -63,6 +65,17 @@ impl From<BindFault> for Stop {
         match fault {
             BindFault::Memory => Stop::Memory,
             other => Stop::Refused(Refusal::Bind(other)),
+        }
+    }
+}
+
+impl From<RuleFault> for Stop {
+    ghost from_gives = { λ fault stop. IsStopOf rules.Memory RefusedRules fault stop };
+
+    fn from(fault: RuleFault) -> Self {
+        match fault {
+            RuleFault::Memory => Stop::Memory,
+            other => Stop::Refused(Refusal::Rules(other)),
         }
     }
 }

@@ -1,10 +1,10 @@
 //! The call that the program makes.
 ghost use Rattle.std.specs.Prelude.{◌≡◌, ◌≢◌, ◌≤◌, ◌⊎◌, ℕ, List, Some, Ok, Err};
 ghost use Rattle.adv_shelf.specs.Shelf.{Files};
-ghost use Rattle.report.specs.declared.done.WordFault.{WordFault};
+ghost use Rattle.command_line.specs.declared.fault.WordFault.{WordFault};
 ghost use Rattle.cophy_core.specs.Causes.{gap_status, status_of, IsAnswered, IsOrMemory, IsSteady, UsageIsTrue, ReadFaultIsTrue, WriteFaultIsTrue, RefusalIsTrue, NotProvedIsTrue, GapIsTrue, MemoryWritesNothing, IsSound, IsWritten, IsBounded};
 ghost use Rattle.cophy_core.specs.Answers.{Answers};
-ghost use Rattle.cophy_core.specs.CommandLine.{texts, PlainCommand, command_of};
+ghost use Rattle.command_line.specs.CommandLine.{texts, PlainCommand, command_of};
 ghost use Rattle.cophy_core.specs.Endings.{outside};
 ghost use Rattle.cophy_core.specs.Files.{counts};
 ghost use Rattle.cophy_core.specs.Headline.{Asked, asked_command, IsAccepted, Headline};
@@ -55,6 +55,7 @@ fn status(done: &Done) -> u8
         Done::Advised(advice) => advice_status(advice),
         Done::Checked(_) => 0,
         Done::NotProved(_) => 6,
+        Done::Ruled(ruled) => advice_status(&ruled.advice),
         Done::Benched(bench) => advice_status(&bench.advice),
     }
 }

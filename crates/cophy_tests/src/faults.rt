@@ -9,7 +9,7 @@ use std::path::AsPath;
 use std::process::Abort;
 use std::{env, fs, process};
 
-/// The catalogue of one table, a workload of one statement and an empty configuration.
+/// The catalogue of one table, a workload of one statement and an empty file.
 const ONE_TABLE: Files<'static> = Files {
     cat: "T",
     load: "SELECT c FROM t",
@@ -24,7 +24,7 @@ const CERTIFIED: Files<'static> = Files {
 };
 
 /// As LINES, over these.
-const PROVED: &str = "6|check CAT LOAD CONF|proved cost 954000 bound 954000 budget 4~";
+const PROVED: &str = "8|check CAT LOAD CONF|proved cost 954000 bound 954000 budget 4~";
 
 /// How many calls read files, a command line, and what it prints where nothing fails; `~` stands for a line feed.
 const LINES: &str = r#"4|cost CAT LOAD|statement 1 weight 1 cost 30000~total 30000~
@@ -33,6 +33,7 @@ const LINES: &str = r#"4|cost CAT LOAD|statement 1 weight 1 cost 30000~total 300
 5|explain CAT LOAD CONF 2|refused: no statement 2 of 1~
 5|whatif CAT LOAD CONF|size 0~statement 1 weight 1 cost 30000~total 30000~
 5|check CAT LOAD CONF|not proved: malformed at line 1~
+5|ruled CAT LOAD 0 CONF|must 0 never 0~budget 0~candidates 1 left over 0~size 0~cost 30000~bound 30000~gap 0~nodes 1 of 20000~finished~
 0|cost CAT|usage: missing word 3~
 0|bench 1 2 5 0|tables 2~statements 5~slots 6~budget 0~candidates 11 left over 0~size 0~cost 4944003918~bound 4944003918~gap 0~nodes 1 of 20000~finished~"#;
 
@@ -70,7 +71,7 @@ fn assert_run(
 /// Lets the call of each number fail, until the run of a line meets no failure.
 fn assert_reads(rt: &impl Abort, alloc: Global, files: &Files<'_>, case: &str) {
     let (calls, words, output) = parts(rt, case);
-    let names = ["CAT", "CAT", "LOAD", "LOAD", "CONF", "CONF"];
+    let names = ["CAT", "CAT", "LOAD", "LOAD", "CONF", "CONF", "CONF", "CONF"];
     for (i, name) in names.iter().enumerate() {
         if (i as u64) < calls {
             let output = format!(in alloc; "read fault: {name}~").expect(rt, "memory");
@@ -88,7 +89,7 @@ fn assert_reads(rt: &impl Abort, alloc: Global, files: &Files<'_>, case: &str) {
 }
 
 /// Where a read fails its file is named; an empty file is read by one call, any other by two, of which the second finds
-/// its end.
+/// its end. A certificate is read so twice: its text, and then its tree.
 #[test]
 fn a_failed_read_is_told_with_the_name_of_its_file(rt: HostRuntime) {
     for case in LINES.lines() {

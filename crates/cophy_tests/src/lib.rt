@@ -8,6 +8,8 @@ mod catalogues;
 #[cfg(test)]
 mod certificates;
 #[cfg(test)]
+mod changing;
+#[cfg(test)]
 mod faults;
 #[cfg(test)]
 mod files;

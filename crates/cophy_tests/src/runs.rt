@@ -1,7 +1,7 @@
 //! Worked examples, from words and files to bytes. Each cost was computed by hand, by the rules of the cost model.
 //!
 //! A line of a table is the exit status, the words, the name of the catalogue in CAT or, behind `=`, its text, the
-//! workload in LOAD, the configuration in CONF, and the output. `~` stands for a line feed.
+//! workload in LOAD, the configuration or the rules in CONF, and the output. `~` stands for a line feed.
 use crate::files::Files;
 use crate::scene::{answer, assert_told, spread};
 use adv_shelf::MemShelf;
@@ -35,6 +35,9 @@ const PRICES: &str =
 /// Refusals.
 const REFUSALS: &str =
     r#"5|cost CAT LOAD|T|SELECT c FROM t WHERE c = 1 OR c = 2||refused: unsupported at 29~
+5|ruled CAT LOAD 4 CONF|KNAP|-- weight 10~SELECT c FROM t ORDER BY c;~-- weight 11~SELECT d, e FROM v ORDER BY d, e;~|must t(c)~must v(d, e)~|refused: rules need 7 over 4~
+5|ruled CAT LOAD 4 CONF|KNAP|-- weight 10~SELECT c FROM t ORDER BY c;~-- weight 11~SELECT d, e FROM v ORDER BY d, e;~|must t(c)~never t.c~|refused: rules line 2 contradicts on 1~
+5|ruled CAT LOAD 4 CONF|KNAP|-- weight 10~SELECT c FROM t ORDER BY c;~-- weight 11~SELECT d, e FROM v ORDER BY d, e;~|never u~must t(c,n)|refused: rules no table at line 1~
 5|cost CAT LOAD|T|SELECT * FROM||refused: syntax at 14~
 5|cost CAT LOAD|T|SELECT 'ab||refused: open text at 8~
 5|cost CAT LOAD|T|SELECT # FROM t||refused: bad byte at 8~
@@ -109,6 +112,9 @@ const ADVICE: &str =
     r#"1-3|0|advise CAT LOAD 3|T|SELECT p.c FROM t p, t q WHERE p.c = q.c -- 94000 without||budget 3~candidates 1 left over 0~pick 1 t(c) 3 pages~size 3~cost 46000~bound 46000~gap 0~nodes # of 20000~finished~
 1-127|0|advise CAT LOAD 3000|ORDERS|-- weight 50~SELECT o.o_id, o.o_date, sum(l.l_price) AS revenue~FROM customer c JOIN orders o ON c.c_id = o.o_cust JOIN lineitem l ON l.l_order = o.o_id~WHERE c.c_segment = 'BUILDING' AND o.o_date BETWEEN DATE '1995-01-01' AND DATE '1995-03-31'~GROUP BY o.o_id, o.o_date ORDER BY revenue DESC, o.o_date LIMIT 10;~||budget 3000~candidates 8 left over 0~pick 2 customer(c_segment, c_id) 56 pages~pick 6 orders(o_date, o_id, o_cust) 589 pages~pick 8 lineitem(l_order, l_price) 2063 pages~size 2708~cost 583783100~bound 583783100~gap 0~nodes # of 20000~finished~
 3-5|0|advise CAT LOAD 4|KNAP|-- weight 10~SELECT c FROM t ORDER BY c;~-- weight 11~SELECT d, e FROM v ORDER BY d, e;~||budget 4~candidates 2 left over 0~pick 2 v(d, e) 4 pages~size 4~cost 954000~bound 954000~gap 0~nodes # of 20000~finished~
+1-3|0|ruled CAT LOAD 4 CONF|KNAP|-- weight 10~SELECT c FROM t ORDER BY c;~-- weight 11~SELECT d, e FROM v ORDER BY d, e;~|never v~|must 0 never 1~budget 4~candidates 2 left over 0~pick 1 t(c) 3 pages~size 3~cost 1010000~bound 1010000~gap 0~nodes # of 20000~finished~
+1-1|0|ruled CAT LOAD 7 CONF|KNAP|-- weight 10~SELECT c FROM t ORDER BY c;~-- weight 11~SELECT d, e FROM v ORDER BY d, e;~|never t~never v.e~|must 0 never 2~budget 7~candidates 2 left over 0~size 0~cost 1680000~bound 1680000~gap 0~nodes # of 20000~finished~
+3-5|0|ruled CAT LOAD 4 CONF|KNAP|-- weight 10~SELECT c FROM t ORDER BY c;~-- weight 11~SELECT d, e FROM v ORDER BY d, e;~||must 0 never 0~budget 4~candidates 2 left over 0~pick 2 v(d, e) 4 pages~size 4~cost 954000~bound 954000~gap 0~nodes # of 20000~finished~
 3-5|0|advise CAT LOAD 4 --nodes 7|KNAP|-- weight 10~SELECT c FROM t ORDER BY c;~-- weight 11~SELECT d, e FROM v ORDER BY d, e;~||budget 4~candidates 2 left over 0~pick 2 v(d, e) 4 pages~size 4~cost 954000~bound 954000~gap 0~nodes # of 7~finished~
 1-1|0|advise CAT LOAD 0|KNAP|-- weight 10~SELECT c FROM t ORDER BY c;~-- weight 11~SELECT d, e FROM v ORDER BY d, e;~||budget 0~candidates 2 left over 0~size 0~cost 1680000~bound 1680000~gap 0~nodes # of 20000~finished~
 1-3|0|advise CAT LOAD 10|T|SELECT c FROM t ORDER BY c; UPDATE t SET c = 1 -- its upkeep is 16020000||budget 10~candidates 1 left over 0~size 0~cost 110000~bound 110000~gap 0~nodes # of 20000~finished~

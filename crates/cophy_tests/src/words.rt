@@ -48,7 +48,13 @@ Err(UnknownOption(5))|advise c l 10 --
 Err(Extra(5))|advise c l 10 -n
 Err(Extra(9))|advise c l 10 --nodes 5 --cert f x
 Err(Missing(6))|advise c l 10 --cert
-Err(Missing(6))|advise c l 10 --nodes"#;
+Err(Missing(6))|advise c l 10 --nodes
+Ok(Ruled { cat: "c", load: "l", budget: 4, rules: "r", nodes: 20000, cert: None })|ruled c l 4 r
+Ok(Ruled { cat: "c", load: "l", budget: 4, rules: "--r", nodes: 7, cert: Some("f") })|ruled c l 4 --r --cert f --nodes 7
+Err(BadNumber(4))|ruled c l r 4
+Err(Missing(5))|ruled c l 4
+Err(UnknownOption(6))|ruled c l 4 r --fast
+Err(Extra(6))|ruled c l 4 r x"#;
 
 /// The bytes of configuration files over three candidates, in which `~` stands for a line feed: the first faulty line,
 /// or the candidates with a blank behind each, `|` and the bytes.

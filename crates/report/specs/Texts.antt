@@ -1,5 +1,6 @@
 -- The texts that stand for answers. Each line ends with a line feed.
 use Rattle.std.specs.Fmt.{signed_decimal}
+use Rattle.std.specs.Str.{bytes_eq}
 use Rattle.std.specs.Prelude.{◌≡◌, ℕ, suc, ◌+◌, ◌-◌, ◌<◌, ◌==◌, if◌then◌else◌, ℤ, pos, negsuc, ◌≤ℤ◌, All, List, [], ◌∷◌, ◌++◌, length, codes, decimal, Option, Some, None, slice_get, unwrap_or}
 use Rattle.adv_base.specs.declared.workload.Statement.{Statement}
 use Rattle.adv_base.specs.Configs.{config_pages}
@@ -9,6 +10,8 @@ use Rattle.binder.specs.declared.fault.BindFault.TheVariants as bind
 use Rattle.candidates.specs.declared.answer.Candidates.{Candidates}
 use Rattle.catalogue.specs.declared.fault.CatFault.{CatFault}
 use Rattle.catalogue.specs.declared.fault.CatFault.TheVariants as cat
+use Rattle.dba_rules.specs.declared.fault.RuleFault.{RuleFault}
+use Rattle.dba_rules.specs.declared.fault.RuleFault.TheVariants as rules
 use Rattle.gap_checker.specs.declared.fault.Checked.{Checked}
 use Rattle.gap_checker.specs.declared.fault.CheckFault.{CheckFault}
 use Rattle.gap_checker.specs.declared.fault.CheckFault.TheVariants as check
@@ -18,17 +21,18 @@ use Rattle.sql_reader.specs.declared.parsed.SqlFault.TheVariants as sql
 use Rattle.report.specs.declared.done.Advice.{Advice}
 use Rattle.report.specs.declared.done.Bench.{Bench}
 use Rattle.report.specs.declared.done.Done.{Done}
-use Rattle.report.specs.declared.done.Done.TheVariants.{Usage, ReadFault, Refused, Priced, Listed, Explained as ExplainedDone, Advised, Checked as CheckedDone, NotProved as NotProvedDone, Benched}
+use Rattle.report.specs.declared.done.Done.TheVariants.{Usage, ReadFault, Refused, Priced, Listed, Explained as ExplainedDone, Advised, Ruled as RuledDone, Checked as CheckedDone, NotProved as NotProvedDone, Benched}
 use Rattle.report.specs.declared.done.Explained.{Explained}
+use Rattle.report.specs.declared.done.Ruled.{Ruled}
 use Rattle.report.specs.declared.done.NotProved.{NotProved}
 use Rattle.report.specs.declared.done.NotProved.TheVariants.{Malformed, Fault}
 use Rattle.report.specs.declared.done.Prices.{Prices}
 use Rattle.report.specs.declared.done.Refusal.{Refusal}
-use Rattle.report.specs.declared.done.Refusal.TheVariants.{TooLong, Cat, Sql, Bind, NoStatement, BadConf, TooManyCombinations}
+use Rattle.report.specs.declared.done.Refusal.TheVariants.{TooLong, Cat, Sql, Bind, NoStatement, BadConf, Rules, TooManyCombinations}
 use Rattle.report.specs.declared.done.Role.{Role}
 use Rattle.report.specs.declared.done.Role.TheVariants.{Catalogue, Workload, Third}
-use Rattle.report.specs.declared.done.WordFault.{WordFault}
-use Rattle.report.specs.declared.done.WordFault.TheVariants.{NoCommand, UnknownCommand, Missing, Extra, UnknownOption, Twice, BadNumber}
+use Rattle.command_line.specs.declared.fault.WordFault.{WordFault}
+use Rattle.command_line.specs.declared.fault.WordFault.TheVariants.{NoCommand, UnknownCommand, Missing, Extra, UnknownOption, Twice, BadNumber}
 use Rattle.report.specs.Advices.{advices, EachAdvice}
 use Rattle.report.specs.Listings.{candidate_lines, pick_lines}
 use Rattle.report.specs.Paths.{path_text}
@@ -52,15 +56,20 @@ word_fault (UnknownOption w) = numbered (codes "unknown option at word ") w
 word_fault (Twice w) = numbered (codes "option twice at word ") w
 word_fault (BadNumber w) = numbered (codes "bad number at word ") w
 
+-- `ruled` has its budget before its third file
+abbrev pub third_word : Option (List ℕ) → ℕ
+third_word None = 3
+third_word (Some command) = if bytes_eq command (codes "ruled") then 4 else 3
+
 -- the word that names a file
-abbrev pub role_word : Role → ℕ
-role_word Catalogue = 1
-role_word Workload = 2
-role_word Third = 3
+abbrev pub role_word : List (List ℕ) → Role → ℕ
+role_word words Catalogue = 1
+role_word words Workload = 2
+role_word words Third = third_word (slice_get words 0)
 
 -- the file's name, as the words give it
 unfoldable pub file_name : List (List ℕ) → Role → List ℕ
-file_name words role = unwrap_or (slice_get words (role_word role)) []
+file_name words role = unwrap_or (slice_get words (role_word words role)) []
 
 abbrev pub cat_fault : CatFault → List ℕ
 cat_fault cat.Memory = []
@@ -90,6 +99,16 @@ bind_fault (bind.TooManySlots p) = numbered (codes "more than 8 slots at ") p
 bind_fault (bind.Unjoined p) = numbered (codes "unjoined at ") p
 bind_fault (bind.TooManySlotsInAll p) = numbered (codes "more than 2000 slots at ") p
 
+abbrev pub rule_fault : RuleFault → List ℕ
+rule_fault rules.Memory = []
+rule_fault (rules.BadLine number) = numbered (codes "rules line ") number
+rule_fault (rules.NoTable number) = numbered (codes "rules no table at line ") number
+rule_fault (rules.NoColumn number) = numbered (codes "rules no column at line ") number
+rule_fault (rules.NotCandidate number) = numbered (codes "rules no candidate at line ") number
+rule_fault (rules.Contrary number candidate) = numbered (codes "rules line ") number ++ numbered (codes " contradicts on ") candidate
+rule_fault (rules.TooLarge size budget) = numbered (codes "rules need ") size ++ numbered (codes " over ") budget
+rule_fault (rules.Clash first second) = numbered (codes "rules clash on ") first ++ numbered (codes " and ") second
+
 -- a refusal, behind `refused: `
 abbrev pub refusal : List (List ℕ) → Refusal → List ℕ
 refusal words (TooLong role) = codes "too long " ++ file_name words role
@@ -98,6 +117,7 @@ refusal words (Sql fault) = sql_fault fault
 refusal words (Bind fault) = bind_fault fault
 refusal words (NoStatement n count) = numbered (codes "no statement ") n ++ numbered (codes " of ") count
 refusal words (BadConf line) = numbered (codes "configuration line ") line
+refusal words (Rules fault) = rule_fault fault
 refusal words (TooManyCombinations n count) =
     numbered (codes "statement ") n ++ (numbered (codes " has ") count ++ codes " combinations")
 
@@ -185,6 +205,14 @@ abbrev pub advised_text : Option TheSetting → Advice → List ℕ
 advised_text None advice = []
 advised_text (Some setting) advice = advice_text setting advice
 
+-- how many candidates rules make in, and how many out
+abbrev pub rules_text : ℕ → ℕ → List ℕ
+rules_text must never = line (numbered (codes "must ") must ++ numbered (codes " never ") never)
+
+-- advice under rules
+abbrev pub ruled_text : Option TheSetting → Ruled → List ℕ
+ruled_text setting ruled = rules_text ruled.must ruled.never ++ advised_text setting ruled.advice
+
 -- how large a made workload is
 abbrev pub sizes_text : ℕ → ℕ → ℕ → List ℕ
 sizes_text tables statements slots =
@@ -233,6 +261,7 @@ done_text words setting (Priced prices) = prices_text (statements_in setting) pr
 done_text words setting (Listed found) = listed_text setting found
 done_text words setting (ExplainedDone explained) = explained_text explained
 done_text words setting (Advised advice) = advised_text setting advice
+done_text words setting (RuledDone ruled) = ruled_text setting ruled
 done_text words setting (CheckedDone checked) = checked_text checked
 done_text words setting (NotProvedDone why) = line (codes "not proved: " ++ not_proved why)
 done_text words setting (Benched bench) = benched_text setting bench

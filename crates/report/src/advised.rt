@@ -4,11 +4,11 @@ ghost use Rattle.adv_base.specs.declared.limits.TheConstants.{MOST_CANDIDATES};
 ghost use Rattle.adv_base.specs.Named.{NamesShape};
 ghost use Rattle.report.specs.Listings as lists;
 ghost use Rattle.adv_base.specs.Settings.{the_setting};
-ghost use Rattle.report.specs.Texts.{gap, line, numbered, proposal_text, worth_text, end_word, search_text, advice_text, advised_text, sizes_text, benched_text, IsBoundedBy, IsAdvice};
+ghost use Rattle.report.specs.Texts.{gap, line, numbered, proposal_text, worth_text, end_word, search_text, advice_text, advised_text, rules_text, ruled_text, sizes_text, benched_text, IsBoundedBy, IsAdvice};
 
 use crate::listed::push_line;
 use crate::usage::{push_numbered, push_signed};
-use crate::{Advice, Bench};
+use crate::{Advice, Bench, Ruled};
 use adv_base::{Catalogue, Config, IndexShape, Setting};
 use hypo_indexes::config_pages;
 use std::alloc::{AllocError, Global};
@@ -172,6 +172,29 @@ pub(crate) fn push_advised(
         None => Ok(()),
         Some(setting) => push_advice(alloc, out, setting, advice),
     }
+}
+
+/// Adds how many candidates rules make in, and how many out.
+fn push_rules(alloc: Global, out: &mut Vec<u8>, must: u32, never: u32) -> Result<(), AllocError>
+    ensures { OnOk result (out.new.items ≡ out.old.items ++ rules_text must never) }
+{
+    push_numbered(alloc, out, b"must ", must as u128)?;
+    push_numbered(alloc, out, b" never ", never as u128)?;
+    out.extend_from_slice(b"\n")
+}
+
+/// Adds the text of advice under rules, over the setting that is there.
+pub(crate) fn push_ruled(
+    alloc: Global,
+    out: &mut Vec<u8>,
+    setting: Option<&Setting<'_>>,
+    ruled: &Ruled,
+) -> Result<(), AllocError>
+    requires { IsAdvice (option_map (λ s. the_setting s.now) setting) ruled.now.advice }
+    ensures { OnOk result (out.new.items ≡ out.old.items ++ ruled_text (option_map (λ s. the_setting s.now) setting.entry) ruled.now) }
+{
+    push_rules(alloc, out, ruled.must, ruled.never)?;
+    push_advised(alloc, out, setting, &ruled.advice)
 }
 
 /// Adds how large a made workload is.

@@ -4,22 +4,11 @@ use binder::BindFault;
 use bip_model::Answer;
 use candidates::Candidates;
 use catalogue::CatFault;
+use command_line::WordFault;
+use dba_rules::RuleFault;
 use gap_checker::{CheckFault, Checked};
 use plan_model::Whole;
 use sql_reader::SqlFault;
-
-/// Why the words of the command line ask for nothing. A number is that of the word, from 1; of `Missing`, that of the
-/// word that isn't there.
-#[derive(Clone, Copy, Debug, PartialEq, Eq)]
-pub enum WordFault {
-    NoCommand,
-    UnknownCommand(u32),
-    Missing(u32),
-    Extra(u32),
-    UnknownOption(u32),
-    Twice(u32),
-    BadNumber(u32),
-}
 
 /// Which file is meant, in the order of the words.
 #[derive(Clone, Copy, Debug, PartialEq, Eq)]
@@ -44,6 +33,8 @@ pub enum Refusal {
     NoStatement(u32, u32),
     /// The configuration is at fault in that line.
     BadConf(u64),
+    /// The rules are at fault, or what has to be doesn't fit.
+    Rules(RuleFault),
     /// The statement of that number has this many combinations of interesting orders, too many for a cache of its plans.
     TooManyCombinations(u32, u64),
 }
@@ -87,6 +78,14 @@ pub struct Advice {
     pub answer: Answer,
 }
 
+/// Advice under rules: how many candidates they make in, and how many out.
+#[derive(Drop)]
+pub struct Ruled {
+    pub must: u32,
+    pub never: u32,
+    pub advice: Advice,
+}
+
 /// Advice on a made workload, with how large that is: its tables, its statements, and the slots of all of them (tables that
 /// their blocks read, each as often as it stands there).
 #[derive(Drop)]
@@ -109,6 +108,7 @@ pub enum Done {
     Listed(Candidates),
     Explained(Explained),
     Advised(Advice),
+    Ruled(Ruled),
     Checked(Checked),
     NotProved(NotProved),
     Benched(Bench),

@@ -2,8 +2,8 @@
 //!
 //! `Done` is an answer: a list of prices or of candidates, an explained plan, advice, what a certificate proves or why it
 //! proves nothing, a refusal, a fault. `text` gives the bytes that stand for it on the output: one line a fact, each ended by
-//! a line feed. Costs are in thousandths of a page read, places are byte
-//! offsets from 1, and numbers of statements, words and lines count from 1. Finding an answer is left to others.
+//! a line feed. Costs are in thousandths of a page read, places are byte offsets from 1, and numbers of statements, words and
+//! lines count from 1. Finding an answer is left to others.
 //!
 //! ```rust
 //! let done = Done::Checked(Checked {
@@ -25,5 +25,6 @@ mod printed;
 mod refusal;
 mod usage;
 
-pub use done::{Advice, Bench, Done, Explained, NotProved, Prices, Refusal, Role, WordFault};
+pub use command_line::WordFault;
+pub use done::{Advice, Bench, Done, Explained, NotProved, Prices, Refusal, Role, Ruled};
 pub use printed::text;

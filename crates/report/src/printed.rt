@@ -4,7 +4,7 @@ ghost use Rattle.adv_base.specs.Named.{NamesShape};
 ghost use Rattle.adv_base.specs.Settings.{the_setting};
 ghost use Rattle.report.specs.Texts.{size_line, cost_line, cost_lines, prices_text, plan_part, explained_text, done_text, line, word_fault, file_name, refusal, statements_in, listed_text, AreNamedIn, FitsSetting};
 
-use crate::advised::{push_advised, push_benched};
+use crate::advised::{push_advised, push_benched, push_ruled};
 use crate::checked::{push_checked, push_unproved};
 use crate::listed::push_candidates;
 use crate::refusal::{push_about_file, push_refusal};
@@ -192,6 +192,7 @@ fn push_done(
         Done::Listed(found) => push_listed(alloc, out, setting, found),
         Done::Explained(explained) => push_explained(alloc, out, explained),
         Done::Advised(advice) => push_advised(alloc, out, setting, advice),
+        Done::Ruled(ruled) => push_ruled(alloc, out, setting, ruled),
         Done::Checked(checked) => push_checked(alloc, out, checked),
         Done::NotProved(why) => push_unproved(alloc, out, *why),
         Done::Benched(bench) => push_benched(alloc, out, setting, bench),

@@ -1,6 +1,6 @@
 //! The texts of refusals.
-ghost use Rattle.std.specs.Prelude.{◌≡◌, ◌++◌, OnOk, codes, map, string_bytes};
-ghost use Rattle.report.specs.Texts.{role_word, file_name as name_of_file, cat_fault, sql_fault, bind_fault, refusal, numbered};
+ghost use Rattle.std.specs.Prelude.{◌≡◌, ◌++◌, OnOk, Some, codes, map, slice_get, string_bytes};
+ghost use Rattle.report.specs.Texts.{role_word, third_word, file_name as name_of_file, rule_fault, cat_fault, sql_fault, bind_fault, refusal, numbered};
 ghost use Rattle.report.specs.Paths.{path_text};
 
 use crate::path::push_path;
@@ -8,6 +8,7 @@ use crate::usage::push_numbered;
 use crate::{Refusal, Role};
 use binder::BindFault;
 use catalogue::{CatFault, KeyPath};
+use dba_rules::RuleFault;
 use sql_reader::SqlFault;
 use std::alloc::{AllocError, Global};
 
@@ -16,7 +17,7 @@ use std::alloc::{AllocError, Global};
 fn push_file_name(out: &mut Vec<u8>, words: &[String], role: Role) -> Result<(), AllocError>
     ensures { OnOk result (out.new.items ≡ out.old.items ++ name_of_file (map string_bytes words.now) role) }
 {
-    match words.get(role_index(role)) {
+    match words.get(role_index(words, role)) {
         Some(word) => out.extend_from_slice(word.as_bytes()),
         None => Ok(()),
     }
@@ -35,14 +36,31 @@ pub(crate) fn push_about_file(
     push_file_name(out, words, role)
 }
 
+/// The same where there is a command.
+fn third_of(command: &[u8]) -> usize
+    ensures { result ≡ third_word (Some command.now) }
+{
+    if command == b"ruled".as_slice() { 4 } else { 3 }
+}
+
+/// The number of the word that names the third file, from 0: `ruled` has its budget before it.
+fn third_index(words: &[String]) -> usize
+    ensures { result ≡ third_word (slice_get (map string_bytes words.now) 0) }
+{
+    match words.first() {
+        Some(command) => third_of(command.as_bytes()),
+        None => 3,
+    }
+}
+
 /// The number of the word that names a file, from 0.
-fn role_index(role: Role) -> usize
-    ensures { result ≡ role_word role }
+fn role_index(words: &[String], role: Role) -> usize
+    ensures { result ≡ role_word (map string_bytes words.now) role }
 {
     match role {
         Role::Catalogue => 1,
         Role::Workload => 2,
-        Role::Third => 3,
+        Role::Third => third_index(words),
     }
 }
 
@@ -112,6 +130,55 @@ fn push_bind_fault(alloc: Global, out: &mut Vec<u8>, fault: BindFault) -> Result
     }
 }
 
+/// Adds words, a number, words and a number.
+fn push_two(
+    alloc: Global,
+    out: &mut Vec<u8>,
+    before: &[u8],
+    first: u128,
+    between: &[u8],
+    second: u128,
+) -> Result<(), AllocError>
+    ensures { OnOk result (out.new.items ≡ out.old.items ++ (numbered before.now first ++ numbered between.now second)) }
+{
+    push_numbered(alloc, out, before, first)?;
+    push_numbered(alloc, out, between, second)
+}
+
+/// Adds a fault of rules.
+fn push_rule_fault(alloc: Global, out: &mut Vec<u8>, fault: RuleFault) -> Result<(), AllocError>
+    ensures { OnOk result (out.new.items ≡ out.old.items ++ rule_fault fault) }
+{
+    match fault {
+        RuleFault::Memory => Ok(()),
+        RuleFault::BadLine(n) => push_numbered(alloc, out, b"rules line ", n as u128),
+        RuleFault::NoTable(n) => push_numbered(alloc, out, b"rules no table at line ", n as u128),
+        RuleFault::NoColumn(n) => push_numbered(alloc, out, b"rules no column at line ", n as u128),
+        RuleFault::NotCandidate(n) => {
+            push_numbered(alloc, out, b"rules no candidate at line ", n as u128)
+        }
+        RuleFault::Contrary(n, candidate) => push_two(
+            alloc,
+            out,
+            b"rules line ",
+            n as u128,
+            b" contradicts on ",
+            candidate as u128,
+        ),
+        RuleFault::TooLarge(size, budget) => {
+            push_two(alloc, out, b"rules need ", size, b" over ", budget as u128)
+        }
+        RuleFault::Clash(first, second) => push_two(
+            alloc,
+            out,
+            b"rules clash on ",
+            first as u128,
+            b" and ",
+            second as u128,
+        ),
+    }
+}
+
 /// Adds that there is no statement of a number.
 fn push_no_statement(
     alloc: Global,
@@ -159,6 +226,7 @@ pub(crate) fn push_refusal(
         Refusal::BadConf(line) => {
             push_numbered(alloc, out, b"configuration line ", line as u128)
         }
+        Refusal::Rules(fault) => push_rule_fault(alloc, out, fault),
         Refusal::TooManyCombinations(number, count) => {
             push_combinations(alloc, out, number, count)
         }

@@ -4,8 +4,6 @@ use Rattle.adv_base.specs.Settings.{TheSetting}
 use Rattle.bip_model.specs.Laws.{BoundsAll}
 use Rattle.bip_model.specs.Proves.{free_node}
 use Rattle.certificate.specs.declared.cert.Cert.{Cert}
-use Rattle.certificate.specs.declared.cert.CertFault.{CertFault}
-use Rattle.certificate.specs.declared.cert.CertFault.TheVariants as reading
 use Rattle.certificate.specs.Certificates.{IsCertificate, BreaksAt}
 use Rattle.gap_checker.specs.declared.fault.Checked.{Checked}
 use Rattle.gap_checker.specs.declared.fault.CheckFault.{CheckFault}
@@ -36,11 +34,6 @@ pub record IsFaulty (setting : TheSetting) (bytes : List ℕ) (fault : CheckFaul
 abbrev pub ProvesNothing : TheSetting → List ℕ → NotProved → Type 0
 ProvesNothing setting bytes (Malformed line) = BreaksAt bytes line
 ProvesNothing setting bytes (Fault fault) = IsFaulty setting bytes fault
-
--- why bytes prove nothing at a fault of reading them
-abbrev pub IsUnread : CertFault → NotProved → Type 0
-IsUnread reading.Memory why = ⊥
-IsUnread (reading.Malformed line) why = why ≡ Malformed line
 
 -- what is proved, or why nothing is
 abbrev pub Gives : List ℕ → TheSetting → Done → Type 0

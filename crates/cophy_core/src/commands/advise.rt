@@ -33,7 +33,7 @@ fn free_root() -> Fix
 }
 
 /// A configuration has a flag for each candidate that there may be.
-fn has_all_flags(config: &Config)
+pub(crate) fn has_all_flags(config: &Config)
     ensures { length config.now.on ≡ MOST_CANDIDATES }
 {
     let _flags = config.on;
@@ -70,7 +70,7 @@ fn one_put(
 }
 
 /// The certificate of an answer, to be put where a file is named for it.
-fn certified(
+pub(crate) fn certified(
     alloc: Global,
     programme: &Programme,
     budget: u64,

@@ -9,10 +9,10 @@ ghost use Rattle.cophy_core.specs.Causes.{IsBounded};
 ghost use Rattle.cophy_core.specs.Stops.{StopsAt, LacksProgramme};
 ghost use Rattle.cophy_core.specs.commands.Bench as spec;
 
-use crate::command_line::DEFAULT_NODES;
 use crate::commands::advise::advice_on;
 use crate::stop::Stop;
 use adv_base::{Catalogue, Setting, Work};
+use command_line::DEFAULT_NODES;
 use report::{Bench, Done};
 use std::alloc::Global;
 

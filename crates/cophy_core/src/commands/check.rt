@@ -1,69 +1,94 @@
 //! `check`: what a certificate proves.
-ghost use Rattle.std.specs.Prelude.{◌≡◌, ◌≢◌, ℕ, List, IfOk, Some};
+ghost use Rattle.std.specs.Prelude.{◌≡◌, ◌≤◌, ℕ, List, IfOk, IfErr, Some};
 ghost use Rattle.adv_base.specs.Settings.{the_setting};
-ghost use Rattle.certificate.specs.Certificates.{IsCertificate};
-ghost use Rattle.certificate.specs.Limits.{CertLimits};
+ghost use Rattle.adv_base.specs.declared.limits.TheConstants.{MOST_CERTIFICATE_BYTES};
+ghost use Rattle.certificate.specs.Heads.{IsHeadOf};
+ghost use Rattle.certificate.specs.Scanners.{StandsFor};
 ghost use Rattle.report.specs.Texts.{FitsSetting};
 ghost use Rattle.cophy_core.specs.Causes.{IsBounded};
+ghost use Rattle.cophy_core.specs.Files.{counts, input_file, SomeInput};
+ghost use Rattle.cophy_core.specs.Reading.{IsUnreadFile};
 ghost use Rattle.cophy_core.specs.commands.Check as spec;
 
-use adv_base::{NoMemory, Setting};
-use certificate::{Cert, CertFault, breaks_are_one, read_cert, texts_are_one};
-use gap_checker::{CheckFault, answers_are_one};
+use crate::files::FileUse;
+use crate::stop::Stop;
+use adv_base::Setting;
+use adv_shelf::Shelf;
+use bip_model::{Fix, shown_bounds};
+use certificate::{
+    CertFault, Head, Scanner, breaks_are_one, heads_keep_limits, texts_are_one,
+    written_certificates_fit,
+};
+use gap_checker::{AtFault, answers_are_alike, answers_are_one, check_at};
 use report::{Done, NotProved};
 use std::alloc::Global;
 
-/// Why a text that is no certificate proves nothing.
-fn unread(fault: CertFault) -> Result<NotProved, NoMemory>
-    ensures { IfOk result (spec.IsUnread fault) }
-{
-    match fault {
-        CertFault::Memory => Err(NoMemory),
-        CertFault::Malformed(line) => Ok(NotProved::Malformed(line)),
-    }
-}
-
-/// Why a certificate with a fault proves nothing.
-fn refuted(fault: CheckFault) -> Result<NotProved, NoMemory>
-    ensures some { IfOk result (λ why. fault ≢ CheckFault.Memory) }
-    ensures told { IfOk result (λ why. why ≡ NotProved.Fault fault) }
-{
-    match fault {
-        CheckFault::Memory => Err(NoMemory),
-        other => Ok(NotProved::Fault(other)),
-    }
-}
-
-/// What a certificate proves of a setting, or its first fault.
-fn judged(alloc: Global, setting: &Setting<'_>, cert: &Cert) -> Result<Done, NoMemory>
-    requires { CertLimits cert.now }
-    ensures gives { IfOk result (λ done. (bytes : List ℕ) → IsCertificate bytes cert.now → spec.Gives bytes (the_setting setting.now) done) }
+/// What the certificate of a head proves of a setting, or its first fault. Its tree is read from the file, which is the second
+/// reading.
+fn judged<S: Shelf>(
+    alloc: Global,
+    setting: &Setting<'_>,
+    shelf: &mut S,
+    file: &FileUse<'_>,
+    head: &Head,
+) -> Result<Done, Stop>
+    requires most { MOST_CERTIFICATE_BYTES ≤ file.now.most }
+    requires read { SomeInput (S.files shelf.old) (input_file file.now.role file.now.name.now file.now.most) (λ bytes. IsHeadOf bytes head.now) }
+    ensures gives { IfOk result (λ done. SomeInput (S.files shelf.old) (input_file file.now.role file.now.name.now file.now.most)
+        (λ bytes. spec.Gives bytes (the_setting setting.now) done)) }
     ensures fits { IfOk result (FitsSetting (Some (the_setting setting.now))) }
     ensures bound { IfOk result IsBounded }
+    ensures stop { IfErr result (IsUnreadFile (S.files shelf.old) (counts (S.read_faults shelf.old) (S.read_faults_at shelf.old))
+        (counts (S.read_faults shelf.new) (S.read_faults_at shelf.new)) (input_file file.now.role file.now.name.now file.now.most)) }
+
+    ensures files { S.files shelf.new ≡ S.files shelf.old }
+    ensures counts { S.read_faults shelf.old ≤ S.read_faults shelf.new }
+    ensures counts_at { (n : List ℕ) → S.read_faults_at shelf.old n ≤ S.read_faults_at shelf.new n }
+    ensures puts { S.put_faults shelf.new ≡ S.put_faults shelf.old }
 {
-    match gap_checker::check(alloc, setting, cert) {
+    written_certificates_fit();
+    heads_keep_limits();
+    answers_are_alike();
+    shown_bounds();
+    let root = Fix::free();
+    match check_at(alloc, setting, &root, shelf, file.name, head) {
         Ok(checked) => Ok(Done::Checked(checked)),
-        Err(fault) => {
-            let why = refuted(fault)?;
-            Ok(Done::NotProved(why))
-        }
+        Err(AtFault::Memory) => Err(Stop::Memory),
+        Err(AtFault::Failed) => Err(Stop::Failed(file.role)),
+        Err(AtFault::Malformed(line)) => Ok(Done::NotProved(NotProved::Malformed(line))),
+        Err(AtFault::Fault(fault)) => Ok(Done::NotProved(NotProved::Fault(fault))),
     }
 }
 
-/// What the certificate that the bytes of a file are proves of a setting, found through the planner alone: what its
-/// configuration costs, and that no configuration within its budget costs less than its bound. Or why the bytes prove
-/// nothing: the first line at which they are no certificate's, or the first fault of the certificate.
-pub(crate) fn check(alloc: Global, setting: &Setting<'_>, bytes: &[u8]) -> Result<Done, NoMemory>
-    ensures gives { IfOk result (spec.Gives bytes.now (the_setting setting.now)) }
+/// What the certificate in a file, which a scanner was handed, proves of a setting, found through the planner alone: what its
+/// configuration costs, and that no configuration within its budget costs less than its bound. Or why the file proves
+/// nothing: the first line at which its bytes are no certificate's, or the first fault of the certificate. The tree is read
+/// once more, and not kept.
+pub(crate) fn check<S: Shelf>(
+    alloc: Global,
+    setting: &Setting<'_>,
+    shelf: &mut S,
+    file: &FileUse<'_>,
+    scanner: Scanner,
+) -> Result<Done, Stop>
+    requires most { MOST_CERTIFICATE_BYTES ≤ file.now.most }
+    requires read { SomeInput (S.files shelf.old) (input_file file.now.role file.now.name.now file.now.most) (StandsFor scanner) }
+    ensures gives { IfOk result (λ done. SomeInput (S.files shelf.old) (input_file file.now.role file.now.name.now file.now.most)
+        (λ bytes. spec.Gives bytes (the_setting setting.now) done)) }
     ensures fits { IfOk result (FitsSetting (Some (the_setting setting.now))) }
     ensures bound { IfOk result IsBounded }
+    ensures stop { IfErr result (IsUnreadFile (S.files shelf.old) (counts (S.read_faults shelf.old) (S.read_faults_at shelf.old))
+        (counts (S.read_faults shelf.new) (S.read_faults_at shelf.new)) (input_file file.now.role file.now.name.now file.now.most)) }
+
+    ensures files { S.files shelf.new ≡ S.files shelf.old }
+    ensures counts { S.read_faults shelf.old ≤ S.read_faults shelf.new }
+    ensures counts_at { (n : List ℕ) → S.read_faults_at shelf.old n ≤ S.read_faults_at shelf.new n }
+    ensures puts { S.put_faults shelf.new ≡ S.put_faults shelf.old }
 {
-    match read_cert(alloc, bytes) {
-        Ok(cert) => judged(alloc, setting, &cert),
-        Err(fault) => {
-            let why = unread(fault)?;
-            Ok(Done::NotProved(why))
-        }
+    match scanner.end() {
+        Ok(head) => judged(alloc, setting, shelf, file, &head),
+        Err(CertFault::Memory) => Err(Stop::Memory),
+        Err(CertFault::Malformed(line)) => Ok(Done::NotProved(NotProved::Malformed(line))),
     }
 }
 

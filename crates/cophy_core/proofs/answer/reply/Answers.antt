@@ -1,5 +1,5 @@
 use Rattle.cophy_core.specs.Endings.{plain_puts}
-use Rattle.cophy_core.specs.CommandLine.{texts}
+use Rattle.command_line.specs.CommandLine.{texts}
 use Rattle.cophy_core.proofs.CauseLemmas.{told_fault}
 use Rattle.cophy_core.proofs.answer.reply.Goals as goal
 

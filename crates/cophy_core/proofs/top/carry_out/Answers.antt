@@ -1,4 +1,4 @@
-use Rattle.cophy_core.specs.CommandLine.{texts}
+use Rattle.command_line.specs.CommandLine.{texts}
 use Rattle.cophy_core.specs.Endings.{outside, plain_puts}
 use Rattle.cophy_core.specs.Files.{counts}
 use Rattle.cophy_core.proofs.CauseLemmas as cause

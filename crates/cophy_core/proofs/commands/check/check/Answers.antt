@@ -1,11 +1,11 @@
-use Rattle.adv_base.specs.Settings.{the_setting}
-use Rattle.cophy_core.proofs.Checking.{malformed, given}
 use Rattle.cophy_core.proofs.commands.check.check.Goals as goal
 
-pub returns-in-Ok-clause-gives : goal.returns-in-Ok-clause-gives
-returns-in-Ok-clause-gives c =
-    given (the_setting c.args.setting.now) c.args.bytes.now c.in-Ok.cert c.judged.result c.in-Ok.ensures.found c.judged.ensures.gives
+pub judged-requires-clause-read : goal.judged-requires-clause-read
+judged-requires-clause-read g c =
+    let read = c.requires.read in (read.0, read.1, c.in-Ok.ensures.found read.0 read.2)
 
-pub returns-in_ok-why-in-Err-clause-gives : goal.returns-in_ok-why-in-Err-clause-gives
-returns-in_ok-why-in-Err-clause-gives c =
-    malformed (the_setting c.args.setting.now) c.args.bytes.now c.in-Err.fault c.in_ok-why-in-Err.why c.in-Err.ensures.fault c.in_ok-why-in-Err.ensures
+pub returns-in-Err-Malformed-clause-gives : goal.returns-in-Err-Malformed-clause-gives
+returns-in-Err-Malformed-clause-gives g c =
+    let read = c.requires.read in
+    let broken = rw c.in-Err-Malformed.field-0-is at c.in-Err-Malformed.ensures.fault in
+    rw c.in-Err-Malformed.field-0-is (read.0, read.1, broken read.0 read.2)

@@ -1,0 +1,8 @@
+pub mod NumberLaws
+pub mod Results
+pub mod WordLaws
+pub mod OptionLaws
+pub mod Choices
+pub mod Rows
+pub mod Grammar
+pub mod Ranges

@@ -1,0 +1,4 @@
+pub mod Numbers
+pub mod CommandLine
+pub mod Spellings
+pub mod inner

@@ -1,0 +1,63 @@
+//! What may be asked for.
+
+/// How many nodes a search may have where no word says it.
+pub const DEFAULT_NODES: u32 = 20000;
+
+/// What the words of a command line ask for. Files go by their names, budgets are in pages, and `nodes` is the most nodes
+/// that the tree of a search may have.
+#[derive(Clone, Copy, Debug)]
+pub enum Command<'a> {
+    /// Prices each statement over the indexes that exist.
+    Cost {
+        cat: &'a str,
+        load: &'a str,
+    },
+    /// Prices each statement under a configuration.
+    WhatIf {
+        cat: &'a str,
+        load: &'a str,
+        conf: &'a str,
+    },
+    /// Shows a least plan of one statement under a configuration.
+    Explain {
+        cat: &'a str,
+        load: &'a str,
+        conf: &'a str,
+        number: u32,
+    },
+    /// Lists the candidate indexes.
+    Candidates {
+        cat: &'a str,
+        load: &'a str,
+    },
+    /// Searches for a best configuration within a budget of pages and of nodes, perhaps with a certificate.
+    Advise {
+        cat: &'a str,
+        load: &'a str,
+        budget: u64,
+        nodes: u32,
+        cert: Option<&'a str>,
+    },
+    /// Searches for one among those that keep an administrator's rules.
+    Ruled {
+        cat: &'a str,
+        load: &'a str,
+        budget: u64,
+        rules: &'a str,
+        nodes: u32,
+        cert: Option<&'a str>,
+    },
+    /// Checks a certificate.
+    Check {
+        cat: &'a str,
+        load: &'a str,
+        cert: &'a str,
+    },
+    /// Makes an input and advises on it.
+    Bench {
+        seed: u64,
+        tables: u32,
+        statements: u32,
+        budget: u64,
+    },
+}

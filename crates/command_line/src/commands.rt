@@ -1,0 +1,172 @@
+//! The command line.
+ghost use Rattle.std.specs.Prelude.{◌≡◌, ◌<◌, ◌↔◌, Ok, IfOk};
+ghost use Rattle.command_line.specs.Spellings.{IsCommandLine, IsInRange};
+ghost use Rattle.command_line.specs.CommandLine as spec;
+ghost use Rattle.command_line.specs.inner.Arguments.{by_row};
+
+use crate::arguments::Arguments;
+use crate::{Command, DEFAULT_NODES, WordFault};
+
+/// The most pages of a space budget.
+const MOST_BUDGET: u64 = 1000000000000;
+
+/// A method for each command, which reads the words behind its name.
+impl<'a> Arguments<'a> {
+    /// `cost CAT LOAD`.
+    fn cost(mut self) -> Result<Command<'a>, WordFault>
+        requires { self.at < 70 }
+        ensures { spec.GivesBy spec.plain_command result (by_row spec.cost_row self.entry) }
+    {
+        let command = Command::Cost {
+            cat: self.file(),
+            load: self.file(),
+        };
+        self.end(command)
+    }
+
+    /// `whatif CAT LOAD CONF`.
+    fn what_if(mut self) -> Result<Command<'a>, WordFault>
+        requires { self.at < 70 }
+        ensures { spec.GivesBy spec.plain_command result (by_row spec.what_if_row self.entry) }
+    {
+        let command = Command::WhatIf {
+            cat: self.file(),
+            load: self.file(),
+            conf: self.file(),
+        };
+        self.end(command)
+    }
+
+    /// `explain CAT LOAD CONF N`.
+    fn explain(mut self) -> Result<Command<'a>, WordFault>
+        requires { self.at < 70 }
+        ensures { spec.GivesBy spec.plain_command result (by_row spec.explain_row self.entry) }
+    {
+        let command = Command::Explain {
+            cat: self.file(),
+            load: self.file(),
+            conf: self.file(),
+            number: self.number(1, 1000) as u32,
+        };
+        self.end(command)
+    }
+
+    /// `candidates CAT LOAD`.
+    fn candidates(mut self) -> Result<Command<'a>, WordFault>
+        requires { self.at < 70 }
+        ensures { spec.GivesBy spec.plain_command result (by_row spec.candidates_row self.entry) }
+    {
+        let command = Command::Candidates {
+            cat: self.file(),
+            load: self.file(),
+        };
+        self.end(command)
+    }
+
+    /// `advise CAT LOAD BUDGET [--nodes N] [--cert FILE]`.
+    fn advise(mut self) -> Result<Command<'a>, WordFault>
+        requires { self.at < 70 }
+        ensures { spec.GivesBy spec.plain_command result (by_row spec.advise_row self.entry) }
+    {
+        let cat = self.file();
+        let load = self.file();
+        let budget = self.number(0, MOST_BUDGET);
+        let given = self.options()?;
+        Ok(Command::Advise {
+            cat,
+            load,
+            budget,
+            nodes: given.nodes.unwrap_or(DEFAULT_NODES),
+            cert: given.cert,
+        })
+    }
+
+    /// `ruled CAT LOAD BUDGET RULES [--nodes N] [--cert FILE]`.
+    fn ruled(mut self) -> Result<Command<'a>, WordFault>
+        requires { self.at < 70 }
+        ensures { spec.GivesBy spec.plain_command result (by_row spec.ruled_row self.entry) }
+    {
+        let cat = self.file();
+        let load = self.file();
+        let budget = self.number(0, MOST_BUDGET);
+        let rules = self.file();
+        let given = self.options()?;
+        Ok(Command::Ruled {
+            cat,
+            load,
+            budget,
+            rules,
+            nodes: given.nodes.unwrap_or(DEFAULT_NODES),
+            cert: given.cert,
+        })
+    }
+
+    /// `check CAT LOAD CERT`.
+    fn check(mut self) -> Result<Command<'a>, WordFault>
+        requires { self.at < 70 }
+        ensures { spec.GivesBy spec.plain_command result (by_row spec.check_row self.entry) }
+    {
+        let command = Command::Check {
+            cat: self.file(),
+            load: self.file(),
+            cert: self.file(),
+        };
+        self.end(command)
+    }
+
+    /// `bench SEED TABLES STATEMENTS BUDGET`.
+    fn bench(mut self) -> Result<Command<'a>, WordFault>
+        requires { self.at < 70 }
+        ensures { spec.GivesBy spec.plain_command result (by_row spec.bench_row self.entry) }
+    {
+        let command = Command::Bench {
+            seed: self.number(0, u64::MAX),
+            tables: self.number(2, 20) as u32,
+            statements: self.number(1, 500) as u32,
+            budget: self.number(0, MOST_BUDGET),
+        };
+        self.end(command)
+    }
+}
+
+/// The command of a name, with the rest of the words.
+fn named<'a>(name: &str, words: &'a [String]) -> Result<Command<'a>, WordFault>
+    ensures { spec.GivesBy spec.plain_command result (spec.named_command name.now (spec.texts words.now)) }
+{
+    let line = Arguments {
+        words,
+        at: 1,
+        so_far: Ok(()),
+    };
+    match name {
+        "cost" => line.cost(),
+        "whatif" => line.what_if(),
+        "explain" => line.explain(),
+        "candidates" => line.candidates(),
+        "advise" => line.advise(),
+        "ruled" => line.ruled(),
+        "check" => line.check(),
+        "bench" => line.bench(),
+        _ => Err(WordFault::UnknownCommand(1)),
+    }
+}
+
+/// The command that the words are, or the first fault from the left.
+#[tactic(auto, unfolding(crate::specs::CommandLine::command_of))]
+fn command_of<'a>(words: &'a [String]) -> Result<Command<'a>, WordFault>
+    ensures { spec.GivesBy spec.plain_command result (spec.command_of (spec.texts words.now)) }
+{
+    match words.first() {
+        Some(name) => named(name.as_str(), words),
+        None => Err(WordFault::NoCommand),
+    }
+}
+
+/// The command that the words are, or the first fault from the left. Takes no memory.
+pub fn read_words<'a>(words: &'a [String]) -> Result<Command<'a>, WordFault>
+    ensures reads { spec.GivesBy spec.plain_command result (spec.command_of (spec.texts words.now)) }
+    ensures grammar { (command : spec.PlainCommand) → (spec.command_of (spec.texts words.now) ≡ Ok command) ↔ IsCommandLine (spec.texts words.now) command }
+    ensures range { IfOk result (λ command. IsInRange (spec.plain_command command)) }
+{
+    command_of(words)
+}

@@ -1,0 +1,131 @@
+-- What a command gives over what was read for it is given over its files.
+use Rattle.std.proofs.Common.{◌≡◌, ℕ, ◌≤◌, List, [], ◌∷◌, ◌++◌, length, Option, None, Some, refl, ap, ◌∙◌, append_assoc, sym, subst}
+use Rattle.std.specs.Prelude.{IsSomeAnd, IfErr, Result, Ok, Err}
+use Rattle.adv_base.specs.Settings.{TheSetting}
+use Rattle.adv_base.specs.declared.limits.TheConstants.{MOST_CERTIFICATE_BYTES, MOST_FILE_BYTES}
+use Rattle.adv_shelf.specs.Shelf.{Files}
+use Rattle.certificate.specs.Scanners.{StandsFor}
+use Rattle.certificate.specs.declared.scanner.Scanner.{Scanner}
+use Rattle.report.specs.declared.done.Done.{Done}
+use Rattle.report.specs.declared.done.Refusal.TheVariants.{TooLong}
+use Rattle.report.specs.declared.done.Role.TheVariants.{Third}
+use Rattle.cophy_core.specs.Answers.{GivesOver}
+use Rattle.command_line.specs.CommandLine.{PlainCommand, Ruled, Check}
+use Rattle.cophy_core.specs.Files.{InputFile, IsInput, SomeInput, AreInputs, ReadCounts, input, input_file, setting_files, files_of}
+use Rattle.cophy_core.specs.Inputs.{HasInputs, HasWhole, HasRead}
+use Rattle.cophy_core.specs.Reading.{IsUnreadFile, StopsReading, StopsAtFiles}
+use Rattle.cophy_core.specs.Settings.{IsSetting, IsSettingRefusal}
+use Rattle.command_line.specs.Spellings.{IsInRange}
+use Rattle.cophy_core.specs.Stops.{StopsAt}
+use Rattle.cophy_core.specs.declared.files.Inputs.{Inputs}
+use Rattle.cophy_core.specs.declared.stop.Stop.{Stop}
+use Rattle.cophy_core.specs.declared.stop.Stop.TheVariants.{Memory, Failed, Refused}
+use Rattle.cophy_core.specs.inner.Work.{GivesRead, StopsWork}
+use Rattle.cophy_core.proofs.Answered.{second_short, reading_stops, setting_stops, work_stops}
+use Rattle.cophy_core.proofs.FilesRead.{first_stops}
+
+-- ## Texts that were read
+
+abbrev certificate_file : List ℕ → InputFile
+certificate_file name = input_file Third name MOST_CERTIFICATE_BYTES
+
+-- the texts that a command answers from, of which those that are held whole are the first
+pub record Texts (files : Option Files) (command : PlainCommand) (whole : List (List ℕ)) : Type 0 where
+  pub texts : List (List ℕ)
+  pub texts_are : HasInputs files command texts
+  pub first : input texts 0 ≡ input whole 0
+  pub second : input texts 1 ≡ input whole 1
+
+-- and behind them these bytes of a certificate
+record AllTexts (files : Option Files) (cat load cert : List ℕ) (whole : List (List ℕ)) (bytes : List ℕ) : Type 0 where
+  texts : Texts files (Check cat load cert) whole
+  third : input texts.texts 2 ≡ bytes
+
+with_third : (files : Option Files) (cat load cert : List ℕ) (whole : List (List ℕ)) (bytes : List ℕ) → AreInputs files (setting_files cat load) whole → IsInput files (certificate_file cert) bytes → AllTexts files cat load cert whole bytes
+with_third files cat load cert [] bytes are is = absurd are
+with_third files cat load cert (a ∷ []) bytes are is = absurd are.1
+with_third files cat load cert (a ∷ b ∷ []) bytes are is =
+    record { texts = record { texts = a ∷ b ∷ bytes ∷ []; texts_are = (are.0, (are.1.0, (is, tt))); first = refl; second = refl }; third = refl }
+with_third files cat load cert (a ∷ b ∷ c ∷ more) bytes are is = absurd are.1.1
+
+-- a scanner stands for some of them
+pub scanned : (files : Option Files) (file : InputFile) (scanner : Option Scanner) → IsSomeAnd scanner (λ s. SomeInput files file (StandsFor s)) → (bytes : List ℕ) × IsInput files file bytes
+scanned files file None h = absurd h
+scanned files file (Some s) h = (h.0, h.1)
+
+pub texts_read : (command : PlainCommand) (files : Option Files) (read : Inputs) → HasRead files command read → Texts files command read.whole
+texts_read (Check cat load cert) files read h =
+    let bytes = scanned files (certificate_file cert) read.scanner h.1 in
+    (with_third files cat load cert read.whole bytes.0 h.0 bytes.1).texts
+texts_read command files read h = record { texts = read.whole; texts_are = h; first = refl; second = refl }
+
+pub workload_short : (command : PlainCommand) (files : Option Files) (read : Inputs) → IsInRange command → HasRead files command read → length (input read.whole 1) ≤ MOST_FILE_BYTES
+workload_short command files read range h =
+    let t = texts_read command files read h in
+    subst (λ (bytes : List ℕ). length bytes ≤ MOST_FILE_BYTES) t.second (second_short command files t.texts range t.texts_are)
+
+-- the third of the files is within its limit
+third_file : (files : Option Files) (cat load : List ℕ) (file : InputFile) (inputs : List (List ℕ)) → AreInputs files (setting_files cat load ++ file ∷ []) inputs → length (input inputs 2) ≤ file.most
+third_file files cat load file [] are = absurd are
+third_file files cat load file (a ∷ []) are = absurd are.1
+third_file files cat load file (a ∷ b ∷ []) are = absurd are.1.1
+third_file files cat load file (a ∷ b ∷ c ∷ inputs) are = are.1.1.0.short
+
+-- and so are rules
+pub rules_short : (files : Option Files) (cat load rules : List ℕ) (budget nodes : ℕ) (cert : Option (List ℕ)) (read : Inputs) → HasRead files (Ruled cat load budget rules nodes cert) read → length (input read.whole 2) ≤ MOST_FILE_BYTES
+rules_short files cat load rules budget nodes cert read h = third_file files cat load (input_file Third rules MOST_FILE_BYTES) read.whole h
+
+-- ## Reading that stops
+
+-- at one of the first files
+pub front_stops : (files : Option Files) (uses more : List InputFile) (before after : ReadCounts) (stop : Stop) → StopsReading files uses before after stop → StopsReading files (uses ++ more) before after stop
+front_stops files uses more before after Memory h = tt
+front_stops files uses more before after (Failed role) h =
+    record { front = h.front; file = h.file; rest = h.rest ++ more; inputs = h.inputs; uses_are = ap (λ (us : List InputFile). us ++ more) h.uses_are ∙ append_assoc h.front (h.file ∷ h.rest) more; earlier = h.earlier; bad = h.bad }
+front_stops files uses more before after (Refused (TooLong role)) h =
+    record { front = h.front; file = h.file; rest = h.rest ++ more; inputs = h.inputs; uses_are = ap (λ (us : List InputFile). us ++ more) h.uses_are ∙ append_assoc h.front (h.file ∷ h.rest) more; earlier = h.earlier; bad = h.bad }
+front_stops files uses more before after (Refused why) h = absurd h
+
+-- so a result says, of the catalogue and the workload of a certificate
+pub read_stops : {X : Type 0} (result : Result X Stop) (files : Option Files) (cat load cert : List ℕ) (before after : ReadCounts) → IfErr result (StopsReading files (setting_files cat load) before after) → IfErr result (StopsAtFiles (Check cat load cert) files before after)
+read_stops (Ok x) files cat load cert before after h = tt
+read_stops (Err stop) files cat load cert before after h =
+    reading_stops (Check cat load cert) files before after stop (front_stops files (setting_files cat load) (certificate_file cert ∷ []) before after stop h)
+
+-- at the certificate, be it at the first reading of it or at the second
+pub certificate_stops : (files : Option Files) (cat load cert : List ℕ) (whole : List (List ℕ)) (start before after : ReadCounts) (stop : Stop) → AreInputs files (setting_files cat load) whole →
+    start.all ≤ before.all → ((n : List ℕ) → start.at n ≤ before.at n) → IsUnreadFile files before after (certificate_file cert) stop → StopsAtFiles (Check cat load cert) files start after stop
+certificate_stops files cat load cert whole start before after stop are all at why =
+    reading_stops (Check cat load cert) files start after stop
+    (first_stops files (files_of (Check cat load cert)) (setting_files cat load) [] (certificate_file cert) whole start before after stop refl are all at why)
+
+-- ## Over a setting
+
+-- it is refused
+pub setting_refused : (command : PlainCommand) (files : Option Files) (before after : ReadCounts) (read : Inputs) (stop : Stop) → HasRead files command read → StopsAt (IsSettingRefusal (input read.whole 0) (input read.whole 1)) stop → StopsAtFiles command files before after stop
+setting_refused command files before after read stop h why =
+    let t = texts_read command files read h in
+    setting_stops command files before after t.texts stop t.texts_are (rw (t.first, t.second) why)
+
+-- the work stops
+pub work_stopped : (command : PlainCommand) (files : Option Files) (start before after : ReadCounts) (read : Inputs) (setting : TheSetting) (left_over : ℕ) (stop : Stop) → HasRead files command read →
+    IsSetting (input read.whole 0) (input read.whole 1) setting left_over → start.all ≤ before.all → ((n : List ℕ) → start.at n ≤ before.at n) → StopsWork files command before after read setting stop → StopsAtFiles command files start after stop
+work_stopped (Check cat load cert) files start before after read setting left_over stop h is all at why =
+    certificate_stops files cat load cert read.whole start before after stop h.0 all at why
+work_stopped command files start before after read setting left_over stop h is all at why =
+    work_stops command files start after read.whole setting left_over stop h is why
+
+-- what a command gives over its setting, and the texts of that
+pub record Given (files : Option Files) (command : PlainCommand) (setting : TheSetting) (left_over : ℕ) (done : Done) : Type 0 where
+  pub texts : List (List ℕ)
+  pub texts_are : HasInputs files command texts
+  pub setting_is : IsSetting (input texts 0) (input texts 1) setting left_over
+  pub gives : GivesOver command texts setting done
+
+pub work_given : (command : PlainCommand) (files : Option Files) (read : Inputs) (setting : TheSetting) (left_over : ℕ) (done : Done) → HasRead files command read → IsSetting (input read.whole 0) (input read.whole 1) setting left_over →
+    GivesRead files command read setting done → Given files command setting left_over done
+work_given (Check cat load cert) files read setting left_over done h is gives =
+    let all = with_third files cat load cert read.whole gives.0 h.0 gives.1 in
+    record { texts = all.texts.texts; texts_are = all.texts.texts_are; setting_is = rw (all.texts.first, all.texts.second) is; gives = rw all.third gives.2 }
+work_given command files read setting left_over done h is gives =
+    record { texts = read.whole; texts_are = h; setting_is = is; gives = gives }

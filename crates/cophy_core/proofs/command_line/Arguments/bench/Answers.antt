@@ -1,5 +1,0 @@
-use Rattle.cophy_core.proofs.Rows.{row_ends}
-use Rattle.cophy_core.proofs.command_line.Arguments.bench.Goals as goal
-
-pub returns : goal.returns
-returns c = rw (c.number.ensures.reads.step, c.number-2.ensures.reads.step, c.number-3.ensures.reads.step, c.number-4.ensures.reads.step, row_ends) c.end.ensures

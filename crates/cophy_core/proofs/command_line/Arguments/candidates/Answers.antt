@@ -1,5 +1,0 @@
-use Rattle.cophy_core.proofs.Rows.{row_ends}
-use Rattle.cophy_core.proofs.command_line.Arguments.candidates.Goals as goal
-
-pub returns : goal.returns
-returns c = rw (c.file.ensures.reads.step, c.file-2.ensures.reads.step, row_ends) c.end.ensures

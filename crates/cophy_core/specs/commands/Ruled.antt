@@ -1,0 +1,89 @@
+-- What `ruled` answers: which candidates to make within a budget of pages, where an administrator's rules say that some have
+-- to be, and that others never may.
+use Rattle.std.specs.Prelude.{◌≡◌, ◌≢◌, ◌⊎◌, ℕ, ◌-◌, List, [], length, count_by, Option, Result, Ok, Err}
+use Rattle.adv_base.specs.declared.limits.TheConstants.{MOST_CANDIDATES}
+use Rattle.adv_base.specs.declared.setting.Config.{Config}
+use Rattle.adv_base.specs.Configs.{Fits}
+use Rattle.adv_base.specs.Nodes as nodes
+use Rattle.adv_base.specs.Settings.{TheSetting}
+use Rattle.bip_model.specs.declared.fix.Fix.{Fix}
+use Rattle.bip_model.specs.Best.{IsBest}
+use Rattle.bip_model.specs.Views.{node_of, is_in, is_out}
+use Rattle.candidates.specs.Candidates as candidates
+use Rattle.dba_rules.specs.declared.fault.RuleFault.{RuleFault}
+use Rattle.dba_rules.specs.declared.fault.RuleFault.TheVariants as faults
+use Rattle.dba_rules.specs.Rules.{root_of}
+use Rattle.dba_rules.specs.Settled.{IsApart, IsFault}
+use Rattle.gap_checker.specs.At.{BoundsBelow}
+use Rattle.tuning.specs.Refusals.{AreFew, IsFirstBeyond}
+use Rattle.report.specs.declared.done.Advice.{Advice}
+use Rattle.report.specs.declared.done.Done.{Done}
+use Rattle.report.specs.declared.done.Done.TheVariants.{Ruled as RuledDone}
+use Rattle.report.specs.declared.done.Refusal.{Refusal}
+use Rattle.report.specs.declared.done.Refusal.TheVariants.{Rules, TooManyCombinations}
+use Rattle.report.specs.declared.done.Ruled.{Ruled}
+use Rattle.cophy_core.specs.Endings.{Put}
+use Rattle.cophy_core.specs.commands.Advise.{PutsFor}
+
+-- Each statement has few enough combinations. The answer is best under both budgets, from a root: its configuration fits, is
+-- below the root and costs what is told, and no configuration that fits and is below the root costs less than the bound. The
+-- configuration has a flag for each candidate that there may be.
+pub record IsAdviceFrom (root : nodes.Node) (budget nodes : ℕ) (setting : TheSetting) (advice : Advice) : Type 0 where
+  pub budget_is : advice.budget ≡ budget
+  pub nodes_is : advice.nodes ≡ nodes
+  pub left_over_is : advice.left_over ≡ length (candidates.fresh_lists setting.cat setting.statements) - MOST_CANDIDATES
+  pub few : AreFew setting.cat setting.statements
+  pub flags : length advice.answer.config.on ≡ MOST_CANDIDATES
+  pub best : IsBest setting budget nodes root advice.answer
+  pub bounds : BoundsBelow setting root budget advice.answer.bound
+
+-- what has to be fits the budget, and no two of it are clustered on one table
+pub record IsSettled (setting : TheSetting) (inside : Config) (budget : ℕ) : Type 0 where
+  pub fits : Fits setting.cat setting.shapes inside budget
+  pub apart : IsApart setting.shapes inside
+
+-- the rules of a text make a root, from which a search can start
+pub record IsRootOf (setting : TheSetting) (rules : List ℕ) (budget : ℕ) (root : Fix) : Type 0 where
+  pub root_is : root_of setting rules ≡ Ok root
+  pub settled : IsSettled setting (node_of root).inside budget
+
+-- advice from that root, with how many candidates the rules make in, and how many out
+pub record IsRuled (budget nodes : ℕ) (rules : List ℕ) (setting : TheSetting) (ruled : Ruled) : Type 0 where
+  pub root : Fix
+  pub root_is : IsRootOf setting rules budget root
+  pub must_is : ruled.must ≡ count_by is_in root.state
+  pub never_is : ruled.never ≡ count_by is_out root.state
+  pub advice_is : IsAdviceFrom (node_of root) budget nodes setting ruled.advice
+
+abbrev pub Gives : ℕ → ℕ → List ℕ → TheSetting → Done → Type 0
+Gives budget nodes rules setting (RuledDone ruled) = IsRuled budget nodes rules setting ruled
+Gives budget nodes rules setting done = ⊥
+
+-- the certificate of the answer is put where a file is named for it; for no other answer a file is put
+abbrev pub Puts : Option (List ℕ) → TheSetting → Done → List Put → Type 0
+Puts cert setting (RuledDone ruled) puts = PutsFor cert setting ruled.advice.budget ruled.advice.answer puts
+Puts cert setting done puts = puts ≡ []
+
+-- ## Refusals
+
+-- the rules make a root, and what has to be can't be within the budget
+pub record IsUnsettled (setting : TheSetting) (rules : List ℕ) (budget : ℕ) (fault : RuleFault) : Type 0 where
+  pub root : Fix
+  pub root_is : root_of setting rules ≡ Ok root
+  pub fault_is : IsFault setting (node_of root).inside budget fault
+
+-- the first fault of the rules, or else of what has to be
+pub record HasRuleFault (setting : TheSetting) (rules : List ℕ) (budget : ℕ) (fault : RuleFault) : Type 0 where
+  pub no_memory : fault ≢ faults.Memory
+  pub first : (root_of setting rules ≡ Err fault) ⊎ IsUnsettled setting rules budget fault
+
+-- the rules have none, and this is the first statement with more combinations than a cache of plans takes
+pub record IsBeyond (setting : TheSetting) (rules : List ℕ) (budget number count : ℕ) : Type 0 where
+  pub root : Fix
+  pub root_is : IsRootOf setting rules budget root
+  pub first : IsFirstBeyond setting number count
+
+abbrev pub Refuses : ℕ → List ℕ → TheSetting → Refusal → Type 0
+Refuses budget rules setting (Rules fault) = HasRuleFault setting rules budget fault
+Refuses budget rules setting (TooManyCombinations number count) = IsBeyond setting rules budget number count
+Refuses budget rules setting why = ⊥
