@@ -11,14 +11,28 @@ from measure import ROOT
 from plain import plain
 
 
-USES = ("branch_bound", "relaxations", "lagrange_bound", "tuning", "workload_gen", "candidates", "binder", "catalogue", "sql_reader",
-        "plan_model", "bip_model", "adv_shelf", "adv_base")
+USES = (
+    "branch_bound",
+    "relaxations",
+    "lagrange_bound",
+    "tuning",
+    "workload_gen",
+    "candidates",
+    "binder",
+    "catalogue",
+    "sql_reader",
+    "plan_model",
+    "bip_model",
+    "adv_shelf",
+    "adv_base",
+)
 ADVICE = Source("advice_bench", USES, ("programme", "1", "2", "1", "1"))
 
 
 @dataclass
 class Advice:
     """The program, by the path of what was built, or as what is run unproved."""
+
     program: str | None
     folder: str
     root: str
@@ -33,12 +47,21 @@ class Advice:
 def add_options(parser: argparse.ArgumentParser) -> None:
     parser.add_argument("--program", help="an advice_bench that is built (default: it is proved and built first)")
     parser.add_argument("--root", default=ROOT, help="the repository whose crates it is made of (default: this one)")
-    parser.add_argument("--folder", help="where it is proved and built, and what is kept for the next time (default: a "
-                        "temporary folder)")
-    parser.add_argument("--unproved", action="store_true", help="run it by `rt try`, without proof and unoptimised: numbers "
-                        "of nodes and costs are right, times aren't")
-    parser.add_argument("--plain", action="store_true", help="build it by rustc, as plain Rust without contracts: unproved, in "
-                        "a minute; its times are a little above those of what is proved")
+    parser.add_argument(
+        "--folder",
+        help="where it is proved and built, and what is kept for the next time (default: a " "temporary folder)",
+    )
+    parser.add_argument(
+        "--unproved",
+        action="store_true",
+        help="run it by `rt try`, without proof and unoptimised: numbers " "of nodes and costs are right, times aren't",
+    )
+    parser.add_argument(
+        "--plain",
+        action="store_true",
+        help="build it by rustc, as plain Rust without contracts: unproved, in "
+        "a minute; its times are a little above those of what is proved",
+    )
     parser.add_argument("--quick", action="store_true", help="smaller workloads alone")
 
 
@@ -54,4 +77,3 @@ def made(options: argparse.Namespace) -> Iterator[Advice]:
         elif not program and not options.unproved:
             program = built(ADVICE, folder, options.root)
         yield Advice(program, folder, options.root)
-

@@ -17,6 +17,7 @@ TRY_SECONDS = 3600
 class Source:
     """A program: its crate's name, the folders of bench/ with its files, later ones over earlier ones, the crates that it
     uses, and words to run it on once it is built."""
+
     name: str
     uses: tuple[str, ...]
     words: tuple[str, ...]

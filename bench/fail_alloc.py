@@ -70,13 +70,26 @@ int posix_memalign(void **place, size_t alignment, size_t size) {
 # Tables of 1000 rows on 20 pages, with the distinct values of their columns.
 # `a` and `d` are cut down to a row, and both ends of the chain are joined first.
 CHAIN = {"a": ("k 1000", "x 1000"), "b": ("x 1000", "y 10"), "c": ("y 10", "x 1000"), "d": ("x 1000", "k 1000")}
-CHAIN_LOAD = ("SELECT count(*) FROM a, b, c, d"
-              " WHERE a.k = 1 AND d.k = 1 AND a.x = b.x AND b.y = c.y AND c.x = d.x\n")
+CHAIN_LOAD = "SELECT count(*) FROM a, b, c, d" " WHERE a.k = 1 AND d.k = 1 AND a.x = b.x AND b.y = c.y AND c.x = d.x\n"
 # Two indexes, of which one fits into 4 pages.
 KNAPSACK = {"t": ("c 1000",), "v": ("d 1000", "e 1000")}
 KNAPSACK_LOAD = "-- weight 10\nSELECT c FROM t ORDER BY c;\n-- weight 11\nSELECT d, e FROM v ORDER BY d, e;\n"
-CERTIFICATE = "\n".join(["cophy certificate 1", "budget 4", "config 2", "cost 954000", "bound 954000", "sets 0", "tree 3",
-                         "B 1", "L 0", "L 0", "end", ""])
+CERTIFICATE = "\n".join(
+    [
+        "cophy certificate 1",
+        "budget 4",
+        "config 2",
+        "cost 954000",
+        "bound 954000",
+        "sets 0",
+        "tree 3",
+        "B 1",
+        "L 0",
+        "L 0",
+        "end",
+        "",
+    ]
+)
 MEMORY = 7
 MOST = 1_000_000
 
@@ -84,6 +97,7 @@ MOST = 1_000_000
 @dataclass
 class Case:
     """A command: its words, where names of files in capitals stand for paths, what these hold, and how its answer begins."""
+
     words: str
     files: dict[str, str]
     head: bytes
@@ -107,10 +121,19 @@ def example(name: str) -> str:
 def cases() -> list[Case]:
     knapsack = {"CAT": catalogue(KNAPSACK), "LOAD": KNAPSACK_LOAD}
     return [
-        Case("explain CAT LOAD CONF 1", {"CAT": catalogue(CHAIN), "LOAD": CHAIN_LOAD, "CONF": ""},
-             b"statement 1 plan 136082 upkeep 0\n"),
-        Case("cost CAT LOAD", {"CAT": example("shop.toml"), "LOAD": example("shop.sql")}, b"statement 1 weight 100 cost 5010\n"),
-        Case("advise CAT LOAD 4 --cert PROOF", knapsack, b"budget 4\ncandidates 2 left over 0\npick 2 v(d, e) 4 pages\n"),
+        Case(
+            "explain CAT LOAD CONF 1",
+            {"CAT": catalogue(CHAIN), "LOAD": CHAIN_LOAD, "CONF": ""},
+            b"statement 1 plan 136082 upkeep 0\n",
+        ),
+        Case(
+            "cost CAT LOAD",
+            {"CAT": example("shop.toml"), "LOAD": example("shop.sql")},
+            b"statement 1 weight 100 cost 5010\n",
+        ),
+        Case(
+            "advise CAT LOAD 4 --cert PROOF", knapsack, b"budget 4\ncandidates 2 left over 0\npick 2 v(d, e) 4 pages\n"
+        ),
         Case("check CAT LOAD CERT", {**knapsack, "CERT": CERTIFICATE}, b"proved cost 954000 bound 954000 budget 4\n"),
     ]
 
@@ -125,7 +148,9 @@ def put(folder: str, name: str, text: str) -> str:
 def shim(folder: str) -> str:
     """The path of the shared library."""
     source, built = put(folder, "shim.c", SHIM), os.path.join(folder, "shim.so")
-    done = subprocess.run(["cc", "-O1", "-fno-builtin", "-shared", "-fPIC", "-o", built, source], capture_output=True, text=True)
+    done = subprocess.run(
+        ["cc", "-O1", "-fno-builtin", "-shared", "-fPIC", "-o", built, source], capture_output=True, text=True
+    )
     if done.returncode:
         sys.exit(f"cc: {done.stderr}")
     return built
@@ -134,6 +159,7 @@ def shim(folder: str) -> str:
 @dataclass
 class Told:
     """What a run ended with: its status, its output, and the certificate that it put, if any."""
+
     status: int
     output: bytes
     put: bytes | None
@@ -152,7 +178,9 @@ class Refusing:
     def run(self, number: int) -> tuple[Told, bool]:
         """What it ended with, and whether the allocation of that number came; number 0 refuses none."""
         env = {**self.env, "REFUSED_CALL": str(number)}
-        done = subprocess.run(self.words, env=env, stdin=subprocess.DEVNULL, stdout=subprocess.PIPE, stderr=subprocess.DEVNULL)
+        done = subprocess.run(
+            self.words, env=env, stdin=subprocess.DEVNULL, stdout=subprocess.PIPE, stderr=subprocess.DEVNULL
+        )
         put = taken(self.proof)
         return Told(done.returncode, done.stdout, put), taken(self.mark) is not None
 
@@ -198,7 +226,9 @@ def refused(case: Case, program: str, library: str, all_behind: bool) -> tuple[i
 
 def main() -> None:
     parser = arguments(__doc__)
-    parser.add_argument("--all", action="store_true", help="refuse every allocation from that number on, and not that one alone")
+    parser.add_argument(
+        "--all", action="store_true", help="refuse every allocation from that number on, and not that one alone"
+    )
     given = parser.parse_args()
     need_program(given.program)
     lines: list[str] = []

@@ -22,8 +22,17 @@ AMPLE = 10**12
 
 def print_search(row: Row) -> None:
     it = row.told
-    cells = (row.workload, it["budget"], "yes" if row.closed else "no", f"{row.gap:.5f}", it["nodes"], it["sets"], it["useful"],
-             f"{1000 * row.seconds:.1f}", *(told(row.solved.get(name)) for name in ("cbc", "glpk", "HiGHS")))
+    cells = (
+        row.workload,
+        it["budget"],
+        "yes" if row.closed else "no",
+        f"{row.gap:.5f}",
+        it["nodes"],
+        it["sets"],
+        it["useful"],
+        f"{1000 * row.seconds:.1f}",
+        *(told(row.solved.get(name)) for name in ("cbc", "glpk", "HiGHS")),
+    )
     print_row(cells, WIDTHS)
 
 
@@ -37,9 +46,11 @@ def print_sums(rows: list[Row]) -> None:
             continue
         theirs = sum(row.solved[name].seconds for row in beside)
         shown = [row for row in beside if row.solved[name].cost is not None]
-        print(f"{name}: closed {len(shown)} of {len(beside)}, {sum(row.closed for row in shown)} of these are closed here too; "
-              f"seconds {theirs:.2f}, {theirs / max(ours, 1e-9):.1f} times ours; the search closed and was faster on "
-              f"{sum(row.closed and row.seconds < row.solved[name].seconds for row in beside)}")
+        print(
+            f"{name}: closed {len(shown)} of {len(beside)}, {sum(row.closed for row in shown)} of these are closed here too; "
+            f"seconds {theirs:.2f}, {theirs / max(ours, 1e-9):.1f} times ours; the search closed and was faster on "
+            f"{sum(row.closed and row.seconds < row.solved[name].seconds for row in beside)}"
+        )
 
 
 def searched(options: argparse.Namespace, advice: Advice, name: str, seed: int, folder: str) -> list[Row]:

@@ -85,8 +85,10 @@ def main() -> None:
             databases.append(Database(f"db{seed}", catalogue=files[0], workload=files[1]))
         fleet = Fleet(tuple(databases))
         alone = direct(fleet, words.program, folder, min(20, len(databases)))
-        print(f"{words.databases} databases of {words.statements} statements over {words.tables} tables, "
-              f"{fleet.steps + 1} budgets each; {os.cpu_count()} processors")
+        print(
+            f"{words.databases} databases of {words.statements} statements over {words.tables} tables, "
+            f"{fleet.steps + 1} budgets each; {os.cpu_count()} processors"
+        )
         print(f"without a cluster, one after the other: {1000 * alone:.1f} ms a database")
         print("workers  seconds  databases/s  times one  client+scheduler ms/task  empty task ms  worker MiB  again s")
         first = None
@@ -94,9 +96,12 @@ def main() -> None:
             found = asyncio.run(measure(fleet, workers, words.program, folder))
             first = first or found["seconds"]
             rate = words.databases / found["seconds"]
-            print(f"{workers:7d}  {found['seconds']:7.1f}  {rate:11.1f}  {first / found['seconds']:9.2f}  "
-                  f"{1000 * found['client'] / (3 * words.databases):24.2f}  {1000 * found['alone']:13.2f}  "
-                  f"{found['peak']:10.0f}  {found['again']:7.1f}", flush=True)
+            print(
+                f"{workers:7d}  {found['seconds']:7.1f}  {rate:11.1f}  {first / found['seconds']:9.2f}  "
+                f"{1000 * found['client'] / (3 * words.databases):24.2f}  {1000 * found['alone']:13.2f}  "
+                f"{found['peak']:10.0f}  {found['again']:7.1f}",
+                flush=True,
+            )
             print(f"         10,000 databases at this rate: {10000 / rate / 60:.1f} minutes")
 
 

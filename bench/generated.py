@@ -36,8 +36,20 @@ def print_line(statements: int, share: int, found: list[Made]) -> None:
     finished = sum(it.advice.finished for it in found)
     gap = max(it.advice.gap for it in found)
     peak = max(it.run.peak_mib for it in found)
-    print_row((statements, "all" if share >= 100 else share, f"{finished}/{len(found)}", f"{gap:.4f}", sum(nodes), max(nodes),
-               f"{sum(seconds) / len(seconds):.3f}", f"{max(seconds):.3f}", f"{peak:.0f}"), WIDTHS)
+    print_row(
+        (
+            statements,
+            "all" if share >= 100 else share,
+            f"{finished}/{len(found)}",
+            f"{gap:.4f}",
+            sum(nodes),
+            max(nodes),
+            f"{sum(seconds) / len(seconds):.3f}",
+            f"{max(seconds):.3f}",
+            f"{peak:.0f}",
+        ),
+        WIDTHS,
+    )
 
 
 def main() -> None:

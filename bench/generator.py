@@ -23,15 +23,17 @@ def table(number: int, draws: Draws) -> str:
     rows = 1000 * (1 + draws.draw(1000))
     first = 10 + draws.draw(991)
     second = 10 + draws.draw(991)
-    return "".join((
-        f'[[table]]\nname = "t{number}"\nrows = {rows}\npages = {rows // 50}\n',
-        column("k", "int", 8, rows),
-        column("f", "int", 8, 1000),
-        column("a", "int", 4, first, (1, first)),
-        column("b", "int", 4, second, (1, second)),
-        column("d", "date", 4, 3653, ('"2000-01-01"', '"2009-12-31"')),
-        '[[table.index]]\nname = "pk"\nkeys = ["k"]\nunique = true\n',
-    ))
+    return "".join(
+        (
+            f'[[table]]\nname = "t{number}"\nrows = {rows}\npages = {rows // 50}\n',
+            column("k", "int", 8, rows),
+            column("f", "int", 8, 1000),
+            column("a", "int", 4, first, (1, first)),
+            column("b", "int", 4, second, (1, second)),
+            column("d", "date", 4, 3653, ('"2000-01-01"', '"2009-12-31"')),
+            '[[table.index]]\nname = "pk"\nkeys = ["k"]\nunique = true\n',
+        )
+    )
 
 
 def statement(tables: int, draws: Draws) -> str:

@@ -36,8 +36,10 @@ class Model:
         self.rows.append((least, most))
 
     def add_part(self, q: int, part: Part) -> None:
-        ways = [slot_ways(slot, f"{q}_{s}", {t.needs[s] for t in part.templates}, set(self.open))
-                for s, slot in enumerate(part.slots)]
+        ways = [
+            slot_ways(slot, f"{q}_{s}", {t.needs[s] for t in part.templates}, set(self.open))
+            for s, slot in enumerate(part.slots)
+        ]
         kept = [it for it in part.templates if all(ways[s].get(need) for s, need in enumerate(it.needs))]
         if not kept:
             return
@@ -68,9 +70,13 @@ class Model:
         whole[list(self.candidates.values())] = 1
         limits = numpy.array(self.rows)
         begun = time.process_time()
-        done = milp(numpy.array(self.costs) / 1000, integrality=whole, bounds=Bounds(0, 1),
-                    constraints=LinearConstraint(matrix, limits[:, 0], limits[:, 1]),
-                    options={"time_limit": seconds, "mip_rel_gap": 0})
+        done = milp(
+            numpy.array(self.costs) / 1000,
+            integrality=whole,
+            bounds=Bounds(0, 1),
+            constraints=LinearConstraint(matrix, limits[:, 0], limits[:, 1]),
+            options={"time_limit": seconds, "mip_rel_gap": 0},
+        )
         took = time.process_time() - begun
         return took, 1000 * done.fun + self.programme.kept if done.status == 0 else None
 

@@ -11,9 +11,26 @@ from measure import ROOT
 
 SOURCE = os.path.join(os.path.dirname(os.path.abspath(__file__)), "plain")
 # Lowest first.
-CRATES = ("adv_base", "adv_shelf", "plan_model", "planner", "cardinality", "hypo_indexes", "interesting_orders",
-          "access_paths", "bip_model", "inum_cache", "slot_prices", "tuning", "lagrange_bound", "relaxations",
-          "branch_bound", "certificate", "gap_checker", "candidates")
+CRATES = (
+    "adv_base",
+    "adv_shelf",
+    "plan_model",
+    "planner",
+    "cardinality",
+    "hypo_indexes",
+    "interesting_orders",
+    "access_paths",
+    "bip_model",
+    "inum_cache",
+    "slot_prices",
+    "tuning",
+    "lagrange_bound",
+    "relaxations",
+    "branch_bound",
+    "certificate",
+    "gap_checker",
+    "candidates",
+)
 CLAUSE = re.compile(r"^[ \t]*(?:requires|ensures|decreases)\b(?![ \t]*[(:=.])[^\n{]*\{", re.M)
 GHOST = re.compile(r"^[ \t]*(?:pub(?:\([a-z]+\))? )?ghost (?!use\b)[\w ]*[:=]?[^\n{]*\{", re.M)
 # What is left out or written otherwise, in order.
@@ -48,12 +65,12 @@ def without(text: str, pattern: re.Pattern[str]) -> str:
     """A text without the blocks that a pattern begins. The semicolon of a declaration stays behind its clauses."""
     while found := pattern.search(text):
         end = block_end(text, found.end() - 1)
-        if pattern is CLAUSE and text[end:end + 1] == ";":
-            text = text[:found.start()].rstrip() + text[end:]
+        if pattern is CLAUSE and text[end : end + 1] == ";":
+            text = text[: found.start()].rstrip() + text[end:]
             continue
-        while pattern is GHOST and text[end:end + 1] in (",", ";"):
+        while pattern is GHOST and text[end : end + 1] in (",", ";"):
             end += 1
-        text = text[:found.start()] + text[end:].removeprefix("\n")
+        text = text[: found.start()] + text[end:].removeprefix("\n")
     return text
 
 
@@ -88,11 +105,12 @@ def translate(root: str, crate: str, out: str) -> None:
             with open(path) as file:
                 text = rust(file.read(), name == "lib.rt")
             if crate == "adv_shelf":
-                # No file is read or written: of this crate the takers alone.
-                if name not in ("lib.rt", "taker.rt"):
+                # No file is read or written: of this crate the takers, and what shelves are, alone.
+                if name not in ("lib.rt", "shelf.rt", "taker.rt"):
                     continue
                 if name == "lib.rt":
-                    text = "#![allow(warnings)]\nmod taker;\npub use taker::Taker;\n"
+                    text = ("#![allow(warnings)]\nmod shelf;\nmod taker;\n"
+                            "pub use shelf::{Failed, PutFault, Shelf};\npub use taker::Taker;\n")
             if crate == "adv_base":
                 # No text is read, so no dates either.
                 text = "" if name == "days.rt" else text.replace("pub use days::day_of;\n", "")
@@ -103,8 +121,12 @@ def translate(root: str, crate: str, out: str) -> None:
 
 
 def compiled(words: list[str], folder: str) -> None:
-    done = subprocess.run(["rustc", "--edition", "2024", "-C", "opt-level=3", "-C", "codegen-units=1", "-L", "lib", *words],
-                          cwd=folder, capture_output=True, text=True)
+    done = subprocess.run(
+        ["rustc", "--edition", "2024", "-C", "opt-level=3", "-C", "codegen-units=1", "-L", "lib", *words],
+        cwd=folder,
+        capture_output=True,
+        text=True,
+    )
     if done.returncode:
         sys.exit(f"rustc {' '.join(words)}:\n{done.stderr[-5000:]}")
 

@@ -102,7 +102,7 @@ def cost(programme: Programme, chosen: set[int]) -> int:
 def sum_lines(terms: list[str]) -> Iterator[str]:
     """Terms, some to a line, since readers of the format want short lines."""
     for at in range(0, len(terms), 8):
-        yield " " + " ".join(terms[at:at + 8])
+        yield " " + " ".join(terms[at : at + 8])
 
 
 def lp_text(programme: Programme, budget: int) -> str:

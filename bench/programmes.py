@@ -14,8 +14,22 @@ from workloads import Workload  # noqa: E402
 TABLES = 20
 SEED = 1
 STATEMENTS = (20, 100, 500)
-HEADS = ("statements", "candidates", "parts", "templates", "grants", "programme ms", "bound us", "lists us",
-         "opened us", "terms us", "carry us", "total us", "carried us", "improve us")
+HEADS = (
+    "statements",
+    "candidates",
+    "parts",
+    "templates",
+    "grants",
+    "programme ms",
+    "bound us",
+    "lists us",
+    "opened us",
+    "terms us",
+    "carry us",
+    "total us",
+    "carried us",
+    "improve us",
+)
 WIDTHS = (10, 10, 5, 9, 6, 12, 8, 8, 9, 8, 8, 8, 10, 10)
 # What is hoped for at the most statements, in microseconds.
 GOALS = {"bound": 20, "opened": 20, "carried": 5}
@@ -24,8 +38,11 @@ GOALS = {"bound": 20, "opened": 20, "carried": 5}
 def unmet(told: dict[str, int]) -> list[str]:
     """The goals that the nanoseconds of a line don't meet. A bound is made anew, by `bound` or over lists that are made
     once, by `open_ledger`; a carried one is one of `bound_by`, where one candidate changes."""
-    return [f"{name}: {told[name] / 1000:.1f} us in the place of {most}"
-            for name, most in GOALS.items() if told[name] > 1000 * most]
+    return [
+        f"{name}: {told[name] / 1000:.1f} us in the place of {most}"
+        for name, most in GOALS.items()
+        if told[name] > 1000 * most
+    ]
 
 
 def print_line(told: dict[str, int]) -> None:
@@ -49,7 +66,9 @@ def print_all(advice: Advice, workloads: list[Workload], rounds: int) -> None:
 def main() -> None:
     parser = argparse.ArgumentParser(description=__doc__)
     add_options(parser)
-    parser.add_argument("--rounds", type=int, default=7, help="how often each is measured; the fastest counts (default: 7)")
+    parser.add_argument(
+        "--rounds", type=int, default=7, help="how often each is measured; the fastest counts (default: 7)"
+    )
     options = parser.parse_args()
     counts = STATEMENTS[:2] if options.quick else STATEMENTS
     with made(options) as advice:

@@ -18,7 +18,9 @@ from workloads import Workload, workload_of  # noqa: E402
 
 # Hundredths of the pages of all useful candidates; 100 stands for 10^12 pages.
 SHARES = (2, 5, 10, 20, 40, 70, 100)
-FULL = "1-5-20 2-20-20 3-10-50 4-20-50 5-5-100 6-10-100 7-20-100 8-10-200 9-20-200 10-20-300 11-5-500 12-10-500 13-20-500"
+FULL = (
+    "1-5-20 2-20-20 3-10-50 4-20-50 5-5-100 6-10-100 7-20-100 8-10-200 9-20-200 10-20-300 11-5-500 12-10-500 13-20-500"
+)
 WORKLOADS = "1-5-20 3-10-50 4-20-50 6-10-100 7-20-100 9-20-200 12-10-500"
 QUICK = "1-5-20 3-10-50 6-10-100"
 WIDTHS = (10, 13, 7, 8, 6, 4, 6, 9, 9, 9)
@@ -27,6 +29,7 @@ WIDTHS = (10, 13, 7, 8, 6, 4, 6, 9, 9, 9)
 @dataclass
 class Row:
     """A search: the numbers that were printed, and what the solvers told."""
+
     workload: Workload | str
     told: dict[str, int]
     chosen: set[int]
@@ -94,8 +97,18 @@ def told(solved: Solved | None) -> str:
 
 def print_search(row: Row) -> None:
     it = row.told
-    cells = (row.workload, it["budget"], "yes" if row.closed else "no", f"{row.gap:.4f}", it["nodes"], it["sets"], it["useful"],
-             f"{1000 * row.seconds:.1f}", told(row.solved.get("cbc")), told(row.solved.get("glpk")))
+    cells = (
+        row.workload,
+        it["budget"],
+        "yes" if row.closed else "no",
+        f"{row.gap:.4f}",
+        it["nodes"],
+        it["sets"],
+        it["useful"],
+        f"{1000 * row.seconds:.1f}",
+        told(row.solved.get("cbc")),
+        told(row.solved.get("glpk")),
+    )
     print_row(cells, WIDTHS)
 
 
@@ -103,8 +116,10 @@ def print_sums(rows: list[Row]) -> None:
     closed = sum(row.closed for row in rows)
     gaps = [row.gap for row in rows if not row.closed]
     seconds = sum(row.seconds for row in rows)
-    print(f"closed {closed} of {len(rows)}, nodes {sum(row.told['nodes'] for row in rows)}, "
-          f"mean gap of the open {sum(gaps) / max(1, len(gaps)):.3f} %, seconds {seconds:.2f}")
+    print(
+        f"closed {closed} of {len(rows)}, nodes {sum(row.told['nodes'] for row in rows)}, "
+        f"mean gap of the open {sum(gaps) / max(1, len(gaps)):.3f} %, seconds {seconds:.2f}"
+    )
     for name in installed():
         beside = [row for row in rows if name in row.solved]
         if not beside:
@@ -113,8 +128,10 @@ def print_sums(rows: list[Row]) -> None:
         ours = sum(row.seconds for row in beside)
         faster = sum(row.closed and row.seconds < row.solved[name].seconds for row in beside)
         unsolved = sum(row.solved[name].cost is None for row in beside)
-        print(f"{name}: seconds {theirs:.2f}, {theirs / max(ours, 1e-9):.1f} times ours; the search closed and was faster on "
-              f"{faster} of {len(beside)}; not solved in time {unsolved}")
+        print(
+            f"{name}: seconds {theirs:.2f}, {theirs / max(ours, 1e-9):.1f} times ours; the search closed and was faster on "
+            f"{faster} of {len(beside)}; not solved in time {unsolved}"
+        )
 
 
 def lightest(advice: Advice, rows: list[Row], nodes: int) -> None:

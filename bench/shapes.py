@@ -15,6 +15,7 @@ class Shape:
     """Tables, columns of each, statements; how many slots a statement has at most and whether these are joined to the first
     one (a star) or each to the one before (a chain); the orders of magnitude of the tables' rows; the share of writes, in
     hundredths."""
+
     tables: int
     columns: int
     statements: int
@@ -53,8 +54,10 @@ class Maker:
     def column(self, number: int, rows: int, order: int) -> str:
         some = 10 ** self.draws.randrange(order + 1) * self.draws.randrange(1, 8)
         distinct = max(1, min(rows, rows if number == 0 else some))
-        return (f'[[table.column]]\nname = "c{number}"\nkind = "int"\nwidth = {self.draws.choice(WIDTHS)}\n'
-                f"distinct = {distinct}\nlow = 0\nhigh = {distinct}\n")
+        return (
+            f'[[table.column]]\nname = "c{number}"\nkind = "int"\nwidth = {self.draws.choice(WIDTHS)}\n'
+            f"distinct = {distinct}\nlow = 0\nhigh = {distinct}\n"
+        )
 
     def table(self, number: int) -> str:
         shape = self.shape
@@ -62,7 +65,9 @@ class Maker:
         if shape.is_star and number == 0:
             order = shape.most_order + 1
         rows = self.draws.randrange(10**order // 2, 10**order * 3 // 2)
-        text = f'[[table]]\nname = "t{number}"\nrows = {rows}\npages = {rows // self.draws.choice(ROWS_OF_A_PAGE) + 1}\n'
+        text = (
+            f'[[table]]\nname = "t{number}"\nrows = {rows}\npages = {rows // self.draws.choice(ROWS_OF_A_PAGE) + 1}\n'
+        )
         text += "".join(self.column(it, rows, order) for it in range(shape.columns))
         if self.draws.randrange(3):
             clustered = "true" if self.draws.randrange(2) else "false"
@@ -74,19 +79,23 @@ class Maker:
 
     def write(self) -> str:
         table = self.draws.randrange(self.shape.tables)
-        return self.draws.choice((
-            f"UPDATE t{table} SET {self.name()} = 1 WHERE {self.name()} = 2;",
-            f"DELETE FROM t{table} WHERE {self.name()} = 3 AND {self.name()} > 1;",
-            f"INSERT INTO t{table} VALUES ({', '.join('0' * self.shape.columns)});",
-        ))
+        return self.draws.choice(
+            (
+                f"UPDATE t{table} SET {self.name()} = 1 WHERE {self.name()} = 2;",
+                f"DELETE FROM t{table} WHERE {self.name()} = 3 AND {self.name()} > 1;",
+                f"INSERT INTO t{table} VALUES ({', '.join('0' * self.shape.columns)});",
+            )
+        )
 
     def select(self) -> str:
         shape, draws = self.shape, self.draws
         slots = draws.randrange(1, shape.slots + 1)
         first = 0 if shape.is_star and slots > 1 else draws.randrange(shape.tables)
         tables = [first, *(draws.randrange(1, shape.tables) for _ in range(slots - 1))]
-        parts = [f"s{0 if shape.is_star else it - 1}.{self.name()} = s{it}.{draws.choice(('c0', self.name()))}"
-                 for it in range(1, slots)]
+        parts = [
+            f"s{0 if shape.is_star else it - 1}.{self.name()} = s{it}.{draws.choice(('c0', self.name()))}"
+            for it in range(1, slots)
+        ]
         for it in range(slots):
             parts += [f"s{it}.{self.name()} {draws.choice(CONDITIONS)}" for _ in range(draws.choice((0, 1, 1, 2)))]
         items = ", ".join(f"s{draws.randrange(slots)}.{self.name()}" for _ in range(draws.randrange(1, 4)))

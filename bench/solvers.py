@@ -22,6 +22,7 @@ REPEATS = 15
 class Solved:
     """The processor's seconds of a run less those of one that only reads the file, the least of several of each where that is
     short, and the objective, which is None where the solver didn't show that it is least."""
+
     seconds: float
     cost: float | None
 

@@ -13,6 +13,7 @@ AMPLE = 10**12
 @dataclass(frozen=True)
 class Workload:
     """The generator's numbers."""
+
     seed: int
     tables: int
     statements: int
@@ -54,6 +55,7 @@ def budget_of(share: int, pages: int) -> int:
 @dataclass
 class Advice:
     """What `advise` or `bench` printed."""
+
     cost: int
     bound: int
     nodes: int

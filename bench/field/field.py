@@ -89,9 +89,8 @@ class Field:
                 began = time.monotonic()
                 folder = self.folder / f"{self.words.name}-advice-{share}"
                 self.say(f"{self.words.name} at {share} %")
-                indexes, document = advised(
-                    self.server, connection, budget, folder, ["--program", self.words.program, *self.words.passed]
-                )
+                words = ["--program", self.words.program, *self._values(), *self.words.passed]
+                indexes, document = advised(self.server, connection, budget, folder, words)
                 chosen[share] = indexes, document, time.monotonic() - began
         for share, (indexes, document, took) in chosen.items():
             more = {
@@ -106,6 +105,17 @@ class Field:
                 for it in ("calls", "size_pages", "stored_pages", "left_out", "seconds", "cost", "server_cost")
             }
             self.measured(files[share], indexes, **more, **parts)
+
+    def _values(self) -> list[str]:
+        """The words by which ours gets the statements with values, as the rivals have them."""
+        if not self.words.values:
+            return []
+        file = self.folder / "statements.sql"
+        listed = ((it.samples(self.scale), it.calls) for it in self.statements)
+        file.write_text(
+            "".join(f"-- weight {max(1, calls // len(texts))}\n{it};\n" for texts, calls in listed for it in texts)
+        )
+        return ["--sql", str(file)]
 
     def measured(self, file: Path, indexes: list[Index], **more: object) -> None:
         """Measures under a set of indexes and writes the file, if it isn't there; the same set is measured once."""
@@ -156,6 +166,9 @@ def main() -> int:
     parser.add_argument("--budgets", default=BUDGETS, type=numbers, metavar="SHARES", help="in percent of the heap")
     parser.add_argument("--scale", type=float, default=1.0, help="by what numbers of rows are multiplied (1)")
     parser.add_argument("--name", default=OURS, help=f"by which the results of ours are kept ({OURS})")
+    parser.add_argument(
+        "--values", action="store_true", help="ours gets statements with values, as its rivals do; name it otherwise"
+    )
     parser.add_argument("--runs", type=int, default=5, help="how often each sample is run; the median counts (5)")
     parser.add_argument("--again", action="store_true", help="a further round over all that was chosen before")
     parser.add_argument("--program", default=str(BUILT), help="the built program (default: that of this repository)")
