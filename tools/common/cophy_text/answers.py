@@ -8,6 +8,12 @@ PAGE = 8192
 _PICK = re.compile(r"(?:pick )?(\d{1,18}) ([A-Za-z0-9_]+)\(([A-Za-z0-9_]+(?:, [A-Za-z0-9_]+)*)\) (\d{1,30}) pages\Z")
 _LEFT_OVER = re.compile(r"^left over (\d{1,18})$", re.MULTILINE)
 _PRICE = re.compile(r"statement (\d{1,18}) weight (\d{1,18}) cost (\d{1,60})\Z")
+_POINT = re.compile(
+    r"point (\d{1,18}) budget (\d{1,60}) size (\d{1,60}) cost (\d{1,60}) bound (-?\d{1,60}) "
+    r"best \d{1,60} low -?\d{1,60} nodes (\d{1,18})\Z"
+)
+_CONFIG = re.compile(r"^config((?: \d{1,18})*)$", re.MULTILINE)
+_FOLDED = re.compile(r"statements (\d{1,18}) folded (\d{1,18}) total (\d{1,60})\n?\Z")
 _NUMBERS = {
     "budget": re.compile(r"budget (\d{1,60})\Z"),
     "size": re.compile(r"size (\d{1,60})\Z"),
@@ -65,6 +71,10 @@ class Prices:
     total: int
     size: int | None = None
 
+    def of_call(self, times: dict[int, float]) -> float:
+        """What statements cost that run so often each, by their numbers."""
+        return sum(count * self.statements[at].cost for at, count in times.items() if at in self.statements)
+
 
 def read_advice(text: str) -> Advice:
     """Takes the text of `advise` apart; the lines of `bench` before it are passed over."""
@@ -85,6 +95,35 @@ def read_advice(text: str) -> Advice:
             name = line.split(" ")[0]
             setattr(advice, name, _number(name, line))
     raise NoAnswer("this is no advice: it lacks the line 'finished' or 'stopped'")
+
+
+def read_points(text: str) -> list[Advice]:
+    """Takes the text of `sweep` apart: an advice for each point, without its picks."""
+    found = []
+    for line in text.splitlines():
+        point = _POINT.match(line)
+        if point is not None:
+            budget, size, cost, bound = map(int, point.groups()[1:5])
+            found.append(Advice(budget, [], size, cost, bound, cost - bound, point[6], cost == bound))
+        elif line in ("finished", "stopped") and found:
+            return found
+    raise NoAnswer("these are no points of a sweep: the line 'finished' or 'stopped' isn't there")
+
+
+def read_config(certificate: str) -> list[int]:
+    """The numbers of the candidates that a certificate is of."""
+    found = _CONFIG.search(certificate)
+    if found is None:
+        raise NoAnswer("this is no certificate: it lacks the line 'config'")
+    return [int(it) for it in found[1].split()]
+
+
+def read_folded(text: str) -> tuple[int, int]:
+    """How many statements and how many groups the text of `fold` counts."""
+    found = _FOLDED.match(text)
+    if found is None:
+        raise NoAnswer("this is no answer of fold")
+    return int(found[1]), int(found[2])
 
 
 def read_candidates(text: str) -> list[Candidate]:

@@ -17,6 +17,7 @@ from cophy_pg.budget import filled
 from cophy_pg.choice import Choice, Limits, drop_by_limits, drop_by_server
 from cophy_pg.commands import commands_text
 from cophy_pg.folder import Folder
+from cophy_pg.folding import Folding
 from cophy_pg.making import ddl_text
 from cophy_pg.outcomes import Verdict, outcomes
 from cophy_pg.overview import lines_of
@@ -58,6 +59,12 @@ def add_advise(commands: argparse._SubParsersAction[argparse.ArgumentParser]) ->
         epilog="The status is 0 where there are indexes to make, 3 where there are none; 1 says that it couldn't be done, "
         "2 that the words are faulty.",
     )
+    add_words(parser)
+    parser.set_defaults(run=advise, is_silent=False)
+
+
+def add_words(parser: argparse.ArgumentParser) -> None:
+    """The words that say what to advise on, and how."""
     parser.add_argument(
         "--budget",
         type=amount,
@@ -80,7 +87,6 @@ def add_advise(commands: argparse._SubParsersAction[argparse.ArgumentParser]) ->
     add_connection(parser)
     add_trust(parser)
     add_program(parser)
-    parser.set_defaults(run=advise)
 
 
 def percent(text: str) -> float:
@@ -107,7 +113,8 @@ def advise(words: argparse.Namespace) -> int:
         kept.write({folder.REPORT: page_of(kept)})
     except NoReport as fault:
         say(str(fault))
-    print(json.dumps(document, indent=2) if words.json else text, end="\n" if words.json else "")
+    if not words.is_silent:
+        print(json.dumps(document, indent=2) if words.json else text, end="\n" if words.json else "")
     return 0 if document["picks"] else NOTHING
 
 
@@ -180,8 +187,9 @@ class Run:
                 version = version_of(server)
             listed, found, self.warnings, name = export.read(server, given, selection_of(words), self.steps)
             with reading(server, "READ COMMITTED"):
-                look_up(server, [Verdict(at, it, []) for at, it in enumerate(listed, 1)], words.is_trusted)
-        workload = made(listed, Rewriter(found.schema, options_of(words)), self.steps)
+                look_up(server, [Verdict(at, it, {}) for at, it in enumerate(listed, 1)], words.is_trusted)
+        folding = Folding(lambda: export.catalogue_of(found, name), words.program, self.steps)
+        workload = made(listed, Rewriter(found.schema, options_of(words)), self.steps, folding)
         self.head = {
             "made": datetime.now(UTC).strftime("%Y-%m-%dT%H:%M:%SZ"),
             "database": name,
@@ -243,7 +251,8 @@ class Run:
         words = self.words
         limits = Limits(words.min_saving, words.most_per_table)
         while True:
-            found = [Verdict(at, it.input, it.numbers) for at, it in enumerate(workload.records, 1) if it.numbers]
+            records = enumerate(workload.records, 1)
+            found = [Verdict(at, it.input, workload.times(it)) for at, it in records if it.numbers]
             with self.steps.step("verify", "asking the server's planner", 2 * len(found)):
                 with reading(server):
                     home_of(server)

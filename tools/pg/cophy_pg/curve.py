@@ -4,6 +4,7 @@ from __future__ import annotations
 import argparse
 import json
 import re
+from contextlib import suppress
 from dataclasses import replace
 from datetime import UTC, datetime
 from typing import Any
@@ -14,7 +15,7 @@ from cophy_text.shown import MOST_PAGES, percent, space
 from cophy_pg.amounts import amounts, step_count, whole
 from cophy_pg.curves import Point
 from cophy_pg.drawing import draw
-from cophy_pg.program import Program, add_program
+from cophy_pg.program import MOST_POINTS, NoCommand, Program, add_program
 from cophy_pg.progress import Progress
 
 
@@ -25,13 +26,16 @@ def add_curve(commands: argparse._SubParsersAction[argparse.ArgumentParser]) -> 
         help="show what a budget buys",
         description="Calls cophy advise for a row of budgets, and prints budget, size, cost and bound of each; with --png it "
         "draws them. Without --budgets there are 0, the size that no budget limits, and between them those where the most is "
-        "unknown: they lie where the curve bends.",
+        "unknown: they lie where the curve bends. With --even they lie an equal step apart, and cophy sweep searches for all "
+        "of them at once, where the program has that and there are at most 15 above 0.",
     )
     parser.add_argument("catalogue", metavar="CATALOGUE")
     parser.add_argument("workload", metavar="WORKLOAD")
-    parser.add_argument(
+    which = parser.add_mutually_exclusive_group()
+    which.add_argument(
         "--budgets", type=amounts, metavar="B,B,..", help="budgets such as 2GB, 500MB or pages, at most 1000"
     )
+    which.add_argument("--even", action="store_true", help="budgets an equal step apart")
     parser.add_argument("--steps", type=step_count, default=8, metavar="N", help="how many budgets above 0 (8)")
     parser.add_argument("--nodes", type=whole, metavar="N", help="the node budget of each search")
     parser.add_argument("--png", metavar="FILE", help="draw the curve")
@@ -60,6 +64,17 @@ class Search:
             found = sorted([*found, self.at(budget)], key=lambda it: it.budget)
         return found
 
+    def evenly(self, steps: int) -> list[Advice]:
+        """Advice for 0, and for budgets an equal step apart up to all that has a use."""
+        most = self.at(MOST_PAGES).size
+        step = max(1, -(-most // steps))
+        count = -(-most // step) + 1
+        if count <= MOST_POINTS:
+            self.progress(f"advising for {count} budgets at once")
+            with suppress(NoCommand):
+                return self.program.sweep(0, step, count, self.nodes)
+        return [self.at(it * step) for it in range(count)]
+
 
 def between(found: list[Advice]) -> int | None:
     """The budget in the middle of where the most is unknown, the steps between two budgets being pages times cost; nothing
@@ -80,7 +95,7 @@ def curve(words: argparse.Namespace) -> int:
     if words.budgets is not None:
         found = [search.at(it) for it in words.budgets]
     else:
-        found = search.along(words.steps)
+        found = (search.evenly if words.even else search.along)(words.steps)
     without = next((it.cost for it in found if not it.picks), None)
     if without is None:
         without = program.whatif(()).total

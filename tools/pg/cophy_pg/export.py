@@ -7,6 +7,7 @@ from cophy_text import files
 from cophy_text.answers import counted
 from cophy_pg import inputs
 from cophy_pg.catalogue import catalogue_text, read_schema
+from cophy_pg.folding import Folding
 from cophy_pg.program import add_program
 from cophy_pg.progress import Progress, say
 from cophy_pg.ranking import rank, ready
@@ -55,6 +56,7 @@ def add_rewrite(commands: argparse._SubParsersAction[argparse.ArgumentParser]) -
     parser.add_argument("sql", metavar="SQL", help="a file of SQL, with weights in comments '-- weight N'")
     parser.add_argument("workload", metavar="WORKLOAD", help="the file of the workload")
     add_options(parser)
+    add_program(parser)
     parser.set_defaults(run=rewrite)
 
 
@@ -78,7 +80,8 @@ def export(words: argparse.Namespace) -> int:
         given = inputs.from_log(files.read(words.log))
     with connected(words.dsn, words.timeout) as server:
         listed, found, warnings, name = read(server, given, selection, progress)
-    workload = made(listed, Rewriter(found.schema, options.options_of(words)), progress)
+    folding = Folding(lambda: catalogue_of(found, name), words.program, progress)
+    workload = made(listed, Rewriter(found.schema, options.options_of(words)), progress, folding)
     catalogue = catalogue_of(found, name)
     if ready(words.program):
         progress("ordering the statements by their cost")
@@ -121,8 +124,10 @@ def catalogue_of(found: Found, name: str) -> bytes:
 def rewrite(words: argparse.Namespace) -> int:
     """Rewrites a file over a catalogue."""
     files.check([words.workload, words.report], [words.catalogue, words.sql])
-    schema = read_schema(files.read(words.catalogue))
-    workload = made(inputs.from_sql(files.read(words.sql)), Rewriter(schema, options.options_of(words)), Progress())
+    catalogue, progress = files.read(words.catalogue), Progress()
+    rewriter = Rewriter(read_schema(catalogue), options.options_of(words))
+    folding = Folding(lambda: catalogue, words.program, progress)
+    workload = made(inputs.from_sql(files.read(words.sql)), rewriter, progress, folding)
     _write(workload, [], words, [])
     return 0
 

@@ -16,6 +16,7 @@ ADVICE, CERTIFICATE, CHECK = "advice.txt", "certificate", "check.txt"
 VERIFY, KEPT, DDL, PLANS = "verify.json", "kept.txt", "indexes.sql", "plans.json"
 SUMMARY, RESULT, REPORT, COMMANDS = "summary.txt", "advice.json", "report.html", "commands.txt"
 CURVE = "curve.json"
+CHANGES, CHANGES_JSON = "changes.txt", "changes.json"
 
 
 class Folder:

@@ -10,7 +10,9 @@ from typing import Any
 
 from cophy_pg.advise import add_advise
 from cophy_pg.catalogue import NoCatalogue
+from cophy_pg.changes import add_changes
 from cophy_pg.curve import add_curve
+from cophy_pg.daily import add_daily
 from cophy_pg.ddl import NoIndex
 from cophy_pg.export import add_export, add_rewrite
 from cophy_text.files import ENDS, NoFile
@@ -20,6 +22,7 @@ from cophy_pg.making import add_ddl
 from cophy_pg.page import NoReport, add_report
 from cophy_pg.program import ProgramFault
 from cophy_pg.progress import say
+from cophy_pg.rules import add_rules
 from cophy_pg.server import ServerFault
 from cophy_pg.snapshots import add_snapshot
 from cophy_pg.verify import add_verify
@@ -37,6 +40,8 @@ def main() -> int:
         add_advise,
         add_report,
         add_health,
+        add_daily,
+        add_changes,
         add_snapshot,
         add_export,
         add_rewrite,
@@ -44,6 +49,7 @@ def main() -> int:
         add_verify,
         add_why,
         add_curve,
+        add_rules,
     ):
         add(commands)
     for stream in (sys.stdout, sys.stderr):

@@ -15,11 +15,11 @@ MOST_NUMBERS = 20
 @dataclass
 class Verdict:
     """A statement's estimate without and with the picks, and the picks that its plan takes; a fault says why one of both
-    isn't known. `written` are the numbers of its statements in the workload."""
+    isn't known. `times` says how often one call runs each of its statements, by their numbers in the workload."""
 
     number: int
     input: Input
-    written: list[int]
+    times: dict[int, float]
     statement: Statement | None = None
     before: float | None = None
     after: float | None = None
@@ -29,6 +29,11 @@ class Verdict:
     @property
     def calls(self) -> int:
         return self.input.calls
+
+    @property
+    def written(self) -> list[int]:
+        """The numbers of its statements."""
+        return [*self.times]
 
     def shown(self) -> str:
         """Its statements in the workload, and its line in the file that it comes from."""
@@ -98,7 +103,7 @@ def texts_in(workload: str) -> dict[int, str]:
     return dict(enumerate(parts, 1))
 
 
-def unmatched(forms: dict[str, list[int]], found: list[Verdict]) -> list[int]:
+def unmatched(forms: dict[str, dict[int, float]], found: list[Verdict]) -> list[int]:
     """The numbers of the statements whose inputs weren't found."""
     matched = {at for it in found for at in it.written}
     return sorted({at for numbers in forms.values() for at in numbers} - matched)

@@ -7,17 +7,24 @@ import shutil
 import subprocess
 import tempfile
 from collections.abc import Iterable
+from dataclasses import replace
 from pathlib import Path
 
-from cophy_text.answers import Advice, Prices, read_advice, read_prices
+from cophy_text.answers import Advice, Prices, read_advice, read_candidates, read_config, read_points, read_prices
 from cophy_text.files import shown
 
 SCRIPT = Path(__file__).resolve().parents[3] / "cophy"
 NAME = "cophy"
+MOST_POINTS = 16
+"""How many points a sweep has at most."""
 
 
 class ProgramFault(Exception):
     """The program didn't answer, or answered by a refusal."""
+
+
+class NoCommand(ProgramFault):
+    """The program is older than the command."""
 
 
 def add_program(parser: argparse.ArgumentParser) -> None:
@@ -61,14 +68,25 @@ class Program:
         text = ran.stdout.decode(errors="replace")
         if ran.returncode not in (0, 1):
             said = text.split("\n", 1)[0] or f"status {ran.returncode}"
-            raise ProgramFault(f"cophy {command} answers: {said}")
+            fault = NoCommand if said.startswith("usage: unknown command") else ProgramFault
+            raise fault(f"cophy {command} answers: {said}")
         return text
 
     def cost(self) -> Prices:
         return read_prices(self.text("cost"))
 
     def advise(self, budget: int, nodes: int | None = None) -> Advice:
-        return read_advice(self.text("advise", str(budget), *(("--nodes", str(nodes)) if nodes else ())))
+        return read_advice(self.text("advise", str(budget), *_nodes(nodes)))
+
+    def sweep(self, first: int, step: int, count: int, nodes: int | None = None) -> list[Advice]:
+        """Advice for budgets an equal step apart, by one search over all of them."""
+        with tempfile.TemporaryDirectory(prefix="cophy-sweep-") as folder:
+            prefix = os.path.join(folder, "point-")
+            numbers = map(str, (first, step, count))
+            found = read_points(self.text("sweep", *numbers, *_nodes(nodes), "--cert", prefix))
+            configs = [read_config(Path(f"{prefix}{it}").read_text("ascii")) for it in range(1, len(found) + 1)]
+        candidates = {it.number: it for it in read_candidates(self.text("candidates"))}
+        return [replace(it, picks=[candidates[pick] for pick in config]) for it, config in zip(found, configs)]
 
     def whatif(self, picks: Iterable[int]) -> Prices:
         """The prices under a configuration of candidates."""
@@ -76,3 +94,7 @@ class Program:
             file.write("".join(f"{it}\n" for it in sorted(picks)))
             file.flush()
             return read_prices(self.text("whatif", file.name))
+
+
+def _nodes(nodes: int | None) -> tuple[str, ...]:
+    return ("--nodes", str(nodes)) if nodes else ()

@@ -134,10 +134,7 @@ class Result:
 
     def _ours(self, record: Record) -> dict[str, int]:
         """What a call costs by our model, over all statements that it is written as."""
-        times = {at: record.found.times.get(self.workload.statements[at - 1][0], 1.0) for at in record.numbers}
-        before, after = (
-            round(sum(count * it.statements[at].cost for at, count in times.items())) for it in self.prices[:2]
-        )
+        before, after = (round(it.of_call(self.workload.times(record))) for it in self.prices[:2])
         return {"before": before, "after": after}
 
 

@@ -39,10 +39,7 @@ class Selection:
 def ran_once(workload: Workload, prices: Prices) -> list[str]:
     """What to warn of where statements that ran once have much of the cost, beside others that ran again: they may have filled
     the tables, and count against each index."""
-    costs = [
-        (it.input.calls, it.input.calls * sum(prices.statements[at].cost for at in it.numbers))
-        for it in workload.records
-    ]
+    costs = [(it.input.calls, it.input.calls * prices.of_call(workload.times(it))) for it in workload.records]
     once, every = sum(cost for calls, cost in costs if calls == 1), sum(cost for _, cost in costs)
     if 10 * once < every or once == every:
         return []

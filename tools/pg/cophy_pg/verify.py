@@ -222,10 +222,10 @@ def advice_text(advice: Advice, kept: list[int], cost: int) -> str:
 
 
 def our_saving(verdict: Verdict, prices: list[Prices] | None) -> float | None:
-    """What one call saves by our estimate, in the unit of EXPLAIN."""
+    """What one call saves by our estimate, in the unit of EXPLAIN, over all runs of its statements."""
     if prices is None:
         return None
-    before, after = (sum(it.statements[at].cost for at in verdict.written if at in it.statements) for it in prices[:2])
+    before, after = (it.of_call(verdict.times) for it in prices[:2])
     return explained(before - after)
 
 

@@ -1,8 +1,10 @@
 """Rewrites inputs and puts the statements together into a workload, with a record of each input."""
 from __future__ import annotations
 
+import re
 from collections.abc import Callable
-from dataclasses import dataclass, field
+from dataclasses import dataclass, field, replace
+from typing import TYPE_CHECKING
 
 from pglast import ast
 from pglast.parser import ParseError
@@ -12,7 +14,11 @@ from cophy_pg.rewrite import Rewriter, Rewritten
 from cophy_pg.rewrite.expressions import nodes_of
 from cophy_pg.rewrite.parse import fingerprint_of, parsed
 
-FROM = "from"
+if TYPE_CHECKING:
+    from cophy_pg.folding import Folding
+
+FROM, TIMES = "from", "*"
+_NUMBER = re.compile(r"[0-9]{1,20}(\.[0-9]{1,20})?(e[-+]?[0-9]{1,2})?")
 MOST_STATEMENTS, MOST_SLOTS, MOST_WEIGHT, MOST_BYTES = 1000, 2000, 10**6, 16777216
 
 
@@ -34,12 +40,18 @@ class Workload:
     divisor: float = 1.0
     remarks: list[str] = field(default_factory=list)
 
+    def times(self, record: Record) -> dict[int, float]:
+        """How often one call of an input runs each of its statements, by their numbers."""
+        return {at: record.found.times.get(self.statements[at - 1][0], 1.0) for at in record.numbers}
+
     def text(self) -> str:
-        """The workload as a file. Before each statement stand the fingerprints of the inputs that it comes from."""
+        """The workload as a file. Before each statement stand the fingerprints of the inputs that it comes from, each with how
+        often one call runs it, where that isn't once."""
         forms: dict[int, list[str]] = {}
         for record in self.records:
-            for number in record.numbers:
-                forms.setdefault(number, []).append(form_of(record.input.text))
+            for number, times in self.times(record).items():
+                form = form_of(record.input.text)
+                forms.setdefault(number, []).append(form if times == 1 else f"{form}{TIMES}{times:.6g}")
         return "\n".join(
             f"-- {FROM} {' '.join(dict.fromkeys(forms[number]))}\n-- weight {weight}\n{text};\n"
             for number, (text, weight) in enumerate(self.statements, 1)
@@ -66,12 +78,14 @@ def form_of(text: str) -> str:
         return "none"
 
 
-def forms_in(text: str) -> dict[str, list[int]]:
-    """The numbers of the statements in a written workload that come from the input of each fingerprint."""
-    found: dict[str, list[int]] = {}
+def forms_in(text: str) -> dict[str, dict[int, float]]:
+    """The numbers of the statements in a written workload that come from the input of each fingerprint, with how often one
+    call runs each."""
+    found: dict[str, dict[int, float]] = {}
     for number, line in enumerate((it for it in text.splitlines() if it.startswith(f"-- {FROM} ")), 1):
-        for form in line.removeprefix(f"-- {FROM} ").split():
-            found.setdefault(form, []).append(number)
+        for word in line.removeprefix(f"-- {FROM} ").split():
+            form, _, times = word.partition(TIMES)
+            found.setdefault(form, {})[number] = float(times) if _NUMBER.fullmatch(times) else 1.0
     return found
 
 
@@ -92,17 +106,21 @@ def mentioned(inputs: list[Input]) -> tuple[set[str], set[str]]:
     return tables, words
 
 
-def made(inputs: list[Input], rewriter: Rewriter, progress: Callable[[str], None]) -> Workload:
-    """Rewrites each input; statements that come out the same are taken together."""
+def made(
+    inputs: list[Input], rewriter: Rewriter, progress: Callable[[str], None], folding: Folding | None = None
+) -> Workload:
+    """Rewrites each input; statements that come out the same are taken together, and where there are more than a workload may
+    have, those that cost the same too."""
     records = []
     for number, it in enumerate(inputs, 1):
         records.append(Record(it, rewriter.rewrite(it.text, it.rows, it.path)))
         if number % 100 == 0:
             progress(f"rewriting statement {number} of {len(inputs)}")
     by_worth = sorted(records, key=lambda it: (-(it.input.seconds or 0.0), -it.input.calls))
+    remarks = _folded(by_worth, folding) if folding is not None else []
     calls = _within_limits(by_worth)
     most = max(calls.values(), default=1)
-    workload = Workload(records, [], max(1.0, most / MOST_WEIGHT))
+    workload = Workload(records, [], max(1.0, most / MOST_WEIGHT), remarks)
     numbers: dict[str, int] = {}
     for record in records:
         for text in record.found.statements:
@@ -111,6 +129,31 @@ def made(inputs: list[Input], rewriter: Rewriter, progress: Callable[[str], None
                 workload.statements.append((text, max(1, round(calls[text] / workload.divisor))))
         record.numbers = [numbers[it] for it in record.found.statements if it in numbers]
     return workload
+
+
+def _folded(records: list[Record], folding: Folding) -> list[str]:
+    """Puts statements into the place of those that they stand for, where not all are within the limits; what there is to say
+    of that."""
+    texts: dict[str, int] = {}
+    for record in records:
+        for it in record.found.statements:
+            texts.setdefault(it, record.found.slots.get(it, 1))
+    size = sum(len(it.encode(errors="replace")) + 40 for it in texts)
+    if len(texts) <= MOST_STATEMENTS and sum(texts.values()) <= MOST_SLOTS and size <= MOST_BYTES:
+        return []
+    stands = folding.of(texts)
+    for record in records:
+        record.found = _in_place(record.found, stands)
+    return [folding.remark]
+
+
+def _in_place(found: Rewritten, stands: dict[str, str]) -> Rewritten:
+    times: dict[str, float] = {}
+    for it in found.statements:
+        first = stands.get(it, it)
+        times[first] = times.get(first, 0.0) + found.times.get(it, 1.0)
+    slots = {stands.get(it, it): count for it, count in found.slots.items()}
+    return replace(found, statements=[*times], slots=slots, times=times)
 
 
 def _within_limits(records: list[Record]) -> dict[str, float]:

@@ -80,7 +80,7 @@ source dropped|near|of more than 8 sources small ones that hang on one other are
 range end|same|the model counts a range from above its low end up to its high one: c < 5 is c <= 4, BETWEEN 5 AND 9 is BETWEEN 4 AND 9
 bounds|near|a lower and an upper bound of a column are one BETWEEN
 parameter range|near|a range of parameters is a literal range of 0.5 % of the column, as PostgreSQL's generic plan takes it|ranges
-rows of a call|near|a range of parameters is a literal range that holds as many rows as a call gave or changed|rows
+rows of a call|near|a range of parameters is a literal range that holds as many rows as a call gave or changed, an array that isn't known has as many items as find these|rows
 limit range|near|ORDER BY with LIMIT is a literal range of its first column that holds as many rows as are left|limits
 looked up|near|a column that a nested loop would look up is IN as many items as the outer side has rows|look_ups
 correlated|near|a correlated subquery counts once for each row outside it|look_ups

@@ -10,9 +10,11 @@ from pglast.enums import BoolExprType, BoolTestType, NullTestType, SubLinkType
 
 from cophy_pg.rewrite.block import Block, Condition, Test, Tie
 from cophy_pg.rewrite.expressions import name_of
+from cophy_pg.rewrite.finish import FEWER, MOST_LOOKED_UP
 from cophy_pg.rewrite.ranges import as_counted, fitted
+from cophy_pg.rewrite.rows import most_rows
 from cophy_pg.rewrite.scope import Scope
-from cophy_pg.rewrite.terms import ANY, Col, Term, Value, as_value, columns, has_unknown, is_value
+from cophy_pg.rewrite.terms import ANY, ITEM, Col, Term, Unknown, Value, as_value, columns, has_unknown, is_value
 
 if TYPE_CHECKING:
     from cophy_pg.rewrite.rewriter import Rewriter
@@ -178,9 +180,21 @@ class Conditions:
         elif isinstance(left, Col) and isinstance(right, Col) and operator == "=":
             self.block.conditions.append(Tie(left, right))
         elif has_unknown(left) or has_unknown(right):
-            self._need("own statement", left, right)
+            if operator != "=" or not (self._look_up(left, right) or self._look_up(right, left)):
+                self._need("own statement", left, right)
         else:
             self._through_function(left, operator, right)
+
+    def _look_up(self, left: Term, right: Term) -> bool:
+        """Says by IN that a nested loop looks up what a query gives that is priced elsewhere; whether that is so."""
+        rows = right.rows if isinstance(right, Unknown) else None
+        if rows is None or not isinstance(left, Col) or left.column.no_key or not self.rewriter.options.look_ups:
+            return False
+        if not 1 <= rows <= MOST_LOOKED_UP or rows * FEWER > left.slot.table.rows:
+            return False
+        self.note("looked up")
+        self.block.conditions.append(Test(left, "IN", (ANY,) * rows))
+        return True
 
     def _through_function(self, left: Term, operator: str, right: Term) -> None:
         ones, others = [*dict.fromkeys(columns(left))], [*dict.fromkeys(columns(right))]
@@ -266,7 +280,7 @@ class Conditions:
         if isinstance(term, Value) and isinstance(term.known, str) and re.fullmatch(r"\{[^{}\"]*\}", term.known):
             listed = [it.strip() for it in term.known[1:-1].split(",")]
             return [Value(it, int(it)) if re.fullmatch(r"-?\d{1,18}", it) else ANY for it in listed]
-        return [ANY] * ITEMS if is_value(term) else None
+        return [ITEM] * ITEMS if is_value(term) else None
 
     def _between(self, node: Any, scope: Scope, negated: bool) -> None:
         if node.kind in (Kind.AEXPR_BETWEEN_SYM, Kind.AEXPR_NOT_BETWEEN_SYM):
@@ -351,9 +365,12 @@ class Conditions:
             if negated or not rewriter.join_subquery(self.block, node.subselect, scope, None):
                 rewriter.own_statement(node.subselect, scope)
         elif kind == SubLinkType.ANY_SUBLINK and not node.operName:
-            left = node.testexpr
-            if negated or not rewriter.join_subquery(self.block, node.subselect, scope, left):
-                self._need("own statement", self._term(left, scope))
+            compared = node.testexpr
+            if negated or not rewriter.join_subquery(self.block, node.subselect, scope, compared):
+                left = self._term(compared, scope)
+                rows = most_rows(node.subselect, scope.common, rewriter.changed_rows())
+                if negated or not self._look_up(left, Unknown(rows)):
+                    self._need("own statement", left)
                 rewriter.own_statement(node.subselect, scope)
         elif kind == SubLinkType.EXPR_SUBLINK:
             rewriter.own_statement(node.subselect, scope, is_for_each=True)

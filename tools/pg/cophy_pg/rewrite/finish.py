@@ -14,7 +14,8 @@ GENERIC_PART = 200
 """PostgreSQL's generic plan takes a range of parameters to keep one row in 200."""
 NARROWEST = 20
 """From this length on a column's range has whole numbers for a small share of it."""
-MOST_LOOKED_UP = 1000
+MOST_LOOKED_UP, FEWER = 1000, 10
+"""A nested loop looks up as many values at most, and no more than one for so many rows."""
 SEARCHED = frozenset(("=", "IN", "<", "<=", ">", ">=", "BETWEEN"))
 """The tests by which an index is searched."""
 
@@ -166,7 +167,7 @@ def add_look_ups(block: Block, note: Note) -> None:
             is_tested = any(
                 isinstance(it, Test) and it.col == other and it.form in ("=", "IN") for it in block.conditions
             )
-            if few <= MOST_LOOKED_UP and few * 10 <= many and not is_tested:
+            if few <= MOST_LOOKED_UP and few * FEWER <= many and not is_tested:
                 note("looked up")
                 block.conditions.append(Test(other, "IN", (Value("?", None, False),) * round(few)))
 

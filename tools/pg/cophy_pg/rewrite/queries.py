@@ -9,7 +9,7 @@ from pglast.enums import JoinType, LimitOption, SetOperation, SortByDir, SortByN
 from cophy_pg.rewrite.block import Block
 from cophy_pg.rewrite.conditions import Conditions
 from cophy_pg.rewrite.expressions import OTHER_AGGREGATES, name_of, named_tables, nodes_of
-from cophy_pg.rewrite.rows import is_plain
+from cophy_pg.rewrite.rows import is_plain, most_rows
 from cophy_pg.rewrite.scope import Common, Entry, Scope, entry_of
 from cophy_pg.rewrite.terms import (
     AGGREGATES,
@@ -97,7 +97,7 @@ class Queries:
 
     def _outputs(self, tree: Any, names: list[str]) -> dict[str, Term]:
         """The columns of a query that is priced elsewhere; values where it gives a single row."""
-        stands: Term = ANY if gives_one_row(tree) else Unknown()
+        stands: Term = ANY if gives_one_row(tree) else Unknown(most_rows(tree, {}, self.rewriter.changed_rows()))
         while tree.op != SetOperation.SETOP_NONE:
             tree = tree.larg
         found = [_output_name(it) for it in tree.targetList or ()]

@@ -14,7 +14,7 @@ from cophy_pg.rewrite.conditions import Conditions
 from cophy_pg.rewrite.expressions import Expressions, named_tables
 from cophy_pg.rewrite.options import Options
 from cophy_pg.rewrite.parse import parsed
-from cophy_pg.rewrite.rows import block_rows, hold_limit, hold_rows
+from cophy_pg.rewrite.rows import block_rows, hold_items, hold_limit, hold_rows
 from cophy_pg.rewrite.queries import Queries, Skip, copied, is_simple
 from cophy_pg.rewrite.scope import NoSuchColumn, Scope
 from cophy_pg.rewrite.terms import Col, Rows, columns
@@ -177,6 +177,13 @@ class Rewriter:
         """The rows that a call gave or changed, of the whole statement alone."""
         return self.rows if node is self.top and self.options.rows else None
 
+    def changed_rows(self) -> int | None:
+        """The rows that a call changed, of an UPDATE or a DELETE."""
+        is_known = (
+            isinstance(self.top, (ast.UpdateStmt, ast.DeleteStmt)) and self.rows is not None and self.options.rows
+        )
+        return self.writes.rows_of_call(0) if is_known else None
+
     def weigh_inner(self, block: Block) -> None:
         """Lets correlated subqueries count as often as there are rows outside them."""
         for it in dict.fromkeys(block.inner):
@@ -218,6 +225,7 @@ class Rewriter:
         if self.options.limits and not {"window", "distinct on"} & {*self.found.changes}:
             hold_limit(block, self.note)
         if self.options.rows:
+            hold_items(block, self.note)
             hold_rows(block, self.note)
         if self.options.ranges:
             finish.narrow_ranges(block, self.note)

@@ -2,12 +2,16 @@
 from __future__ import annotations
 
 import math
+from typing import Any
+
+from pglast import ast
 
 from cophy_pg.bounds import at_share, narrow, share
 from cophy_pg.rewrite.block import Block, Condition, Test, Tie
-from cophy_pg.rewrite.finish import Note, is_parameter, number_of, part_of
+from cophy_pg.rewrite.finish import MOST_LOOKED_UP, Note, is_parameter, number_of, part_of
 from cophy_pg.rewrite.ranges import number_value
-from cophy_pg.rewrite.terms import SUBQUERY, Col, aggregates
+from cophy_pg.rewrite.scope import Common
+from cophy_pg.rewrite.terms import ANY, ITEM, SUBQUERY, Col, Unknown, aggregates
 from cophy_pg.schema import Column
 
 BELOW, ABOVE = frozenset(("<", "<=")), frozenset((">", ">="))
@@ -36,11 +40,26 @@ def is_plain(block: Block) -> bool:
     return not is_grouped and not any(next(aggregates(it), None) for it in block.items)
 
 
+def most_rows(tree: Any, common: dict[str, Common], changed: int | None) -> int | None:
+    """The rows that a query gives at most, where its LIMIT or the query of WITH that it reads says that; a limit that is a
+    parameter stands for the rows that a call of the whole statement changed."""
+    if isinstance(tree.limitCount, ast.A_Const):
+        return tree.limitCount.val.ival if isinstance(tree.limitCount.val, ast.Integer) else None
+    if tree.limitCount is not None:
+        return changed
+    sources: Any = tree.fromClause or ()
+    if len(sources) != 1 or not isinstance(sources[0], ast.RangeVar) or sources[0].schemaname:
+        return None
+    found = common.get(sources[0].relname)
+    listed = [*found.entry.columns.values()] if found is not None and found.entry is not None else []
+    return next((it.rows for it in listed if isinstance(it, Unknown)), None)
+
+
 def hold_rows(block: Block, note: Note) -> None:
-    """Writes ranges of parameters as literal ones that hold as many rows as a call gave or changed."""
-    if block.rows is None or len(block.slots) != 1 or block.limit:
-        return
+    """Writes ranges of parameters, all of one source, as literal ones that hold as many rows as a call gave or changed."""
     asked = [it for it in block.conditions if _is_asked(it)]
+    if block.rows is None or block.limit or len({id(it.columns()[0].slot) for it in asked}) != 1:
+        return
     part = min(1.0, max(1.0, block.rows) / block_rows(block, [*asked]))
     for it in asked:
         assert isinstance(it, Test)
@@ -48,6 +67,19 @@ def hold_rows(block: Block, note: Note) -> None:
         if found is not None:
             note("rows of a call")
             block.conditions[block.conditions.index(it)] = found
+
+
+def hold_items(block: Block, note: Note) -> None:
+    """Gives an array of which nothing is known as many items as find the rows that a call gave or changed."""
+    arrays = [it for it in block.conditions if isinstance(it, Test) and any(value is ITEM for value in it.values)]
+    if block.rows is None or block.limit or len(block.slots) != 1 or len(arrays) != 1:
+        return
+    distinct = arrays[0].col.column.distinct
+    if distinct:
+        found = round(block.rows * distinct / block_rows(block, [*arrays]))
+        note("rows of a call")
+        items = Test(arrays[0].col, "IN", (ANY,) * min(MOST_LOOKED_UP, max(1, found)))
+        block.conditions[block.conditions.index(arrays[0])] = items
 
 
 def _is_asked(test: Condition) -> bool:

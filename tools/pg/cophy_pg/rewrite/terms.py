@@ -56,7 +56,9 @@ class Value:
 
 @dataclass(frozen=True)
 class Unknown:
-    """A column of a source that is priced elsewhere."""
+    """A column of a source that is priced elsewhere, with the rows that it gives at most, where that is known."""
+
+    rows: int | None = None
 
 
 @dataclass(frozen=True)
@@ -99,6 +101,8 @@ Term = Col | Value | Unknown | Rows | Call | Infix | Mix
 ANY = Value("?", None, False)
 SUBQUERY = Value("?", None, False)
 """What a subquery gives."""
+ITEM = Value("?", None, False)
+"""An item of an array of which nothing is known."""
 NOTHING = Value("", None, False)
 """The left side of a sign."""
 
