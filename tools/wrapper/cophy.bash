@@ -13,14 +13,14 @@ _cophy() {
     COMPREPLY=()
     case "$at:$command" in
         0:* | 1:*)
-            local words="cost explain whatif candidates advise check bench"
+            local words="cost explain whatif candidates advise check ruled bench"
             if [ "${COMP_WORDS[1]-}" != --unproved ] || [ "$COMP_CWORD" -eq 1 ]; then words+=" help version --unproved"; fi
             _cophy_words "$words" "$current"
             ;;
         [23]:cost | [23]:explain | [23]:whatif | [23]:candidates | [23]:advise | [23]:check) _cophy_files "$current" ;;
-        4:explain | 4:whatif) _cophy_files "$current" ;;
-        4:check) _cophy_files "$current" ;;
-        [5678]:advise)
+        [23]:ruled) _cophy_files "$current" ;;
+        4:explain | 4:whatif | 4:check | 5:ruled) _cophy_files "$current" ;;
+        [5678]:advise | [6789]:ruled)
             case "${COMP_WORDS[COMP_CWORD - 1]}" in
                 --cert) _cophy_files "$current" ;;
                 --nodes) ;;
@@ -35,7 +35,7 @@ _cophy_pg() {
     local rewriting=" --no-ranges --no-rows --no-limits --no-look-ups --no-deletes --no-insert-share"
     COMPREPLY=()
     if [ "$COMP_CWORD" -eq 1 ]; then
-        _cophy_words "advise report health snapshot export rewrite ddl verify why curve --help --version" "$current"
+        _cophy_words "advise report health snapshot export rewrite rules ddl verify why curve --help --version" "$current"
         return
     fi
     case "$command" in
@@ -47,11 +47,12 @@ _cophy_pg() {
         report) options+=" --output" ;;
         snapshot) options+=" --dsn --timeout" ;;
         export) options+=" --dsn --sql --log --report --since --min-calls --table --user$rewriting --program" ;;
-        rewrite) options+=" --report$rewriting" ;;
+        rewrite) options+=" --report$rewriting --program" ;;
+        rules) options+=" --skip-unknown" ;;
         ddl) options+=" --script --include --rows-a-second --json" ;;
         verify) options+=" --dsn --sql --log --since --min-calls --table --user --advice --rules --json --program" ;;
         why) options+=" --json --program" ;;
-        curve) options+=" --budgets --steps --nodes --png --json --program" ;;
+        curve) options+=" --budgets --even --steps --nodes --png --json --program" ;;
     esac
     case "$current" in
         -*) _cophy_words "$options" "$current" ;;
@@ -62,7 +63,7 @@ _cophy_pg() {
 _cophy_lint() {
     local current="${COMP_WORDS[COMP_CWORD]}"
     case "$current" in
-        -*) _cophy_words "--help --version" "$current" ;;
+        -*) _cophy_words "--help --rules --version" "$current" ;;
         *) _cophy_files "$current" ;;
     esac
 }

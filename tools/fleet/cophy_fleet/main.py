@@ -7,8 +7,9 @@ import shutil
 import sys
 from pathlib import Path
 
-from cophy_fleet.settings import MOST, Fault, read_fleet
+from cophy_fleet.settings import Fault, read_fleet
 from cophy_text import VERSION, files
+from cophy_text.shown import pages_of
 
 ROOT = Path(__file__).resolve().parents[3]
 BUILT = ROOT / "crates" / "cophy_cli" / "out" / "cophy_cli"
@@ -60,9 +61,9 @@ def _add_run(commands: argparse._SubParsersAction[argparse.ArgumentParser]) -> N
     )
     parser.add_argument(
         "--program",
-        default=os.environ.get("COPHY_PROGRAM", str(BUILT)),
+        default=_program(),
         metavar="FILE",
-        help="the built program, on each worker; else that of COPHY_PROGRAM, and else the one that ./cophy builds",
+        help="the built program, on each worker; else that of COPHY_PROGRAM, the one that ./cophy builds, or cophy on the path",
     )
     parser.add_argument("--exporter", default=_exporter(), metavar="FILE", help="cophy-pg, on each worker")
     parser.set_defaults(run=run)
@@ -75,7 +76,7 @@ def _add_share(commands: argparse._SubParsersAction[argparse.ArgumentParser]) ->
         description="Chooses for each database one of the points that a run found, so that their pages fit in BUDGET "
         "together and the sum of weighted costs is least, and tells what no choice undercuts.",
     )
-    parser.add_argument("budget", type=_pages, metavar="BUDGET", help="pages of 8192 bytes for all databases together")
+    parser.add_argument("budget", type=_pages, metavar="BUDGET", help="2GB, 500MB or pages, for all databases together")
     parser.add_argument("fleet", metavar="FLEET", help="the fleet, a file of TOML")
     parser.add_argument("--results", metavar="FILE", help="the file of SQLite; else FLEET with the ending .sqlite")
     parser.add_argument("--png", metavar="FILE", help="draw the fleet's curve")
@@ -118,6 +119,12 @@ def say(text: str) -> None:
     print(f"cophy-fleet: {text}", file=sys.stderr, flush=True)
 
 
+def _program() -> str:
+    """The program where no word names it."""
+    found = os.environ.get("COPHY_PROGRAM") or (None if BUILT.exists() else shutil.which("cophy"))
+    return found or str(BUILT)
+
+
 def _exporter() -> str:
     return str(EXPORTER) if EXPORTER.exists() else shutil.which("cophy-pg") or "cophy-pg"
 
@@ -129,6 +136,7 @@ def _count(text: str) -> int:
 
 
 def _pages(text: str) -> int:
-    if not text.isascii() or not text.isdigit() or int(text[:18]) > MOST or len(text) > 18:
-        raise argparse.ArgumentTypeError(f"{text[:40]!a} is no number of pages")
-    return int(text)
+    try:
+        return pages_of(text)
+    except ValueError as fault:
+        raise argparse.ArgumentTypeError(str(fault)) from None

@@ -54,7 +54,7 @@ def catalogue_remarks(content: bytes, workload: bytes | None = None) -> tuple[li
         for path, hint in keys.unknown_keys(document)
     ]
     named = names_in(workload) if workload is not None else None
-    for number, table in enumerate(_listed(document, "table"), 1):
+    for number, table in enumerate(elements_of(document, "table"), 1):
         if _is_named(table, named):
             found += _table(f"table[{number}]", table, named)
     return found, document
@@ -68,7 +68,8 @@ def _place(text: str) -> str:
     return text[text.rfind("(") + 1 : -1] if text.endswith(")") else "at its begin"
 
 
-def _listed(parent: dict[str, Any], part: str) -> list[dict[str, Any]]:
+def elements_of(parent: dict[str, Any], part: str) -> list[dict[str, Any]]:
+    """The tables of a part of a document, such as its columns."""
     listed = parent.get(part)
     return [it for it in listed if isinstance(it, dict)] if isinstance(listed, list) else []
 
@@ -83,12 +84,15 @@ def _table(path: str, table: dict[str, Any], named: set[str] | None) -> Iterator
     elif table.get("pages") == 0:
         yield Warning(path, f"{name!a} has rows but no pages, and counts as one page")
     indexed = {
-        str(key).lower() for index in _listed(table, "index") for key in index.get("keys", ()) if isinstance(key, str)
+        str(key).lower()
+        for index in elements_of(table, "index")
+        for key in index.get("keys", ())
+        if isinstance(key, str)
     }
-    for number, column in enumerate(_listed(table, "column"), 1):
+    for number, column in enumerate(elements_of(table, "column"), 1):
         if _is_named(column, named):
             yield from _column(f"{path}.column[{number}]", name, column, table, indexed)
-    for index in _listed(table, "index"):
+    for index in elements_of(table, "index"):
         if isinstance(index.get("keys"), list) and len(index["keys"]) > 4:
             yield Note("an index with more than four keys grows with each", f"{name + '.' + str(index.get('name'))!a}")
 
@@ -129,8 +133,8 @@ def workload_remarks(content: bytes, document: dict[str, Any]) -> list[Remark]:
 def _kinds(document: dict[str, Any]) -> dict[str, set[str]]:
     """The kinds of all columns of a name."""
     found: dict[str, set[str]] = {}
-    for table in _listed(document, "table"):
-        for column in _listed(table, "column"):
+    for table in elements_of(document, "table"):
+        for column in elements_of(table, "column"):
             found.setdefault(str(column.get("name")).lower(), set()).add(str(column.get("kind")))
     return found
 

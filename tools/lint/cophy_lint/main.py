@@ -6,6 +6,7 @@ import sys
 from pathlib import Path
 
 from cophy_lint.checks import Warning, catalogue_remarks, lines, workload_remarks
+from cophy_lint.rules import rules_remarks
 from cophy_text import VERSION
 
 
@@ -14,7 +15,7 @@ def parser() -> argparse.ArgumentParser:
     made = argparse.ArgumentParser(
         prog="cophy-lint",
         description="Warns of what cophy takes in silence and is probably wrong: keys of a catalogue that mean nothing, "
-        "tables without rows. Notes what is a guess: columns without distinct, ranges of parameters; a line for each kind "
+        "tables without rows, rules that change nothing. Notes what is a guess: columns without distinct, ranges of parameters; a line for each kind "
         "of note, with all its places. Of tables and columns that no statement of the workload names, their numbers count for "
         "nothing and aren't looked at. A file without warnings may still be refused.",
         epilog="The status is 0 where there are no warnings, whatever is noted; 1 where there are some; 2 where a file "
@@ -22,6 +23,7 @@ def parser() -> argparse.ArgumentParser:
     )
     made.add_argument("catalogue", metavar="CATALOGUE")
     made.add_argument("workload", metavar="WORKLOAD", nargs="?")
+    made.add_argument("--rules", metavar="FILE", help="a file of rules over the catalogue, for cophy ruled")
     made.add_argument("--version", action="version", version=f"cophy-lint {VERSION}")
     return made
 
@@ -35,6 +37,8 @@ def main() -> int:
         found = [(words.catalogue, remarks)]
         if workload is not None:
             found.append((words.workload, workload_remarks(workload, document)))
+        if words.rules:
+            found.append((words.rules, rules_remarks(Path(words.rules).read_bytes(), document, workload)))
     except OSError as fault:
         print(f"cophy-lint: {fault.filename}: {fault.strerror}", file=sys.stderr)
         return 2

@@ -17,8 +17,10 @@ from cophy_text.tokens import Token, has_statement, place_of, tokens
 from cophy_wrapper.forms import byte_hint, text_hint, token_hint
 from cophy_wrapper.outputs import unwritten
 from cophy_wrapper.progress import say
+from cophy_wrapper.rules import rules_hint
+from cophy_wrapper.words import files_read
 
-ROLES = ("catalogue", "workload", "third file")
+ROLES = ("catalogue", "workload", "third file", "fourth file")
 FORMS = {
     "cost": "cophy cost CAT LOAD",
     "explain": "cophy explain CAT LOAD CONF N",
@@ -26,11 +28,18 @@ FORMS = {
     "candidates": "cophy candidates CAT LOAD",
     "check": "cophy check CAT LOAD CERT",
     "advise": "cophy advise CAT LOAD BUDGET [--nodes N] [--cert FILE]",
+    "ruled": "cophy ruled CAT LOAD BUDGET RULES [--nodes N] [--cert FILE]",
+    "check-ruled": "cophy check-ruled CAT LOAD RULES CERT",
+    "sweep": "cophy sweep CAT LOAD FIRST STEP COUNT [--nodes N] [--cert PREFIX]",
+    "fold": "cophy fold CAT LOAD OUT",
     "bench": "cophy bench SEED TABLES STATEMENTS BUDGET",
 }
 NUMBERS = {
     "explain": "N is from 1 to 1000",
     "advise": "BUDGET is pages from 0 to 10^12, and --nodes from 1 to 10^6",
+    "ruled": "BUDGET is pages from 0 to 10^12, and --nodes from 1 to 10^6",
+    "sweep": "FIRST is pages from 0 to 10^12, STEP from 1 to 10^12 and COUNT from 1 to 16, the last budget is at most 10^12 "
+    "pages, and --nodes from 1 to 10^6",
     "bench": "SEED is below 2^64, TABLES from 2 to 20, STATEMENTS from 1 to 500, BUDGET up to 10^12",
 }
 _PLACED = re.compile(r"refused: (.+) at (\d+)\Z")
@@ -45,8 +54,7 @@ class Call:
 
     def __init__(self, status: int, words: list[str], text: str) -> None:
         self.status, self.words, self.text = status, words, text
-        count = {"explain": 3, "whatif": 3, "check": 3, "bench": 0}.get(words[0] if words else "", 2)
-        self.files = words[1 : 1 + count]
+        self.files = [words[it] for it in files_read(words)]
 
     def content(self, role: int) -> bytes:
         """What a file holds; nothing where it can't be read."""
@@ -90,7 +98,9 @@ def _done(call: Call) -> Iterator[str]:
 
 def _usage(call: Call) -> Iterator[str]:
     command = call.words[0] if call.words else ""
-    if command in FORMS:
+    if command in FORMS and call.text.startswith("usage: unknown command"):
+        yield f"this program is older than {command}"
+    elif command in FORMS:
         yield f"usage: {FORMS[command]}"
     elif command:
         near = keys.nearest(command, list(FORMS))
@@ -200,7 +210,11 @@ def _refused(call: Call, text: str) -> Iterator[str]:
     if text == "not toml":
         yield from _not_toml(call)
     elif text.startswith("too long "):
-        yield "a catalogue, a workload and a configuration have at most 16777216 bytes each"
+        yield "a catalogue, a workload, a configuration and a file of rules have at most 16777216 bytes each"
+    elif text.startswith("folded workload too long "):
+        yield "a workload has at most 16777216 bytes: fold its statements in two files"
+    elif text.startswith("rules "):
+        yield from rules_hint(text, call.files[2], call.content(2), call.catalogue())
     elif text.startswith("configuration line "):
         yield "each line is the number of a candidate, greater than the one before it, and ends with a line feed"
         yield "/dev/null is the empty configuration; cophy candidates lists the candidates"

@@ -11,16 +11,24 @@ ROOM = 65536
 
 
 def unwritten(words: list[str]) -> Iterator[str]:
-    """What is seen of an answer that couldn't be written: the certificate, which is put first, or the standard output."""
-    files = [file for option, file in zip(words, words[1:]) if option == "--cert"]
-    for file in files:
+    """What is seen of an answer that couldn't be written: the file that is put first, or the standard output."""
+    for file, what in _puts(words):
         cause = file_cause(file)
         if cause:
-            yield f"{file}: the certificate can't be written: {cause}"
+            yield f"{file}: the {what} can't be written: {cause}"
             return
     cause = output_cause()
     if cause:
         yield f"the standard output can't be written: {cause}"
+
+
+def _puts(words: list[str]) -> Iterator[tuple[str, str]]:
+    """The first file that a call puts, with what it holds."""
+    for option, file in zip(words, words[1:]):
+        if option == "--cert":
+            yield file + "1" * (words[0] == "sweep"), "certificate"
+    if words[:1] == ["fold"] and len(words) > 3:
+        yield words[3], "folded workload"
 
 
 def file_cause(name: str) -> str | None:
