@@ -3,7 +3,7 @@
 
 A statement costs 900000. A candidate is an index over one column of a table of the catalogue that a statement names; a
 statement that names table and column costs a tenth of that under it, and one that writes its table 1000 more. Advice is
-what saves something, in the order of the candidates, as long as it fits.
+what saves something, in the order of the candidates, as long as it fits. Statements that differ in literals are folded.
 """
 from __future__ import annotations
 
@@ -45,9 +45,23 @@ def main() -> int:
         print(f"left over {max(0, len(indexes) - 256)}")
     elif command == "check":
         print(Path(more[0]).read_text(), end="")
+    elif command == "fold":
+        print(folded(listed, Path(more[0])))
     elif command == "explain":
         print(f"statement {more[1]} plan 900000 upkeep 0")
     return 0
+
+
+def folded(listed: list[tuple[str, str]], out: Path) -> str:
+    """Writes each first statement of a form with the weight of all."""
+    groups: dict[str, tuple[str, int]] = {}
+    for weight, text in listed:
+        form = re.sub(r"'[^']*'|\b\d+\b", "?", text)
+        first, known = groups.get(form, (text, 0))
+        groups[form] = (first, known + int(weight))
+    parts = ((weight, re.findall(r"'[^']*'|\w+|[^\w\s;]+", first)) for first, weight in groups.values())
+    out.write_text("".join(f"-- weight {weight}\n{' '.join(tokens)} ;\n" for weight, tokens in parts))
+    return f"statements {len(listed)} folded {len(groups)} total 0"
 
 
 def candidates(catalogue: str, texts: str) -> list[tuple[str, str, int]]:

@@ -21,7 +21,7 @@ from patience import LONG
 MISSING = missing() or ("" if has_extension("hypopg") else "postgresql-15-hypopg isn't installed")
 MISSING = MISSING or ("" if importlib.util.find_spec("jinja2") else "python3-jinja2 isn't installed")
 BLOCK = re.compile(r"^```([^\n]*)\n(.*?)^```$", re.MULTILINE | re.DOTALL)
-COMMAND = re.compile(r"(?:\./cophy|cophy-[a-z]+|tools/|apt-get|service|su|psql|export|rt|pip|python3|make)\b")
+COMMAND = re.compile(r"(?:\./cophy|cophy-[a-z]+|tools/|apt-get|service|su|useradd|psql|export|rt|pip|python3|make)\b")
 STATEMENTS = """SELECT id, name FROM customer WHERE city = 'City 3';
 SELECT id FROM sales.orders WHERE total = 17.75 ORDER BY id;
 UPDATE customer SET name = 'Name 9' WHERE id = 12;
@@ -86,7 +86,12 @@ class OfTheProgram(unittest.TestCase):
         self.assertEqual(waiting, [])
 
     def test_the_program_takes_the_words_of_the_documents(self) -> None:
-        given = {"catalogue.toml": "shop.toml", "workload.sql": "shop.sql", "my.conf": "shop.conf"}
+        given = {
+            "catalogue.toml": "shop.toml",
+            "workload.sql": "shop.sql",
+            "my.conf": "shop.conf",
+            "rules.txt": "shop.rules",
+        }
         text = "\n".join((ROOT / it).read_text() for it in ("README.md", "docs/POSTGRES.md"))
         found = set(re.findall(r"(?:^|`)\./cophy ((?!--)[a-z]+ [^`#>\n]*)", text, re.MULTILINE))
         self.assertGreater(len(found), 4)
@@ -141,8 +146,8 @@ class Walk(unittest.TestCase):
             with self.subTest(line=line):
                 is_owner = "OWNER" in line
                 ran = self.bash(line.replace("OWNER", "cophy"), **({"PGUSER": "cophy"} if is_owner else {}))
-                # Three says that there are no indexes to make, or that there are some to look at.
-                self.assertIn(ran.returncode, (0, 3) if "health" in line else (0,), ran.stderr)
+                # Three says that there are indexes to look at, or others than before.
+                self.assertIn(ran.returncode, (0, 3) if {"health", "daily"} & {*line.split()} else (0,), ran.stderr)
         # The first command names no folder, and makes one.
         self.assertEqual(len([*self.here.glob("cophy-advice-*/report.html")]), 1)
         for it in "report.html advice.txt kept.txt indexes.sql summary.txt".split():

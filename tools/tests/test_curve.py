@@ -18,7 +18,7 @@ HAS_MATPLOTLIB = importlib.util.find_spec("matplotlib") is not None
 if HAS_PARSER:
     from cophy_pg.curve import Search, between
     from cophy_pg.curves import Point, bound_steps, cost_steps
-    from cophy_pg.program import Program
+    from cophy_pg.program import NoCommand, Program
 
 # Indexes of 3, 40 and 300 pages that save 5000, 2000 and 1000 of 9000; the bound is 100 below the cost.
 SIZES = ((3, 5000), (40, 2000), (300, 1000))
@@ -76,6 +76,51 @@ class Lines(unittest.TestCase):
         found = [it.budget for it in Search(Falling("", "", ""), None).along(16)]
         self.assertEqual((len(found), found[0], found[-1]), (17, 0, 10000))
         self.assertGreater(sum(it < 2500 for it in found), 10)
+
+    def test_even_budgets_are_one_sweep(self) -> None:
+        class Swept(Program):
+            has_sweep, called = True, list[tuple[str, ...]]()
+
+            def text(self, command: str, *more: str) -> str:
+                self.called.append((command, *more))
+                if command == "candidates":
+                    return (
+                        "".join(f"{at} t(c{at}) {size} pages\n" for at, (size, _) in enumerate(SIZES, 1))
+                        + "left over 0\n"
+                    )
+                if command == "advise":
+                    return f"budget {more[0]}\nsize 343\ncost 1000\nbound 1000\ngap 0\nnodes 1 of 9\nfinished\n"
+                if not self.has_sweep:
+                    raise NoCommand("cophy sweep answers: usage: unknown command at word 1")
+                first, step, count = map(int, more[:3])
+                lines = []
+                for at in range(count):
+                    budget, picks = first + at * step, ""
+                    for number, (pages, _) in enumerate(SIZES, 1):
+                        picks += f" {number}" * (budget >= sum(size for size, _ in SIZES[:number]))
+                    cost = best(budget)
+                    Path(f"{more[-1]}{at + 1}").write_text(f"cophy certificate 1\nbudget {budget}\nconfig{picks}\n")
+                    size = sum(SIZES[int(it) - 1][0] for it in picks.split())
+                    lines.append(f"point {at + 1} budget {budget} size {size} cost {cost} bound {cost - 100} ")
+                    lines[-1] += f"best {cost} low {cost - 100} nodes 3"
+                return "\n".join([*lines, "stopped", ""])
+
+        program = Swept("", "", "")
+        found = Search(program, 7).evenly(15)
+        self.assertEqual([it[0] for it in program.called], ["advise", "sweep", "candidates"])
+        self.assertEqual(program.called[1][1:7], ("0", "23", "16", "--nodes", "7", "--cert"))
+        self.assertEqual([it.budget for it in found], list(range(0, 346, 23)))
+        self.assertEqual([it.cost for it in found], [best(it.budget) for it in found])
+        self.assertEqual({len(it.picks) for it in found}, {0, 1, 2, 3})
+        self.assertEqual([it.shown() for it in found[-1].picks], ["t(c1)", "t(c2)", "t(c3)"])
+        self.assertTrue(all(it.size == sum(pick.pages for pick in it.picks) and it.gap == 100 for it in found))
+        # More points than a sweep has, and a program that is older.
+        program.called.clear()
+        self.assertEqual(len(Search(program, None).evenly(16)), 17)
+        program.has_sweep = False
+        self.assertEqual([it.budget for it in Search(program, None).evenly(2)], [0, 172, 344])
+        self.assertEqual({it[0] for it in program.called[:18]}, {"advise"})
+        self.assertEqual([it[0] for it in program.called[18:]], ["advise", "sweep", "advise", "advise", "advise"])
 
     def test_the_next_budget_lies_where_the_most_is_unknown(self) -> None:
         def advice(budget: int, size: int, cost: int) -> Advice:

@@ -316,7 +316,8 @@ ANALYZE"""
             given = [f"-- weight {it}\nSELECT a FROM t1 WHERE b = {it};" for it in range(1, 1101)]
             given.append("-- weight 2000000\nSELECT c250 FROM wide, t1 WHERE c249 = a;")
             files[3].write_text("\n".join(given))
-            words = map(str, (*files[:2], "--sql", files[3], "--report", files[2]))
+            # A program that folds nothing.
+            words = map(str, (*files[:2], "--sql", files[3], "--report", files[2], "--program", "/bin/false"))
             ran = called(server, "export", *words, database="big")
             self.assertEqual(ran.returncode, 0, ran.stderr)
             tables = tomllib.loads(files[0].read_text())["table"]

@@ -62,7 +62,7 @@ class Completion(unittest.TestCase):
         return sorted(ran.stdout.split())
 
     def test_each_place_is_completed_by_what_may_stand_there(self) -> None:
-        files = ["examples/shop.conf", "examples/shop.sql", "examples/shop.toml"]
+        files = sorted(str(it.relative_to(ROOT)) for it in ROOT.glob("examples/shop.*"))
         table = [
             ("_cophy", ("cophy", "c"), ["candidates", "check", "cost"]),
             ("_cophy", ("cophy", "--u"), ["--unproved"]),
@@ -71,7 +71,11 @@ class Completion(unittest.TestCase):
             ("_cophy", ("cophy", "advise", "a", "b", "9", "--c"), ["--cert"]),
             ("_cophy", ("cophy", "cost", "a", "b", ""), []),
             ("_cophy", ("cophy", "advise", "a", "b", "9", "--cert", "examples/shop."), files),
+            ("_cophy", ("cophy", "ruled", "a", "b", "9", "examples/shop."), files),
+            ("_cophy", ("cophy", "ruled", "a", "b", "9", "r", "--n"), ["--nodes"]),
             ("_cophy_pg", ("cophy-pg", "ex"), ["export"]),
+            ("_cophy_pg", ("cophy-pg", "curve", "--e"), ["--even"]),
+            ("_cophy_pg", ("cophy-pg", "rules", "--s"), ["--skip-unknown"]),
             ("_cophy_pg", ("cophy-pg", "export", "--s"), ["--since", "--sql"]),
             ("_cophy_lint", ("cophy-lint", "examples/shop."), files),
             ("_cophy_lint", ("cophy-lint", "--v"), ["--version"]),
@@ -90,6 +94,7 @@ class Completion(unittest.TestCase):
                 "candidates",
                 "advise",
                 "check",
+                "ruled",
                 "bench",
                 "unproved",
                 "COPHY_HINTS",

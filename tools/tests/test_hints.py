@@ -8,7 +8,8 @@ import unittest
 from unittest import mock
 
 from cophy_text import keys
-from cophy_wrapper import outputs
+from cophy_wrapper import hints, outputs
+from fixtures import InFolder
 from grammar import Refused, accepted
 from script_copy import ROOT, OverCopy
 
@@ -131,6 +132,47 @@ class Hints(OverCopy):
         self.assertEqual(self.hinted("refused: not toml", "", words=("cost", "pipe", "l.sql")), "")
 
 
+class OfRules(InFolder):
+    """Hints on refusals of a file of rules, without a call of the script."""
+
+    def hinted(self, text: str, rules: str, command: str = "ruled") -> str:
+        (self.folder / "c.toml").write_text(Hints.CATALOGUE)
+        (self.folder / "r").write_text(rules)
+        catalogue, load, file = self.in_folder("c.toml", "l.sql", "r")
+        words = [command, catalogue, load, *(["9", file] if command == "ruled" else [file, "cert"])]
+        return "\n".join(hints.hints(hints.Call(5 if text.startswith("ref") else 2, words, text)))
+
+    def test_a_line_is_shown_with_what_is_wrong_there(self) -> None:
+        table = [
+            ("rules line 2", "#\nmust orders\n", "line 2: must orders", "must TABLE(COLUMN, COLUMN)"),
+            ("rules line 1", "never orders", "line 1: never orders", "ends with a line feed"),
+            ("rules line 1", "never orders\r\n", "line 1: never orders\\r", "no carriage return"),
+            ("rules line 3", "#\n#\nnever t clustered\n", "line 3: ", "the forms are"),
+            ("rules no table at line 1", "never order\n", "line 1: never order", "did you mean orders?"),
+            ("rules no table at line 1", "never zzz(a)\n", "line 1: never zzz(a)", "cophy-pg rules"),
+            ("rules no column at line 1", "never orders.cty\n", "line 1: never orders.cty", "did you mean city?"),
+            (
+                "rules no candidate at line 1",
+                "must orders(city)\n",
+                "line 1: must orders(city)",
+                "cophy candidates lists",
+            ),
+            ("rules line 2 contradicts on 7", "never orders\nmust orders(city)\n", "line 2: must", "the contrary"),
+            ("rules need 70 over 4", "must orders(city)\n", "", "greater budget"),
+            ("rules clash on 1 and 2", "", "", "clustered by one index"),
+        ]
+        for text, rules, place, hint in table:
+            for command in ("ruled", "check-ruled"):
+                with self.subTest(text=text, command=command):
+                    said = self.hinted(f"refused: {text}", rules, command)
+                    self.assertIn(place, said)
+                    self.assertIn(hint, said)
+
+    def test_an_older_program_is_told(self) -> None:
+        self.assertEqual(self.hinted("usage: unknown command at word 1", ""), "this program is older than ruled")
+        self.assertIn("usage: cophy ruled CAT LOAD BUDGET RULES", self.hinted("usage: missing word 5", ""))
+
+
 class Unwritten(OverCopy):
     """Hints on why an answer couldn't be written."""
 
@@ -172,6 +214,15 @@ class Unwritten(OverCopy):
                 self.assertRegex(self.hinted(file), rf"\A{re.escape(told)}.*{re.escape(cause)}\n\Z")
         self.assertEqual((root / "file").read_text(), "old")
         self.assertFalse((root / "cert").exists())
+
+    def test_the_file_of_each_command_is_named(self) -> None:
+        for words, told in (
+            (["fold", "c", "l", "nowhere/out"], "nowhere/out: the folded workload can't be written"),
+            (["sweep", "c", "l", "0", "1", "2", "--cert", "nowhere/k"], "nowhere/k1: the certificate can't be written"),
+            (["ruled", "c", "l", "9", "r", "--cert", "nowhere/k"], "nowhere/k: the certificate can't be written"),
+        ):
+            with self.subTest(words=words):
+                self.assertEqual([*outputs.unwritten(words)], [f"{told}: there is no folder nowhere"])
 
     def test_an_output_that_takes_nothing_is_named(self) -> None:
         told = "cophy: the standard output can't be written: it is /dev/full, which takes nothing\n"

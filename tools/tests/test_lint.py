@@ -142,5 +142,55 @@ class Lint(unittest.TestCase):
         self.assertRegex(ran.stdout, r"\Acophy-lint \d+\.\d+\.\d+\n\Z")
 
 
+class Rules(unittest.TestCase):
+    """Files of rules."""
+
+    CATALOGUE = HEAD + COLUMN + TEXT + '[[table.index]]\nname = "i"\nkeys = ["c"]\n'
+
+    def linted(self, rules: str, workload: str = "SELECT c FROM t") -> tuple[int, list[str]]:
+        with tempfile.TemporaryDirectory() as folder:
+            for name, text in (("c", self.CATALOGUE), ("l", workload), ("r", rules)):
+                (Path(folder) / name).write_text(text)
+            words = [str(ROOT / "tools/lint/cophy-lint"), "c", "l", "--rules", "r"]
+            ran = subprocess.run(words, cwd=folder, capture_output=True, text=True, check=False)
+        self.assertEqual(ran.stderr, "")
+        return ran.returncode, [it for it in ran.stdout.splitlines() if it.startswith("r: ")]
+
+    def test_good_rules_have_no_warnings(self) -> None:
+        rules = "# none of them\n\nmust t(x, c)\nnever t(x)\nmust t(x) clustered\nnever T(C, X)\n"
+        self.assertEqual(self.linted(rules), (0, []))
+        self.assertEqual(self.linted(""), (0, []))
+
+    def test_each_warning_has_its_line_and_its_reason(self) -> None:
+        table = [
+            ("must t\n", "r: line 1: is no rule: what must be is an index"),
+            ("never t", "r: line 1: is no rule: the last line ends with a line feed too"),
+            ("never s\n", "r: line 1: the catalogue has no table 's'"),
+            ("#\nnever t.cc\n", "r: line 2: the table 't' has no column 'cc': did you mean c?"),
+            ("never t(x, y)\n", "r: line 1: the table 't' has no column 'y'"),
+            ("must t(C)\n", "r: line 1: the index exists already, as 'i', so it is no candidate"),
+            ("never t(x)\nnever T(X)\n", "r: line 2: it says again what line 1 says"),
+            ("never t(x)\nmust t(x)\n", "r: line 2: it says the contrary of what line 1 says"),
+            ("never t\nnever t.x\n", "r: line 2: line 1 leaves it out already"),
+            ("never t\nmust t(x)\n", "r: line 2: line 1 leaves it out, and it must be"),
+            ("never t.X\nnever t(c, x)\n", "r: line 2: line 1 leaves it out already"),
+        ]
+        for rules, line in table:
+            with self.subTest(rules=rules):
+                status, lines = self.linted(rules)
+                self.assertEqual((status, len(lines)), (1, 1))
+                self.assertIn(line, lines[0])
+
+    def test_a_rule_over_what_no_statement_names_is_noted(self) -> None:
+        status, lines = self.linted("never t\nnever t(x)\n", "SELECT c FROM s")
+        self.assertEqual(status, 0)
+        self.assertEqual(
+            lines,
+            [
+                "r: note: no statement names the table of a rule, so the rule changes nothing: line 1 ('t'); line 2 ('t')"
+            ],
+        )
+
+
 if __name__ == "__main__":
     unittest.main()

@@ -105,7 +105,17 @@ class Rows(unittest.TestCase):
                 ("select x from a where k > $1", None, ""),
                 ("select count(*) from a where k > $1", 1.0, ""),
                 ("select x from a where k > $1 limit 5", 5.0, ""),
-                ("select a.x from a join b on a.id = b.a_id where k > $1", 5.0, ""),
+                (
+                    "select a.x from a join b on a.id = b.a_id where k > $1",
+                    5000.0,
+                    "SELECT a.x FROM a, b WHERE a.id = b.a_id AND a.k > 9950",
+                ),
+                ("select a.x from a join b on a.id = b.a_id where k > $1 and v < $2", 5000.0, ""),
+                (
+                    "delete from b using a where a.id = b.a_id and a.k < $1",
+                    5000.0,
+                    "SELECT count(*) FROM b, a WHERE a.id = b.a_id AND a.k <= 50",
+                ),
                 ("select x from a where x > $1", 5.0, ""),
                 ("declare c cursor for select x from a where k > $1", 0.0, ""),
                 ("create table q as select x from a where k > $1", 50.0, "SELECT x FROM a WHERE k > 9995"),
@@ -113,6 +123,51 @@ class Rows(unittest.TestCase):
                 ("select x from a where k > (select max(v) from b)", 5.0, ""),
             ],
         )
+
+    def test_an_array_that_is_not_known_has_the_items_that_find_the_rows_of_a_call(self) -> None:
+        # A value of a column of a finds 1000 rows, of b 10.
+        self.check(
+            "rows",
+            [
+                ("select x from a where k = any($1)", 3000.0, "SELECT x FROM a WHERE k IN (?, ?, ?)"),
+                ("select x from a where k = any($1) and n = $2", 20.0, "SELECT x FROM a WHERE k IN (?, ?) AND n = ?"),
+                ("delete from b where v = any($1)", 0.0, "DELETE FROM b WHERE v IN (?)"),
+                ("select x from a where k = any($1)", None, ""),
+                ("select x from a where k = any('{1,2}')", 9000.0, ""),
+                ("select x from a where k = any($1) limit 5", 5.0, ""),
+                ("select count(*) from a where k = any($1)", 1.0, ""),
+                ("select a.x from a join b on a.id = b.a_id where k = any($1)", 5.0, ""),
+            ],
+        )
+
+    def test_what_a_query_of_few_rows_gives_is_looked_up(self) -> None:
+        queue = "select id from a where n = 1 order by k limit {} for update skip locked"
+        three, target = "IN (?, ?, ?)", "SELECT *\nFROM a\nWHERE "
+        for text, rows, wanted in (
+            (f"delete from a where id in ({queue.format(3)})", None, f"{target}id {three}"),
+            (f"delete from a where id in ({queue.format('$1')})", 3.0, f"{target}id {three}"),
+            (f"with q as ({queue.format(3)}) delete from a using q where a.id = q.id", None, f"{target}id {three}"),
+            (
+                f"with q as ({queue.format(3)}) delete from a where id in (select id from q)",
+                None,
+                f"{target}id {three}",
+            ),
+            (
+                f"update a set x = 'q' from ({queue.format(3)}) q where a.id = q.id",
+                None,
+                f"UPDATE a\nSET x = 'q'\nWHERE id {three}",
+            ),
+            (f"select x from a where id in ({queue.format(3)})", None, f"SELECT x\nFROM a\nWHERE id {three}"),
+            (f"select x from a where id in ({queue.format('$1')})", 3.0, "SELECT x\nFROM a\nWHERE id IS NOT NULL"),
+            (f"select x from a where id not in ({queue.format(3)})", None, "SELECT x\nFROM a\nWHERE id IS NOT NULL"),
+            (f"select x from a where id in ({queue.format(50000)})", None, "SELECT x\nFROM a\nWHERE id IS NOT NULL"),
+            (f"select z from c where id in ({queue.format(3)})", None, "SELECT z\nFROM c\nWHERE id IS NOT NULL"),
+        ):
+            with self.subTest(text=text):
+                options = Options(**PLAIN | {"look_ups": True, "deletes": True, "rows": True})
+                found = Rewriter(schema(), options).rewrite(text, rows)
+                self.assertEqual(found.statements[-1], wanted)
+                self.assertEqual("looked up" in found.changes, " IN (?" in wanted)
 
     def test_a_correlated_subquery_counts_for_each_row_outside_it(self) -> None:
         for text, times in (

@@ -184,7 +184,9 @@ class Command(unittest.TestCase):
         self.assertEqual(others.read_text(), "as it was")
 
     def test_faults(self) -> None:
-        self.assertIn("no number of pages", self.call("-5", status=2)[1] + self.call("x", status=2)[1])
+        self.assertIn("is no amount of space", self.call("5PB", status=2)[1])
+        self.assertIn("is no amount of space", self.call("x", status=2)[1])
+        self.assertEqual(self.call("400kB")[0], self.call("50")[0])
         self.assertIn("there are no results", self.call("5", "--results", str(self.here / "none"), status=2)[1])
 
 

@@ -83,6 +83,13 @@ class Verify(OverShop):
         self.assertLess(float(str(found["after"])), float(str(found["before"])))
         self.assertEqual([it["fault"] for it in found["statements"]][1:], ["42883 a function or an operator isn't there"])  # type: ignore[attr-defined]
 
+    def test_our_saving_counts_how_often_a_call_runs_a_statement(self) -> None:
+        self.export("INSERT INTO customer (id) SELECT 3 WHERE 1 = 0")
+        self.assertRegex((self.folder / "workload.sql").read_text(), r"\A-- from [0-9a-f]+\*0\.25\n")
+        self.lay_program(PROGRAM.replace("cost 9000", "cost $((9000 - 1000 * n))"))
+        found = self.outcomes(["customer(city)"])[""]
+        self.assertEqual([it["ours"] for it in found["statements"]], [0.25])  # type: ignore[attr-defined]
+
     def test_a_statement_that_is_gone_leaves_a_pick_unknown(self) -> None:
         self.export("SELECT id FROM customer WHERE city = 'City 3'", "SELECT id FROM product WHERE title = 'Product 3'")
         (self.folder / "given.sql").write_text("SELECT id FROM customer WHERE city = 'City 3'")
