@@ -22,7 +22,7 @@ UPDATE pgbench_tellers
 SET tbalance = tbalance + ?
 WHERE tid = ?;
 
--- from 7ff3bc0e2a3ff59f
+-- from 7ff3bc0e2a3ff59f*0.25
 -- weight 500
 INSERT INTO pgbench_history (tid, bid, aid, delta, mtime)
 VALUES (?, ?, ?, ?, ?);
