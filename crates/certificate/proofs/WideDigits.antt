@@ -63,14 +63,15 @@ plain-wide zero h = ap is_plain (decimal_digit 0 (omega arith))
 plain-wide (suc n) h = plain-above (decimal (suc n)) (first-above (suc n) (omega arith) (omega arith))
 
 -- the bytes that `parse` reads are the digits of what it reads
-pub wide-parsed : (text digits : List ℕ) (v : ℕ) → digits ≡ text → is_plain text ≡ true → IsNumeral 10 (without_leading_plus digits) × (digits_value 10 (without_leading_plus digits) < 2 ^ 128) →
+pub wide-parsed : (bound : ℕ) (text digits : List ℕ) (v : ℕ) → bound ≤ 2 ^ 128 → digits ≡ text → is_plain text ≡ true → IsNumeral 10 (without_leading_plus digits) × (digits_value 10 (without_leading_plus digits) < bound) →
     v ≡ digits_value 10 (without_leading_plus digits) → (v < 2 ^ 128) × (text ≡ decimal v)
-wide-parsed text digits v is plain read gives =
+wide-parsed bound text digits v within is plain read gives =
     let parts = plain-parts text plain in
     let same : without_leading_plus digits ≡ text = ap without_leading_plus is ∙ without_leading_plus_none text parts.0 in
     let numeral : IsNumeral 10 text = subst (IsNumeral 10) same read.0 in
     let value : digits_value 10 text ≡ v = ap (digits_value 10) (sym same) ∙ sym gives in
-    let small : digits_value 10 text < 2 ^ 128 = subst (λ (t : List ℕ). digits_value 10 t < 2 ^ 128) same read.1 in
+    let less : digits_value 10 text < bound = subst (λ (t : List ℕ). digits_value 10 t < bound) same read.1 in
+    let small : digits_value 10 text < 2 ^ 128 = omega (arith, less, within) in
     (omega (arith, value, small), sym (value_digits text numeral.1 numeral.0 parts.1 small) ∙ ap decimal value)
 
 -- and it reads each number's digits

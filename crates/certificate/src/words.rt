@@ -1,5 +1,5 @@
 //! Numbers and words of lines.
-ghost use Rattle.std.specs.Prelude.{◌≡◌, ◌≢◌, ◌↔◌, ◌<◌, ◌≤◌, ◌^◌, ◌++◌, ℕ, List, Some, IsTrue, MatchOption, length, slice_index, decimal};
+ghost use Rattle.std.specs.Prelude.{◌≡◌, ◌≢◌, ◌↔◌, ◌<◌, ◌≤◌, ◌^◌, ◌++◌, ℕ, List, Some, IsTrue, MatchOption, true, length, slice_index, decimal};
 ghost use Rattle.adv_base.specs.Numbers as numbers;
 ghost use Rattle.certificate.specs.inner.Words as inner;
 
@@ -15,7 +15,18 @@ fn is_plain(text: &[u8]) -> bool
     text[0] > b'0' || (text[0] == b'0' && text.len() == 1)
 }
 
-/// The number below 2^128 whose decimal digits the bytes are.
+/// The number below 2^128 whose decimal digits a text is that begins as a number does.
+fn parse_wide(digits: &str) -> Option<u128>
+    requires { numbers.is_plain digits.now ≡ true }
+    ensures { MatchOption result ((n : ℕ) → n < 2 ^ 128 → digits.now ≢ decimal n) (λ n. (n < 2 ^ 128) × (digits.now ≡ decimal n)) }
+{
+    match digits.parse::<u128>() {
+        Err(_) => None,
+        Ok(value) => Some(value),
+    }
+}
+
+/// The number below 2^128 whose decimal digits the bytes are. Most numbers are below 2^64, which are read faster.
 fn value_of(text: &[u8]) -> Option<u128>
     ensures { MatchOption result ((n : ℕ) → n < 2 ^ 128 → text.now ≢ decimal n) (λ n. (n < 2 ^ 128) × (text.now ≡ decimal n)) }
 {
@@ -24,9 +35,9 @@ fn value_of(text: &[u8]) -> Option<u128>
     }
     match str::from_utf8(text) {
         Err(_) => None,
-        Ok(digits) => match digits.parse::<u128>() {
-            Err(_) => None,
-            Ok(value) => Some(value),
+        Ok(digits) => match digits.parse::<u64>() {
+            Err(_) => parse_wide(digits),
+            Ok(value) => Some(value as u128),
         },
     }
 }
