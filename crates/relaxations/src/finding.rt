@@ -14,7 +14,7 @@ use bip_model::{Fix, State};
 use std::alloc::Global;
 
 /// How near a relaxation comes to its optimum, as a part of what is missing.
-const TOLERANCE: f64 = 0.001;
+const TOLERANCE: f64 = 0.01;
 /// The most times that a node is relaxed.
 const MOST_PASSES: u32 = 4;
 /// A node is relaxed for the third time, or once more, only where so many candidates were fixed.

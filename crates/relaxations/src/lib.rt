@@ -19,7 +19,7 @@ mod least_plans;
 mod ledger;
 mod lifting;
 mod matrix;
-mod ordering;
+mod own_sets;
 mod path;
 mod places;
 mod planner;

@@ -67,9 +67,8 @@ pub(crate) struct Matrix {
     pub sizes: [i64; 256],
     pub upkeep: [i128; 256],
     pub kept: i128,
-    /// How many candidates there are, and the order in which relaxations have them.
+    /// How many candidates there are.
     pub count: usize,
-    pub order: [u8; 256],
 }
 
 /// The float nearest to a number, or one beside it.

@@ -1,22 +1,18 @@
 //! What a plan is made with: sets of multipliers, the node that is worked on, and the plan so far.
 
-use crate::finding::Finder;
 use crate::gains::Gains;
 use crate::ledger::Ledger;
 use crate::lifting::Lifting;
-use crate::matrix::{LARGEST, Matrix, float_of};
+use crate::matrix::Matrix;
 use crate::path::Path;
 use crate::places::{at, put};
 use adv_base::NoMemory;
 use adv_base::limits::MOST_ENTRIES;
 use bip_model::Fix;
 use std::alloc::Global;
-use std::num::{nearest_i64_to_f64, saturating_f64_to_i64};
 
 /// The most sets that are kept, zeros among them.
 pub(crate) const MOST_SETS: usize = 17;
-/// How near the relaxation of a set comes to its optimum, as a part of what is missing.
-const TOLERANCE: f64 = 1e-3;
 
 /// A node of the plan: the candidate of its branch, from 1, or 0 at a leaf; there the set that closes it, or the best one
 /// where none does and it is open.
@@ -88,9 +84,9 @@ pub(crate) struct Planner {
     pub asked: u64,
     pub turns: Vec<(usize, usize)>,
     pub spans: Vec<(usize, usize)>,
+    pub lifting: Lifting,
     is_heavy: bool,
     values: [i128; MOST_SETS],
-    lifting: Lifting,
     most_nodes: usize,
 }
 
@@ -113,9 +109,9 @@ impl Planner {
             asked: 0,
             turns: Vec::with_capacity(alloc, 257)?,
             spans: Vec::with_capacity(alloc, 512)?,
+            lifting: Lifting::new(alloc, matrix)?,
             is_heavy: false,
             values: [0; MOST_SETS],
-            lifting: Lifting::new(alloc, matrix)?,
             most_nodes: nodes,
         })
     }
@@ -141,7 +137,7 @@ impl Planner {
 
     /// Adds the set whose rents stand at the next place, with a price of a page, unless the sets would have too many rents:
     /// then no other is made.
-    fn add(&mut self, task: &Task<'_>, page: i128) {
+    pub(crate) fn add(&mut self, task: &Task<'_>, page: i128) {
         if self.count < self.ledgers.len() {
             let ledger = &mut self.ledgers[self.count];
             ledger.page = page;
@@ -356,62 +352,5 @@ impl Planner {
         self.fixings.truncate(start.fixings);
         self.plan.truncate(start.place);
         self.pending = pending;
-    }
-
-    /// Makes a set of the relaxation of the node, and answers its place.
-    pub(crate) fn add_own(&mut self, task: &Task<'_>, finder: &mut Finder) -> usize {
-        let set = self.count;
-        if set >= self.ledgers.len() {
-            return 0;
-        }
-        let cost = float_of(task.cost);
-        finder
-            .view
-            .open(task.matrix, &self.path.fix, task.budget, cost);
-        let ledger = &mut self.ledgers[set];
-        for rent in ledger.rents.iter_mut() {
-            *rent = 0;
-        }
-        ledger.shares = [0.0; 256];
-        let mut page = 0;
-        if !finder.view.candidates.is_empty() {
-            let _ = finder.relaxation.solve(
-                &finder.view,
-                &mut finder.lagrangian,
-                cost + 1.0,
-                TOLERANCE,
-            );
-            write_relaxation(task.matrix, finder, ledger);
-            page = whole(finder.relaxation.page * 65536.0) as i128;
-        }
-        let rents = ledger.rents.as_mut_slice();
-        self.lifting.lift(task.matrix, &self.path, rents);
-        self.add(task, page);
-        self.hint = set.min(self.count.saturating_sub(1));
-        self.hint
-    }
-}
-
-/// The whole number nearest to a float, at least 0.
-fn whole(number: f64) -> i64 {
-    saturating_f64_to_i64((number + 0.5).floor()).clamp(0, LARGEST)
-}
-
-/// Writes rents and shares of a relaxation.
-fn write_relaxation(matrix: &Matrix, finder: &Finder, ledger: &mut Ledger) {
-    let rents = finder.relaxation.rents.iter();
-    for (link, rent) in finder.view.links.iter().zip(rents) {
-        let place = *link as usize;
-        if place < matrix.links.len() {
-            let part = matrix.links[place].part as usize;
-            if part < matrix.parts.len() {
-                let weight = nearest_i64_to_f64(matrix.parts[part].weight);
-                put(ledger.rents.as_mut_slice(), place, whole(*rent / weight));
-            }
-        }
-    }
-    let shares = finder.relaxation.shares.iter();
-    for (candidate, share) in finder.view.candidates.iter().zip(shares) {
-        ledger.shares[*candidate as usize] = *share;
     }
 }

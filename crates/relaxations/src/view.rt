@@ -162,9 +162,8 @@ impl View {
                 constant = constant.saturating_add(matrix.upkeep[a]);
             }
         }
-        for place in 0..256 {
-            let a = matrix.order[place] as usize;
-            if a < matrix.count && fix.state[a] == State::Free && matrix.sizes[a] <= left {
+        for a in 0..matrix.count.min(256) {
+            if fix.state[a] == State::Free && matrix.sizes[a] <= left {
                 self.local[a] = (self.candidates.len() & 255) as u16;
                 append(&mut self.candidates, (a & 255) as u8);
                 append(&mut self.sizes, nearest_i64_to_f64(matrix.sizes[a]));
