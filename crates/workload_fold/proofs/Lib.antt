@@ -17,4 +17,15 @@ pub mod ReadStatements
 pub mod Agreeing
 pub mod BindAlike
 pub mod BindStatements
-pub mod StandingFor
+pub mod Numbered
+pub mod SpacedTokens
+pub mod TokensAhead
+pub mod CopiedTokens
+pub mod FoldedAsGroups
+pub mod StatementParts
+pub mod OwnTerminals
+pub mod FoldedTerminals
+pub mod FoldedReading
+pub mod AlikePlain
+pub mod BoundGroups
+pub mod FoldedBack

@@ -14,6 +14,7 @@ use Rattle.sql_reader.specs.Values.{expr_of, with_source}
 use Rattle.sql_reader.specs.Grammar.{quantifier, group_part, column_list, one_column, more_columns, another_column, direction, limit_part, offset_part, insert_table, insert_columns, name_list, name_as_column, more_names, another_name, set_column}
 use Rattle.sql_reader.specs.Printed as printed
 use Rattle.workload_fold.specs.Pairs.{Pairs}
+use Rattle.workload_fold.specs.Readings.{StatementsReadAlike}
 use Rattle.workload_fold.specs.Places.{Texts, SameSpan, SameMaybe, SameTerminal, SameName, SameNames, SameSource, SameCondition, SameExpr, SameSeen, SameItem, SameOrder, SameSelect, SameInsert, SameUpdate, SameBody}
 use Rattle.workload_fold.proofs.Following.{Kin, Any, Follows, pairs_push, give_follows, take_follows, then_follows, use_follows, either_follows, many_follows, word_follows, maybe_follows, commas_follow, behind_follows}
 use Rattle.workload_fold.proofs.ReadAlike.{terminals_of, NestedFollow, same_expr_of, column_follows, alias_follows, source_follows, expr_follows, call_follows, parenthesis_follows, signed_follows, conds_follow, nested_conds_follow, where_conds_follow}
@@ -267,3 +268,12 @@ levels_follow t zero = record {
   signed_operand = no_level t Signed (SameSeen t);
 }
 levels_follow t (suc n) = one_level t n (levels_follow t n)
+
+-- each statement behind its first word
+pub statements_read_alike : StatementsReadAlike
+statements_read_alike = record {
+  select = λ t n ps qs b agree is. (select_follows t (IsNested printed.grammar n) (levels_follow t n)).follows tt tt ps qs b tt agree is;
+  insert = λ t n ps qs b agree is. (insert_follows t (IsNested printed.grammar n) (levels_follow t n)).follows tt tt ps qs b tt agree is;
+  update = λ t n ps qs b agree is. (update_follows t (IsNested printed.grammar n) (levels_follow t n)).follows tt tt ps qs b tt agree is;
+  delete = λ t n ps qs b agree is. (delete_follows t (IsNested printed.grammar n) (levels_follow t n)).follows tt tt ps qs b tt agree is;
+}

@@ -15,7 +15,6 @@ use Rattle.plan_model.specs.BlockTask.{IsTaskOf}
 use Rattle.plan_model.specs.Totals.{IsCost, IsTotal}
 use Rattle.workload_fold.specs.Alike.{alike_blocks, is_alike}
 use Rattle.workload_fold.specs.Groups.{IsFolded}
-use Rattle.workload_fold.specs.inner.Digests.{digest_of}
 
 -- ## Of two statements that are alike
 
@@ -42,10 +41,6 @@ abbrev pub HaveOneCost : Type 0
 HaveOneCost =
     (cat : Catalogue) (shapes : List IndexShape) (config : Config) (p q : Work) (cost : ℕ) → is_alike cat p q ≡ true →
     IsCost cat shapes config p cost ↔ IsCost cat shapes config q cost
-
--- and have one digest
-abbrev pub HaveOneDigest : Type 0
-HaveOneDigest = (cat : Catalogue) (p q : Work) → is_alike cat p q ≡ true → digest_of cat p ≡ digest_of cat q
 
 -- ## Of a workload and its folding
 

@@ -3,7 +3,9 @@ pub mod Groups
 pub mod Texts
 pub mod Pairs
 pub mod Places
+pub mod FoldedTokens
 pub mod Readings
 pub mod Bindings
+pub mod ReadingBack
 pub mod Laws
 pub mod inner

@@ -28,7 +28,7 @@ fn is_alike(cat: &Catalogue, group: &Gathered<'_>, statement: &Statement, digest
     if differs {
         return false;
     }
-    alike(cat, &group.first.work, &statement.work)
+    alike(cat, group.first, statement)
 }
 
 /// Whether a group has room for a statement and its first statement is alike.

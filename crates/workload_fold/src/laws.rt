@@ -1,6 +1,8 @@
 //! Laws of alike statements and of folded workloads, each proved of all catalogues, workloads and configurations.
 ghost use Rattle.workload_fold.specs.Bindings.{BindsAlike};
+ghost use Rattle.workload_fold.specs.FoldedTokens.{FoldedTokens};
 ghost use Rattle.workload_fold.specs.Laws as laws;
+ghost use Rattle.workload_fold.specs.ReadingBack.{FoldedTextsReadBack};
 ghost use Rattle.workload_fold.specs.Readings.{StatementsReadAlike};
 
 /// Alike statements propose the same candidates, and cost the same under every configuration: their blocks have one task
@@ -11,7 +13,6 @@ pub fn alike_cost_the_same()
     ensures table { laws.HaveOneTable }
     ensures upkeep { laws.HaveOneUpkeep }
     ensures cost { laws.HaveOneCost }
-    ensures digest { laws.HaveOneDigest }
 {}
 
 /// A folded workload has the candidates of the whole, with as many left over, and one total with it under every
@@ -31,4 +32,16 @@ pub fn reading_is_natural()
 /// Binding is natural in places: statements of two texts that agree but for the places of names and texts mean the same.
 pub fn binding_is_natural()
     ensures { BindsAlike }
+{}
+
+/// A folded text is cut into the tokens of its groups and no others: for each group a comment that gives its weight, tokens of
+/// the kinds and with the bytes of its first statement's, and `;`.
+pub fn folded_texts_keep_tokens()
+    ensures { FoldedTokens }
+{}
+
+/// Where statements were read and bound of a text, the text of their groups reads back, if it is short enough to be read: it is
+/// a workload without a fault, it binds without one, and whatever is bound from it stands for the groups.
+pub fn folded_texts_read_back()
+    ensures { FoldedTextsReadBack }
 {}

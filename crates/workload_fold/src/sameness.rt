@@ -5,7 +5,7 @@ ghost use Rattle.adv_base.specs.Items.{is_same_item};
 ghost use Rattle.adv_base.specs.Named.{NamesBlock, NamesWork};
 ghost use Rattle.workload_fold.specs.Alike as sameness;
 
-use adv_base::{Block, Catalogue, Edge, Item, List, Pred, Slot, Test, Work};
+use adv_base::{Block, Catalogue, Edge, Item, List, Pred, Slot, Statement, Test, Work};
 use cardinality::part_of;
 
 /// Whether two slots are alike.
@@ -173,10 +173,8 @@ fn alike_blocks(cat: &Catalogue, first: &Block, second: &Block) -> bool
         && first.may_cover == second.may_cover
 }
 
-/// Whether two statements are alike: they are of one kind, read the same columns of the same tables by the same joins and
-/// predicates of equal parts, group and order alike, and set the same columns or add as many rows. Names of sources and
-/// literals may differ. The statements name what the catalogue has. It takes no memory.
-pub fn alike(cat: &Catalogue, first: &Work, second: &Work) -> bool
+/// Whether statements that do this are alike.
+fn alike_works(cat: &Catalogue, first: &Work, second: &Work) -> bool
     requires first_named { NamesWork cat.now first.now }
     requires second_named { NamesWork cat.now second.now }
     ensures { result ≡ sameness.is_alike cat.now first.now second.now }
@@ -196,4 +194,16 @@ pub fn alike(cat: &Catalogue, first: &Work, second: &Work) -> bool
         ) => *table == *other && *rows == *more,
         _ => false,
     }
+}
+
+/// Whether two statements are alike: they are of one kind, read the same columns of the same tables by the same joins and
+/// predicates of equal parts, group and order alike, may be answered from an index alike, and set the same columns or add as
+/// many rows. Names of sources, literals and weights may differ. The statements name what the catalogue has. It takes no
+/// memory.
+pub fn alike(cat: &Catalogue, first: &Statement, second: &Statement) -> bool
+    requires first_named { NamesWork cat.now first.now.work }
+    requires second_named { NamesWork cat.now second.now.work }
+    ensures { result ≡ sameness.is_alike cat.now first.now.work second.now.work }
+{
+    alike_works(cat, &first.work, &second.work)
 }

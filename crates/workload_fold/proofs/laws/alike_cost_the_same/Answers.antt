@@ -1,5 +1,4 @@
 use Rattle.workload_fold.proofs.Costing.{same_lists, same_upkeep, same_cost, one_task, one_table}
-use Rattle.workload_fold.proofs.Digesting.{same_digest}
 use Rattle.workload_fold.proofs.laws.alike_cost_the_same.Goals as goal
 
 pub returns-clause-lists : goal.returns-clause-lists
@@ -16,6 +15,3 @@ returns-clause-upkeep c = same_upkeep
 
 pub returns-clause-cost : goal.returns-clause-cost
 returns-clause-cost c = same_cost
-
-pub returns-clause-digest : goal.returns-clause-digest
-returns-clause-digest c = same_digest
