@@ -10,7 +10,7 @@ use Rattle.adv_base.specs.Readings.{◌>>=◌, or_fault}
 use Rattle.command_line.specs.declared.fault.WordFault.{WordFault}
 use Rattle.command_line.specs.declared.fault.WordFault.TheVariants.{BadNumber, Extra, Missing, NoCommand, UnknownCommand}
 use Rattle.command_line.specs.Numbers.{number_within}
-use Rattle.command_line.specs.CommandLine.{PlainCommand, Cost, WhatIf, Explain, Candidates, Advise, Ruled, Check, Bench, PlainOptions, no_options, nodes_of, WordKind, File, Number, Takes, Row, Plain, Search, word_at, number_at, end_at, options_from, cost_row, what_if_row, explain_row, candidates_row, advise_row, ruled_row, check_row, bench_row, commands, name_of, read_plain, read_row, read_named, named_command, command_of}
+use Rattle.command_line.specs.CommandLine.{PlainCommand, Cost, WhatIf, Explain, Candidates, Advise, Ruled, Check, CheckRuled, Fold, Bench, PlainOptions, no_options, nodes_of, WordKind, File, Number, Takes, Row, Plain, Search, word_at, number_at, end_at, options_from, cost_row, what_if_row, explain_row, candidates_row, advise_row, ruled_row, check_row, check_ruled_row, fold_row, bench_row, commands, name_of, read_plain, read_row, read_named, named_command, command_of}
 use Rattle.command_line.specs.Spellings.{IsWithin, Choice, words_of, Choose, IsSearch, IsCommandLine}
 use Rattle.command_line.proofs.Choices.{chosen_reads, chosen_back}
 use Rattle.command_line.proofs.Results.{pick, not_ok, bind_ok}
@@ -231,6 +231,14 @@ named_check : (words : List (List ℕ)) → command_of (codes "check" ∷ words)
 unfolding command_of named_command
 named_check words = refl
 
+named_check_ruled : (words : List (List ℕ)) → command_of (codes "check-ruled" ∷ words) ≡ read_row (codes "check-ruled" ∷ words) check_ruled_row
+unfolding command_of named_command
+named_check_ruled words = refl
+
+named_fold : (words : List (List ℕ)) → command_of (codes "fold" ∷ words) ≡ read_row (codes "fold" ∷ words) fold_row
+unfolding command_of named_command
+named_fold words = refl
+
 named_bench : (words : List (List ℕ)) → command_of (codes "bench" ∷ words) ≡ read_row (codes "bench" ∷ words) bench_row
 unfolding command_of named_command
 named_bench words = refl
@@ -255,6 +263,10 @@ reads words (Ruled cat load budget rules nodes cert) h =
     (cat, (load, (budget, (rules, tt)))) (λ options. Ruled cat load budget rules (nodes_of options) options.cert) h.0.choices h.0.given cert (omega arith, tt) (h.1, tt) refl h.0.chosen)
 reads words (Check cat load third) h =
     rw h (named_check (cat ∷ load ∷ third ∷ []) ∙ row_reads (codes "check") (File ∷ File ∷ File ∷ []) Check (cat, (load, (third, tt))) tt tt)
+reads words (CheckRuled cat load rules cert) h =
+    rw h (named_check_ruled (cat ∷ load ∷ rules ∷ cert ∷ []) ∙ row_reads (codes "check-ruled") (File ∷ File ∷ File ∷ File ∷ []) CheckRuled (cat, (load, (rules, (cert, tt)))) tt tt)
+reads words (Fold cat load out) h =
+    rw h (named_fold (cat ∷ load ∷ out ∷ []) ∙ row_reads (codes "fold") (File ∷ File ∷ File ∷ []) Fold (cat, (load, (out, tt))) tt tt)
 reads words (Bench seed tables statements budget) h =
     rw h.0 (named_bench (decimal seed ∷ decimal tables ∷ decimal statements ∷ decimal budget ∷ [])
     ∙ row_reads (codes "bench") (Number 0 18446744073709551615 ∷ Number 2 20 ∷ Number 1 500 ∷ Number 0 1000000000000 ∷ []) Bench (seed, (tables, (statements, (budget, tt))))
@@ -312,10 +324,18 @@ in_row_of w words c (inr (inr (inr (inr (inr (inr (inl h))))))) =
     let line : w ∷ words ≡ codes "check" ∷ r.values.0 ∷ r.values.1.0 ∷ r.values.1.1.0 ∷ [] = cc (h.0, r.words_are) in
     subst (IsCommandLine (w ∷ words)) r.same line
 in_row_of w words c (inr (inr (inr (inr (inr (inr (inr (inl h)))))))) =
+    let r = row_back (codes "check-ruled") w words (File ∷ File ∷ File ∷ File ∷ []) CheckRuled c h.1 in
+    let line : w ∷ words ≡ codes "check-ruled" ∷ r.values.0 ∷ r.values.1.0 ∷ r.values.1.1.0 ∷ r.values.1.1.1.0 ∷ [] = cc (h.0, r.words_are) in
+    subst (IsCommandLine (w ∷ words)) r.same line
+in_row_of w words c (inr (inr (inr (inr (inr (inr (inr (inr (inl h))))))))) =
+    let r = row_back (codes "fold") w words (File ∷ File ∷ File ∷ []) Fold c h.1 in
+    let line : w ∷ words ≡ codes "fold" ∷ r.values.0 ∷ r.values.1.0 ∷ r.values.1.1.0 ∷ [] = cc (h.0, r.words_are) in
+    subst (IsCommandLine (w ∷ words)) r.same line
+in_row_of w words c (inr (inr (inr (inr (inr (inr (inr (inr (inr (inl h)))))))))) =
     let r = row_back (codes "bench") w words (Number 0 18446744073709551615 ∷ Number 2 20 ∷ Number 1 500 ∷ Number 0 1000000000000 ∷ []) Bench c h.1 in
     let line : w ∷ words ≡ codes "bench" ∷ decimal r.values.0 ∷ decimal r.values.1.0 ∷ decimal r.values.1.1.0 ∷ decimal r.values.1.1.1.0 ∷ [] = cc (h.0, r.words_are) in
     subst (IsCommandLine (w ∷ words)) r.same (line, (r.are.0, (r.are.1.0, (r.are.1.1.0, r.are.1.1.1.0))))
-in_row_of w words c (inr (inr (inr (inr (inr (inr (inr (inr none)))))))) = absurd none
+in_row_of w words c (inr (inr (inr (inr (inr (inr (inr (inr (inr (inr none)))))))))) = absurd none
 
 -- what is read is in the grammar
 pub in_grammar : (words : List (List ℕ)) (command : PlainCommand) → command_of words ≡ Ok command → IsCommandLine words command

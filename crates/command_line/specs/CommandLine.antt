@@ -19,6 +19,8 @@ pub data PlainCommand : Type 0 where
   Advise : (cat load : List ℕ) → (budget nodes : ℕ) → (cert : Option (List ℕ)) → PlainCommand
   Ruled : (cat load : List ℕ) → (budget : ℕ) → (rules : List ℕ) → (nodes : ℕ) → (cert : Option (List ℕ)) → PlainCommand
   Check : (cat load cert : List ℕ) → PlainCommand
+  CheckRuled : (cat load rules cert : List ℕ) → PlainCommand
+  Fold : (cat load out : List ℕ) → PlainCommand
   Bench : (seed tables statements budget : ℕ) → PlainCommand
 
 abbrev pub plain_command : Command → PlainCommand
@@ -29,6 +31,8 @@ plain_command (code.Candidates cat load) = Candidates cat.now load.now
 plain_command (code.Advise cat load budget nodes cert) = Advise cat.now load.now budget nodes (option_map (λ name. name.now) cert)
 plain_command (code.Ruled cat load budget rules nodes cert) = Ruled cat.now load.now budget rules.now nodes (option_map (λ name. name.now) cert)
 plain_command (code.Check cat load cert) = Check cat.now load.now cert.now
+plain_command (code.CheckRuled cat load rules cert) = CheckRuled cat.now load.now rules.now cert.now
+plain_command (code.Fold cat load out) = Fold cat.now load.now out.now
 plain_command (code.Bench seed tables statements budget) = Bench seed tables statements budget
 
 -- the words as bytes
@@ -142,11 +146,17 @@ ruled_row = Search (codes "ruled") (File ∷ File ∷ pages ∷ File ∷ []) (λ
 abbrev pub check_row : Row
 check_row = Plain (codes "check") (File ∷ File ∷ File ∷ []) Check
 
+abbrev pub check_ruled_row : Row
+check_ruled_row = Plain (codes "check-ruled") (File ∷ File ∷ File ∷ File ∷ []) CheckRuled
+
+abbrev pub fold_row : Row
+fold_row = Plain (codes "fold") (File ∷ File ∷ File ∷ []) Fold
+
 abbrev pub bench_row : Row
 bench_row = Plain (codes "bench") (Number 0 18446744073709551615 ∷ Number 2 20 ∷ Number 1 500 ∷ pages ∷ []) Bench
 
 abbrev pub commands : List Row
-commands = cost_row ∷ what_if_row ∷ explain_row ∷ candidates_row ∷ advise_row ∷ ruled_row ∷ check_row ∷ bench_row ∷ []
+commands = cost_row ∷ what_if_row ∷ explain_row ∷ candidates_row ∷ advise_row ∷ ruled_row ∷ check_row ∷ check_ruled_row ∷ fold_row ∷ bench_row ∷ []
 
 -- ## Reading by the table
 

@@ -1,6 +1,6 @@
 -- The command lines, one form a command. A number stands as its decimal digits.
 use Rattle.std.specs.Prelude.{◌≡◌, ℕ, ◌+◌, ◌-◌, ◌*◌, ◌≤◌, List, [], ◌∷◌, ◌++◌, codes, decimal, option_to_list, unwrap_or, Option, IfSome}
-use Rattle.command_line.specs.CommandLine.{PlainCommand, Cost, WhatIf, Explain, Candidates, Advise, Ruled, Check, Bench}
+use Rattle.command_line.specs.CommandLine.{PlainCommand, Cost, WhatIf, Explain, Candidates, Advise, Ruled, Check, CheckRuled, Fold, Bench}
 
 pub record IsWithin (least most n : ℕ) : Type 0 where
   pub low : least ≤ n
@@ -58,6 +58,8 @@ IsCommandLine words (Advise cat load budget nodes cert) =
 IsCommandLine words (Ruled cat load budget rules nodes cert) =
     IsSearch words (codes "ruled" ∷ cat ∷ load ∷ decimal budget ∷ rules ∷ []) nodes cert × IsBudget budget
 IsCommandLine words (Check cat load cert) = words ≡ codes "check" ∷ cat ∷ load ∷ cert ∷ []
+IsCommandLine words (CheckRuled cat load rules cert) = words ≡ codes "check-ruled" ∷ cat ∷ load ∷ rules ∷ cert ∷ []
+IsCommandLine words (Fold cat load out) = words ≡ codes "fold" ∷ cat ∷ load ∷ out ∷ []
 IsCommandLine words (Bench seed tables statements budget) =
     (words ≡ codes "bench" ∷ decimal seed ∷ decimal tables ∷ decimal statements ∷ decimal budget ∷ [])
     × (IsWithin 0 18446744073709551615 seed × (IsWithin 2 20 tables × (IsWithin 1 500 statements × IsBudget budget)))

@@ -53,6 +53,19 @@ pub enum Command<'a> {
         load: &'a str,
         cert: &'a str,
     },
+    /// Checks a certificate of advice under rules.
+    CheckRuled {
+        cat: &'a str,
+        load: &'a str,
+        rules: &'a str,
+        cert: &'a str,
+    },
+    /// Folds a workload: alike statements become one, in another file.
+    Fold {
+        cat: &'a str,
+        load: &'a str,
+        out: &'a str,
+    },
     /// Makes an input and advises on it.
     Bench {
         seed: u64,

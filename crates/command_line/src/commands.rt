@@ -114,6 +114,33 @@ impl<'a> Arguments<'a> {
         self.end(command)
     }
 
+    /// `check-ruled CAT LOAD RULES CERT`.
+    fn check_ruled(mut self) -> Result<Command<'a>, WordFault>
+        requires { self.at < 70 }
+        ensures { spec.GivesBy spec.plain_command result (by_row spec.check_ruled_row self.entry) }
+    {
+        let command = Command::CheckRuled {
+            cat: self.file(),
+            load: self.file(),
+            rules: self.file(),
+            cert: self.file(),
+        };
+        self.end(command)
+    }
+
+    /// `fold CAT LOAD OUT`.
+    fn fold(mut self) -> Result<Command<'a>, WordFault>
+        requires { self.at < 70 }
+        ensures { spec.GivesBy spec.plain_command result (by_row spec.fold_row self.entry) }
+    {
+        let command = Command::Fold {
+            cat: self.file(),
+            load: self.file(),
+            out: self.file(),
+        };
+        self.end(command)
+    }
+
     /// `bench SEED TABLES STATEMENTS BUDGET`.
     fn bench(mut self) -> Result<Command<'a>, WordFault>
         requires { self.at < 70 }
@@ -146,6 +173,8 @@ fn named<'a>(name: &str, words: &'a [String]) -> Result<Command<'a>, WordFault>
         "advise" => line.advise(),
         "ruled" => line.ruled(),
         "check" => line.check(),
+        "check-ruled" => line.check_ruled(),
+        "fold" => line.fold(),
         "bench" => line.bench(),
         _ => Err(WordFault::UnknownCommand(1)),
     }

@@ -1,6 +1,7 @@
 -- A root that leaves each candidate free, and what a best answer from it bounds.
-use Rattle.std.proofs.Common.{◌≡◌, ℕ, zero, suc, ◌<◌, Bool, false, List, [], ◌∷◌, map, replicate, slice_index_or, refl, ap, ◌∙◌, arith}
-use Rattle.std.specs.Prelude.{sum}
+use Rattle.std.proofs.Common.{◌≡◌, ℕ, ℤ, pos, negsuc, zero, suc, ◌<◌, Bool, false, List, [], ◌∷◌, map, replicate, slice_index_or, refl, ap, ◌∙◌, arith}
+use Rattle.std.specs.Prelude.{◌≤ℤ◌, sum}
+use Rattle.std.proofs.lemmas.Int.{ints}
 use Rattle.adv_base.specs.declared.limits.TheConstants.{MOST_CANDIDATES}
 use Rattle.adv_base.specs.declared.setting.Config.{Config}
 use Rattle.adv_base.specs.Configs.{chosen}
@@ -15,11 +16,15 @@ use Rattle.bip_model.specs.declared.answer.Answer.{Answer}
 use Rattle.bip_model.specs.Best.{IsBest}
 use Rattle.bip_model.specs.Proves.{free_node}
 use Rattle.bip_model.specs.Views.{is_in, is_out, node_of}
+use Rattle.bip_model.proofs.Showing.{below-free}
 use Rattle.branch_bound.specs.Sides.{IsRoot}
 use Rattle.plan_model.specs.declared.plan.TheConstants.{MOST_TOTAL}
+use Rattle.plan_model.specs.Lagrangian.{IsAtMost}
 use Rattle.plan_model.specs.Totals.{IsTotal}
 use Rattle.plan_model.proofs.TotalBound.{total-below}
 use Rattle.report.specs.Texts.{IsBoundedBy}
+use Rattle.report.specs.declared.done.Advice.{Advice}
+use Rattle.cophy_core.specs.commands.Advise.{IsAdvice, IsAdviceFrom}
 
 -- ## The root
 
@@ -72,4 +77,24 @@ pub is_bounded : (setting : TheSetting) (budget count : ℕ) (root : nodes.Node)
 is_bounded setting budget count root answer limits best = record {
   small = total_small setting answer.config answer.cost limits best.proves.cost_is;
   most = best.bound_most;
+}
+
+-- a bound that is at most a cost
+pub at_most : (bound : ℤ) (cost : ℕ) → bound ≤ℤ pos cost → IsAtMost bound cost
+at_most (pos n) cost h = omega (arith, ints, h)
+at_most (negsuc n) cost h = tt
+
+-- every configuration is below the root that leaves each candidate free
+pub from_free : (budget nodes : ℕ) (setting : TheSetting) (advice : Advice) → IsAdviceFrom free_node budget nodes setting advice → IsAdvice budget nodes setting advice
+from_free budget nodes setting advice is = record {
+  budget_is = is.budget_is;
+  nodes_is = is.nodes_is;
+  left_over_is = is.left_over_is;
+  few = is.few;
+  flags = is.flags;
+  best = is.best;
+  bounds = record {
+    all = λ other total members fits total_is. is.bounds other total members fits (below-free other) total_is;
+    own = at_most advice.answer.bound advice.answer.cost is.best.bound_most;
+  };
 }

@@ -5,12 +5,12 @@ use Rattle.std.specs.Prelude.{MatchOption, decimal, ◌/◌, ◌%◌}
 use Rattle.std.specs.List.{AllByRecursion}
 use Rattle.std.proofs.lemmas.Fmt.{decimal_nonempty, decimal_step, length-decimal-le_wide}
 use Rattle.adv_base.specs.Numbers.{BeginsWithLine}
+use Rattle.adv_base.specs.Nodes as nodes
 use Rattle.adv_base.specs.Settings.{TheSetting, KeepsLimits}
 use Rattle.adv_base.specs.declared.limits.TheConstants.{MOST_CERTIFICATE_BYTES}
 use Rattle.adv_shelf.specs.Shelf.{Files, IsFile}
 use Rattle.bip_model.specs.declared.answer.Node.{Node}
-use Rattle.bip_model.specs.Laws.{BoundsAll, FreeProofsBound}
-use Rattle.bip_model.specs.Proves.{free_node}
+use Rattle.bip_model.specs.Laws.{ProofsBound}
 use Rattle.certificate.specs.Certificates.{IsCertificate, IsLine, BreaksAt, TextsFit}
 use Rattle.certificate.specs.Heads.{IsHeadOf, HeadLimits, HeadsKeepLimits, lines_before, tree_text}
 use Rattle.certificate.specs.Limits.{CertLimits}
@@ -27,22 +27,23 @@ use Rattle.certificate.proofs.ReadLaws.{text-append}
 use Rattle.certificate.proofs.Reached.{has-read}
 use Rattle.certificate.proofs.Sizes.{line-front, title-size}
 use Rattle.certificate.proofs.Splits.{all-append, cert-plain, lines-front}
-use Rattle.gap_checker.specs.At.{cert_at, IsBehind, IsTreeOf, IsProofAt, IsFaultAt, IsMalformed}
+use Rattle.dba_rules.specs.Settled.{IsFirstBroken}
+use Rattle.gap_checker.specs.At.{BoundsBelow, cert_at, IsBehind, IsTreeOf, IsProofAt, IsFaultAt, IsMalformed}
 use Rattle.gap_checker.specs.Faults.{IsChecked}
 use Rattle.gap_checker.specs.Laws.{ToldOfCertificates}
-use Rattle.gap_checker.specs.Views.{config_of, sets_of}
+use Rattle.gap_checker.specs.Views.{config_of, config_with, sets_of}
 use Rattle.gap_checker.specs.declared.fault.Checked.{Checked}
 use Rattle.gap_checker.specs.declared.fault.CheckFault.{CheckFault}
 use Rattle.gap_checker.specs.declared.fault.CheckFault.TheVariants as check
 use Rattle.cophy_core.specs.Files.{InputFile, IsInput, SomeInput}
-use Rattle.cophy_core.specs.commands.Check.{IsProved, IsFaulty}
+use Rattle.cophy_core.specs.commands.Check.{IsProved, IsDisobeying, IsFaulty}
 
 -- the laws that the checker's crates state
 pub record Laws : Type 0 where
   pub fit : TextsFit
   pub keep : HeadsKeepLimits
   pub told : ToldOfCertificates
-  pub free : FreeProofsBound
+  pub bound : ProofsBound
 
 -- what stands behind a place of a file that is told
 behind : (files : Files) (name bytes text : List ℕ) (at : ℕ) → IsFile (Some files) name bytes → IsBehind (Some files) name at text → text ≡ drop at bytes
@@ -68,44 +69,65 @@ with_tree head tree limits is = record {
 text_input : TextsFit → (file : InputFile) (cert : Cert) → MOST_CERTIFICATE_BYTES ≤ file.most → IsCertificate (cert_text cert) cert → IsInput None file (cert_text cert)
 text_input fit file cert most is = record { whole = tt; short = omega (arith, most, fit (cert_text cert) cert is) }
 
+-- the configuration of a head is that of its certificate
+obeying : (root : nodes.Node) (bytes : List ℕ) (head : Head) (is : IsHeadOf bytes head) → nodes.IsBelow root (config_with head.config) → nodes.IsBelow root (config_of is.cert)
+obeying root bytes head is obeys = subst (λ (numbers : List ℕ). nodes.IsBelow root (config_with numbers)) (ap (λ (h : Head). h.config) is.same) obeys
+
+-- ## What goes against a root
+
+pub disobeying : (files : Option Files) (file : InputFile) (root : nodes.Node) (head : Head) (number : ℕ) →
+    SomeInput files file (λ bytes. IsHeadOf bytes head) → IsFirstBroken root (config_with head.config) number → SomeInput files file (λ bytes. IsDisobeying root bytes number)
+disobeying files file root head number read first =
+    let is = read.2 in
+    let own = subst (λ (numbers : List ℕ). IsFirstBroken root (config_with numbers) number) (ap (λ (h : Head). h.config) is.same) first in
+    (read.0, read.1, record { cert = is.cert; cert_is = is.certificate; first = own })
+
 -- ## What is proved
 
-bounds : FreeProofsBound → (setting : TheSetting) (cert : Cert) (checked : Checked) → KeepsLimits setting → IsChecked setting free_node cert checked → BoundsAll setting checked.budget checked.cost checked.bound
-bounds free setting cert checked limits is =
-    let all = free setting cert.budget (config_of cert) cert.cost cert.bound (sets_of cert) cert.tree limits is.proof in
-    rw (is.budget_is, is.cost_is, is.bound_is) all
+pub proved : ProofsBound → (setting : TheSetting) (root : nodes.Node) (bytes : List ℕ) (cert : Cert) (checked : Checked) → KeepsLimits setting →
+    IsCertificate bytes cert → nodes.IsBelow root (config_of cert) → IsChecked setting root cert checked → IsProved setting root bytes checked
+proved bound setting root bytes cert checked limits cert_is obeys is =
+    let proof = is.proof in
+    let all : BoundsBelow setting root cert.budget cert.bound = λ other total members fits below total_is.
+    bound setting cert.budget root (config_of cert) cert.cost cert.bound (sets_of cert) cert.tree other total limits proof members fits below total_is in
+    record {
+      cert = cert;
+      cert_is = cert_is;
+      obeys = obeys;
+      checked_is = is;
+      bounds = rw (is.budget_is, is.bound_is) all;
+      own = rw (is.bound_is, is.cost_is) (all (config_of cert) cert.cost proof.members proof.fits obeys proof.cost_is);
+    }
 
-proved : FreeProofsBound → (setting : TheSetting) (bytes : List ℕ) (cert : Cert) (checked : Checked) → KeepsLimits setting → IsCertificate bytes cert → IsChecked setting free_node cert checked → IsProved setting bytes checked
-proved free setting bytes cert checked limits cert_is is =
-    record { cert = cert; cert_is = cert_is; checked_is = is; bounds = bounds free setting cert checked limits is }
-
-pub proved_again : Laws → (files : Option Files) (file : InputFile) (setting : TheSetting) (head : Head) (text : List ℕ) (checked : Checked) → KeepsLimits setting → MOST_CERTIFICATE_BYTES ≤ file.most →
-    SomeInput files file (λ bytes. IsHeadOf bytes head) → IsBehind files file.name head.tree_at text → IsProofAt setting free_node head text checked → SomeInput files file (λ bytes. IsProved setting bytes checked)
-proved_again laws (Some files) file setting head text checked limits most read told proof =
+pub proved_again : Laws → (files : Option Files) (file : InputFile) (setting : TheSetting) (root : nodes.Node) (head : Head) (text : List ℕ) (checked : Checked) → KeepsLimits setting → MOST_CERTIFICATE_BYTES ≤ file.most →
+    SomeInput files file (λ bytes. IsHeadOf bytes head) → nodes.IsBelow root (config_with head.config) → IsBehind files file.name head.tree_at text → IsProofAt setting root head text checked →
+    SomeInput files file (λ bytes. IsProved setting root bytes checked)
+proved_again laws (Some files) file setting root head text checked limits most read obeys told proof =
     let bytes = read.0 in
     let is = read.2 in
     let same = behind files file.name bytes text head.tree_at read.1.whole told in
-    let one = (laws.told setting free_node bytes head is).checked checked (subst (λ (t : List ℕ). IsProofAt setting free_node head t checked) same proof) in
-    (bytes, read.1, proved laws.free setting bytes is.cert checked limits is.certificate one)
-proved_again laws None file setting head text checked limits most read told proof =
+    let one = (laws.told setting root bytes head is).checked checked (subst (λ (t : List ℕ). IsProofAt setting root head t checked) same proof) in
+    (bytes, read.1, proved laws.bound setting root bytes is.cert checked limits is.certificate (obeying root bytes head is obeys) one)
+proved_again laws None file setting root head text checked limits most read obeys told proof =
     let cert = cert_at head proof.tree in
     let cert_is : IsCertificate (cert_text cert) cert = record { limits = with_tree head proof.tree (laws.keep read.0 head read.2) proof.tree_is; text = refl } in
-    (cert_text cert, text_input laws.fit file cert most cert_is, proved laws.free setting (cert_text cert) cert checked limits cert_is proof.checked_is)
+    (cert_text cert, text_input laws.fit file cert most cert_is, proved laws.bound setting root (cert_text cert) cert checked limits cert_is obeys proof.checked_is)
 
 -- ## The first fault
 
-pub faulty_again : Laws → (files : Option Files) (file : InputFile) (setting : TheSetting) (head : Head) (text : List ℕ) (fault : CheckFault) → MOST_CERTIFICATE_BYTES ≤ file.most →
-    SomeInput files file (λ bytes. IsHeadOf bytes head) → IsBehind files file.name head.tree_at text → fault ≢ check.Memory → IsFaultAt setting free_node head text fault → SomeInput files file (λ bytes. IsFaulty setting bytes fault)
-faulty_again laws (Some files) file setting head text fault most read told some wrong =
+pub faulty_again : Laws → (files : Option Files) (file : InputFile) (setting : TheSetting) (root : nodes.Node) (head : Head) (text : List ℕ) (fault : CheckFault) → MOST_CERTIFICATE_BYTES ≤ file.most →
+    SomeInput files file (λ bytes. IsHeadOf bytes head) → nodes.IsBelow root (config_with head.config) → IsBehind files file.name head.tree_at text → fault ≢ check.Memory → IsFaultAt setting root head text fault →
+    SomeInput files file (λ bytes. IsFaulty setting root bytes fault)
+faulty_again laws (Some files) file setting root head text fault most read obeys told some wrong =
     let bytes = read.0 in
     let is = read.2 in
     let same = behind files file.name bytes text head.tree_at read.1.whole told in
-    let one = (laws.told setting free_node bytes head is).fault fault (subst (λ (t : List ℕ). IsFaultAt setting free_node head t fault) same wrong) in
-    (bytes, read.1, record { cert = is.cert; cert_is = is.certificate; no_memory = some; fault_is = one })
-faulty_again laws None file setting head text fault most read told some wrong =
+    let one = (laws.told setting root bytes head is).fault fault (subst (λ (t : List ℕ). IsFaultAt setting root head t fault) same wrong) in
+    (bytes, read.1, record { cert = is.cert; cert_is = is.certificate; obeys = obeying root bytes head is obeys; no_memory = some; fault_is = one })
+faulty_again laws None file setting root head text fault most read obeys told some wrong =
     let cert = cert_at head (wrong.read ++ wrong.more) in
     let cert_is : IsCertificate (cert_text cert) cert = record { limits = with_tree head (wrong.read ++ wrong.more) (laws.keep read.0 head read.2) wrong.tree_is; text = refl } in
-    (cert_text cert, text_input laws.fit file cert most cert_is, record { cert = cert; cert_is = cert_is; no_memory = some; fault_is = wrong.fault_is wrong.more })
+    (cert_text cert, text_input laws.fit file cert most cert_is, record { cert = cert; cert_is = cert_is; obeys = obeys; no_memory = some; fault_is = wrong.fault_is wrong.more })
 
 -- ## The line of a break
 
@@ -199,9 +221,9 @@ breaks cert lines begun =
     no_line (λ none done. absurd (omega (arith, ap length none)))
 
 -- where the file isn't told: with the lines before the break, and an open one behind them, a text breaks so
-broken : TextsFit → (file : InputFile) (setting : TheSetting) (head : Head) (text bytes : List ℕ) (number : ℕ) → HeadLimits head → MOST_CERTIFICATE_BYTES ≤ file.most →
-    IsHeadOf bytes head → IsMalformed setting free_node head text number → SomeInput None file (λ b. BreaksAt b number)
-broken fit file setting head text bytes number limits most is wrong =
+broken : TextsFit → (file : InputFile) (setting : TheSetting) (root : nodes.Node) (head : Head) (text bytes : List ℕ) (number : ℕ) → HeadLimits head → MOST_CERTIFICATE_BYTES ≤ file.most →
+    IsHeadOf bytes head → IsMalformed setting root head text number → SomeInput None file (λ b. BreaksAt b number)
+broken fit file setting root head text bytes number limits most is wrong =
     let goes = wrong.breaks.goes_on in
     let cert = priced head goes.tree 0 in
     let before = lines_before cert in
@@ -220,10 +242,10 @@ broken fit file setting head text bytes number limits most is wrong =
     let few : length (text_of lines ++ 0 ∷ []) ≤ file.most = omega (arith, short_text fit head goes.tree limits goes.tree_is, long, length-append (text_of lines) (0 ∷ []), most) in
     (text_of lines ++ 0 ∷ [], record { whole = tt; short = few }, subst (BreaksAt (text_of lines ++ 0 ∷ [])) count own)
 
-pub broken_again : Laws → (files : Option Files) (file : InputFile) (setting : TheSetting) (head : Head) (text : List ℕ) (number : ℕ) → MOST_CERTIFICATE_BYTES ≤ file.most →
-    SomeInput files file (λ bytes. IsHeadOf bytes head) → IsBehind files file.name head.tree_at text → IsMalformed setting free_node head text number → SomeInput files file (λ bytes. BreaksAt bytes number)
-broken_again laws (Some files) file setting head text number most read told wrong =
+pub broken_again : Laws → (files : Option Files) (file : InputFile) (setting : TheSetting) (root : nodes.Node) (head : Head) (text : List ℕ) (number : ℕ) → MOST_CERTIFICATE_BYTES ≤ file.most →
+    SomeInput files file (λ bytes. IsHeadOf bytes head) → IsBehind files file.name head.tree_at text → IsMalformed setting root head text number → SomeInput files file (λ bytes. BreaksAt bytes number)
+broken_again laws (Some files) file setting root head text number most read told wrong =
     let same = behind files file.name read.0 text head.tree_at read.1.whole told in
-    absurd ((laws.told setting free_node read.0 head read.2).whole number (subst (λ (t : List ℕ). IsMalformed setting free_node head t number) same wrong))
-broken_again laws None file setting head text number most read told wrong =
-    broken laws.fit file setting head text read.0 number (laws.keep read.0 head read.2) most read.2 wrong
+    absurd ((laws.told setting root read.0 head read.2).whole number (subst (λ (t : List ℕ). IsMalformed setting root head t number) same wrong))
+broken_again laws None file setting root head text number most read told wrong =
+    broken laws.fit file setting root head text read.0 number (laws.keep read.0 head read.2) most read.2 wrong

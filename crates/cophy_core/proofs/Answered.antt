@@ -10,13 +10,13 @@ use Rattle.report.specs.Texts.{done_text}
 use Rattle.report.specs.declared.done.Done.{Done}
 use Rattle.report.specs.declared.done.Done.TheVariants as answers
 use Rattle.report.specs.declared.done.Refusal.{Refusal}
-use Rattle.report.specs.declared.done.Role.TheVariants.{Third}
+use Rattle.report.specs.declared.done.Role.TheVariants.{Third, Fourth}
 use Rattle.workload_gen.proofs.Lengths.{workload_short}
 use Rattle.report.specs.declared.done.Refusal.TheVariants.{TooLong, Cat, Sql, Bind}
 use Rattle.cophy_core.specs.declared.stop.Stop.{Stop}
 use Rattle.cophy_core.specs.declared.stop.Stop.TheVariants.{Memory, Failed, Refused}
 use Rattle.cophy_core.specs.Answers.{RefusesOver, GivesOver, files_put, PutsOver, OfSetting, Answers}
-use Rattle.command_line.specs.CommandLine.{PlainCommand, Candidates, Cost, WhatIf, Explain, Advise, Ruled, Check, Bench}
+use Rattle.command_line.specs.CommandLine.{PlainCommand, Candidates, Cost, WhatIf, Explain, Advise, Ruled, Check, CheckRuled, Fold, Bench}
 use Rattle.command_line.specs.Spellings.{IsInRange}
 use Rattle.cophy_core.specs.Files.{InputFile, input_file, setting_files, files_of, AreInputs, input, ReadCounts}
 use Rattle.cophy_core.specs.Inputs.{HasInputs}
@@ -43,6 +43,7 @@ IsCommandsOwn (answers.Advised advice) = Unit {0}
 IsCommandsOwn (answers.Checked checked) = Unit {0}
 IsCommandsOwn (answers.NotProved why) = Unit {0}
 IsCommandsOwn (answers.Ruled ruled) = Unit {0}
+IsCommandsOwn (answers.Folded folded) = Unit {0}
 IsCommandsOwn (answers.Benched bench) = Unit {0}
 IsCommandsOwn done = ⊥
 
@@ -61,6 +62,9 @@ second_short (Explain cat load conf number) files inputs range are = second_file
 second_short (Advise cat load budget nodes cert) files inputs range are = second_file files cat load [] inputs are
 second_short (Ruled cat load budget rules nodes cert) files inputs range are = second_file files cat load (input_file Third rules MOST_FILE_BYTES ∷ []) inputs are
 second_short (Check cat load cert) files inputs range are = second_file files cat load (input_file Third cert MOST_CERTIFICATE_BYTES ∷ []) inputs are
+second_short (CheckRuled cat load rules cert) files inputs range are =
+    second_file files cat load (input_file Third rules MOST_FILE_BYTES ∷ input_file Fourth cert MOST_CERTIFICATE_BYTES ∷ []) inputs are
+second_short (Fold cat load out) files inputs range are = second_file files cat load [] inputs are
 second_short (Bench seed tables statements budget) files inputs range are =
     rw are (omega (arith, workload_short seed tables statements (omega (arith, range.tables_some)) range.tables_few range.statements_few))
 
@@ -105,6 +109,16 @@ own (Ruled cat load budget rules nodes cert) inputs setting (Cat fault) h = h
 own (Ruled cat load budget rules nodes cert) inputs setting (Sql fault) h = h
 own (Ruled cat load budget rules nodes cert) inputs setting (Bind fault) h = h
 own (Ruled cat load budget rules nodes cert) inputs setting why h = tt
+own (CheckRuled cat load rules cert) inputs setting (TooLong role) h = h
+own (CheckRuled cat load rules cert) inputs setting (Cat fault) h = h
+own (CheckRuled cat load rules cert) inputs setting (Sql fault) h = h
+own (CheckRuled cat load rules cert) inputs setting (Bind fault) h = h
+own (CheckRuled cat load rules cert) inputs setting why h = tt
+own (Fold cat load out) inputs setting (TooLong role) h = h
+own (Fold cat load out) inputs setting (Cat fault) h = h
+own (Fold cat load out) inputs setting (Sql fault) h = h
+own (Fold cat load out) inputs setting (Bind fault) h = h
+own (Fold cat load out) inputs setting why h = tt
 own (Bench seed tables statements budget) inputs setting (TooLong role) h = h
 own (Bench seed tables statements budget) inputs setting (Cat fault) h = h
 own (Bench seed tables statements budget) inputs setting (Sql fault) h = h
@@ -145,6 +159,11 @@ given (Ruled cat load budget rules nodes cert) inputs setting done h = absurd h
 given (Check cat load cert) inputs setting (answers.Checked checked) h = tt
 given (Check cat load cert) inputs setting (answers.NotProved why) h = tt
 given (Check cat load cert) inputs setting done h = absurd h
+given (CheckRuled cat load rules cert) inputs setting (answers.Checked checked) h = tt
+given (CheckRuled cat load rules cert) inputs setting (answers.NotProved why) h = tt
+given (CheckRuled cat load rules cert) inputs setting done h = absurd h.gives
+given (Fold cat load out) inputs setting (answers.Folded folded) h = tt
+given (Fold cat load out) inputs setting done h = absurd h
 given (Bench seed tables statements budget) inputs setting (answers.Benched bench) h = tt
 given (Bench seed tables statements budget) inputs setting done h = absurd h
 
@@ -156,6 +175,7 @@ given_over command files (answers.Advised advice) is_given h = h
 given_over command files (answers.Checked checked) is_given h = h
 given_over command files (answers.NotProved why) is_given h = h
 given_over command files (answers.Ruled ruled) is_given h = h
+given_over command files (answers.Folded folded) is_given h = h
 given_over command files (answers.Benched bench) is_given h = h
 given_over command files done is_given h = absurd is_given
 
@@ -173,25 +193,29 @@ by_test true P Q whenever otherwise = whenever refl
 by_test false P Q whenever otherwise = otherwise refl
 
 -- nothing is put for an answer that needs no setting
-none_put : (command : PlainCommand) (setting : TheSetting) (done : Done) (puts : List Put) → needs_setting done ≡ false → PutsOver command setting done puts → puts ≡ []
-none_put (Advise cat load budget nodes cert) setting (answers.Advised advice) puts other h = absurd cc
-none_put (Advise cat load budget nodes cert) setting done puts other h = h
-none_put (Ruled cat load budget rules nodes cert) setting (answers.Ruled ruled) puts other h = absurd cc
-none_put (Ruled cat load budget rules nodes cert) setting done puts other h = h
-none_put command setting done puts other h = h
+none_put : (command : PlainCommand) (inputs : List (List ℕ)) (setting : TheSetting) (done : Done) (puts : List Put) → needs_setting done ≡ false → PutsOver command inputs setting done puts → puts ≡ []
+none_put (Advise cat load budget nodes cert) inputs setting (answers.Advised advice) puts other h = absurd cc
+none_put (Advise cat load budget nodes cert) inputs setting done puts other h = h
+none_put (Ruled cat load budget rules nodes cert) inputs setting (answers.Ruled ruled) puts other h = absurd cc
+none_put (Ruled cat load budget rules nodes cert) inputs setting done puts other h = h
+none_put (Fold cat load out) inputs setting (answers.Folded folded) puts other h = absurd cc
+none_put (Fold cat load out) inputs setting done puts other h = h
+none_put command inputs setting done puts other h = h
 
 -- what is put are the files of the command, in turn
-names_put : (command : PlainCommand) (inputs : List (List ℕ)) (setting : TheSetting) (done : Done) (puts : List Put) → GivesOver command inputs setting done → PutsOver command setting done puts → map (λ put. put.name) puts ≡ files_put command
+names_put : (command : PlainCommand) (inputs : List (List ℕ)) (setting : TheSetting) (done : Done) (puts : List Put) → GivesOver command inputs setting done → PutsOver command inputs setting done puts → map (λ put. put.name) puts ≡ files_put command
 names_put (Advise cat load budget nodes (Some file)) inputs setting (answers.Advised advice) puts gives h = ap (map (λ (put : Put). put.name)) h.puts_are
 names_put (Advise cat load budget nodes None) inputs setting (answers.Advised advice) puts gives h = ap (map (λ (put : Put). put.name)) h
 names_put (Advise cat load budget nodes cert) inputs setting done puts gives h = absurd gives
 names_put (Ruled cat load budget rules nodes (Some file)) inputs setting (answers.Ruled ruled) puts gives h = ap (map (λ (put : Put). put.name)) h.puts_are
 names_put (Ruled cat load budget rules nodes None) inputs setting (answers.Ruled ruled) puts gives h = ap (map (λ (put : Put). put.name)) h
 names_put (Ruled cat load budget rules nodes cert) inputs setting done puts gives h = absurd gives
+names_put (Fold cat load out) inputs setting (answers.Folded folded) puts gives h = ap (map (λ (put : Put). put.name)) h.puts_are
+names_put (Fold cat load out) inputs setting done puts gives h = absurd gives
 names_put command inputs setting done puts gives h = ap (map (λ (put : Put). put.name)) h
 
 -- what is put for an answer is put over its setting
-pub work_puts : (command : PlainCommand) (files : Option Files) (words : List (List ℕ)) (inputs : List (List ℕ)) (setting : TheSetting) (left_over : ℕ) (done : Done) (puts : List Put) (text : List ℕ) → HasInputs files command inputs → IsSetting (input inputs 0) (input inputs 1) setting left_over → GivesOver command inputs setting done → PutsOver command setting done puts → text ≡ done_text words (Some setting) done → ArePuts command files words done puts text
+pub work_puts : (command : PlainCommand) (files : Option Files) (words : List (List ℕ)) (inputs : List (List ℕ)) (setting : TheSetting) (left_over : ℕ) (done : Done) (puts : List Put) (text : List ℕ) → HasInputs files command inputs → IsSetting (input inputs 0) (input inputs 1) setting left_over → GivesOver command inputs setting done → PutsOver command inputs setting done puts → text ≡ done_text words (Some setting) done → ArePuts command files words done puts text
 work_puts command files words inputs setting left_over done puts text are is gives put e =
     by_test (needs_setting done) _ _
     (λ needed. record {
@@ -202,7 +226,7 @@ work_puts command files words inputs setting left_over done puts text are is giv
       setting_is = is;
       holds = record { gives = gives; puts_are = put; names_are = names_put command inputs setting done puts gives put; text_is = e };
     })
-    (λ other. none_put command setting done puts other put)
+    (λ other. none_put command inputs setting done puts other put)
 
 -- its text is told over that setting
 pub work_told : (command : PlainCommand) (files : Option Files) (words : List (List ℕ)) (inputs : List (List ℕ)) (setting : TheSetting) (left_over : ℕ) (done : Done) (text : List ℕ) → HasInputs files command inputs → IsSetting (input inputs 0) (input inputs 1) setting left_over → text ≡ done_text words (Some setting) done → IsTextOf command files words done text

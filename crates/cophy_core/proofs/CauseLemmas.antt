@@ -16,7 +16,7 @@ use Rattle.report.specs.declared.done.NotProved.{NotProved}
 use Rattle.command_line.specs.declared.fault.WordFault.{WordFault}
 use Rattle.cophy_core.specs.Answers.{GivesOver, files_put, OfSetting, Answers}
 use Rattle.cophy_core.specs.Causes.{IsAnswered, IsOrMemory, IsSteady, UsageIsTrue, ReadFaultIsTrue, WriteFaultIsTrue, RefusalIsTrue, MemoryWritesNothing, IsSound, IsWritten, IsBounded, IsUnproved, NotProvedIsTrue}
-use Rattle.command_line.specs.CommandLine.{PlainCommand, Candidates, Cost, WhatIf, Explain, Advise, Ruled, Check, Bench, command_of}
+use Rattle.command_line.specs.CommandLine.{PlainCommand, Candidates, Cost, WhatIf, Explain, Advise, Ruled, Check, CheckRuled, Fold, Bench, command_of}
 use Rattle.cophy_core.specs.Endings.{Put, Outside, outside, put_all, put_answer, IsPutFault, IsUnput, EndsWhole, EndsUnput, Ends}
 use Rattle.cophy_core.specs.Left.{PutsFileTo, IsCutShort}
 use Rattle.cophy_core.specs.Files.{ReadCounts, counts}
@@ -275,15 +275,30 @@ refused_of words before after done h = tt
 pub refused : {words : List (List ℕ)} {before after : Outside} {done : Done} → IsRun words before after done → RefusalIsTrue (command_of words) before.files done
 refused {words = words} {before = before} {after = after} {done = done} run = refused_of (command_of words) before after done (answer run)
 
--- a command whose files prove nothing is `check`
+-- a command whose files prove nothing is `check` or `check-ruled`
 unproved : (command : PlainCommand) (files : Option Files) (why : NotProved) → Answers command files (NotProvedDone why) → IsUnproved (Ok command) files why
-unproved (Check cat load cert) files why h = record { cat = cat; load = load; cert = cert; words_are = refl; first = h }
+unproved (Check cat load cert) files why h = record { command = Check cat load cert; words_are = refl; first = h }
+unproved (CheckRuled cat load rules cert) files why h =
+    let is = h.holds in
+    record {
+      command = CheckRuled cat load rules cert;
+      words_are = refl;
+      first = record {
+        inputs = h.inputs;
+        setting = h.setting;
+        left_over = h.left_over;
+        inputs_are = h.inputs_are;
+        setting_is = h.setting_is;
+        holds = record { root = is.root; root_is = is.root_is; first = is.gives };
+      };
+    }
 unproved (Candidates cat load) files why h = absurd h.holds
 unproved (Cost cat load) files why h = absurd h.holds
 unproved (WhatIf cat load conf) files why h = absurd h.holds
 unproved (Explain cat load conf number) files why h = absurd h.holds
 unproved (Advise cat load budget nodes cert) files why h = absurd h.holds
 unproved (Ruled cat load budget rules nodes cert) files why h = absurd h.holds
+unproved (Fold cat load out) files why h = absurd h.holds
 unproved (Bench seed tables statements budget) files why h = absurd h.holds
 
 not_proved_of : (words : Result PlainCommand WordFault) (before after : Outside) (done : Done) → IsAnswered words before after done → NotProvedIsTrue words before.files done

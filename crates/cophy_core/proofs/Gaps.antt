@@ -15,7 +15,7 @@ use Rattle.bip_model.specs.Views.{node_of}
 use Rattle.cophy_core.specs.Answers.{Answers}
 use Rattle.cophy_core.specs.Causes.{gap_status, HasGivenUp, GapIsTrue, IsAnswered}
 use Rattle.cophy_core.specs.Endings.{Outside}
-use Rattle.command_line.specs.CommandLine.{PlainCommand, Advise, Ruled, Bench, command_of}
+use Rattle.command_line.specs.CommandLine.{PlainCommand, Advise, Ruled, CheckRuled, Bench, command_of}
 use Rattle.cophy_core.specs.Replies.{IsRun}
 use Rattle.cophy_core.proofs.CauseLemmas.{answer}
 use Rattle.cophy_core.proofs.Headlines.{spent_nodes, gap_by}
@@ -36,15 +36,18 @@ given_up root budget nodes setting advice nodes_is best one =
 
 of_advice : (command : PlainCommand) (files : Option Files) (advice : Advice) → Answers command files (Advised advice) → GapIsTrue (Advised advice)
 of_advice (Advise cat load budget nodes cert) files advice h = λ one. inl (given_up free_node budget nodes h.setting advice h.holds.nodes_is h.holds.best one)
+of_advice (CheckRuled cat load rules cert) files advice h = absurd h.holds.gives
 of_advice command files advice h = absurd h.holds
 
 of_bench : (command : PlainCommand) (files : Option Files) (bench : Made) → Answers command files (Benched bench) → GapIsTrue (Benched bench)
 of_bench (Bench seed tables statements budget) files bench h = λ one. inl (given_up free_node budget 20000 h.setting bench.advice h.holds.advice_is.nodes_is h.holds.advice_is.best one)
+of_bench (CheckRuled cat load rules cert) files bench h = absurd h.holds.gives
 of_bench command files bench h = absurd h.holds
 
 of_ruled : (command : PlainCommand) (files : Option Files) (ruled : Obeying) → Answers command files (RuledDone ruled) → GapIsTrue (RuledDone ruled)
 of_ruled (Ruled cat load budget rules nodes cert) files ruled h =
     λ one. inl (given_up (node_of h.holds.root) budget nodes h.setting ruled.advice h.holds.advice_is.nodes_is h.holds.advice_is.best one)
+of_ruled (CheckRuled cat load rules cert) files ruled h = absurd h.holds.gives
 of_ruled command files ruled h = absurd h.holds
 
 of_answer : (words : Result PlainCommand WordFault) (before after : Outside) (done : Done) → IsAnswered words before after done → GapIsTrue done

@@ -9,26 +9,18 @@ use Rattle.adv_base.specs.Settings.{TheSetting}
 use Rattle.adv_shelf.proofs.CallerLemmas.{put_is_there, others_stay}
 use Rattle.adv_shelf.specs.Shelf.{Files, HasFile, put_file}
 use Rattle.adv_shelf.specs.Sink.{append_to}
-use Rattle.certificate.specs.declared.cert.Cert.{Cert}
-use Rattle.certificate.specs.Certificates.{IsCertificate, OneCertificate, TextsFit}
 use Rattle.bip_model.specs.declared.answer.Answer.{Answer}
 use Rattle.bip_model.specs.Proves.{free_node}
 use Rattle.certificate.specs.Answers.{answer_cert}
-use Rattle.gap_checker.specs.declared.fault.Checked.{Checked as GapChecked}
-use Rattle.gap_checker.specs.Faults.{IsFault}
-use Rattle.gap_checker.specs.Laws.{BestAreProved, FaultsExcludeProofs}
-use Rattle.gap_checker.specs.Views.{IsProof}
 use Rattle.report.specs.declared.done.Advice.{Advice}
 use Rattle.report.specs.declared.done.Done.{Done}
-use Rattle.report.specs.declared.done.Done.TheVariants.{ReadFault, WriteFault, Refused, Memory, Advised, Checked, NotProved}
-use Rattle.report.specs.declared.done.NotProved.TheVariants.{Malformed, Fault}
+use Rattle.report.specs.declared.done.Done.TheVariants.{ReadFault, WriteFault, Refused, Memory, Advised}
 use Rattle.report.specs.declared.done.Refusal.{Refusal}
 use Rattle.command_line.specs.declared.fault.WordFault.{WordFault}
 use Rattle.report.specs.declared.done.Refusal.TheVariants.{TooLong, Cat, Sql, Bind, TooManyCombinations}
 use Rattle.report.specs.declared.done.Role.{Role}
 use Rattle.report.specs.declared.done.Role.TheVariants.{Catalogue, Workload}
 use Rattle.cophy_core.specs.commands.Advise.{IsAdvice, PutsFor}
-use Rattle.cophy_core.specs.commands.Check as check
 use Rattle.cophy_core.specs.Answers.{Answers}
 use Rattle.cophy_core.specs.Causes.{IsSteady, WriteFaultIsTrue, gap_status, status_of}
 use Rattle.cophy_core.specs.Endings.{Put, Outside, put_all, EndsWhole}
@@ -38,6 +30,8 @@ use Rattle.command_line.specs.CommandLine.{PlainCommand, Check, command_of}
 use Rattle.cophy_core.specs.Replies.{MayAnswer, MayAnswerWords, ArePuts, ArePutsTo, IsRun}
 use Rattle.cophy_core.specs.Settings.{IsSetting, HasCatFault, IsSqlRefusal, IsBindRefusal}
 use Rattle.cophy_core.specs.Laws.{ChecksStandAlone}
+use Rattle.cophy_core.proofs.Certified as certified
+use Rattle.cophy_core.proofs.Checking.{free_given}
 use Rattle.cophy_core.proofs.CauseLemmas.{Ended, ended as ran, write_fault}
 use Rattle.cophy_core.proofs.Combinations.{none_beyond}
 use Rattle.cophy_core.proofs.FilesRead.{not_long_and_whole, one_content}
@@ -136,29 +130,8 @@ ended setting asked advice status is e =
 
 -- laws of certificates and of their checker
 pub record Laws : Type 0 where
-  pub fit : TextsFit
-  pub one : OneCertificate
-  pub proved : BestAreProved
-  pub exclude : FaultsExcludeProofs
+  pub certificates : certified.Laws
   pub alone : ChecksStandAlone
-
-checked_is : (checked : GapChecked) (budget cost : ℕ) (bound : ℤ) → checked.budget ≡ budget → checked.cost ≡ cost → checked.bound ≡ bound → checked ≡ record { budget = budget; cost = cost; bound = bound }
-checked_is checked budget cost bound e f g =
-    let Made : ℕ → ℕ → ℤ → GapChecked = λ (b : ℕ) (c : ℕ) (d : ℤ). record { budget = b; cost = c; bound = d } in
-    ap (λ (b : ℕ). Made b checked.cost checked.bound) e ∙ (ap (λ (c : ℕ). Made budget c checked.bound) f ∙ ap (λ (d : ℤ). Made budget cost d) g)
-
--- of a certificate that is a proof, nothing else is told
-only_proved : (laws : Laws) (setting : TheSetting) (bytes : List ℕ) (cert : Cert) (done : Done) → IsCertificate bytes cert → IsProof setting free_node cert → check.Gives bytes setting done → done ≡ Checked (record { budget = cert.budget; cost = cert.cost; bound = cert.bound })
-only_proved laws setting bytes cert (Checked checked) is proof h =
-    let same = laws.one bytes h.cert cert h.cert_is is in
-    let told = h.checked_is in
-    ap Checked (checked_is checked cert.budget cert.cost cert.bound (told.budget_is ∙ ap (λ (c : Cert). c.budget) same) (told.cost_is ∙ ap (λ (c : Cert). c.cost) same) (told.bound_is ∙ ap (λ (c : Cert). c.bound) same))
-only_proved laws setting bytes cert (NotProved (Malformed line)) is proof h = absurd (h.none cert is)
-only_proved laws setting bytes cert (NotProved (Fault fault)) is proof h =
-    let same = laws.one bytes h.cert cert h.cert_is is in
-    let fault_is = subst (λ (c : Cert). IsFault setting free_node c fault) same h.fault_is in
-    absurd (h.no_memory (laws.exclude setting free_node cert fault is.limits proof fault_is))
-only_proved laws setting bytes cert done is proof h = absurd h
 
 checked_inputs : (files : Files) (cat load file : List ℕ) (a b bytes : List ℕ) (after : Option Files) → AreInputs (Some files) (setting_files cat load) (a ∷ b ∷ []) → after ≡ put_file (Some files) file bytes → file ≢ cat → file ≢ load → length bytes ≤ MOST_CERTIFICATE_BYTES → AreInputs after (files_of (Check cat load file)) (a ∷ b ∷ bytes ∷ [])
 checked_inputs files cat load file a b bytes after are e not_cat not_load few =
@@ -180,29 +153,20 @@ check_alone_after laws asked file after left answer is accepted done h =
     (subst (λ (fs : Option Files). Answers (Check asked.cat asked.load file) fs done) is h)
     (subst (λ (fs : Option Files). Answers (Check asked.cat asked.load file) fs (proved asked answer)) is accepted)
 
-certified : (laws : Laws) (setting : TheSetting) (files : Files) (asked : Asked) (advice : Advice) (left_over : ℕ) (a b : List ℕ) (cert : Option (List ℕ)) (puts : List Put) (after : Option Files) → AreInputs (Some files) (setting_files asked.cat asked.load) (a ∷ b ∷ []) → IsSetting a b setting left_over → IsAdvice asked.budget asked.nodes setting advice → PutsFor cert setting asked.budget advice.answer puts → after ≡ put_all (Some files) puts → Certifies cert setting files asked advice.answer after
-certified laws setting files asked advice left_over a b (Some file) puts after are is_setting is put e =
+certificate : (laws : Laws) (setting : TheSetting) (files : Files) (asked : Asked) (advice : Advice) (left_over : ℕ) (a b : List ℕ) (cert : Option (List ℕ)) (puts : List Put) (after : Option Files) → AreInputs (Some files) (setting_files asked.cat asked.load) (a ∷ b ∷ []) → IsSetting a b setting left_over → IsAdvice asked.budget asked.nodes setting advice → PutsFor cert setting asked.budget advice.answer puts → after ≡ put_all (Some files) puts → Certifies cert setting files asked advice.answer after
+certificate laws setting files asked advice left_over a b (Some file) puts after are is_setting is put e =
     let answer = advice.answer in
     let own = put.certificate_is in
-    let proof = laws.proved setting own.programme asked.budget asked.nodes free_node answer own.stands is.flags is.best in
+    let proves = certified.proving laws.certificates setting free_node own.programme asked.budget asked.nodes answer own.stands is.flags is.best in
+    let told = certified.told setting free_node own.programme asked.budget answer put.bytes own.is_text proves (λ other total members fits below total_is. is.bounds.all other total members fits total_is) is.bounds.own in
     let there : after ≡ put_file (Some files) file put.bytes = e ∙ ap (put_all (Some files)) put.puts_are in
     let accepted : file ≢ asked.cat → file ≢ asked.load → Answers (Check asked.cat asked.load file) after (proved asked answer) = λ not_cat not_load. record {
       inputs = a ∷ b ∷ put.bytes ∷ [];
       setting = setting;
       left_over = left_over;
-      inputs_are = checked_inputs files asked.cat asked.load file a b put.bytes after are there not_cat not_load (laws.fit put.bytes (answer_cert own.programme asked.budget answer) own.is_text);
+      inputs_are = checked_inputs files asked.cat asked.load file a b put.bytes after are there not_cat not_load (laws.certificates.fit put.bytes (answer_cert own.programme asked.budget answer) own.is_text);
       setting_is = is_setting;
-      holds = record {
-        cert = answer_cert own.programme asked.budget answer;
-        cert_is = own.is_text;
-        checked_is = record {
-          budget_is = refl;
-          cost_is = refl;
-          bound_is = refl;
-          proof = proof;
-        };
-        bounds = is.bounds;
-      };
+      holds = (told, is.bounds);
     } in
     record {
       bytes = put.bytes;
@@ -210,10 +174,11 @@ certified laws setting files asked advice left_over a b (Some file) puts after a
       files_are = there;
       alone = λ not_cat not_load.
           check_alone_after laws asked file after (insert files file put.bytes) answer there (accepted not_cat not_load);
-      nothing_else = λ done h. only_proved laws setting put.bytes (answer_cert own.programme asked.budget answer) done own.is_text proof h;
+      nothing_else = λ done h.
+          certified.only_proved laws.certificates setting free_node put.bytes (answer_cert own.programme asked.budget answer) done own.is_text proves.proof proves.obeys (free_given setting put.bytes done h);
       accepted = accepted;
     }
-certified laws setting files asked advice left_over a b None puts after are is_setting is put e = e ∙ ap (put_all (Some files)) put
+certificate laws setting files asked advice left_over a b None puts after are is_setting is put e = e ∙ ap (put_all (Some files)) put
 
 -- ## The whole
 
@@ -239,7 +204,7 @@ from_advice laws words files asked before after status advice puts text done ok 
       printed = wrote ∙ ap (append_to before.written) h.holds.text_is;
       bounded = record { candidates = gives.best.proves.members; fits = gives.best.proves.fits; cost_is = gives.best.proves.cost_is; bound = gives.bounds.all };
       ended = ended setting asked advice status gives (is ∙ ap status_of answer_is);
-      certified = certified laws setting files asked advice h.left_over ok.cat_bytes ok.load_bytes asked.cert puts after.files are is_setting gives puts_are put;
+      certified = certificate laws setting files asked advice h.left_over ok.cat_bytes ok.load_bytes asked.cert puts after.files are is_setting gives puts_are put;
     }
 
 pub headline : {words : List (List ℕ)} {before after : Outside} {done : Done} (laws : Laws) (run : IsRun words before after done) (status : ℕ) → status ≡ status_of done → (files : Files) (asked : Asked) → before.files ≡ Some files → command_of words ≡ Ok (asked_command asked) → IsAccepted files asked → IsSteady before.reads.all after.reads.all → IsSteady before.put_faults after.put_faults → IsSteady before.faults after.faults → done ≢ Memory → Headline words files asked before after status done

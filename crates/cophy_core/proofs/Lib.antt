@@ -7,6 +7,7 @@ pub mod Obeying
 pub mod Checking
 pub mod OneSetting
 pub mod Combinations
+pub mod Folding
 pub mod OneRefusal
 pub mod Stopped
 pub mod Mapped
@@ -17,6 +18,8 @@ pub mod Again
 pub mod Works
 pub mod CauseLemmas
 pub mod LeftFiles
+pub mod Certified
 pub mod Headlines
+pub mod Accepting
 pub mod Gaps
 pub mod Parts

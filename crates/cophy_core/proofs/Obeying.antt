@@ -13,10 +13,10 @@ use Rattle.dba_rules.specs.Settled.{IsFault}
 use Rattle.dba_rules.proofs.Unique.{one_fault, fault_or_fits}
 use Rattle.cophy_core.specs.commands.Ruled.{IsSettled, IsRootOf, IsUnsettled, HasRuleFault}
 
-one_root : (setting : TheSetting) (rules : List ℕ) (root other : Fix) → root_of setting rules ≡ Ok root → root_of setting rules ≡ Ok other → root ≡ other
+pub one_root : (setting : TheSetting) (rules : List ℕ) (root other : Fix) → root_of setting rules ≡ Ok root → root_of setting rules ≡ Ok other → root ≡ other
 one_root setting rules root other a b = let both : Ok root ≡ Ok other = sym a ∙ b in cc
 
-not_both : (setting : TheSetting) (rules : List ℕ) (root : Fix) (fault : RuleFault) → root_of setting rules ≡ Ok root → root_of setting rules ≡ Err fault → ⊥
+pub not_both : (setting : TheSetting) (rules : List ℕ) (root : Fix) (fault : RuleFault) → root_of setting rules ≡ Ok root → root_of setting rules ≡ Err fault → ⊥
 not_both setting rules root fault a b = let both : Ok root ≡ Err fault = sym a ∙ b in cc
 
 -- rules with a fault make no root

@@ -9,23 +9,25 @@ use Rattle.binder.specs.Statements.{statements_of}
 use Rattle.binder.specs.declared.fault.BindFault.{BindFault}
 use Rattle.catalogue.specs.declared.fault.CatFault.{CatFault}
 use Rattle.report.specs.declared.done.Done.{Done}
-use Rattle.report.specs.declared.done.Done.TheVariants.{Refused, Priced, Explained, Advised, Ruled as RuledDone, Benched}
+use Rattle.report.specs.declared.done.Done.TheVariants.{Refused, Priced, Explained, Advised, Ruled as RuledDone, Folded, Benched}
 use Rattle.report.specs.declared.done.Refusal.{Refusal}
-use Rattle.report.specs.declared.done.Refusal.TheVariants.{TooLong, Cat, Sql, Bind, NoStatement, BadConf, Rules, TooManyCombinations}
+use Rattle.report.specs.declared.done.Refusal.TheVariants.{TooLong, Cat, Sql, Bind, NoStatement, BadConf, Rules, TooManyCombinations, FoldTooLong}
 use Rattle.report.specs.declared.done.Role.{Role}
 use Rattle.sql_reader.proofs.Unique.{one_workload, workload_or_fault, one_sql_fault}
 use Rattle.sql_reader.specs.declared.parsed.ParsedStatement.{ParsedStatement}
 use Rattle.sql_reader.specs.declared.parsed.SqlFault.{SqlFault}
 use Rattle.cophy_core.specs.Answers.{RefusesOver, GivesOver, OfFiles, OfSetting, Answers}
-use Rattle.command_line.specs.CommandLine.{PlainCommand, WhatIf, Explain, Advise, Ruled, Check, Bench}
+use Rattle.command_line.specs.CommandLine.{PlainCommand, WhatIf, Explain, Advise, Ruled, Check, CheckRuled, Fold, Bench}
 use Rattle.cophy_core.specs.Files.{InputFile, AreInputs, IsTooLong, files_of, input}
 use Rattle.cophy_core.specs.Inputs.{HasInputs}
 use Rattle.cophy_core.specs.Settings.{IsCatalogueOf, IsSetting, HasCatFault, IsSqlRefusal, IsBindRefusal}
 use Rattle.cophy_core.specs.commands.Check.{OneAnswer}
+use Rattle.cophy_core.specs.commands.CheckRuled as check_ruled
 use Rattle.cophy_core.proofs.Combinations.{none_beyond, one_beyond}
 use Rattle.cophy_core.proofs.FilesRead.{one_each, none_long, one_long}
+use Rattle.cophy_core.proofs.Folding.{one_length, long_or_folded}
 use Rattle.cophy_core.proofs.Lines.{not_nothing, conf_or_fault, one_conf_fault}
-use Rattle.cophy_core.proofs.Obeying.{one_rule_fault, faulty_or_root}
+use Rattle.cophy_core.proofs.Obeying.{not_both, one_rule_fault, faulty_or_root}
 use Rattle.cophy_core.proofs.OneSetting.{one_catalogue, one_setting, few_shapes}
 
 -- ## The bytes that a command answers from
@@ -129,6 +131,16 @@ one_own (Ruled cat load budget rules nodes cert) inputs setting why other few a 
 one_own (Bench seed tables statements budget) inputs setting (TooManyCombinations n count) (TooManyCombinations m other) few a b = too_many_same setting n m count other (one_beyond setting n m count other a b)
 one_own (Bench seed tables statements budget) inputs setting (TooManyCombinations n count) other few a b = absurd b
 one_own (Bench seed tables statements budget) inputs setting why other few a b = absurd a
+one_own (CheckRuled cat load rules cert) inputs setting (Rules fault) (Rules other) few a b =
+    let mine = a.first in
+    let yours = b.first in
+    let both : Err other ≡ Err fault = sym yours ∙ mine in
+    cc
+one_own (CheckRuled cat load rules cert) inputs setting (Rules fault) other few a b = absurd b
+one_own (CheckRuled cat load rules cert) inputs setting why other few a b = absurd a
+one_own (Fold cat load out) inputs setting (FoldTooLong count) (FoldTooLong other) few a b = ap FoldTooLong (one_length (input inputs 1) setting other count b a)
+one_own (Fold cat load out) inputs setting (FoldTooLong count) other few a b = absurd b
+one_own (Fold cat load out) inputs setting why other few a b = absurd a
 one_own command inputs setting why other few a b = absurd a
 
 -- where it refuses it gives nothing
@@ -151,6 +163,11 @@ refused_or_given (Ruled cat load budget rules nodes cert) inputs setting why don
 refused_or_given (Bench seed tables statements budget) inputs setting (TooManyCombinations n count) (Benched bench) few a b = none_beyond setting n count b.advice_is.few a
 refused_or_given (Bench seed tables statements budget) inputs setting why (Benched bench) few a b = absurd a
 refused_or_given (Bench seed tables statements budget) inputs setting why done few a b = absurd b
+refused_or_given (CheckRuled cat load rules cert) inputs setting (Rules fault) done few a b = not_both setting (input inputs 2) b.root fault b.root_is a.first
+refused_or_given (CheckRuled cat load rules cert) inputs setting why done few a b = absurd a
+refused_or_given (Fold cat load out) inputs setting (FoldTooLong count) (Folded told) few a b = long_or_folded (input inputs 1) setting count told a b
+refused_or_given (Fold cat load out) inputs setting (FoldTooLong count) done few a b = absurd b
+refused_or_given (Fold cat load out) inputs setting why done few a b = absurd a
 refused_or_given command inputs setting why done few a b = absurd a
 
 -- ## The order of work
@@ -260,3 +277,12 @@ check_alone one cat load cert files done (Refused why) a b = refusal_alone (Chec
 check_alone one cat load cert files done other a b =
     one b.setting (input b.inputs 2) done other
     (over_setting (Check cat load cert) files (GivenAt (Check cat load cert) done) (GivenAt (Check cat load cert) other) a b) b.holds
+
+-- and so has one under rules
+pub ruled_check_alone : check_ruled.OneAnswer → (cat load rules cert : List ℕ) (files : Files) (done other : Done) →
+    Answers (CheckRuled cat load rules cert) (Some files) done → Answers (CheckRuled cat load rules cert) (Some files) other → done ≡ other
+ruled_check_alone one cat load rules cert files (Refused why) other a b = sym (refusal_alone (CheckRuled cat load rules cert) files why other a b)
+ruled_check_alone one cat load rules cert files done (Refused why) a b = refusal_alone (CheckRuled cat load rules cert) files why done b a
+ruled_check_alone one cat load rules cert files done other a b =
+    let command = CheckRuled cat load rules cert in
+    one b.setting (input b.inputs 2) (input b.inputs 3) done other (over_setting command files (GivenAt command done) (GivenAt command other) a b) b.holds

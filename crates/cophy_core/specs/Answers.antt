@@ -1,5 +1,5 @@
 -- What each command answers over the files.
-use Rattle.std.specs.Prelude.{◌≡◌, ℕ, List, [], Option, option_to_list}
+use Rattle.std.specs.Prelude.{◌≡◌, ℕ, List, [], ◌∷◌, Option, option_to_list}
 use Rattle.adv_shelf.specs.Shelf.{Files}
 use Rattle.adv_base.specs.Settings.{TheSetting}
 use Rattle.report.specs.declared.done.Done.{Done}
@@ -10,12 +10,14 @@ use Rattle.cophy_core.specs.commands.Advise as advise
 use Rattle.cophy_core.specs.commands.Bench as bench
 use Rattle.cophy_core.specs.commands.Candidates as candidates
 use Rattle.cophy_core.specs.commands.Check as check
+use Rattle.cophy_core.specs.commands.CheckRuled as check_ruled
 use Rattle.cophy_core.specs.commands.Cost as cost
 use Rattle.cophy_core.specs.commands.Explain as explain
+use Rattle.cophy_core.specs.commands.Fold as fold
 use Rattle.cophy_core.specs.commands.Ruled as ruled
 use Rattle.cophy_core.specs.commands.WhatIf as what_if
 use Rattle.cophy_core.specs.Endings.{Put}
-use Rattle.command_line.specs.CommandLine.{PlainCommand, Candidates, Cost, WhatIf, Explain, Advise, Ruled, Check, Bench}
+use Rattle.command_line.specs.CommandLine.{PlainCommand, Candidates, Cost, WhatIf, Explain, Advise, Ruled, Check, CheckRuled, Fold, Bench}
 use Rattle.cophy_core.specs.Stops.{LacksProgramme}
 use Rattle.cophy_core.specs.Files.{files_of, input, IsTooLong}
 use Rattle.cophy_core.specs.Inputs.{HasInputs}
@@ -27,6 +29,8 @@ RefusesOver (WhatIf cat load conf) inputs setting why = what_if.Refuses (input i
 RefusesOver (Explain cat load conf number) inputs setting why = explain.Refuses number (input inputs 2) setting why
 RefusesOver (Advise cat load budget nodes cert) inputs setting why = LacksProgramme setting why
 RefusesOver (Ruled cat load budget rules nodes cert) inputs setting why = ruled.Refuses budget (input inputs 2) setting why
+RefusesOver (CheckRuled cat load rules cert) inputs setting why = check_ruled.Refuses (input inputs 2) setting why
+RefusesOver (Fold cat load out) inputs setting why = fold.Refuses (input inputs 1) setting why
 RefusesOver (Bench seed tables statements budget) inputs setting why = LacksProgramme setting why
 RefusesOver command inputs setting why = ⊥
 
@@ -39,19 +43,23 @@ GivesOver (Explain cat load conf number) inputs setting done = explain.Gives num
 GivesOver (Advise cat load budget nodes cert) inputs setting done = advise.Gives budget nodes setting done
 GivesOver (Ruled cat load budget rules nodes cert) inputs setting done = ruled.Gives budget nodes (input inputs 2) setting done
 GivesOver (Check cat load cert) inputs setting done = check.Gives (input inputs 2) setting done
+GivesOver (CheckRuled cat load rules cert) inputs setting done = check_ruled.Gives (input inputs 2) (input inputs 3) setting done
+GivesOver (Fold cat load out) inputs setting done = fold.Gives (input inputs 1) setting done
 GivesOver (Bench seed tables statements budget) inputs setting done = bench.Gives budget setting done
 
 -- the names of the files that a command puts, in turn
 abbrev pub files_put : PlainCommand → List (List ℕ)
 files_put (Advise cat load budget nodes cert) = option_to_list cert
 files_put (Ruled cat load budget rules nodes cert) = option_to_list cert
+files_put (Fold cat load out) = out ∷ []
 files_put command = []
 
--- what a command puts for an answer over a setting
-abbrev pub PutsOver : PlainCommand → TheSetting → Done → List Put → Type 0
-PutsOver (Advise cat load budget nodes cert) setting done puts = advise.Puts cert setting done puts
-PutsOver (Ruled cat load budget rules nodes cert) setting done puts = ruled.Puts cert setting done puts
-PutsOver command setting done puts = puts ≡ []
+-- what a command puts for an answer over the bytes that it answers from and their setting
+abbrev pub PutsOver : PlainCommand → List (List ℕ) → TheSetting → Done → List Put → Type 0
+PutsOver (Advise cat load budget nodes cert) inputs setting done puts = advise.Puts cert setting done puts
+PutsOver (Ruled cat load budget rules nodes cert) inputs setting done puts = ruled.Puts cert setting done puts
+PutsOver (Fold cat load out) inputs setting done puts = fold.Puts (input inputs 0) (input inputs 1) out setting done puts
+PutsOver command inputs setting done puts = puts ≡ []
 
 -- a command answers from these bytes, which have P
 pub record OfFiles (files : Option Files) (command : PlainCommand) (P : List (List ℕ) → Type 0) : Type 0 where

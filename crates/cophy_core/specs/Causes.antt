@@ -4,19 +4,21 @@ use Rattle.adv_base.specs.declared.limits.TheConstants.{MOST_CANDIDATES, MOST_IN
 use Rattle.adv_shelf.specs.Faults.{Rose}
 use Rattle.adv_shelf.specs.Shelf.{Files}
 use Rattle.adv_shelf.specs.Sink.{append_to}
+use Rattle.bip_model.specs.Proves.{free_node}
 use Rattle.plan_model.specs.declared.plan.TheConstants.{MOST_COST, MOST_TOTAL}
 use Rattle.report.specs.Advices.{advices, EachAdvice, SomeAdvice}
 use Rattle.report.specs.declared.done.Advice.{Advice}
 use Rattle.report.specs.declared.done.Done.{Done}
-use Rattle.report.specs.declared.done.Done.TheVariants.{Usage, ReadFault, WriteFault, Refused, Memory, Priced, Explained as ExplainedDone, Checked as CheckedDone, NotProved as NotProvedDone}
+use Rattle.report.specs.declared.done.Done.TheVariants.{Usage, ReadFault, WriteFault, Refused, Memory, Priced, Explained as ExplainedDone, Checked as CheckedDone, NotProved as NotProvedDone, Folded as FoldedDone}
 use Rattle.report.specs.declared.done.NotProved.{NotProved}
 use Rattle.command_line.specs.declared.fault.WordFault.{WordFault}
 use Rattle.cophy_core.specs.Answers.{Answers, OfSetting}
-use Rattle.command_line.specs.CommandLine.{PlainCommand, command_of, Check}
+use Rattle.command_line.specs.CommandLine.{PlainCommand, command_of, Check, CheckRuled}
 use Rattle.cophy_core.specs.Files.{files_of, IsReadFault, input}
 use Rattle.cophy_core.specs.Endings.{Outside}
 use Rattle.cophy_core.specs.Left.{PutsFileTo, IsCutShort}
-use Rattle.cophy_core.specs.commands.Check.{ProvesNothing}
+use Rattle.cophy_core.specs.commands.Check as check
+use Rattle.cophy_core.specs.commands.CheckRuled as check_ruled
 use Rattle.cophy_core.specs.Replies.{MayAnswerWords, IsTextTo}
 
 -- the exit status of a search: 1 where its bound isn't its cost
@@ -87,13 +89,20 @@ abbrev pub RefusalIsTrue : Result PlainCommand WordFault → Option Files → Do
 RefusalIsTrue words files (Refused why) = (command : PlainCommand) × (words ≡ Ok command) × Answers command files (Refused why)
 RefusalIsTrue words files done = Unit {0}
 
--- the words ask for a check, nothing is refused, and the third file proves nothing of the setting: this is its first fault
+-- the command checks a certificate, nothing is refused, and the certificate's file proves nothing of the setting: this is
+-- why, first
+abbrev pub FirstFails : PlainCommand → Option Files → NotProved → Type 0
+FirstFails (Check cat load cert) files why =
+    OfSetting files (Check cat load cert) (λ inputs setting. check.ProvesNothing setting free_node (input inputs 2) why)
+FirstFails (CheckRuled cat load rules cert) files why =
+    OfSetting files (CheckRuled cat load rules cert) (λ inputs setting. check_ruled.ProvesNothing (input inputs 2) (input inputs 3) setting why)
+FirstFails command files why = ⊥
+
+-- the words are such a command
 pub record IsUnproved (words : Result PlainCommand WordFault) (files : Option Files) (why : NotProved) : Type 0 where
-  pub cat : List ℕ
-  pub load : List ℕ
-  pub cert : List ℕ
-  pub words_are : words ≡ Ok (Check cat load cert)
-  pub first : OfSetting files (Check cat load cert) (λ inputs setting. ProvesNothing setting (input inputs 2) why)
+  pub command : PlainCommand
+  pub words_are : words ≡ Ok command
+  pub first : FirstFails command files why
 
 -- a certificate is said to prove nothing only so
 abbrev pub NotProvedIsTrue : Result PlainCommand WordFault → Option Files → Done → Type 0
@@ -128,4 +137,5 @@ abbrev pub IsBounded : Done → Type 0
 IsBounded (Priced prices) = All (λ cost. cost < most_statement_cost) prices.costs × (prices.total < MOST_TOTAL)
 IsBounded (ExplainedDone explained) = explained.cost < MOST_COST
 IsBounded (CheckedDone checked) = checked.cost < MOST_TOTAL
+IsBounded (FoldedDone folded) = folded.total < MOST_TOTAL
 IsBounded done = EachAdvice (λ advice. advice.answer.cost < MOST_TOTAL) (advices done)

@@ -1,11 +1,14 @@
 -- Laws of answers.
-use Rattle.std.specs.Prelude.{◌≡◌, ℕ, List, Some}
+use Rattle.std.specs.Prelude.{◌≡◌, ◌≢◌, ◌↔◌, ℕ, List, Some}
 use Rattle.adv_shelf.specs.Shelf.{Files}
 use Rattle.report.specs.declared.done.Done.{Done}
-use Rattle.report.specs.declared.done.Done.TheVariants.{Refused}
+use Rattle.report.specs.declared.done.Done.TheVariants.{Refused, Ruled as RuledDone, Checked}
 use Rattle.report.specs.declared.done.Refusal.{Refusal}
+use Rattle.report.specs.declared.done.Ruled.{Ruled as UnderRules}
 use Rattle.cophy_core.specs.Answers.{Answers}
-use Rattle.command_line.specs.CommandLine.{PlainCommand, Check}
+use Rattle.command_line.specs.CommandLine.{PlainCommand, Ruled, Check, CheckRuled}
+use Rattle.cophy_core.specs.Endings.{Put, put_all}
+use Rattle.cophy_core.specs.Replies.{ArePuts}
 
 -- where the shelf tells its files and a command is refused over them, it has no other refusal and no other answer
 abbrev pub RefusalsStandAlone : Type 0
@@ -13,8 +16,22 @@ RefusalsStandAlone =
     (command : PlainCommand) (files : Files) (why : Refusal) (done : Done) →
     Answers command (Some files) (Refused why) → Answers command (Some files) done → done ≡ Refused why
 
--- where the shelf tells its files, `check` has one answer over them
+-- where the shelf tells its files, `check` has one answer over them, and so has `check-ruled`
 abbrev pub ChecksStandAlone : Type 0
 ChecksStandAlone =
     (cat load cert : List ℕ) (files : Files) (done other : Done) →
     Answers (Check cat load cert) (Some files) done → Answers (Check cat load cert) (Some files) other → done ≡ other
+
+abbrev pub RuledChecksStandAlone : Type 0
+RuledChecksStandAlone =
+    (cat load rules cert : List ℕ) (files : Files) (done other : Done) →
+    Answers (CheckRuled cat load rules cert) (Some files) done → Answers (CheckRuled cat load rules cert) (Some files) other → done ≡ other
+
+-- The certificate of advice under rules was put into a file that is none of those that were read: then `check-ruled` of these
+-- and of that one finds the budget, the cost and the bound proved, and nothing else.
+abbrev pub RuledAreAccepted : Type 0
+RuledAreAccepted =
+    (cat load rules file : List ℕ) (budget nodes : ℕ) (files : Files) (words : List (List ℕ)) (under : UnderRules) (puts : List Put) (text : List ℕ) (done : Done) →
+    ArePuts (Ruled cat load budget rules nodes (Some file)) (Some files) words (RuledDone under) puts text → file ≢ cat → file ≢ load → file ≢ rules →
+    Answers (CheckRuled cat load rules file) (put_all (Some files) puts) done
+    ↔ (done ≡ Checked (record { budget = budget; cost = under.advice.answer.cost; bound = under.advice.answer.bound }))

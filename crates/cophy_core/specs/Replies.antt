@@ -40,7 +40,7 @@ IsTextTo (Err fault) files words done text = text ≡ done_text words None done
 -- what a command gives over a setting, what it puts for that, which are its files in turn, and the text
 pub record IsGiven (command : PlainCommand) (words : List (List ℕ)) (inputs : List (List ℕ)) (setting : TheSetting) (done : Done) (puts : List Put) (text : List ℕ) : Type 0 where
   pub gives : GivesOver command inputs setting done
-  pub puts_are : PutsOver command setting done puts
+  pub puts_are : PutsOver command inputs setting done puts
   pub names_are : map (λ put. put.name) puts ≡ files_put command
   pub text_is : text ≡ done_text words (Some setting) done
 

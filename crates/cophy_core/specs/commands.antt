@@ -2,7 +2,9 @@ pub mod Advise
 pub mod Bench
 pub mod Candidates
 pub mod Check
+pub mod CheckRuled
 pub mod Cost
 pub mod Explain
+pub mod Fold
 pub mod WhatIf
 pub mod Ruled

@@ -8,17 +8,20 @@ ghost use Rattle.cophy_core.specs.Causes.{IsBounded};
 ghost use Rattle.command_line.specs.Spellings.{IsInRange};
 ghost use Rattle.command_line.specs.CommandLine.{texts, plain_command, command_of};
 ghost use Rattle.cophy_core.specs.Endings.{plain_puts};
-ghost use Rattle.cophy_core.specs.Files.{counts};
+ghost use Rattle.cophy_core.specs.Files.{counts, input};
 ghost use Rattle.cophy_core.specs.Reading.{StopsAtFiles};
 ghost use Rattle.cophy_core.specs.Replies.{IsReply, Replies};
 ghost use Rattle.cophy_core.specs.Inputs.{HasRead};
+ghost use Rattle.cophy_core.specs.Settings.{IsSetting};
 ghost use Rattle.cophy_core.specs.inner.Work.{GivesRead, StopsWork};
 
 use crate::commands::advise::advise;
 use crate::commands::bench::bench;
 use crate::commands::check::check;
+use crate::commands::check_ruled::check_ruled;
 use crate::commands::cost::cost;
 use crate::commands::explain::explain;
+use crate::commands::fold::fold;
 use crate::commands::list_candidates::list_candidates;
 use crate::commands::ruled::ruled;
 use crate::commands::what_if::what_if;
@@ -30,7 +33,7 @@ use crate::worked::Worked;
 use adv_base::Setting;
 use adv_shelf::Shelf;
 use command_line::{Command, read_words};
-use report::{Done, text};
+use report::{Done, Role, text};
 use std::alloc::Global;
 
 /// What a command gives over what was read for it and the setting of the first two files, whose workload proposes `left_over`
@@ -46,8 +49,9 @@ fn work<S: Shelf>(
     requires range { IsInRange (plain_command command.now) }
     requires read { HasRead (S.files shelf.old) (plain_command command.now) inputs }
     requires found { AreCandidates setting.now.cat.now setting.now.statements.now setting.now.shapes.now left_over }
+    requires opened { IsSetting (input inputs.whole 0) (input inputs.whole 1) (the_setting setting.now) left_over }
     ensures gives { IfOk result (λ worked. GivesRead (S.files shelf.old) (plain_command command.now) inputs (the_setting setting.now) worked.done) }
-    ensures puts { IfOk result (λ worked. PutsOver (plain_command command.now) (the_setting setting.now) worked.done (plain_puts worked.puts)) }
+    ensures puts { IfOk result (λ worked. PutsOver (plain_command command.now) inputs.whole (the_setting setting.now) worked.done (plain_puts worked.puts)) }
     ensures fits { IfOk result (λ worked. FitsSetting (Some (the_setting setting.now)) worked.done) }
     ensures bound { IfOk result (λ worked. IsBounded worked.done) }
     ensures stop { IfErr result (StopsWork (S.files shelf.old) (plain_command command.now) (counts (S.read_faults shelf.old) (S.read_faults_at shelf.old))
@@ -93,12 +97,22 @@ fn work<S: Shelf>(
         }
         Command::Check { cert, .. } => match scanner {
             Some(scanner) => {
-                let file = certificate_file(cert);
+                let file = certificate_file(Role::Third, cert);
                 let done = check(alloc, setting, shelf, &file, scanner)?;
                 Ok(Worked::alone(alloc, done))
             }
             None => unreachable!(),
         },
+        Command::CheckRuled { cert, .. } => match scanner {
+            Some(scanner) => {
+                let rules = bytes_at(&whole, 2);
+                let file = certificate_file(Role::Fourth, cert);
+                let done = check_ruled(alloc, setting, rules, shelf, &file, scanner)?;
+                Ok(Worked::alone(alloc, done))
+            }
+            None => unreachable!(),
+        },
+        Command::Fold { out, .. } => fold(alloc, setting, bytes_at(&whole, 1), out),
         Command::Bench { budget, .. } => {
             let done = bench(alloc, setting, left_over, budget)?;
             Ok(Worked::alone(alloc, done))

@@ -1,7 +1,6 @@
 //! The files of a command.
 ghost use Rattle.std.specs.Prelude.{◌≡◌, ◌≤◌, ◌<◌, ◌∷◌, [], ◌++◌, ℕ, List, Some, IfOk, IfErr, OnOk, length, slice_get};
 ghost use Rattle.adv_base.specs.declared.limits.TheConstants.{MOST_CERTIFICATE_BYTES, MOST_FILE_BYTES};
-ghost use Rattle.report.specs.declared.done.Role.TheVariants.{Third};
 ghost use Rattle.command_line.specs.CommandLine.{plain_command};
 ghost use Rattle.command_line.specs.Spellings.{IsInRange};
 ghost use Rattle.certificate.specs.Scanners.{StandsFor};
@@ -46,12 +45,12 @@ fn plain_file<'a>(role: Role, name: &'a str) -> FileUse<'a>
     }
 }
 
-/// A certificate, the third file of a command.
-pub(crate) fn certificate_file<'a>(name: &'a str) -> FileUse<'a>
-    ensures { input_file result.role result.name.now result.most ≡ input_file Third name.now MOST_CERTIFICATE_BYTES }
+/// A certificate, the last file of a command.
+pub(crate) fn certificate_file<'a>(role: Role, name: &'a str) -> FileUse<'a>
+    ensures { input_file result.role result.name.now result.most ≡ input_file role name.now MOST_CERTIFICATE_BYTES }
 {
     FileUse {
-        role: Role::Third,
+        role,
         name,
         most: MOST_CERTIFICATE_BYTES,
     }
@@ -155,7 +154,8 @@ fn whole_of<S: Shelf>(
     match *command {
         Command::Candidates { cat, load }
         | Command::Cost { cat, load }
-        | Command::Advise { cat, load, .. } => {
+        | Command::Advise { cat, load, .. }
+        | Command::Fold { cat, load, .. } => {
             let files = [
                 plain_file(Role::Catalogue, cat),
                 plain_file(Role::Workload, load),
@@ -166,6 +166,19 @@ fn whole_of<S: Shelf>(
             let files = [
                 plain_file(Role::Catalogue, cat),
                 plain_file(Role::Workload, load),
+            ];
+            read_each(alloc, shelf, &files)
+        }
+        Command::CheckRuled {
+            cat,
+            load,
+            rules,
+            ..
+        } => {
+            let files = [
+                plain_file(Role::Catalogue, cat),
+                plain_file(Role::Workload, load),
+                plain_file(Role::Third, rules),
             ];
             read_each(alloc, shelf, &files)
         }
@@ -221,7 +234,14 @@ pub(crate) fn inputs_of<S: Shelf>(
     let whole = whole_of(alloc, shelf, command)?;
     match *command {
         Command::Check { cert, .. } => {
-            let scanner = scan_file(alloc, shelf, &certificate_file(cert))?;
+            let scanner = scan_file(alloc, shelf, &certificate_file(Role::Third, cert))?;
+            Ok(Inputs {
+                whole,
+                scanner: Some(scanner),
+            })
+        }
+        Command::CheckRuled { cert, .. } => {
+            let scanner = scan_file(alloc, shelf, &certificate_file(Role::Fourth, cert))?;
             Ok(Inputs {
                 whole,
                 scanner: Some(scanner),

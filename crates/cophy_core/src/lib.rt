@@ -37,5 +37,5 @@ mod worked;
 pub use command_line::{Command, DEFAULT_NODES, read_words};
 pub use commands::check::checks_have_one_answer;
 pub use conf::read_conf;
-pub use laws::{checks_stand_alone, refusals_stand_alone};
+pub use laws::{checks_stand_alone, refusals_stand_alone, ruled_certificates_are_accepted};
 pub use top::{Outcome, run};

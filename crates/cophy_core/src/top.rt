@@ -56,6 +56,7 @@ fn status(done: &Done) -> u8
         Done::Checked(_) => 0,
         Done::NotProved(_) => 6,
         Done::Ruled(ruled) => advice_status(&ruled.advice),
+        Done::Folded(_) => 0,
         Done::Benched(bench) => advice_status(&bench.advice),
     }
 }
@@ -77,11 +78,12 @@ fn carry_out<S: Shelf, O: Sink>(alloc: Global, words: &[String], shelf: &mut S, 
 }
 
 /// Answers the words of a command line: reads the files that its command names, or makes what `bench` advises on, puts the
-/// certificate of advice where one is asked for, and writes the answer's text to the output. No other file changes.
+/// certificate of advice where one is asked for, or the workload that `fold` made, and writes the answer's text to the output.
+/// No other file changes.
 ///
 /// The first of these that fails is the answer: the words; the files, each to its end, in the order of the words; the
 /// catalogue; the workload's text; its names; what the command alone asks for; the work, and with it what a certificate fails
-/// to prove; the put of the certificate; the write. Prices and explained plans are those of least plans (System R's search,
+/// to prove; the put; the write. Prices and explained plans are those of least plans (System R's search,
 /// over bushy plans). Advice is a set of candidates that fits, with its exact cost and a bound that no set that fits
 /// undercuts (CoPhy's programme over INUM's templates). A fault of reading or writing is answered only where the shelf's or
 /// the sink's count of faults rose in this call. Want of memory may come at any time before the write, and then nothing is
@@ -108,7 +110,7 @@ pub fn run<S: Shelf, O: Sink>(
         (outside (S.files shelf.old) (counts (S.read_faults shelf.old) (S.read_faults_at shelf.old)) (S.put_faults shelf.old) (O.written out.old) (O.faults out.old))
         (outside (S.files shelf.new) (counts (S.read_faults shelf.new) (S.read_faults_at shelf.new)) (S.put_faults shelf.new) (O.written out.new) (O.faults out.new)) result.done }
     ensures refused { RefusalIsTrue (command_of (texts words.now)) (S.files shelf.old) result.done }
-    // A certificate is said to prove nothing only to `check`, where nothing is refused, for the first of its faults.
+    // A certificate is said to prove nothing only to `check` and `check-ruled`, where nothing is refused, for what fails first.
     ensures not_proved { NotProvedIsTrue (command_of (texts words.now)) (S.files shelf.old) result.done }
     // Status 1 comes only where the search for advice gave up: its nodes were spent, and a gap is left.
     ensures gap { GapIsTrue result.done }
@@ -133,7 +135,7 @@ pub fn run<S: Shelf, O: Sink>(
         (outside (S.files shelf.old) (counts (S.read_faults shelf.old) (S.read_faults_at shelf.old)) (S.put_faults shelf.old) (O.written out.old) (O.faults out.old))
         (outside (S.files shelf.new) (counts (S.read_faults shelf.new) (S.read_faults_at shelf.new)) (S.put_faults shelf.new) (O.written out.new) (O.faults out.new)) result.status result.done }
 
-    // No file changes but those that a command puts: for advice, the one of its certificate.
+    // No file changes but those that a command puts: for advice, the one of its certificate; for `fold`, the one it names.
     ensures files { LeavesFiles (texts words.now)
         (outside (S.files shelf.old) (counts (S.read_faults shelf.old) (S.read_faults_at shelf.old)) (S.put_faults shelf.old) (O.written out.old) (O.faults out.old))
         (outside (S.files shelf.new) (counts (S.read_faults shelf.new) (S.read_faults_at shelf.new)) (S.put_faults shelf.new) (O.written out.new) (O.faults out.new)) result.done }

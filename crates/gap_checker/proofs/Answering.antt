@@ -56,7 +56,7 @@ numbers-give done (false ∷ flags) n next =
     ∙ numbers-give (done ++ false ∷ []) flags (suc n) (let longer = one-longer done false in omega (arith, next, longer))
     ∙ ap with_flags (append_assoc done (false ∷ []) flags)
 
-config-same : (config : Config) → length config.on ≡ MOST_CANDIDATES → config_with (numbers_from 1 config.on) ≡ config
+pub config-same : (config : Config) → length config.on ≡ MOST_CANDIDATES → config_with (numbers_from 1 config.on) ≡ config
 config-same config count =
     ap (λ (k : ℕ). fold with_candidate (with_flags (replicate k false)) (numbers_from 1 config.on)) (sym count) ∙ numbers-give [] config.on 1 refl
 

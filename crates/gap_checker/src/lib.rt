@@ -50,3 +50,4 @@ pub use fault::{AtFault, CheckFault, Checked};
 pub use laws::{
     answers_are_alike, answers_are_one, best_answers_are_proved, faults_exclude_proofs,
 };
+pub use sound::config_with;

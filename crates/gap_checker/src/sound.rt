@@ -51,8 +51,8 @@ fn with_candidate(config: &Config, number: u16) -> Config
     Config { on }
 }
 
-/// The configuration of the candidates with these numbers.
-fn config_with(numbers: &[u16]) -> Config
+/// The configuration of the candidates with these numbers, which rise.
+pub fn config_with(numbers: &[u16]) -> Config
     requires { limits.Rise 1 numbers.now }
     ensures { result ≡ views.config_with numbers.now }
 {

@@ -2,7 +2,7 @@
 use Rattle.std.specs.Prelude.{◌⊎◌, Bool, true, false, List, [], ◌∷◌}
 use Rattle.report.specs.declared.done.Advice.{Advice}
 use Rattle.report.specs.declared.done.Done.{Done}
-use Rattle.report.specs.declared.done.Done.TheVariants.{Priced, Listed, Advised, Ruled, Benched}
+use Rattle.report.specs.declared.done.Done.TheVariants.{Priced, Listed, Advised, Ruled, Folded, Benched}
 
 -- in its order; an answer of another kind gives none
 abbrev pub advices : Done → List Advice
@@ -11,12 +11,13 @@ advices (Ruled ruled) = ruled.advice ∷ []
 advices (Benched bench) = bench.advice ∷ []
 advices done = []
 
--- an answer that is told over its setting; for no other a command puts files
+-- an answer that is told of a setting; for no other a command puts files
 abbrev pub needs_setting : Done → Bool
 needs_setting (Priced prices) = true
 needs_setting (Listed found) = true
 needs_setting (Advised advice) = true
 needs_setting (Ruled ruled) = true
+needs_setting (Folded folded) = true
 needs_setting (Benched bench) = true
 needs_setting done = false
 

@@ -21,16 +21,17 @@ use Rattle.sql_reader.specs.declared.parsed.SqlFault.TheVariants as sql
 use Rattle.report.specs.declared.done.Advice.{Advice}
 use Rattle.report.specs.declared.done.Bench.{Bench}
 use Rattle.report.specs.declared.done.Done.{Done}
-use Rattle.report.specs.declared.done.Done.TheVariants.{Usage, ReadFault, Refused, Priced, Listed, Explained as ExplainedDone, Advised, Ruled as RuledDone, Checked as CheckedDone, NotProved as NotProvedDone, Benched}
+use Rattle.report.specs.declared.done.Done.TheVariants.{Usage, ReadFault, Refused, Priced, Listed, Explained as ExplainedDone, Advised, Ruled as RuledDone, Checked as CheckedDone, NotProved as NotProvedDone, Folded, Benched}
 use Rattle.report.specs.declared.done.Explained.{Explained}
+use Rattle.report.specs.declared.done.FoldDone.{FoldDone}
 use Rattle.report.specs.declared.done.Ruled.{Ruled}
 use Rattle.report.specs.declared.done.NotProved.{NotProved}
-use Rattle.report.specs.declared.done.NotProved.TheVariants.{Malformed, Fault}
+use Rattle.report.specs.declared.done.NotProved.TheVariants.{Malformed, Disobeys, Fault}
 use Rattle.report.specs.declared.done.Prices.{Prices}
 use Rattle.report.specs.declared.done.Refusal.{Refusal}
-use Rattle.report.specs.declared.done.Refusal.TheVariants.{TooLong, Cat, Sql, Bind, NoStatement, BadConf, Rules, TooManyCombinations}
+use Rattle.report.specs.declared.done.Refusal.TheVariants.{TooLong, Cat, Sql, Bind, NoStatement, BadConf, Rules, TooManyCombinations, FoldTooLong}
 use Rattle.report.specs.declared.done.Role.{Role}
-use Rattle.report.specs.declared.done.Role.TheVariants.{Catalogue, Workload, Third}
+use Rattle.report.specs.declared.done.Role.TheVariants.{Catalogue, Workload, Third, Fourth}
 use Rattle.command_line.specs.declared.fault.WordFault.{WordFault}
 use Rattle.command_line.specs.declared.fault.WordFault.TheVariants.{NoCommand, UnknownCommand, Missing, Extra, UnknownOption, Twice, BadNumber}
 use Rattle.report.specs.Advices.{advices, EachAdvice}
@@ -66,6 +67,7 @@ abbrev pub role_word : List (List ℕ) → Role → ℕ
 role_word words Catalogue = 1
 role_word words Workload = 2
 role_word words Third = third_word (slice_get words 0)
+role_word words Fourth = 4
 
 -- the file's name, as the words give it
 unfoldable pub file_name : List (List ℕ) → Role → List ℕ
@@ -120,6 +122,7 @@ refusal words (BadConf line) = numbered (codes "configuration line ") line
 refusal words (Rules fault) = rule_fault fault
 refusal words (TooManyCombinations n count) =
     numbered (codes "statement ") n ++ (numbered (codes " has ") count ++ codes " combinations")
+refusal words (FoldTooLong length) = numbered (codes "folded workload too long ") length
 
 abbrev pub line : List ℕ → List ℕ
 line text = text ++ 10 ∷ []
@@ -213,6 +216,12 @@ rules_text must never = line (numbered (codes "must ") must ++ numbered (codes "
 abbrev pub ruled_text : Option TheSetting → Ruled → List ℕ
 ruled_text setting ruled = rules_text ruled.must ruled.never ++ advised_text setting ruled.advice
 
+-- how many statements there were, how many there are, and what both workloads cost
+abbrev pub folding_text : FoldDone → List ℕ
+folding_text folded =
+    line (numbered (codes "statements ") folded.statements
+    ++ (numbered (codes " folded ") folded.groups ++ numbered (codes " total ") folded.total))
+
 -- how large a made workload is
 abbrev pub sizes_text : ℕ → ℕ → ℕ → List ℕ
 sizes_text tables statements slots =
@@ -250,6 +259,7 @@ check_fault (check.NotInfeasible node size) = numbered (codes "leaf ") node ++ n
 -- why a certificate proves nothing, behind `not proved: `
 abbrev pub not_proved : NotProved → List ℕ
 not_proved (Malformed number) = numbered (codes "malformed at line ") number
+not_proved (Disobeys number) = numbered (codes "candidate ") number ++ codes " breaks a rule"
 not_proved (Fault fault) = check_fault fault
 
 -- the text of an answer to these words, over the setting of which it speaks
@@ -264,6 +274,7 @@ done_text words setting (Advised advice) = advised_text setting advice
 done_text words setting (RuledDone ruled) = ruled_text setting ruled
 done_text words setting (CheckedDone checked) = checked_text checked
 done_text words setting (NotProvedDone why) = line (codes "not proved: " ++ not_proved why)
+done_text words setting (Folded folded) = folding_text folded
 done_text words setting (Benched bench) = benched_text setting bench
 done_text words setting done = []
 

@@ -3,7 +3,7 @@ ghost use Rattle.std.specs.Prelude.{◌≡◌, ◌++◌, ◌∷◌, [], OnOk, co
 ghost use Rattle.report.specs.Texts.{line, numbered, signed, bound_words, proved_words, checked_text, check_fault, not_proved};
 
 use crate::NotProved;
-use crate::usage::{push_numbered, push_signed};
+use crate::usage::{push_both, push_numbered, push_signed};
 use gap_checker::{CheckFault, Checked};
 use std::alloc::{AllocError, Global};
 
@@ -34,21 +34,6 @@ pub(crate) fn push_checked(
 {
     push_proved(alloc, out, checked)?;
     push_end(out)
-}
-
-/// Adds two numbers, each behind its words.
-fn push_both(
-    alloc: Global,
-    out: &mut Vec<u8>,
-    before: &[u8],
-    first: u128,
-    between: &[u8],
-    second: u128,
-) -> Result<(), AllocError>
-    ensures { OnOk result (out.new.items ≡ out.old.items ++ (numbered before.now first ++ numbered between.now second)) }
-{
-    push_numbered(alloc, out, before, first)?;
-    push_numbered(alloc, out, between, second)
 }
 
 /// Adds that an entry of a set names no use of a candidate.
@@ -104,6 +89,14 @@ fn push_check_fault(alloc: Global, out: &mut Vec<u8>, fault: CheckFault) -> Resu
     }
 }
 
+/// Adds at which candidate a configuration goes against the rules.
+fn push_disobeying(alloc: Global, out: &mut Vec<u8>, number: u16) -> Result<(), AllocError>
+    ensures { OnOk result (out.new.items ≡ out.old.items ++ (numbered (codes "candidate ") number ++ codes " breaks a rule")) }
+{
+    push_numbered(alloc, out, b"candidate ", number as u128)?;
+    out.extend_from_slice(b" breaks a rule")
+}
+
 /// Adds why a certificate proves nothing.
 fn push_not_proved(alloc: Global, out: &mut Vec<u8>, why: NotProved) -> Result<(), AllocError>
     ensures { OnOk result (out.new.items ≡ out.old.items ++ not_proved why) }
@@ -112,6 +105,7 @@ fn push_not_proved(alloc: Global, out: &mut Vec<u8>, why: NotProved) -> Result<(
         NotProved::Malformed(number) => {
             push_numbered(alloc, out, b"malformed at line ", number as u128)
         }
+        NotProved::Disobeys(number) => push_disobeying(alloc, out, number),
         NotProved::Fault(fault) => push_check_fault(alloc, out, fault),
     }
 }

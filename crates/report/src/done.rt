@@ -16,6 +16,7 @@ pub enum Role {
     Catalogue,
     Workload,
     Third,
+    Fourth,
 }
 
 /// Why the input of a command is refused.
@@ -37,6 +38,8 @@ pub enum Refusal {
     Rules(RuleFault),
     /// The statement of that number has this many combinations of interesting orders, too many for a cache of its plans.
     TooManyCombinations(u32, u64),
+    /// The folded workload would have this many bytes, more than a file may.
+    FoldTooLong(u64),
 }
 
 /// Why a certificate proves nothing.
@@ -44,6 +47,8 @@ pub enum Refusal {
 pub enum NotProved {
     /// Up to that line no certificate begins with the file's lines.
     Malformed(u64),
+    /// Its configuration goes against the rules at this candidate first: it lacks what has to be, or has what never may.
+    Disobeys(u16),
     /// The certificate has this fault first.
     Fault(CheckFault),
 }
@@ -96,6 +101,14 @@ pub struct Bench {
     pub advice: Advice,
 }
 
+/// A workload of so many statements that was folded into so many groups, and what it costs over the indexes that exist.
+#[derive(Clone, Copy, Debug, PartialEq, Eq)]
+pub struct FoldDone {
+    pub statements: u32,
+    pub groups: u32,
+    pub total: u128,
+}
+
 /// The answer to the words of a command line.
 #[derive(Drop)]
 pub enum Done {
@@ -111,5 +124,6 @@ pub enum Done {
     Ruled(Ruled),
     Checked(Checked),
     NotProved(NotProved),
+    Folded(FoldDone),
     Benched(Bench),
 }

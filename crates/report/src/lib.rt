@@ -26,5 +26,5 @@ mod refusal;
 mod usage;
 
 pub use command_line::WordFault;
-pub use done::{Advice, Bench, Done, Explained, NotProved, Prices, Refusal, Role, Ruled};
+pub use done::{Advice, Bench, Done, Explained, FoldDone, NotProved, Prices, Refusal, Role, Ruled};
 pub use printed::text;

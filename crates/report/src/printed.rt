@@ -2,14 +2,14 @@
 ghost use Rattle.std.specs.Prelude.{◌≡◌, ◌++◌, OnOk, IfOk, All, length, map, codes, string_bytes, option_map, Some};
 ghost use Rattle.adv_base.specs.Named.{NamesShape};
 ghost use Rattle.adv_base.specs.Settings.{the_setting};
-ghost use Rattle.report.specs.Texts.{size_line, cost_line, cost_lines, prices_text, plan_part, explained_text, done_text, line, word_fault, file_name, refusal, statements_in, listed_text, AreNamedIn, FitsSetting};
+ghost use Rattle.report.specs.Texts.{size_line, cost_line, cost_lines, prices_text, plan_part, explained_text, folding_text, done_text, line, numbered, word_fault, file_name, refusal, statements_in, listed_text, AreNamedIn, FitsSetting};
 
 use crate::advised::{push_advised, push_benched, push_ruled};
 use crate::checked::{push_checked, push_unproved};
 use crate::listed::push_candidates;
 use crate::refusal::{push_about_file, push_refusal};
-use crate::usage::{push_numbered, push_word_fault};
-use crate::{Done, Explained, Prices, Refusal, Role, WordFault};
+use crate::usage::{push_both, push_numbered, push_word_fault};
+use crate::{Done, Explained, FoldDone, Prices, Refusal, Role, WordFault};
 use adv_base::{Bytes, NoMemory, Setting, Statement};
 use candidates::Candidates;
 use std::alloc::{AllocError, Global};
@@ -162,6 +162,24 @@ fn push_refused(
     out.extend_from_slice(b"\n")
 }
 
+/// Adds how many statements a workload has, into how many it was folded, and what both cost.
+fn push_folding(alloc: Global, out: &mut Vec<u8>, folded: &FoldDone) -> Result<(), AllocError>
+    ensures { OnOk result (out.new.items ≡ out.old.items ++ (numbered (codes "statements ") folded.now.statements
+        ++ (numbered (codes " folded ") folded.now.groups ++ numbered (codes " total ") folded.now.total))) }
+{
+    push_numbered(alloc, out, b"statements ", folded.statements as u128)?;
+    let groups = folded.groups as u128;
+    push_both(alloc, out, b" folded ", groups, b" total ", folded.total)
+}
+
+/// Adds the line of a folded workload.
+fn push_folded(alloc: Global, out: &mut Vec<u8>, folded: &FoldDone) -> Result<(), AllocError>
+    ensures { OnOk result (out.new.items ≡ out.old.items ++ folding_text folded.now) }
+{
+    push_folding(alloc, out, folded)?;
+    out.extend_from_slice(b"\n")
+}
+
 /// The statements of a setting, where there is one.
 fn statements_of<'a>(setting: Option<&Setting<'a>>) -> &'a [Statement]
     ensures { result.now ≡ statements_in (option_map (λ s. the_setting s.now) setting.entry) }
@@ -195,6 +213,7 @@ fn push_done(
         Done::Ruled(ruled) => push_ruled(alloc, out, setting, ruled),
         Done::Checked(checked) => push_checked(alloc, out, checked),
         Done::NotProved(why) => push_unproved(alloc, out, *why),
+        Done::Folded(folded) => push_folded(alloc, out, folded),
         Done::Benched(bench) => push_benched(alloc, out, setting, bench),
         Done::WriteFault => Ok(()),
         Done::Memory => Ok(()),

@@ -4,7 +4,7 @@ ghost use Rattle.report.specs.Texts.{role_word, third_word, file_name as name_of
 ghost use Rattle.report.specs.Paths.{path_text};
 
 use crate::path::push_path;
-use crate::usage::push_numbered;
+use crate::usage::{push_both, push_numbered};
 use crate::{Refusal, Role};
 use binder::BindFault;
 use catalogue::{CatFault, KeyPath};
@@ -36,7 +36,7 @@ pub(crate) fn push_about_file(
     push_file_name(out, words, role)
 }
 
-/// The same where there is a command.
+/// The number of the word that names the third file of this command, from 0.
 fn third_of(command: &[u8]) -> usize
     ensures { result ≡ third_word (Some command.now) }
 {
@@ -61,6 +61,7 @@ fn role_index(words: &[String], role: Role) -> usize
         Role::Catalogue => 1,
         Role::Workload => 2,
         Role::Third => third_index(words),
+        Role::Fourth => 4,
     }
 }
 
@@ -130,21 +131,6 @@ fn push_bind_fault(alloc: Global, out: &mut Vec<u8>, fault: BindFault) -> Result
     }
 }
 
-/// Adds words, a number, words and a number.
-fn push_two(
-    alloc: Global,
-    out: &mut Vec<u8>,
-    before: &[u8],
-    first: u128,
-    between: &[u8],
-    second: u128,
-) -> Result<(), AllocError>
-    ensures { OnOk result (out.new.items ≡ out.old.items ++ (numbered before.now first ++ numbered between.now second)) }
-{
-    push_numbered(alloc, out, before, first)?;
-    push_numbered(alloc, out, between, second)
-}
-
 /// Adds a fault of rules.
 fn push_rule_fault(alloc: Global, out: &mut Vec<u8>, fault: RuleFault) -> Result<(), AllocError>
     ensures { OnOk result (out.new.items ≡ out.old.items ++ rule_fault fault) }
@@ -157,7 +143,7 @@ fn push_rule_fault(alloc: Global, out: &mut Vec<u8>, fault: RuleFault) -> Result
         RuleFault::NotCandidate(n) => {
             push_numbered(alloc, out, b"rules no candidate at line ", n as u128)
         }
-        RuleFault::Contrary(n, candidate) => push_two(
+        RuleFault::Contrary(n, candidate) => push_both(
             alloc,
             out,
             b"rules line ",
@@ -166,9 +152,9 @@ fn push_rule_fault(alloc: Global, out: &mut Vec<u8>, fault: RuleFault) -> Result
             candidate as u128,
         ),
         RuleFault::TooLarge(size, budget) => {
-            push_two(alloc, out, b"rules need ", size, b" over ", budget as u128)
+            push_both(alloc, out, b"rules need ", size, b" over ", budget as u128)
         }
-        RuleFault::Clash(first, second) => push_two(
+        RuleFault::Clash(first, second) => push_both(
             alloc,
             out,
             b"rules clash on ",
@@ -177,20 +163,6 @@ fn push_rule_fault(alloc: Global, out: &mut Vec<u8>, fault: RuleFault) -> Result
             second as u128,
         ),
     }
-}
-
-/// Adds that there is no statement of a number.
-fn push_no_statement(
-    alloc: Global,
-    out: &mut Vec<u8>,
-    number: u32,
-    count: u32,
-) -> Result<(), AllocError>
-    ensures { OnOk result (out.new.items ≡ out.old.items
-        ++ (numbered (codes "no statement ") number ++ numbered (codes " of ") count)) }
-{
-    push_numbered(alloc, out, b"no statement ", number as u128)?;
-    push_numbered(alloc, out, b" of ", count as u128)
 }
 
 /// Adds how many combinations of interesting orders a statement has.
@@ -222,13 +194,23 @@ pub(crate) fn push_refusal(
         Refusal::Cat(fault) => push_cat_fault(alloc, out, fault),
         Refusal::Sql(fault) => push_sql_fault(alloc, out, fault),
         Refusal::Bind(fault) => push_bind_fault(alloc, out, fault),
-        Refusal::NoStatement(number, count) => push_no_statement(alloc, out, number, count),
+        Refusal::NoStatement(number, count) => push_both(
+            alloc,
+            out,
+            b"no statement ",
+            number as u128,
+            b" of ",
+            count as u128,
+        ),
         Refusal::BadConf(line) => {
             push_numbered(alloc, out, b"configuration line ", line as u128)
         }
         Refusal::Rules(fault) => push_rule_fault(alloc, out, fault),
         Refusal::TooManyCombinations(number, count) => {
             push_combinations(alloc, out, number, count)
+        }
+        Refusal::FoldTooLong(length) => {
+            push_numbered(alloc, out, b"folded workload too long ", length as u128)
         }
     }
 }

@@ -20,6 +20,21 @@ pub(crate) fn push_numbered(
     Ok(())
 }
 
+/// Adds two numbers, each behind its words.
+pub(crate) fn push_both(
+    alloc: Global,
+    out: &mut Vec<u8>,
+    before: &[u8],
+    first: u128,
+    between: &[u8],
+    second: u128,
+) -> Result<(), AllocError>
+    ensures { OnOk result (out.new.items ≡ out.old.items ++ (numbered before.now first ++ numbered between.now second)) }
+{
+    push_numbered(alloc, out, before, first)?;
+    push_numbered(alloc, out, between, second)
+}
+
 /// Adds words and a number that may be negative.
 pub(crate) fn push_signed(
     alloc: Global,

@@ -4,9 +4,11 @@ use Rattle.adv_base.specs.declared.limits.TheConstants.{MOST_CANDIDATES}
 use Rattle.adv_base.specs.Settings.{TheSetting}
 use Rattle.bip_model.specs.declared.answer.Answer.{Answer}
 use Rattle.bip_model.specs.declared.programme.Programme.{Programme}
+use Rattle.adv_base.specs.Nodes as nodes
 use Rattle.bip_model.specs.Best.{IsBest}
 use Rattle.bip_model.specs.Laws.{BoundsAll}
 use Rattle.bip_model.specs.Proves.{free_node}
+use Rattle.gap_checker.specs.At.{BoundsBelow}
 use Rattle.bip_model.specs.StandsFor.{StandsFor}
 use Rattle.candidates.specs.Candidates as candidates
 use Rattle.certificate.specs.Answers.{answer_cert}
@@ -17,9 +19,20 @@ use Rattle.report.specs.declared.done.Done.{Done}
 use Rattle.report.specs.declared.done.Done.TheVariants.{Advised}
 use Rattle.cophy_core.specs.Endings.{Put}
 
--- Each statement has few enough combinations. The answer is best under both budgets, from a root that leaves each candidate
--- free: its configuration fits and costs what is told, and no configuration that fits costs less than the bound. The
+-- Each statement has few enough combinations. The answer is best under both budgets, from a root: its configuration fits, is
+-- below the root and costs what is told, and no configuration that fits and is below the root costs less than the bound. The
 -- configuration has a flag for each candidate that there may be.
+pub record IsAdviceFrom (root : nodes.Node) (budget nodes : ℕ) (setting : TheSetting) (advice : Advice) : Type 0 where
+  pub budget_is : advice.budget ≡ budget
+  pub nodes_is : advice.nodes ≡ nodes
+  pub left_over_is : advice.left_over ≡ length (candidates.fresh_lists setting.cat setting.statements) - MOST_CANDIDATES
+  pub few : AreFew setting.cat setting.statements
+  pub flags : length advice.answer.config.on ≡ MOST_CANDIDATES
+  pub best : IsBest setting budget nodes root advice.answer
+  pub bounds : BoundsBelow setting root budget advice.answer.bound
+
+-- The same from a root that leaves each candidate free, below which every configuration is: no configuration that fits costs less
+-- than the bound.
 pub record IsAdvice (budget nodes : ℕ) (setting : TheSetting) (advice : Advice) : Type 0 where
   pub budget_is : advice.budget ≡ budget
   pub nodes_is : advice.nodes ≡ nodes

@@ -1,41 +1,23 @@
 -- What `ruled` answers: which candidates to make within a budget of pages, where an administrator's rules say that some have
 -- to be, and that others never may.
-use Rattle.std.specs.Prelude.{◌≡◌, ◌≢◌, ◌⊎◌, ℕ, ◌-◌, List, [], length, count_by, Option, Result, Ok, Err}
-use Rattle.adv_base.specs.declared.limits.TheConstants.{MOST_CANDIDATES}
+use Rattle.std.specs.Prelude.{◌≡◌, ◌≢◌, ◌⊎◌, ℕ, List, [], count_by, Option, Ok, Err}
 use Rattle.adv_base.specs.declared.setting.Config.{Config}
 use Rattle.adv_base.specs.Configs.{Fits}
-use Rattle.adv_base.specs.Nodes as nodes
 use Rattle.adv_base.specs.Settings.{TheSetting}
 use Rattle.bip_model.specs.declared.fix.Fix.{Fix}
-use Rattle.bip_model.specs.Best.{IsBest}
 use Rattle.bip_model.specs.Views.{node_of, is_in, is_out}
-use Rattle.candidates.specs.Candidates as candidates
 use Rattle.dba_rules.specs.declared.fault.RuleFault.{RuleFault}
 use Rattle.dba_rules.specs.declared.fault.RuleFault.TheVariants as faults
 use Rattle.dba_rules.specs.Rules.{root_of}
 use Rattle.dba_rules.specs.Settled.{IsApart, IsFault}
-use Rattle.gap_checker.specs.At.{BoundsBelow}
-use Rattle.tuning.specs.Refusals.{AreFew, IsFirstBeyond}
-use Rattle.report.specs.declared.done.Advice.{Advice}
+use Rattle.tuning.specs.Refusals.{IsFirstBeyond}
 use Rattle.report.specs.declared.done.Done.{Done}
 use Rattle.report.specs.declared.done.Done.TheVariants.{Ruled as RuledDone}
 use Rattle.report.specs.declared.done.Refusal.{Refusal}
 use Rattle.report.specs.declared.done.Refusal.TheVariants.{Rules, TooManyCombinations}
 use Rattle.report.specs.declared.done.Ruled.{Ruled}
 use Rattle.cophy_core.specs.Endings.{Put}
-use Rattle.cophy_core.specs.commands.Advise.{PutsFor}
-
--- Each statement has few enough combinations. The answer is best under both budgets, from a root: its configuration fits, is
--- below the root and costs what is told, and no configuration that fits and is below the root costs less than the bound. The
--- configuration has a flag for each candidate that there may be.
-pub record IsAdviceFrom (root : nodes.Node) (budget nodes : ℕ) (setting : TheSetting) (advice : Advice) : Type 0 where
-  pub budget_is : advice.budget ≡ budget
-  pub nodes_is : advice.nodes ≡ nodes
-  pub left_over_is : advice.left_over ≡ length (candidates.fresh_lists setting.cat setting.statements) - MOST_CANDIDATES
-  pub few : AreFew setting.cat setting.statements
-  pub flags : length advice.answer.config.on ≡ MOST_CANDIDATES
-  pub best : IsBest setting budget nodes root advice.answer
-  pub bounds : BoundsBelow setting root budget advice.answer.bound
+use Rattle.cophy_core.specs.commands.Advise.{IsAdviceFrom, PutsFor}
 
 -- what has to be fits the budget, and no two of it are clustered on one table
 pub record IsSettled (setting : TheSetting) (inside : Config) (budget : ℕ) : Type 0 where

@@ -1,7 +1,9 @@
 //! `advise`: which candidates to make within a budget of pages.
-ghost use Rattle.std.specs.Prelude.{◌≡◌, ◌≤◌, ◌∷◌, [], length, replicate, option_map, IfOk, IfErr, Some};
+ghost use Rattle.std.specs.Prelude.{◌≡◌, ◌≤◌, length, replicate, option_map, IfOk, IfErr, Some};
 ghost use Rattle.adv_base.specs.declared.limits.TheConstants.{MOST_CANDIDATES, MOST_NODES, MOST_ROWS};
 ghost use Rattle.bip_model.specs.StandsFor.{StandsFor};
+ghost use Rattle.bip_model.specs.Views.{node_of};
+ghost use Rattle.branch_bound.specs.Sides.{IsRoot};
 ghost use Rattle.adv_base.specs.Settings.{TheSetting, the_setting};
 ghost use Rattle.report.specs.Texts.{FitsSetting, IsBoundedBy};
 ghost use Rattle.certificate.specs.Answers as answers;
@@ -14,7 +16,7 @@ ghost use Rattle.cophy_core.specs.commands.Advise as spec;
 
 use crate::stop::Stop;
 use crate::tuned::programme_of;
-use crate::worked::{FilePut, Worked};
+use crate::worked::{FilePut, Worked, one_put};
 use adv_base::limits::MOST_CANDIDATES;
 use adv_base::{Config, List, NoMemory, Setting};
 use bip_model::{Answer, Fix, Programme, State, shown_bounds};
@@ -33,25 +35,14 @@ fn free_root() -> Fix
 }
 
 /// A configuration has a flag for each candidate that there may be.
-pub(crate) fn has_all_flags(config: &Config)
+fn has_all_flags(config: &Config)
     ensures { length config.now.on ≡ MOST_CANDIDATES }
 {
     let _flags = config.on;
 }
 
-/// A file to be put, alone.
-fn one(alloc: Global, put: FilePut) -> Result<List<FilePut>, NoMemory>
-    ensures { IfOk result (λ puts. puts ≡ put ∷ []) }
-{
-    let mut items = Vec::new(alloc);
-    match items.push(put) {
-        Ok(()) => Ok(List { items }),
-        Err(_) => Err(NoMemory),
-    }
-}
-
 /// The certificate of an answer, to be put into a file of that name.
-fn one_put(
+fn certificate_put(
     alloc: Global,
     programme: &Programme,
     budget: u64,
@@ -64,8 +55,7 @@ fn one_put(
         spec.IsCertificatePut setting budget answer.now name.now (plain_puts puts)) }
 {
     let bytes = write_cert(alloc, programme, budget, answer)?;
-    let name = String::from_str(alloc, name)?;
-    let puts = one(alloc, FilePut { name, bytes })?;
+    let puts = one_put(alloc, name, bytes)?;
     Ok(puts)
 }
 
@@ -83,14 +73,46 @@ pub(crate) fn certified(
         spec.PutsFor (option_map (λ name. name.now) cert.entry) setting budget answer.now (plain_puts puts)) }
 {
     match cert {
-        Some(name) => one_put(alloc, programme, budget, answer, name),
+        Some(name) => certificate_put(alloc, programme, budget, answer, name),
         None => Ok(List::new(alloc)),
     }
 }
 
-/// A best set of candidates that together take at most `budget` pages, found by a search of at most so many nodes (branch
-/// and bound over CoPhy's programme, which is the setting's), with what the workload costs under it and a bound that no set
-/// within the budget undercuts; both are the same unless the nodes were spent. `left_over` proposed indexes are no candidates.
+/// A best set of candidates below a root that together take at most `budget` pages, found by a search of at most so many
+/// nodes (branch and bound over CoPhy's programme, which is the setting's), with what the workload costs under it and a bound
+/// that no such set undercuts; both are the same unless the nodes were spent. `left_over` proposed indexes are no candidates.
+pub(crate) fn advice_below(
+    alloc: Global,
+    setting: &Setting<'_>,
+    programme: &Programme,
+    root: &Fix,
+    left_over: u64,
+    budget: u64,
+    nodes: u32,
+) -> Result<Advice, NoMemory>
+    requires found { AreCandidates setting.now.cat.now setting.now.statements.now setting.now.shapes.now left_over }
+    requires stands { StandsFor (the_setting setting.now) programme.now }
+    requires few { AreFew setting.now.cat.now setting.now.statements.now }
+    requires root { IsRoot programme.now budget root.now }
+    requires budget { budget ≤ MOST_ROWS }
+    requires some { 1 ≤ nodes }
+    requires nodes { nodes ≤ MOST_NODES }
+    ensures advice { IfOk result (spec.IsAdviceFrom (node_of root.now) budget nodes (the_setting setting.now)) }
+    ensures bounded { IfOk result (λ advice. IsBoundedBy advice.answer.cost advice.answer.bound) }
+{
+    let room = Room::new(alloc, programme, nodes)?;
+    let answer = search(programme, root, budget, nodes, room);
+    shown_bounds();
+    has_all_flags(&answer.config);
+    Ok(Advice {
+        budget,
+        nodes,
+        left_over,
+        answer,
+    })
+}
+
+/// The same of all sets of candidates that fit.
 fn best_advice(
     alloc: Global,
     setting: &Setting<'_>,
@@ -109,16 +131,8 @@ fn best_advice(
     ensures bounded { IfOk result (λ advice. IsBoundedBy advice.answer.cost advice.answer.bound) }
 {
     let root = free_root();
-    let room = Room::new(alloc, programme, nodes)?;
-    let answer = search(programme, &root, budget, nodes, room);
-    shown_bounds();
-    has_all_flags(&answer.config);
-    Ok(Advice {
-        budget,
-        nodes,
-        left_over,
-        answer,
-    })
+    let advice = advice_below(alloc, setting, programme, &root, left_over, budget, nodes)?;
+    Ok(advice)
 }
 
 /// The advice on a setting. Or the first refusal: a statement with too many combinations of interesting orders.

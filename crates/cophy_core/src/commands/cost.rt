@@ -52,7 +52,11 @@ fn statement_cost(
 
 /// The cost of each statement under a configuration, in thousandths of a sequential page read, and the sum of weight times
 /// cost.
-fn prices_of(alloc: Global, setting: &Setting<'_>, config: &Config) -> Result<Prices, NoMemory>
+pub(crate) fn prices_of(
+    alloc: Global,
+    setting: &Setting<'_>,
+    config: &Config,
+) -> Result<Prices, NoMemory>
     ensures no_size { IfOk result (λ prices. prices.size ≡ None) }
     ensures costs { IfOk result (λ prices. totals.AreCosts setting.now.cat.now setting.now.shapes.now config.now setting.now.statements.now prices.costs) }
     ensures sum { IfOk result (λ prices. prices.total ≡ totals.weighted_sum setting.now.statements.now prices.costs) }

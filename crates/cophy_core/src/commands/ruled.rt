@@ -1,35 +1,30 @@
 //! `ruled`: which candidates to make within a budget of pages, under an administrator's rules.
 ghost use Rattle.std.specs.Prelude.{◌≢◌, ◌≤◌, length, option_map, IfOk, IfErr, Some};
 ghost use Rattle.adv_base.specs.declared.limits.TheConstants.{MOST_FILE_BYTES, MOST_NODES, MOST_ROWS};
-ghost use Rattle.bip_model.specs.StandsFor.{StandsFor};
-ghost use Rattle.bip_model.specs.Views.{node_of};
-ghost use Rattle.branch_bound.specs.Sides.{IsRoot};
 ghost use Rattle.dba_rules.specs.declared.fault.RuleFault.TheVariants as faults;
 ghost use Rattle.dba_rules.specs.Rules.{IsFreePast};
 ghost use Rattle.adv_base.specs.Settings.{the_setting};
-ghost use Rattle.report.specs.Texts.{FitsSetting, IsBoundedBy};
+ghost use Rattle.report.specs.Texts.{FitsSetting};
 ghost use Rattle.candidates.specs.Candidates.{AreCandidates};
-ghost use Rattle.tuning.specs.Refusals.{AreFew};
 ghost use Rattle.cophy_core.specs.Causes.{IsBounded};
 ghost use Rattle.cophy_core.specs.Endings.{plain_puts};
 ghost use Rattle.cophy_core.specs.Stops.{StopsAt};
 ghost use Rattle.cophy_core.specs.commands.Ruled as spec;
 
-use crate::commands::advise::{certified, has_all_flags};
+use crate::commands::advise::{advice_below, certified};
 use crate::stop::Stop;
 use crate::tuned::programme_of;
 use crate::worked::Worked;
-use adv_base::{NoMemory, Setting};
-use bip_model::{Fix, Programme, shown_bounds};
-use branch_bound::{Room, search};
+use adv_base::Setting;
+use bip_model::Fix;
 use certificate::{best_answers_keep_limits, standing_programmes_are_in_order};
 use dba_rules::{RuleFault, in_count, out_count, read_rules, settle};
-use report::{Advice, Done, Ruled};
+use report::{Done, Ruled};
 use std::alloc::Global;
 
 /// The root of a search that rules make for a setting, where what has to be fits the budget; or the first fault of the rules,
 /// and then of that.
-fn root_of(
+fn settled_root(
     alloc: Global,
     setting: &Setting<'_>,
     rules: &[u8],
@@ -45,40 +40,6 @@ fn root_of(
         Ok(()) => Ok(root),
         Err(fault) => Err(fault),
     }
-}
-
-/// A best set of candidates below a root that together take at most `budget` pages, found by a search of at most so many
-/// nodes, with what the workload costs under it and a bound that no such set undercuts. `left_over` proposed indexes are no
-/// candidates.
-fn advice_from(
-    alloc: Global,
-    setting: &Setting<'_>,
-    programme: &Programme,
-    root: &Fix,
-    left_over: u64,
-    budget: u64,
-    nodes: u32,
-) -> Result<Advice, NoMemory>
-    requires found { AreCandidates setting.now.cat.now setting.now.statements.now setting.now.shapes.now left_over }
-    requires stands { StandsFor (the_setting setting.now) programme.now }
-    requires few { AreFew setting.now.cat.now setting.now.statements.now }
-    requires root { IsRoot programme.now budget root.now }
-    requires budget { budget ≤ MOST_ROWS }
-    requires some { 1 ≤ nodes }
-    requires nodes { nodes ≤ MOST_NODES }
-    ensures advice { IfOk result (spec.IsAdviceFrom (node_of root.now) budget nodes (the_setting setting.now)) }
-    ensures bounded { IfOk result (λ advice. IsBoundedBy advice.answer.cost advice.answer.bound) }
-{
-    let room = Room::new(alloc, programme, nodes)?;
-    let answer = search(programme, root, budget, nodes, room);
-    shown_bounds();
-    has_all_flags(&answer.config);
-    Ok(Advice {
-        budget,
-        nodes,
-        left_over,
-        answer,
-    })
 }
 
 /// The answer with the best advice under the rules that the bytes of a file are, and how many candidates they make in and
@@ -104,9 +65,9 @@ pub(crate) fn ruled(
     ensures bound { IfOk result (λ worked. IsBounded worked.done) }
     ensures stop { IfErr result (StopsAt (spec.Refuses budget rules.now (the_setting setting.now))) }
 {
-    let root = root_of(alloc, setting, rules, budget)?;
+    let root = settled_root(alloc, setting, rules, budget)?;
     let programme = programme_of(alloc, setting)?;
-    let advice = advice_from(alloc, setting, &programme, &root, left_over, budget, nodes)?;
+    let advice = advice_below(alloc, setting, &programme, &root, left_over, budget, nodes)?;
     best_answers_keep_limits();
     standing_programmes_are_in_order();
     let puts = certified(alloc, &programme, budget, &advice.answer, cert)?;

@@ -1,5 +1,5 @@
 use Rattle.std.proofs.Common.{codes, refl}
-use Rattle.command_line.specs.CommandLine.{texts, named_command, cost_row, what_if_row, explain_row, candidates_row, advise_row, ruled_row, check_row, bench_row}
+use Rattle.command_line.specs.CommandLine.{texts, named_command, cost_row, what_if_row, explain_row, candidates_row, advise_row, ruled_row, check_row, check_ruled_row, fold_row, bench_row}
 use Rattle.command_line.proofs.Rows.{row_gives, other_name}
 use Rattle.command_line.proofs.commands.named.Goals as goal
 
@@ -27,6 +27,14 @@ pub returns-in-check : goal.returns-in-check
 unfolding named_command
 returns-in-check c = row_gives check_row c.args.name.now (texts c.args.words.now) c.check.result c.in-check.is refl c.check.ensures
 
+pub returns-in-text : goal.returns-in-text
+unfolding named_command
+returns-in-text c = row_gives check_ruled_row c.args.name.now (texts c.args.words.now) c.check_ruled.result c.in-text.is refl c.check_ruled.ensures
+
+pub returns-in-fold : goal.returns-in-fold
+unfolding named_command
+returns-in-fold c = row_gives fold_row c.args.name.now (texts c.args.words.now) c.fold.result c.in-fold.is refl c.fold.ensures
+
 pub returns-in-bench : goal.returns-in-bench
 unfolding named_command
 returns-in-bench c = row_gives bench_row c.args.name.now (texts c.args.words.now) c.bench.result c.in-bench.is refl c.bench.ensures
@@ -45,5 +53,7 @@ returns-in_default c = rw (
   other_name c.args.name.now (codes "advise") c.in_default.not-advise,
   other_name c.args.name.now (codes "ruled") c.in_default.not-ruled,
   other_name c.args.name.now (codes "check") c.in_default.not-check,
+  other_name c.args.name.now (codes "check-ruled") c.in_default.not-text,
+  other_name c.args.name.now (codes "fold") c.in_default.not-fold,
   other_name c.args.name.now (codes "bench") c.in_default.not-bench,
 )

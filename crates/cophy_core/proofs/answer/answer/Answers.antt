@@ -25,6 +25,13 @@ pub work-requires-clause-found : goal.work-requires-clause-found
 work-requires-clause-found g c =
     subst (λ (s : TheSetting). AreCandidates s.cat s.statements s.shapes c.in_ok-opened.opened.left_over) (sym c.setting-setting.ensures) c.in_ok-opened.ensures.setting.candidates_are
 
+pub work-requires-clause-opened : goal.work-requires-clause-opened
+work-requires-clause-opened g c =
+    let read = c.in_ok-inputs.inputs in
+    let left_over = c.in_ok-opened.opened.left_over in
+    let opened : IsSetting (input read.whole 0) (input read.whole 1) (setting_in c.in_ok-opened.opened) left_over = rw (c.bytes_at.ensures, c.bytes_at-2.ensures) at c.in_ok-opened.ensures.setting in
+    subst (λ (s : TheSetting). IsSetting (input read.whole 0) (input read.whole 1) s left_over) (sym c.setting-setting.ensures) opened
+
 pub returns-in_err-opened-clause-stop : goal.returns-in_err-opened-clause-stop
 returns-in_err-opened-clause-stop g c =
     let command = plain_command c.args.command.now in
@@ -72,6 +79,6 @@ returns-clause-reply g c =
     let given = work_given command files read setting left_over done c.in_ok-inputs.ensures.inputs is gives in
     record {
       answers = work_gives command files given.texts setting left_over done given.texts_are given.setting_is given.gives;
-      puts_are = work_puts command files words given.texts setting left_over done puts text given.texts_are given.setting_is given.gives c.in_ok-worked.ensures.puts c.in_ok-text.ensures;
+      puts_are = work_puts command files words given.texts setting left_over done puts text given.texts_are given.setting_is given.gives (given.puts_are puts c.in_ok-worked.ensures.puts) c.in_ok-text.ensures;
       text_is = work_told command files words given.texts setting left_over done text given.texts_are given.setting_is c.in_ok-text.ensures;
     }

@@ -1,4 +1,5 @@
 use Rattle.cophy_core.proofs.CauseLemmas as cause
+use Rattle.cophy_core.proofs.Certified as certified
 use Rattle.cophy_core.proofs.Gaps.{gap}
 use Rattle.cophy_core.proofs.Headlines.{Laws, headline}
 use Rattle.cophy_core.proofs.LeftFiles.{left}
@@ -45,11 +46,11 @@ returns-clause-files g c = left c.carry_out-done.ensures.run
 
 pub returns-clause-headline : goal.returns-clause-headline
 returns-clause-headline g c =
-    let laws : Laws = record {
+    let certificates : certified.Laws = record {
       fit = c.written_certificates_fit.ensures;
       one = c.texts_are_one.ensures.certificate;
       proved = c.best_answers_are_proved.ensures;
       exclude = c.faults_exclude_proofs.ensures;
-      alone = c.checks_stand_alone.ensures;
     } in
+    let laws : Laws = record { certificates = certificates; alone = c.checks_stand_alone.ensures.check } in
     headline laws c.carry_out-done.ensures.run _ c.status.ensures

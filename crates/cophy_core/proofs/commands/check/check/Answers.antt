@@ -1,11 +1,12 @@
+use Rattle.std.proofs.Common.{subst}
+use Rattle.adv_base.specs.Nodes as nodes
+use Rattle.adv_base.specs.Settings.{the_setting}
+use Rattle.cophy_core.specs.Files.{SomeInput, input_file}
+use Rattle.cophy_core.specs.commands.Check.{GivesBelow}
+use Rattle.cophy_core.proofs.Checking.{given_free_each}
 use Rattle.cophy_core.proofs.commands.check.check.Goals as goal
 
-pub judged-requires-clause-read : goal.judged-requires-clause-read
-judged-requires-clause-read g c =
-    let read = c.requires.read in (read.0, read.1, c.in-Ok.ensures.found read.0 read.2)
-
-pub returns-in-Err-Malformed-clause-gives : goal.returns-in-Err-Malformed-clause-gives
-returns-in-Err-Malformed-clause-gives g c =
-    let read = c.requires.read in
-    let broken = rw c.in-Err-Malformed.field-0-is at c.in-Err-Malformed.ensures.fault in
-    rw c.in-Err-Malformed.field-0-is (read.0, read.1, broken read.0 read.2)
+pub returns-clause-gives : goal.returns-clause-gives
+returns-clause-gives g c =
+    let file = c.args.file.now in
+    given_free_each c.check_below.result (g.S.Shelf.files c.args.shelf.now) (input_file file.role file.name.now file.most) (the_setting c.args.setting.now) _ c.free-root.ensures c.check_below.ensures.gives

@@ -3,7 +3,7 @@ use Rattle.adv_base.specs.Settings.{the_setting}
 use Rattle.bip_model.specs.Best.{IsBest, sets_in}
 use Rattle.bip_model.specs.Views.{node_of}
 use Rattle.cophy_core.proofs.Advising.{is_bounded}
-use Rattle.cophy_core.proofs.commands.ruled.advice_from.Goals as goal
+use Rattle.cophy_core.proofs.commands.advise.advice_below.Goals as goal
 
 pub returns-clause-advice : goal.returns-clause-advice
 returns-clause-advice c =

@@ -1,5 +1,5 @@
 use Rattle.std.proofs.Common.{inr}
-use Rattle.cophy_core.proofs.commands.ruled.root_of.Goals as goal
+use Rattle.cophy_core.proofs.commands.ruled.settled_root.Goals as goal
 
 pub returns-in-Err-clause-fault : goal.returns-in-Err-clause-fault
 returns-in-Err-clause-fault c = λ apart. record {
