@@ -14,11 +14,15 @@ mod faults;
 #[cfg(test)]
 mod files;
 #[cfg(test)]
+mod folded;
+#[cfg(test)]
 mod histograms;
 #[cfg(test)]
 mod keys;
 #[cfg(test)]
 mod large;
+#[cfg(test)]
+mod obeying;
 #[cfg(test)]
 mod runs;
 #[cfg(test)]

@@ -54,7 +54,13 @@ Ok(Ruled { cat: "c", load: "l", budget: 4, rules: "--r", nodes: 7, cert: Some("f
 Err(BadNumber(4))|ruled c l r 4
 Err(Missing(5))|ruled c l 4
 Err(UnknownOption(6))|ruled c l 4 r --fast
-Err(Extra(6))|ruled c l 4 r x"#;
+Err(Extra(6))|ruled c l 4 r x
+Ok(CheckRuled { cat: "c", load: "l", rules: "r", cert: "f" })|check-ruled c l r f
+Err(Missing(5))|check-ruled c l r
+Err(Extra(6))|check-ruled c l r f x
+Ok(Fold { cat: "c", load: "l", out: "o" })|fold c l o
+Err(Missing(4))|fold c l
+Err(Extra(5))|fold c l o --x"#;
 
 /// The bytes of configuration files over three candidates, in which `~` stands for a line feed: the first faulty line,
 /// or the candidates with a blank behind each, `|` and the bytes.
