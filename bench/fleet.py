@@ -16,7 +16,8 @@ from cophy_fleet.cluster import client  # noqa: E402
 from cophy_fleet.run import Run  # noqa: E402
 from cophy_fleet.settings import Database, Fleet  # noqa: E402
 from cophy_fleet.store import opened  # noqa: E402
-from cophy_fleet import work  # noqa: E402
+from cophy_fleet import points  # noqa: E402
+from cophy_fleet.calls import Settings  # noqa: E402
 import generator  # noqa: E402
 
 TASKS = 2000
@@ -36,7 +37,7 @@ def nothing(number: int) -> int:
 
 async def measure(fleet: Fleet, workers: int, program: str, folder: str) -> dict[str, float]:
     """The seconds of a run, without the cluster's start, and what it took."""
-    settings = work.Settings(program, "cophy-pg", fleet.steps, fleet.nodes, fleet.timeout)
+    settings = Settings(program, "cophy-pg", fleet.steps, fleet.nodes, fleet.timeout)
     faults: list[str] = []
     results = os.path.join(folder, f"results{workers}.sqlite")
     with opened(results, is_new=True) as store:
@@ -59,12 +60,13 @@ async def measure(fleet: Fleet, workers: int, program: str, folder: str) -> dict
 
 def direct(fleet: Fleet, program: str, folder: str, count: int) -> float:
     """The seconds that one database's calls take without a cluster, in the middle of some."""
-    settings = work.Settings(program, "", fleet.steps, fleet.nodes, fleet.timeout)
+    settings = Settings(program, "", fleet.steps, fleet.nodes, fleet.timeout)
     began = time.monotonic()
     for database in fleet.databases[:count]:
         for ending, name in (("catalogue.toml", database.catalogue), ("workload.sql", database.workload)):
             Path(folder, ending).write_bytes(Path(name).read_bytes())
-        work.fault_of(folder, work.sweep(folder, settings), settings)
+        points.fold(folder, settings)
+        points.fault_of(folder, points.sweep(folder, settings), settings)
     return (time.monotonic() - began) / count
 
 

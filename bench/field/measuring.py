@@ -53,12 +53,21 @@ def present(connection: Connection, indexes: list[Index]) -> Iterator[dict[str, 
     """Makes indexes, gives them by their names, and drops them."""
     names = {f"field_{at}": it for at, it in enumerate(indexes, 1)}
     try:
+        _drop_left(connection)
         for name, it in names.items():
             connection.execute(f"CREATE INDEX {name} ON {it.quoted()}".encode())
         yield names
     finally:
         for name in names:
             connection.execute(f"DROP INDEX IF EXISTS {name}".encode())
+
+
+def _drop_left(connection: Connection) -> None:
+    """Drops the indexes that a call left which was killed."""
+    for (name,) in connection.execute(
+        r"SELECT relname FROM pg_class WHERE relkind = 'i' AND relname ~ '^field_\d+$'"
+    ).fetchall():
+        connection.execute(f"DROP INDEX {name}".encode())
 
 
 def measure(

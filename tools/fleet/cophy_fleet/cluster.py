@@ -15,11 +15,11 @@ from distributed import Client, LocalCluster
 from rich.console import Console
 from rich.progress import BarColumn, MofNCompleteColumn, Progress, TextColumn, TimeElapsedColumn, TimeRemainingColumn
 
+from cophy_fleet.calls import Settings
 from cophy_fleet.main import say
 from cophy_fleet.run import Run
 from cophy_fleet.settings import Fault, Fleet
 from cophy_fleet.store import Answer, opened
-from cophy_fleet.work import Settings
 
 MOST_NAMED = 20
 """How many databases without an answer are named at the end; each has a line of its own in the output."""
@@ -34,7 +34,8 @@ _SETTINGS = {
 
 def run_fleet(fleet: Fleet, words: argparse.Namespace, results: str) -> int:
     """Runs the fleet and tells what became of it."""
-    settings = Settings(os.path.abspath(words.program), words.exporter, fleet.steps, fleet.nodes, fleet.timeout)
+    limits = (fleet.steps, fleet.nodes, fleet.timeout)
+    settings = Settings(os.path.abspath(words.program), words.exporter, *limits, fleet.fold)
     tally = Tally(fleet)
     with opened(results, is_new=True) as store, tally.bar:
 

@@ -20,13 +20,22 @@ class Point:
 
 
 @dataclass(frozen=True)
+class Kept:
+    """The catalogue and the workload that certificates are of, compressed: alike statements of the workload may be one."""
+
+    catalogue: bytes = field(default=b"", repr=False)
+    workload: bytes = field(default=b"", repr=False)
+
+
+@dataclass(frozen=True)
 class Advised:
-    """Points with rising budgets, the worker that made them and its seconds. A refusal is the program's first line; without
-    one and without points nothing has changed."""
+    """Points with rising budgets, what their certificates are of, the worker that made them and its seconds. A refusal is the
+    program's first line; without one and without points nothing has changed."""
 
     digest: str
     worker: str
     points: tuple[Point, ...] = ()
+    kept: Kept = Kept()
     refusal: str = ""
     seconds: float = 0.0
 

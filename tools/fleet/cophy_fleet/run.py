@@ -16,6 +16,7 @@ from typing import Any
 from distributed import Client, Future, KilledWorker, Semaphore
 
 from cophy_fleet import work
+from cophy_fleet.calls import Failed, Settings
 from cophy_fleet.outcomes import Advised, Checked
 from cophy_fleet.settings import Database, Fault, Fleet
 from cophy_fleet.store import Answer, Store, answer_of
@@ -43,7 +44,7 @@ Told = Callable[[Answer, bool], None]
 class Run:
     """A run. `tell` gets each answer, and whether it is new."""
 
-    def __init__(self, client: Client, fleet: Fleet, settings: work.Settings, store: Store, tell: Told) -> None:
+    def __init__(self, client: Client, fleet: Fleet, settings: Settings, store: Store, tell: Told) -> None:
         self.client, self.fleet, self.settings, self.store, self.tell = client, fleet, settings, store, tell
         self.workers: dict[str, int] = {}
         self.most = 0
@@ -114,7 +115,8 @@ class Run:
             return Answer(database.name, advised.digest, advised.refusal), True
         kept = None if advised.points else self.store.answer(database.name)
         if kept is None:
-            return answer_of(database.name, advised, await self._checked(inputs, made, advised.worker)), True
+            answer = answer_of(database.name, advised, await self._checked(inputs, made, advised.worker))
+            return (answer if self.fleet.keep_inputs else replace(answer, kept=None)), True
         # Inputs that are what they were have the points that they had, or are refused again.
         is_back = bool(kept.points and kept.fault)
         return (replace(kept, fault="") if is_back else kept), is_back
@@ -187,4 +189,4 @@ def _named(fault: Exception) -> str:
         return "its workers died while they were at it"
     if isinstance(fault, CancelledError):
         return "the cluster gave it up"
-    return str(fault) if isinstance(fault, work.Failed) else f"{type(fault).__name__}: {fault}"[:300]
+    return str(fault) if isinstance(fault, Failed) else f"{type(fault).__name__}: {fault}"[:300]

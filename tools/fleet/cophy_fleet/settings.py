@@ -18,6 +18,7 @@ _NUMBERS = {
     "retries": (2, 0, 100),
     "connections": (4, 1, 10000),
 }
+_SWITCHES = ("fold", "keep_inputs")
 _DATABASE = ("name", "weight", "service", "server", "catalogue", "workload", "export")
 
 
@@ -42,7 +43,8 @@ class Database:
 @dataclass(frozen=True)
 class Fleet:
     """The databases, and for each how many budgets above 0 are tried, with how many nodes a search; the seconds that a
-    program may take, how often a task that failed is tried again, and the connections that a server may have."""
+    program may take, how often a task that failed is tried again, the connections that a server may have, whether alike
+    statements become one, and whether what certificates are of is kept beside them."""
 
     databases: tuple[Database, ...]
     steps: int = 8
@@ -50,6 +52,8 @@ class Fleet:
     timeout: int = 600
     retries: int = 2
     connections: int = 4
+    fold: bool = True
+    keep_inputs: bool = True
 
 
 def read_fleet(file: str) -> Fleet:
@@ -58,10 +62,11 @@ def read_fleet(file: str) -> Fleet:
         document = tomllib.loads(Path(file).read_text("utf-8"))
     except (tomllib.TOMLDecodeError, UnicodeDecodeError) as fault:
         raise Fault(f"{file}: {fault}") from None
-    _known(document, ("version", "export", "database", *_NUMBERS), "the fleet")
+    _known(document, ("version", "export", "database", *_NUMBERS, *_SWITCHES), "the fleet")
     if document.get("version") != 1:
         raise Fault("the fleet: version has to be 1")
     numbers = {key: _number(document, key, *ranges, "the fleet") for key, ranges in _NUMBERS.items()}
+    fold, keep_inputs = (_switch(document, key, "the fleet") for key in _SWITCHES)
     words = _words(document, (), "the fleet")
     listed = document.get("database")
     if not isinstance(listed, list) or not listed:
@@ -73,7 +78,7 @@ def read_fleet(file: str) -> Fleet:
         if it.name.lower() in seen:
             raise Fault(f"the fleet: two databases have the name {it.name}")
         seen.add(it.name.lower())
-    return Fleet(databases, **numbers)
+    return Fleet(databases, **numbers, fold=fold, keep_inputs=keep_inputs)
 
 
 def _database(table: Any, number: int, words: tuple[str, ...], folder: Path) -> Database:
@@ -105,6 +110,13 @@ def _text(table: dict[str, Any], key: str, where: str) -> str:
     value = table.get(key, "")
     if not isinstance(value, str) or "\0" in value:
         raise Fault(f"{where}: {key} has to be a text")
+    return value
+
+
+def _switch(table: dict[str, Any], key: str, where: str) -> bool:
+    value = table.get(key, True)
+    if not isinstance(value, bool):
+        raise Fault(f"{where}: {key} has to be true or false")
     return value
 
 

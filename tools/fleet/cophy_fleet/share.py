@@ -4,13 +4,14 @@ from __future__ import annotations
 import argparse
 import json
 import os
+import zlib
 from dataclasses import dataclass
 from typing import Any
 
 from cophy_fleet.knapsack import Item, along, choose, cost_of, least_sum, path, price, useful
 from cophy_fleet.main import say
 from cophy_fleet.settings import read_fleet
-from cophy_fleet.store import Answer, certificate_text, opened
+from cophy_fleet.store import Answer, opened
 from cophy_text import files, picture
 from cophy_text.answers import Advice
 
@@ -145,10 +146,16 @@ def _lines(axes: Any, found: Shares) -> None:
 
 
 def _write_advice(folder: str, found: Shares, kept: list[Answer]) -> None:
-    """Writes each database's advice and certificate, for their owner alone to read."""
+    """Writes each database's advice and certificate, with what the latter is of where that is kept, for their owner alone to
+    read."""
     os.makedirs(folder, 0o700, exist_ok=True)
     for answer, sweep, chosen in zip(kept, found.sweeps, found.chosen, strict=True):
         point = answer.points[sweep.points.index(chosen)]
         stem = os.path.join(folder, answer.database)
-        contents = ((".txt", point.advice.encode()), (".cert", certificate_text(point)))
+        contents = [(".txt", point.advice.encode()), (".cert", zlib.decompress(point.certificate))]
+        if answer.kept is not None:
+            contents += [
+                (".toml", zlib.decompress(answer.kept.catalogue)),
+                (".sql", zlib.decompress(answer.kept.workload)),
+            ]
         files.write([files.File(stem + ending, content) for ending, content in contents])

@@ -10,7 +10,7 @@ from dataclasses import dataclass
 from pathlib import Path
 from typing import Any
 
-from cophy_fleet.outcomes import Advised, Checked, Point
+from cophy_fleet.outcomes import Advised, Checked, Kept, Point
 from cophy_fleet.settings import Fault
 
 _FORM = """
@@ -31,6 +31,11 @@ CREATE TABLE IF NOT EXISTS point (
     certificate BLOB NOT NULL, -- compressed by zlib
     PRIMARY KEY (database, budget)
 ) WITHOUT ROWID;
+-- What the certificates are of, compressed by zlib; alike statements of the workload may be one.
+CREATE TABLE IF NOT EXISTS input (
+    database TEXT PRIMARY KEY REFERENCES answer ON DELETE CASCADE,
+    catalogue BLOB NOT NULL, workload BLOB NOT NULL
+);
 """
 _COLUMNS = "database, digest, fault, advised_on, checked_on, advise_seconds, check_seconds"
 
@@ -48,6 +53,7 @@ class Answer:
     advise_seconds: float = 0.0
     check_seconds: float = 0.0
     points: tuple[Point, ...] = ()
+    kept: Kept | None = None
 
     def line(self, is_new: bool) -> str:
         """The answer as a line of JSON."""
@@ -64,7 +70,7 @@ def answer_of(database: str, advised: Advised, checked: Checked) -> Answer:
     if checked.fault:
         return Answer(database, "", checked.fault)
     where = (checked.advised_on, checked.checked_on, advised.seconds, checked.seconds)
-    return Answer(database, advised.digest, "", *where, advised.points)
+    return Answer(database, advised.digest, "", *where, advised.points, advised.kept)
 
 
 def _told(point: Point) -> dict[str, Any]:
@@ -93,16 +99,21 @@ class Store:
             "SELECT budget, advice, certificate FROM point WHERE database = ? ORDER BY budget", (database,)
         )
         named = dict(zip(_COLUMNS.split(", "), row, strict=True))
-        return Answer(**named, points=tuple(Point(*it) for it in rows))
+        inputs = self.connection.execute("SELECT catalogue, workload FROM input WHERE database = ?", (database,))
+        kept = inputs.fetchone()
+        return Answer(**named, points=tuple(Point(*it) for it in rows), kept=Kept(*kept) if kept else None)
 
     def keep(self, answer: Answer) -> None:
-        """Keeps an answer in the place of the one before."""
+        """Keeps an answer, with its inputs where it has them, in the place of the one before."""
         with self.connection:
             self.connection.execute("DELETE FROM answer WHERE database = ?", (answer.database,))
             self._insert(answer)
             self.connection.executemany(
                 "INSERT INTO point VALUES (?, ?, ?, ?, ?, ?, ?)", (_row(answer.database, it) for it in answer.points)
             )
+            if answer.kept is not None:
+                inputs = (answer.database, answer.kept.catalogue, answer.kept.workload)
+                self.connection.execute("INSERT INTO input VALUES (?, ?, ?)", inputs)
 
     def fail(self, database: str, fault: str) -> None:
         """Keeps why there was no answer, beside the points that there were."""
@@ -126,11 +137,6 @@ def _row(database: str, point: Point) -> tuple[Any, ...]:
     advice = point.numbers()
     numbers = (point.budget, advice.size, str(advice.cost), str(advice.bound))
     return (database, *numbers, point.advice, point.certificate)
-
-
-def certificate_text(point: Point) -> bytes:
-    """The certificate as the program wrote it."""
-    return zlib.decompress(point.certificate)
 
 
 @contextmanager

@@ -7,11 +7,10 @@ from __future__ import annotations
 
 import hashlib
 import os
-import subprocess
 import tempfile
 import time
 import zlib
-from collections.abc import Iterable, Iterator
+from collections.abc import Iterator
 from contextlib import contextmanager
 from dataclasses import dataclass, field
 from functools import lru_cache
@@ -19,29 +18,13 @@ from pathlib import Path
 
 from distributed import get_worker
 
-from cophy_fleet.outcomes import Advised, Checked, Point
-from cophy_fleet.settings import MOST, Database
+from cophy_fleet import points
+from cophy_fleet.calls import DONE, Failed, NoCommand, Refused, Settings, last_line, ran
+from cophy_fleet.outcomes import Advised, Checked, Kept
+from cophy_fleet.settings import Database
 
-DONE, NODES_SPENT, REFUSED, NOT_PROVED = 0, 1, 5, 6
-"""Statuses of the program that are answers; another says that it stopped."""
-CONNECTED = "PG"
-"""What variables of a connection begin with; the program gets none of them."""
-
-
-class Failed(Exception):
-    """What may succeed when it is tried again: a program that stopped, a server that can't be reached, a file that isn't
-    there. The text names no part of a connection and no literal."""
-
-
-@dataclass(frozen=True)
-class Settings:
-    """The programs by their files, and what limits a call: nodes of a search, and seconds."""
-
-    program: str
-    exporter: str
-    steps: int
-    nodes: int
-    timeout: int
+FORM = 2
+"""Grows where the same inputs get another answer by these tools."""
 
 
 @dataclass(frozen=True)
@@ -59,9 +42,9 @@ def read_inputs(database: Database, settings: Settings) -> Inputs:
         with _folder() as folder:
             files = (f"{folder}/catalogue.toml", f"{folder}/workload.sql")
             words = [settings.exporter, "export", *files, *database.export]
-            ran = _ran(words, settings.timeout, PGSERVICE=database.service)
-            if ran.returncode != DONE:
-                raise Failed(_last_line(ran.stderr) or f"the export ended with status {ran.returncode}")
+            done = ran(words, settings.timeout, PGSERVICE=database.service)
+            if done.returncode != DONE:
+                raise Failed(last_line(done.stderr) or f"the export ended with status {done.returncode}")
             catalogue, workload = map(_content, files)
     else:
         catalogue, workload = _content(database.catalogue), _content(database.workload)
@@ -69,83 +52,37 @@ def read_inputs(database: Database, settings: Settings) -> Inputs:
 
 
 def advise(inputs: Inputs, known: str, settings: Settings) -> Advised:
-    """Advises at even budgets, unless the digest is the one that is known."""
+    """Folds, and advises at even budgets, unless the digest is the one that is known."""
     here, began = get_worker().address, time.monotonic()
     if inputs.digest == known:
         return Advised(inputs.digest, here)
     with _laid(inputs) as folder:
         try:
-            points = sweep(folder, settings)
-        except _Refused as refused:
+            points.fold(folder, settings)
+            found = points.sweep(folder, settings)
+        except Refused as refused:
             return Advised(inputs.digest, here, refusal=str(refused))
-    return Advised(inputs.digest, here, points, seconds=time.monotonic() - began)
-
-
-def sweep(folder: str, settings: Settings) -> tuple[Point, ...]:
-    """The points at even budgets from 0, below the size that no budget limits, and the one without a limit."""
-    last = _advice(folder, MOST, settings)
-    most = last.numbers().size
-    budgets = sorted({most * it // settings.steps for it in range(settings.steps)})
-    return (*(_advice(folder, it, settings) for it in budgets), last)
+        except NoCommand:
+            raise Failed("the program doesn't know advise") from None
+        kept = Kept(*(zlib.compress(_content(f"{folder}/{it}")) for it in ("catalogue.toml", "workload.sql")))
+    return Advised(inputs.digest, here, found, kept, seconds=time.monotonic() - began)
 
 
 def check(inputs: Inputs, advised: Advised, settings: Settings) -> Checked:
-    """Checks each certificate against the inputs, and what it proves against the advice."""
+    """Folds the inputs anew, and checks each certificate against them, and what it proves against the advice."""
     here, began = get_worker().address, time.monotonic()
     with _laid(inputs) as folder:
-        fault = fault_of(folder, advised.points, settings)
+        try:
+            points.fold(folder, settings)
+            fault = ""
+            if _content(f"{folder}/workload.sql") != zlib.decompress(advised.kept.workload):
+                fault = "the workers don't fold the workload alike"
+            fault = fault or points.fault_of(folder, advised.points, settings)
+        except Refused as refused:
+            fault = f"the check is {refused}"
+        except NoCommand:
+            raise Failed("the program doesn't know check") from None
     return Checked(advised.worker, here, fault, time.monotonic() - began)
-
-
-def fault_of(folder: str, points: Iterable[Point], settings: Settings) -> str:
-    """What the first certificate proves that doesn't prove its advice; nothing where each does."""
-    for it in points:
-        Path(folder, "certificate").write_bytes(zlib.decompress(it.certificate))
-        said = _said(folder, settings, "check", "certificate")
-        advice = it.numbers()
-        if said != f"proved cost {advice.cost} bound {advice.bound} budget {it.budget}\n":
-            return f"the certificate for {it.budget} pages: {_last_line(said.encode())}"
-    return ""
-
-
-def _advice(folder: str, budget: int, settings: Settings) -> Point:
-    words = (str(budget), "--nodes", str(settings.nodes), "--cert", "certificate")
-    text = _said(folder, settings, "advise", *words)
-    return Point(budget, text, zlib.compress(Path(folder, "certificate").read_bytes()))
-
-
-class _Refused(Exception):
-    """The program refuses the input, and will again."""
-
-
-def _said(folder: str, settings: Settings, command: str, *more: str) -> str:
-    """What the program answers in a folder that holds the inputs."""
-    words = [settings.program, command, "catalogue.toml", "workload.sql", *more]
-    ran = _ran(words, settings.timeout, folder)
-    text = ran.stdout.decode(errors="replace")
-    if ran.returncode == REFUSED:
-        raise _Refused(text.split("\n", 1)[0])
-    if ran.returncode not in (DONE, NODES_SPENT, NOT_PROVED):
-        raise Failed(f"cophy {command} stopped with status {ran.returncode}")
-    return text
-
-
-def _ran(words: list[str], timeout: int, folder: str | None = None, **more: str) -> subprocess.CompletedProcess[bytes]:
-    kept = {it: value for it, value in os.environ.items() if more or not it.startswith(CONNECTED)}
-    try:
-        return subprocess.run(
-            words,
-            cwd=folder,
-            env={**kept, **more, "COPHY_HINTS": "0"},
-            stdin=subprocess.DEVNULL,
-            capture_output=True,
-            timeout=timeout,
-            check=False,
-        )
-    except subprocess.TimeoutExpired:
-        raise Failed(f"{Path(words[0]).name} {words[1]} took more than {timeout} seconds") from None
-    except OSError as fault:
-        raise Failed(f"{words[0]} can't be run: {fault.strerror}") from None
 
 
 @contextmanager
@@ -170,7 +107,8 @@ def _content(file: str) -> bytes:
 
 
 def _digest(catalogue: bytes, workload: bytes, settings: Settings) -> str:
-    parts = (catalogue, workload, f"1 {settings.steps} {settings.nodes}".encode(), _program_digest(settings.program))
+    words = f"{FORM} {settings.steps} {settings.nodes} {settings.fold}"
+    parts = (catalogue, workload, words.encode(), _program_digest(settings.program))
     return hashlib.sha256(b"".join(hashlib.sha256(it).digest() for it in parts)).hexdigest()
 
 
@@ -185,8 +123,3 @@ def _program_digest(program: str) -> bytes:
 @lru_cache(4)
 def _file_digest(file: str, changed: int, size: int) -> bytes:
     return hashlib.sha256(Path(file).read_bytes()).digest()
-
-
-def _last_line(text: bytes) -> str:
-    lines = text.decode(errors="replace").strip().splitlines()
-    return lines[-1].encode("ascii", "backslashreplace").decode().removeprefix("cophy-pg: ") if lines else ""

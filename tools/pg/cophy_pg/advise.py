@@ -4,18 +4,19 @@ from __future__ import annotations
 import argparse
 import json
 import os
+from dataclasses import replace
 from datetime import UTC, datetime
 from typing import Any
 
 from cophy_lint.checks import catalogue_remarks, lines, workload_remarks
 from cophy_text import files
-from cophy_text.answers import Advice, read_advice
-from cophy_text.shown import grouped
+from cophy_text.answers import read_advice
 from cophy_pg import export, folder, inputs
 from cophy_pg.amounts import amount, whole
-from cophy_pg.budget import filled
-from cophy_pg.choice import Choice, Limits, drop_by_limits, drop_by_server
+from cophy_pg.catalogue import read_schema
+from cophy_pg.choice import UNTAKEN, Choice, Limits, drop_by_limits, drop_by_server
 from cophy_pg.commands import commands_text
+from cophy_pg.curve import as_json as as_json_of_point
 from cophy_pg.folder import Folder
 from cophy_pg.folding import Folding
 from cophy_pg.making import ddl_text
@@ -24,7 +25,7 @@ from cophy_pg.overview import lines_of
 from cophy_pg.page import NoReport, page_of
 from cophy_pg.picks import home_of
 from cophy_pg.plans import plans_of
-from cophy_pg.program import Program, add_program, program_file
+from cophy_pg.program import NoCommand, Program, add_program, program_file
 from cophy_pg.progress import say
 from cophy_pg.ranking import rank
 from cophy_pg.report import summary
@@ -33,9 +34,9 @@ from cophy_pg.rewrite import Rewriter
 from cophy_pg.rewrite.options import options_of
 from cophy_pg.schema import Schema
 from cophy_pg.script import ROWS_A_SECOND
+from cophy_pg.searches import Rules, Searches, listed_in
 from cophy_pg.selection import add_selection, count, ran_once, selection_of
 from cophy_pg.server import Server, add_connection, connected, reading, version_of
-from cophy_pg.sizes import stored_size
 from cophy_pg.snapshots import taken_of
 from cophy_pg.statistics import Found
 from cophy_pg.steps import Steps
@@ -46,6 +47,8 @@ from cophy_pg.workload import Workload, made
 
 NOTHING = 3
 """The status where no index is worth making."""
+ROUNDS = 4
+"""How often is searched: each time but the first without what no plan took before."""
 
 
 def add_advise(commands: argparse._SubParsersAction[argparse.ArgumentParser]) -> None:
@@ -54,8 +57,8 @@ def add_advise(commands: argparse._SubParsersAction[argparse.ArgumentParser]) ->
         "advise",
         help="from a server to its indexes in one command",
         description="Exports a database and its statements, advises on them with a certificate, checks that, asks the "
-        "server's planner about the picks, leaves out what no plan takes, and prints which indexes to make and what each "
-        "saves. All files are kept in a folder. Nothing is made on the server.",
+        "server's planner about the picks, searches again without what no plan takes, and prints which indexes to make and "
+        "what each saves. All files are kept in a folder. Nothing is made on the server.",
         epilog="The status is 0 where there are indexes to make, 3 where there are none; 1 says that it couldn't be done, "
         "2 that the words are faulty.",
     )
@@ -76,7 +79,15 @@ def add_words(parser: argparse.ArgumentParser) -> None:
     parser.add_argument(
         "--min-saving", type=percent, default=0.0, metavar="PERCENT", help="what each index has to save"
     )
+    parser.add_argument(
+        "--rules", metavar="FILE", help="what has to be made and what never may, as cophy-pg rules takes them"
+    )
     parser.add_argument("--most-per-table", type=count, metavar="N", help="how many new indexes a table may get")
+    parser.add_argument(
+        "--no-curve",
+        action="store_true",
+        help="don't search for what some other budgets would buy, which the report draws",
+    )
     parser.add_argument("--nodes", type=whole, metavar="N", help="the node budget of the search")
     parser.add_argument("--json", action="store_true", help="print all that was found as JSON instead")
     source = parser.add_mutually_exclusive_group()
@@ -100,7 +111,7 @@ def advise(words: argparse.Namespace) -> int:
     """Takes all steps, and prints what was found."""
     selection_of(words)
     program_file(words.program)
-    given = [words.sql, words.log, words.since]
+    given = [words.sql, words.log, words.since, words.rules]
     for name in (it for it in given if it):
         files.read(name)
     kept = Folder.made(words.folder)
@@ -125,6 +136,9 @@ class Run:
         self.words, self.folder, self.steps = words, kept, steps
         paths = (kept.path(folder.CATALOGUE), kept.path(folder.WORKLOAD))
         self.program = Program(words.program, *paths)
+        nodes = ("--nodes", str(words.nodes)) if words.nodes else ()
+        self.searches = Searches(self.program, kept, words.budget, nodes, steps)
+        self.rules = Rules()
         self.head: dict[str, Any] = {}
         self.warnings: list[str] = []
 
@@ -132,41 +146,53 @@ class Run:
         """Takes the steps in turn."""
         files_of_steps = (folder.ADVICE, folder.CERTIFICATE, folder.CHECK, folder.VERIFY, folder.KEPT, folder.DDL)
         self.folder.clear(*files_of_steps, folder.PLANS, folder.SUMMARY, folder.RESULT, folder.REPORT)
+        self.folder.clear(folder.RULES, folder.RULED, folder.CURVE)
         with self.steps.step("export", "reading the database and its statements"):
             found, workload = self._export()
         with self.steps.step("lint", "looking for what is probably wrong"):
             lint = self._lint()
-        with self.steps.step("advise", "searching for the best indexes"):
-            advice = self._advise(found.schema)
-        with self.steps.step("check", "checking the certificate"):
-            proved = self._check()
-        choice = Choice(advice)
-        with connected(self.words.dsn, self.words.timeout) as server:
-            judged = self._settle(server, found.schema, workload, choice)
-            with self.steps.step("plans", "comparing plans", 2 * len(judged.verdicts)):
-                plans = plans_of(server, found.schema, choice.advice, judged.verdicts, self.steps)
+        self.rules = Rules.of(read_schema(self.folder.read(folder.CATALOGUE)), self.words.rules)
+        try:
+            first = self._searched(found.schema)
+            with connected(self.words.dsn, self.words.timeout) as server:
+                choice, judged, rules = self._rounds(server, found.schema, workload, first)
+                with self.steps.step("plans", "comparing plans", 2 * len(judged.verdicts)):
+                    plans = plans_of(server, found.schema, choice.advice, judged.verdicts, self.steps)
+            with self.steps.step("check", "checking the certificate"):
+                advice, proved = self.searches.proved(choice.advice.budget)
+                self.searches.keep(choice.advice.budget, rules)
+            with self.steps.step("curve", "searching for what other budgets buy"):
+                points = [] if self.words.no_curve else self.searches.curve()
+        finally:
+            self.searches.clear()
         with self.steps.step("why", "pricing the workload without each pick", len(choice.advice.picks)):
             none, kept, reason = reasons(self.program, choice.advice, self.steps)
             all_ = self.program.whatif(it.number for it in advice.picks)
         # In a file of SQL a statement has the weight that it was given.
-        warnings = [*self.warnings, *([] if self.words.sql else ran_once(workload, none))]
-        told = {"warnings": warnings, "lint": lint, "rewriting": summary(workload)}
+        warnings = [*self.warnings, *self.rules.remarks, *([] if self.words.sql else ran_once(workload, none))]
+        told = {"warnings": warnings, "lint": lint, "rewriting": summary(workload), "rules": listed_in(rules)}
         parts = (found.schema, workload, advice, choice, judged, plans, (none, kept, all_), reason, proved)
         result = Result(*parts, self.head, told, self.steps.seconds)
         self._write(result)
+        if points:
+            curve = [as_json_of_point(it, none.total) for it in points]
+            self.folder.write({folder.CURVE: json.dumps(curve, indent=2) + "\n"})
         return result.document()
 
     def _write(self, result: Result) -> None:
         """Writes what the last steps found."""
         none, kept, _ = result.prices
-        text = advice_text(result.advice, [it.number for it in result.choice.advice.picks], kept.total)
+        picks = result.choice.advice.picks
+        text = advice_text(replace(result.advice, picks=picks), [it.number for it in picks], kept.total)
         self.folder.write(
             {
                 folder.VERIFY: json.dumps(as_json(result.judged, [none, kept, kept]), indent=2) + "\n",
                 folder.KEPT: text,
                 folder.DDL: ddl_text(result.schema, read_advice(text), rows_a_second=ROWS_A_SECOND),
                 folder.PLANS: json.dumps(result.plans.document(result.workload)) + "\n",
-                folder.COMMANDS: commands_text(self.words, self.folder, result.advice.budget),
+                folder.COMMANDS: commands_text(
+                    self.words, self.folder, result.advice.budget, bool(result.told["rules"])
+                ),
             }
         )
 
@@ -190,7 +216,19 @@ class Run:
                 look_up(server, [Verdict(at, it, {}) for at, it in enumerate(listed, 1)], words.is_trusted)
         folding = Folding(lambda: export.catalogue_of(found, name), words.program, self.steps)
         workload = made(listed, Rewriter(found.schema, options_of(words)), self.steps, folding)
-        self.head = {
+        self.head = self._head_of(name, version)
+        catalogue = export.catalogue_of(found, name)
+        rank(workload, catalogue, words.program, is_ordered=not (words.sql or words.log))
+        contents[folder.CATALOGUE] = catalogue
+        contents[folder.WORKLOAD] = workload.text()
+        contents[folder.EXPORT] = export.report_of(workload, self.warnings)
+        self.folder.write(contents)
+        return found, workload
+
+    def _head_of(self, name: str, version: int) -> dict[str, Any]:
+        """What was asked for, and of which database."""
+        words = self.words
+        return {
             "made": datetime.now(UTC).strftime("%Y-%m-%dT%H:%M:%SZ"),
             "database": name,
             "server": f"{version // 10000}.{version % 10000}",
@@ -202,17 +240,11 @@ class Run:
                 "min_calls": words.min_calls,
                 "min_saving": words.min_saving,
                 "most_per_table": words.most_per_table,
+                "rules": words.rules,
                 "tables": words.tables,
                 "users": words.users,
             },
         }
-        catalogue = export.catalogue_of(found, name)
-        rank(workload, catalogue, words.program, is_ordered=not (words.sql or words.log))
-        contents[folder.CATALOGUE] = catalogue
-        contents[folder.WORKLOAD] = workload.text()
-        contents[folder.EXPORT] = export.report_of(workload, self.warnings)
-        self.folder.write(contents)
-        return found, workload
 
     def _lint(self) -> list[str]:
         workload = self.folder.read(folder.WORKLOAD)
@@ -221,30 +253,31 @@ class Run:
         self.folder.write({folder.LINT: "".join(f"{it}\n" for it in found)})
         return found
 
-    def _advise(self, schema: Schema) -> Advice:
-        """The advice that fills the budget as PostgreSQL stores it, whose certificate the program puts into the folder."""
-        nodes = ("--nodes", str(self.words.nodes)) if self.words.nodes else ()
-        texts: dict[int, str] = {}
+    def _searched(self, schema: Schema) -> Choice:
+        """What fills the budget under the rules so far."""
+        with self.steps.step("advise", "searching for the best indexes"):
+            advice = self.searches.filling(schema, self.rules)
+        return Choice(advice, [(it, UNTAKEN) for it in self.rules.forbidden])
 
-        def advise_on(budget: int) -> Advice:
-            self.steps(f"advising for {grouped(budget)} pages by the model")
-            trial = self.folder.path(f"{folder.CERTIFICATE}-{budget}")
-            texts[budget] = self.program.text("advise", str(budget), *nodes, "--cert", trial)
-            os.chmod(trial, files.PRIVATE)
-            return read_advice(texts[budget])
-
-        try:
-            advice = filled(self.words.budget, advise_on, lambda it: stored_size(schema, it.picks))
-            os.replace(self.folder.path(f"{folder.CERTIFICATE}-{advice.budget}"), self.folder.path(folder.CERTIFICATE))
-        finally:
-            self.folder.clear(*(f"{folder.CERTIFICATE}-{it}" for it in texts))
-        self.folder.write({folder.ADVICE: texts[advice.budget]})
-        return advice
-
-    def _check(self) -> str:
-        text = self.program.text("check", self.folder.path(folder.CERTIFICATE))
-        self.folder.write({folder.CHECK: text})
-        return text.strip()
+    def _rounds(self, server: Server, schema: Schema, workload: Workload, choice: Choice) -> tuple[Choice, Judged, str]:
+        """Searches again without what no plan takes, which leaves room for others; the choice that costs the least by the
+        server's planner, what it says of that, and the rules that it keeps. An older program doesn't search again."""
+        best: tuple[Choice, Judged, str] | None = None
+        least = (0, 0.0)
+        for number in range(1, ROUNDS + 1):
+            rules = self.rules.text()
+            judged = self._settle(server, schema, workload, choice)
+            count, _, after = judged.sums()
+            if best is None or (-count, after) < least:
+                best, least = (choice, judged, rules), (-count, after)
+            if number == ROUNDS or not self.rules.forbid(choice.untaken):
+                break
+            try:
+                choice = self._searched(schema)
+            except NoCommand:
+                break
+        assert best is not None
+        return best
 
     def _settle(self, server: Server, schema: Schema, workload: Workload, choice: Choice) -> Judged:
         """Asks the planner until all picks that are left stay. Picks that were left out before are asked about no more."""
@@ -260,7 +293,7 @@ class Run:
                 texts = {number: text for number, (text, _) in enumerate(workload.statements, 1)}
                 outcomes(listed, found, texts, [])
             with self.steps.step("limits", "leaving out what isn't worth it"):
-                is_less = drop_by_server(choice, schema, listed)
-                is_less |= drop_by_limits(choice, self.program, limits, self.steps)
+                is_less = drop_by_server(choice, schema, listed, self.rules.asks_for)
+                is_less |= drop_by_limits(choice, self.program, limits, self.steps, self.rules.asks_for)
             if not is_less:
                 return Judged(found, listed, functions)

@@ -13,6 +13,9 @@ SPARED = 50
 """One part in so many is left free, since the formula of sizes may say that much too little."""
 WIDEST = 8
 """Beyond so many times the space, a larger budget isn't tried."""
+FURTHER = (105, 110, 116, 123, 131, 140)
+"""Budgets in percent of the one that was found that are tried too: an index that the model takes for large may be small, so that
+what a larger budget buys may fit as well."""
 
 
 @dataclass
@@ -67,4 +70,12 @@ def filled(asked: int, advise: Callable[[int], Advice], size_of: Callable[[Advic
         if search.add(advice, size_of(advice)):
             break
         budget = search.next()
-    return search.best if search.best is not None else advise(0)
+    if search.best is None:
+        return advise(0)
+    found = search.best.budget
+    for percent in FURTHER:
+        budget = found * percent // 100
+        if budget not in search.tried and budget <= WIDEST * asked:
+            advice = advise(budget)
+            search.add(advice, size_of(advice))
+    return search.best

@@ -1,6 +1,7 @@
 """Which picks of an advice stay: those that plans take, that can be made, that save enough, and not too many a table."""
 from __future__ import annotations
 
+from collections.abc import Callable
 from dataclasses import dataclass, field, replace
 
 from cophy_text.answers import Advice, Candidate
@@ -11,6 +12,8 @@ from cophy_pg.program import Program
 from cophy_pg.progress import Progress
 from cophy_pg.schema import Schema
 from cophy_pg.why import Reason, reasons
+
+UNTAKEN = "no plan of the server takes it"
 
 
 @dataclass(frozen=True)
@@ -27,10 +30,11 @@ class Limits:
 
 @dataclass
 class Choice:
-    """The picks that stay, and those that were left out, each with the reason."""
+    """The picks that stay, those that were left out, each with the reason, and those of them that no plan takes."""
 
     advice: Advice
     left_out: list[tuple[Candidate, str]] = field(default_factory=list)
+    untaken: list[Candidate] = field(default_factory=list)
 
     def drop(self, pick: Candidate, why: str) -> None:
         """Leaves a pick out."""
@@ -39,29 +43,34 @@ class Choice:
         self.advice = replace(self.advice, picks=picks, size=sum(it.pages for it in picks))
 
 
-def drop_by_server(choice: Choice, schema: Schema, outcomes: list[Outcome]) -> bool:
-    """Leaves out what the server takes in no plan, has already, or can't make; whether anything was."""
+def drop_by_server(
+    choice: Choice, schema: Schema, outcomes: list[Outcome], asks_for: Callable[[Candidate], bool]
+) -> bool:
+    """Leaves out what the server takes in no plan, unless it is asked for, has already, or can't make; whether anything was."""
     before = len(choice.left_out)
     for it in outcomes:
         if why := why_not(schema, it.pick):
             choice.drop(it.pick, f"PostgreSQL can't make it: {why}")
         elif it.exists:
             choice.drop(it.pick, f"it is there already, as {it.exists}")
-        elif it.name == "not taken":
-            choice.drop(it.pick, "no plan of the server takes it")
+        elif it.name == "not taken" and not asks_for(it.pick):
+            choice.untaken.append(it.pick)
+            choice.drop(it.pick, UNTAKEN)
     return len(choice.left_out) > before
 
 
-def drop_by_limits(choice: Choice, program: Program, limits: Limits, progress: Progress) -> bool:
-    """Leaves out the picks beyond a limit, of each table the one that saves the least first, since the others may save more
-    without it; whether any was."""
+def drop_by_limits(
+    choice: Choice, program: Program, limits: Limits, progress: Progress, asks_for: Callable[[Candidate], bool]
+) -> bool:
+    """Leaves out the picks beyond a limit, unless they are asked for, of each table the one that saves the least first, since
+    the others may save more without it; whether any was."""
     before, is_done = len(choice.left_out), not limits.are_given()
     while not is_done and choice.advice.picks:
         none, all_, found = reasons(program, choice.advice, progress)
         tables: set[str] = set()
         for it in sorted(found, key=lambda it: it.total_without):
             why = _beyond(limits, it, found, none.total, all_.total) if it.pick.table not in tables else ""
-            if why:
+            if why and not asks_for(it.pick):
                 tables.add(it.pick.table)
                 choice.drop(it.pick, why)
         is_done = not tables

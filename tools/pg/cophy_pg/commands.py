@@ -10,18 +10,23 @@ from cophy_pg.folder import Folder
 from cophy_pg.rewrite.options import words_of
 
 
-def commands_text(words: argparse.Namespace, kept: Folder, budget: int) -> str:
+def commands_text(words: argparse.Namespace, kept: Folder, budget: int, has_rules: bool) -> str:
     """A line for each step, without the connection. The budget is the program's, in pages."""
     both = [kept.path(folder.CATALOGUE), kept.path(folder.WORKLOAD)]
     chosen = _chosen(words)
     nodes = ["--nodes", str(words.nodes)] if words.nodes else []
     trusted = ["--i-trust-the-statements"] if words.is_trusted else []
     advice, certificate, curve = kept.path(folder.ADVICE), kept.path(folder.CERTIFICATE), kept.path(folder.CURVE)
+    ruled: list[list[str]] = []
+    if has_rules:
+        ruled = [[words.program, "ruled", *both, str(budget), kept.path(folder.RULES), *nodes]]
+        advice = kept.path(folder.RULED)
     steps = [
         ["cophy-pg", "export", *both, "--report", kept.path(folder.EXPORT), *chosen, *words_of(words)],
         ["cophy-lint", *both],
         [words.program, "advise", *both, str(budget), *nodes, "--cert", certificate],
         [words.program, "check", *both, certificate],
+        *ruled,
         ["cophy-pg", "verify", *both, advice, *chosen, *trusted, "--advice", kept.path(folder.KEPT)],
         ["cophy-pg", "why", *both, kept.path(folder.KEPT)],
         ["cophy-pg", "ddl", both[0], kept.path(folder.KEPT), "--script"],
@@ -30,7 +35,7 @@ def commands_text(words: argparse.Namespace, kept: Folder, budget: int) -> str:
     ]
     head = [
         "# Each step of cophy-pg advise alone. The connection is that of PGHOST, PGDATABASE and their like, or of --dsn.",
-        f"# What cophy advise prints goes to {shown(advice)}, what curve prints to {shown(curve)}.",
+        f"# What cophy {'ruled' if ruled else 'advise'} prints goes to {shown(advice)}, what curve prints to {shown(curve)}.",
     ]
     return "\n".join([*head, *map(shlex.join, steps)]) + "\n"
 

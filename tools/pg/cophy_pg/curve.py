@@ -100,7 +100,7 @@ def curve(words: argparse.Namespace) -> int:
     if without is None:
         without = program.whatif(()).total
     if words.json:
-        print(json.dumps([_as_json(it, without) for it in found], indent=2))
+        print(json.dumps([as_json(it, without) for it in found], indent=2))
     else:
         print("\n".join(_table(found, without)))
     if words.png:
@@ -113,7 +113,8 @@ def _saved(it: Advice, without: int) -> float:
     return 100 * (without - it.cost) / without if without else 0.0
 
 
-def _as_json(it: Advice, without: int) -> dict[str, Any]:
+def as_json(it: Advice, without: int) -> dict[str, Any]:
+    """A point, as `--json` has it."""
     keys = ("budget", "size", "cost", "bound", "gap", "is_finished")
     picks = {"picks": [pick.shown() for pick in it.picks]}
     return {key: getattr(it, key) for key in keys} | {"saved": round(_saved(it, without), 4)} | picks

@@ -13,6 +13,7 @@ from cophy_text.files import File, NoFile, shown
 CATALOGUE, WORKLOAD, EXPORT = "catalogue.toml", "workload.sql", "export.txt"
 SNAPSHOT, LINT = "snapshot.json", "lint.txt"
 ADVICE, CERTIFICATE, CHECK = "advice.txt", "certificate", "check.txt"
+RULES, RULED = "rules.txt", "ruled.txt"
 VERIFY, KEPT, DDL, PLANS = "verify.json", "kept.txt", "indexes.sql", "plans.json"
 SUMMARY, RESULT, REPORT, COMMANDS = "summary.txt", "advice.json", "report.html", "commands.txt"
 CURVE = "curve.json"

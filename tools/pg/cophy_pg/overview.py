@@ -7,6 +7,8 @@ from cophy_text.answers import counted
 from cophy_text.shown import grouped, percent, share, short, space
 
 MOST_CHANGES = 5
+LITTLE = 1
+"""What an index has to save, in percent, so that nothing is said of that."""
 
 
 def lines_of(document: dict[str, Any]) -> list[str]:
@@ -14,6 +16,9 @@ def lines_of(document: dict[str, Any]) -> list[str]:
     lines = [_head(document), *(f"warning: {it}" for it in document["warnings"]), ""]
     for at, it in enumerate(document["picks"], 1):
         lines += [*_pick(at, it), ""]
+    little = [it for it in document["picks"] if max(it["saves"]["ours"], it["saves"]["server"]) < LITTLE]
+    if little and document["options"]["min_saving"] < LITTLE:
+        lines += [f"{len(little)} of these save less than {LITTLE} % each: --min-saving {LITTLE} leaves such out", ""]
     if document["left_out"]:
         lines += ["left out of the advice:", *(f"  {named(it)}: {it['why']}" for it in document["left_out"]), ""]
     unknown = [it for it in document["statements"] if it["not_explained"]]
@@ -49,17 +54,31 @@ def _head(document: dict[str, Any]) -> str:
     picks, count = document["picks"], len(document["statements"])
     written = sum(bool(it["numbers"]) for it in document["statements"])
     size = f", {space(document['stored_pages'])} of {space(document['asked_pages'])}" if picks else ""
-    what = f"database {document['database']!a}, {grouped(written)} of {counted(count, 'statement')}"
+    what = f"database {document['database']!a}, {grouped(written)} of {counted(count, 'statement')}{_part(document)}"
     return f"{headline(document)}{size}: {what}, {sum(document['seconds'].values()):,.1f} s"
+
+
+def _part(document: dict[str, Any]) -> str:
+    """What the statements that are priced have of all, where some were skipped."""
+    every = document["statements"]
+    if all(it["numbers"] for it in every):
+        return ""
+    what = "calls" if any(it["seconds"] is None for it in every) else "seconds"
+    priced = sum(it[what] for it in every if it["numbers"])
+    return f" with {share(priced, sum(it[what] for it in every))} of the {'time' if what == 'seconds' else what}"
 
 
 def _pick(at: int, pick: dict[str, Any]) -> list[str]:
     saves, changes = pick["saves"], [it for it in pick["changes"] if is_seen(it)]
     lines = [f"{at}. {it}" if n == 0 else f"   {it}" for n, it in enumerate(pick["statements"])]
-    taken = {"taken": "", "unknown": "; whether plans take it isn't known"}[pick["outcome"]]
+    taken = {
+        "taken": "",
+        "unknown": "; whether plans take it isn't known",
+        "not taken": "; a rule asks for it, no plan takes it",
+    }
     lines += [
         f"   {space(pick['stored_pages'])}; saves {percent(saves['ours'])} by our model, "
-        f"{percent(saves['server'])} by the server's{taken}"
+        f"{percent(saves['server'])} by the server's{taken[pick['outcome']]}"
     ]
     lines += [f"   unknown for {it}" for it in pick["unknown_for"]]
     lines += [f"   {pick['begins']} begins with its columns"] if pick["begins"] else []
@@ -100,9 +119,8 @@ def end_of(document: dict[str, Any]) -> str:
     if cost["after"] == cost["bound"]:
         return "by our model no other indexes within the budget cost less"
     if cost["finished"]:
-        return (
-            "by our model no indexes within the budget cost less than the bound; with what was left out it is reached"
-        )
+        how = "without rules, and with" if document["rules"] else "with"
+        return f"by our model no indexes within the budget cost less than the bound; {how} what was left out, it is reached"
     return "the search was stopped before its cost reached the bound: a higher --nodes may find better"
 
 

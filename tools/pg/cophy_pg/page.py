@@ -38,7 +38,7 @@ def add_report(commands: argparse._SubParsersAction[argparse.ArgumentParser]) ->
         help="write what a folder of advise holds as one page of HTML",
         description="Writes report.html into a folder of advise: the indexes with their reasons, each statement with its "
         "plans before and after, what was changed and left out, and how to check the certificate. The page asks nothing of "
-        "any network. Where what cophy-pg curve --json prints stands in the folder as curve.json, it has the curve too.",
+        "any network. Its curve is that of curve.json, what cophy-pg curve --json prints, where the folder has that.",
     )
     parser.add_argument("folder", metavar="DIR", help="the folder of advise")
     parser.add_argument("--output", metavar="FILE", help="the file of the page (report.html in the folder)")

@@ -1,6 +1,7 @@
 """How large picks are as PostgreSQL stores them, beside the pages that the model counts."""
 from __future__ import annotations
 
+import math
 from collections.abc import Iterable
 
 from cophy_text.answers import Candidate, counted
@@ -16,6 +17,25 @@ ALIGNED = {
 }
 """The types of a fixed length that stand at a multiple of so many bytes; others do where they are long."""
 
+FIXED = frozenset(("bool", "uuid", "char", "macaddr", "macaddr8"))
+"""Other types all of whose values have as many bytes."""
+SAMPLED = 30000
+"""The rows of which ANALYZE knows each, at its default; of more it counts distinct values in a sample."""
+DENSE = 2
+"""Whole numbers lie close where they have at most so many places for each that is known."""
+
+
+def values_of(column: Column, rows: int) -> float:
+    """How many values a column has. ANALYZE's count comes from a sample, and is too low where each value has few rows; of
+    whole numbers that lie close, as the keys of another table do, at least as many occur as so many draws hit."""
+    known = min(rows, column.distinct or rows)
+    if rows <= SAMPLED or column.kind == "text" or column.scale or column.has_fractions or not column.has_range():
+        return known
+    places = (column.high or 0) - (column.low or 0) + 1
+    if places > DENSE * known:
+        return known
+    return max(known, -places * math.expm1(-rows / places))
+
 
 def part_of(column: Column, rows: int) -> Part:
     """A column in an entry; one whose type isn't known as its kind and its width let suppose."""
@@ -23,7 +43,8 @@ def part_of(column: Column, rows: int) -> Part:
         alignment = ALIGNED.get(column.type, 4 if column.width >= LONG else 1)
     else:
         alignment = column.width
-    return Part(column.width, alignment, column.distinct or rows, column.nulls)
+    varies = column.kind == "text" and column.type not in ALIGNED and column.type not in FIXED
+    return Part(column.width, alignment, values_of(column, rows), column.nulls, varies)
 
 
 def stored_pages(schema: Schema, pick: Candidate, keys: int | None = None) -> int | None:

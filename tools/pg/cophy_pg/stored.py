@@ -23,19 +23,22 @@ NOT_SHARED = frozenset(("numeric", "float4", "float8", "jsonb", "interval"))
 
 @dataclass(frozen=True)
 class Part:
-    """A column in an entry: the average bytes of a value, its alignment, how many values there are, and the share of the
-    rows that have none."""
+    """A column in an entry: the average bytes of a value, its alignment, how many values there are, the share of the rows that
+    have none, and whether values may differ in their bytes."""
 
     size: int
     alignment: int
     distinct: float
     nulls: float = 0.0
+    varies: bool = False
 
 
 def pages(rows: float, columns: Sequence[Part], is_shared: bool) -> int:
     """The pages of 8192 bytes of an index over so many rows; `is_shared` says whether its kind stores a key once for
     several rows."""
-    leaves = max(1, math.ceil(_size(rows, columns, is_shared, HEADER) / (FILLED * ROOM)))
+    # What would make a page fuller than it is to be goes to the next one: half an entry on average.
+    room = max(FILLED * ROOM / 2, FILLED * ROOM - _entry(columns, HEADER) / 2)
+    leaves = max(1, math.ceil(_size(rows, columns, is_shared, HEADER) / room))
     above, level = 0, leaves
     while level > 1:
         level = math.ceil(level / FAN_OUT)
@@ -59,12 +62,15 @@ def _size(rows: float, columns: Sequence[Part], is_shared: bool, header: int) ->
     return keys * entry + (rows - alone) * ROW_PLACE + (keys - alone) * GAP
 
 
-def _entry(columns: Iterable[Part], header: int) -> int:
-    """The bytes of an entry with its pointer."""
-    size = header
+def _entry(columns: Iterable[Part], header: int) -> float:
+    """The bytes of an entry with its pointer. Behind a value whose bytes vary, what stands at a multiple of some loses half of
+    that less one on average; that average is taken where it is more than what the average value loses."""
+    size, mean, varies = header, float(header), False
     for it in columns:
+        mean += it.size + (it.alignment - 1) / 2 if varies else _aligned(size, it.alignment) - size + it.size
         size = _aligned(size, it.alignment) + it.size
-    return POINTER + _aligned(size, 8)
+        varies |= it.varies
+    return POINTER + (max(_aligned(size, 8), mean + 3.5) if varies else _aligned(size, 8))
 
 
 def _keys(rows: float, counts: Iterable[float]) -> float:

@@ -217,7 +217,9 @@ def advice_text(advice: Advice, kept: list[int], cost: int) -> str:
     picks = [it for it in advice.picks if it.number in kept]
     lines = [f"budget {advice.budget}", *(f"pick {it.number} {it.shown()} {it.pages} pages" for it in picks)]
     lines += [f"size {sum(it.pages for it in picks)}", f"cost {cost}", f"bound {advice.bound}"]
-    lines += [f"gap {cost - advice.bound}", f"nodes {advice.nodes}", "finished" if cost == advice.bound else "stopped"]
+    # A cost below the bound is that of a program whose bound is false, as a stand-in's may be; there is no gap then.
+    gap = max(0, cost - advice.bound)
+    lines += [f"gap {gap}", f"nodes {advice.nodes}", "finished" if gap == 0 else "stopped"]
     return "\n".join(lines) + "\n"
 
 

@@ -1,0 +1,133 @@
+"""The searches of `advise`: for what fills the budget as PostgreSQL stores it, under rules or without any."""
+from __future__ import annotations
+
+import os
+from dataclasses import dataclass, field, replace
+
+from cophy_text import files
+from cophy_text.answers import Advice, Candidate, counted, read_advice
+from cophy_text.shown import MOST_PAGES, grouped
+from cophy_pg import folder
+from cophy_pg.budget import filled
+from cophy_pg.curve import between
+from cophy_pg.folder import Folder
+from cophy_pg.inputs import NoInput
+from cophy_pg.program import Program
+from cophy_pg.progress import Progress, say
+from cophy_pg.rules import Translation
+from cophy_pg.schema import Schema
+from cophy_pg.sizes import stored_size
+
+POINTS = 6
+"""How many points a curve has, where there aren't more that were searched for anyhow."""
+
+
+@dataclass
+class Rules:
+    """Rules in the program's words: those that were given, and one for each pick that no plan takes; and what there is to say
+    of those that were given and left out."""
+
+    given: list[str] = field(default_factory=list)
+    forbidden: list[Candidate] = field(default_factory=list)
+    remarks: list[str] = field(default_factory=list)
+
+    @staticmethod
+    def of(schema: Schema, name: str | None) -> Rules:
+        """Those of a file with PostgreSQL's names. What they say of tables that no statement names is left out."""
+        if name is None:
+            return Rules()
+        translation = Translation(schema, skips_unknown=True)
+        translation.take(files.read(name).decode(errors="replace"))
+        for it in translation.faults:
+            say(f"{files.shown(name)}, {it}")
+        if translation.faults:
+            raise NoInput(f"{files.shown(name)}: {counted(len(translation.faults), 'line')} can't be translated")
+        return Rules(translation.lines, remarks=[f"rules, {it}" for it in translation.remarks])
+
+    def lines(self) -> list[str]:
+        """All of them; none where there are none."""
+        return [*self.given, *(f"never {it.shown()}" for it in self.forbidden)]
+
+    def text(self) -> str:
+        """All of them as a file."""
+        return "".join(f"{it}\n" for it in self.lines())
+
+    def asks_for(self, pick: Candidate) -> bool:
+        """Whether a rule wants that pick, taken or not."""
+        return f"must {pick.shown()}" in self.given
+
+    def forbid(self, picks: list[Candidate]) -> bool:
+        """Forbids picks from now on; whether any wasn't before."""
+        new = [it for it in picks if it not in self.forbidden]
+        self.forbidden += new
+        return bool(new)
+
+
+@dataclass
+class Searches:
+    """Searches within one folder. The certificates of those without rules stay there until the end."""
+
+    program: Program
+    kept: Folder
+    asked: int
+    nodes: tuple[str, ...]
+    progress: Progress
+    texts: dict[int, str] = field(default_factory=dict)
+    ruled: dict[tuple[int, str], str] = field(default_factory=dict)
+
+    def filling(self, schema: Schema, rules: Rules) -> Advice:
+        """The advice that fills the budget as PostgreSQL stores it."""
+        lines = rules.text()
+        if lines:
+            self.kept.write({folder.RULES: lines})
+        return filled(self.asked, lambda it: self._at(it, lines), lambda it: stored_size(schema, it.picks))
+
+    def _at(self, budget: int, rules: str = "") -> Advice:
+        self.progress(f"advising for {grouped(budget)} pages by the model")
+        if rules:
+            words = (str(budget), self.kept.path(folder.RULES), *self.nodes)
+            text = self.ruled[budget, rules] = self.program.text("ruled", *words)
+        elif budget in self.texts:
+            text = self.texts[budget]
+        else:
+            trial = self.kept.path(f"{folder.CERTIFICATE}-{budget}")
+            text = self.program.text("advise", str(budget), *self.nodes, "--cert", trial)
+            self.texts[budget] = text
+            os.chmod(trial, files.PRIVATE)
+        return read_advice(text)
+
+    def proved(self, budget: int) -> tuple[Advice, str]:
+        """The advice for a budget without rules, which goes into the folder with its certificate, and what `check` says of
+        that. Its bound holds under all rules."""
+        advice = self._at(budget)
+        os.replace(self.kept.path(f"{folder.CERTIFICATE}-{budget}"), self.kept.path(folder.CERTIFICATE))
+        text = self.program.text("check", self.kept.path(folder.CERTIFICATE))
+        self.kept.write({folder.ADVICE: self.texts[budget], folder.CHECK: text})
+        return advice, text.strip()
+
+    def curve(self) -> list[Advice]:
+        """What less and more space would buy without rules: 0, what was searched for, what no budget limits, and some where the
+        curve bends."""
+        most = self._at(MOST_PAGES)
+        known = {it: read_advice(text) for it, text in self.texts.items() if it < most.size}
+        last = [replace(most, budget=most.size)] if most.size else []
+        found = sorted([*({0: self._at(0)} | known).values(), *last], key=lambda it: it.budget)
+        while len(found) < POINTS and (budget := between(found)) is not None:
+            found = sorted([*found, self._at(budget)], key=lambda it: it.budget)
+        return found
+
+    def keep(self, budget: int, rules: str) -> None:
+        """Leaves in the folder what the search under these rules printed."""
+        if rules:
+            self.kept.write({folder.RULES: rules, folder.RULED: self.ruled[budget, rules]})
+        else:
+            self.kept.clear(folder.RULES)
+
+    def clear(self) -> None:
+        """Takes what is left of certificates away."""
+        self.kept.clear(*(f"{folder.CERTIFICATE}-{it}" for it in self.texts))
+
+
+def listed_in(rules: str) -> list[str]:
+    """The rules of a file without its comments."""
+    return [it for it in rules.splitlines() if not it.startswith("#")]
