@@ -3,14 +3,19 @@
 
 A statement costs 900000. A candidate is an index over one column of a table of the catalogue that a statement names; a
 statement that names table and column costs a tenth of that under it, and one that writes its table 1000 more. Advice is
-what saves something, in the order of the candidates, as long as it fits. Statements that differ in literals are folded.
+what saves something, or rules want, in the order of the candidates, as long as it fits; its certificate says what is to be
+proved. Statements that differ in literals are folded.
 """
 from __future__ import annotations
 
+import os
 import re
 import sys
 import tomllib
 from pathlib import Path
+
+MOST = int(os.environ.get("STAND_IN_MOST", "256"))
+"""How many picks an advice has at most."""
 
 
 def main() -> int:
@@ -27,29 +32,56 @@ def main() -> int:
         for at, (weight, text) in enumerate(every, 1):
             print(f"statement {at} weight {weight} cost {price(text, [indexes[it - 1] for it in chosen])}")
         print(f"total {total(every, [indexes[it - 1] for it in chosen])}")
-    elif command == "advise":
-        budget, size, picks = int(more[0]), 0, list[int]()
-        for at, it in enumerate(indexes, 1):
-            is_good = total(every, [it]) < total(every, []) and size + it[2] <= budget
-            picks, size = (picks + [at], size + it[2]) if is_good else (picks, size)
-        cost = total(every, [indexes[it - 1] for it in picks])
+    elif command in ("advise", "ruled"):
+        is_ruled = command == "ruled"
+        budget = int(more[0])
+        picks, size, cost, certificate = advised(budget, every, indexes, Path(more[1]).read_text() if is_ruled else "")
+        print("must 0 never 0\n" * is_ruled, end="")
         print(f"budget {budget}\ncandidates {len(indexes)} left over 0")
         for at in picks:
             print(f"pick {at} {indexes[at - 1][0]}({indexes[at - 1][1]}) {indexes[at - 1][2]} pages")
         print(f"size {size}\ncost {cost}\nbound {cost}\ngap 0\nnodes 1 of 20000\nfinished")
         if "--cert" in more:
-            Path(more[more.index("--cert") + 1]).write_text(f"proved cost {cost} bound {cost} budget {budget}\n")
+            Path(more[more.index("--cert") + 1]).write_text(certificate)
+    elif command == "sweep":
+        sweep(more, every, indexes)
     elif command == "candidates":
         for at, (table, column, pages) in enumerate(indexes[:256], 1):
             print(f"{at} {table}({column}) {pages} pages")
         print(f"left over {max(0, len(indexes) - 256)}")
     elif command == "check":
-        print(Path(more[0]).read_text(), end="")
+        print(Path(more[0]).read_text().splitlines()[-1])
     elif command == "fold":
         print(folded(listed, Path(more[0])))
     elif command == "explain":
         print(f"statement {more[1]} plan 900000 upkeep 0")
     return 0
+
+
+def sweep(words: list[str], every: list[tuple[int, str]], indexes: list[tuple[str, str, int]]) -> None:
+    """Prints the points of the words, and writes their certificates."""
+    first, step, count = map(int, words[:3])
+    for at in range(1, count + 1):
+        budget = first + (at - 1) * step
+        _, size, cost, certificate = advised(budget, every, indexes)
+        print(f"point {at} budget {budget} size {size} cost {cost} bound {cost} best {cost} low {cost} nodes 1")
+        Path(f"{words[words.index('--cert') + 1]}{at}").write_text(certificate)
+    print("finished")
+
+
+def advised(
+    budget: int, every: list[tuple[int, str]], indexes: list[tuple[str, str, int]], rules: str = ""
+) -> tuple[list[int], int, int, str]:
+    """The picks, their pages, the cost, and a certificate."""
+    size, picks = 0, list[int]()
+    for at, it in sorted(enumerate(indexes, 1), key=lambda it: f"must {it[1][0]}({it[1][1]})" not in rules):
+        is_good = total(every, [it]) < total(every, []) or f"must {it[0]}({it[1]})" in rules
+        if is_good and len(picks) < MOST and size + it[2] <= budget and f"never {it[0]}({it[1]})" not in rules:
+            picks, size = picks + [at], size + it[2]
+    picks.sort()
+    cost = total(every, [indexes[it - 1] for it in picks])
+    config = "".join(f" {it}" for it in picks)
+    return picks, size, cost, f"config{config}\nproved cost {cost} bound {cost} budget {budget}\n"
 
 
 def folded(listed: list[tuple[str, str]], out: Path) -> str:

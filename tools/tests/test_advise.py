@@ -4,6 +4,7 @@ from __future__ import annotations
 import argparse
 import importlib.util
 import json
+import os
 import re
 import shlex
 import stat
@@ -30,7 +31,7 @@ UPDATE customer SET city = 'City 9' WHERE id = 12;
 SELECT name FROM customer WHERE no_function(city) = 1;
 """
 FILES = (
-    "advice.json advice.txt catalogue.toml certificate check.txt commands.txt export.txt indexes.sql kept.txt lint.txt "
+    "advice.json advice.txt catalogue.toml certificate check.txt commands.txt curve.json export.txt indexes.sql kept.txt lint.txt "
     "plans.json summary.txt verify.json workload.sql"
 ).split()
 HAS_JINJA = importlib.util.find_spec("jinja2") is not None
@@ -64,7 +65,7 @@ class Shown(unittest.TestCase):
 
         given: dict[str, object] = {"nodes": None, "is_trusted": False, **dict.fromkeys(TEXTS, True), "min_calls": 1}
         given |= {"program": "cophy", "sql": None, "log": None, "since": None, "tables": [], "users": []}
-        text = commands_text(argparse.Namespace(**given), Folder("a\nb '$(c)"), 5)
+        text = commands_text(argparse.Namespace(**given), Folder("a\nb '$(c)"), 5, False)
         head, steps = text.split("cophy-pg export", 1)
         self.assertTrue(all(it.startswith("#") for it in head.splitlines()), head)
         self.assertEqual(shlex.split(steps)[0], "a\nb '$(c)/catalogue.toml")
@@ -191,9 +192,58 @@ class Advise(unittest.TestCase):
         found = self.advise()
         why = {f"{it['table']}({', '.join(it['columns'])})": it["why"] for it in found["left_out"]}
         self.assertEqual(why.get("product(stock)"), "no plan of the server takes it")
+        self.assertEqual(found["rules"], [])
         self.assertGreater(found["cost"]["after"], found["cost"]["bound"])
         self.assertNotIn("product(stock)", (self.folder / "kept.txt").read_text())
         self.assertIn("product(stock)", (self.folder / "advice.txt").read_text())
+
+    def test_what_no_plan_takes_makes_room_for_others(self) -> None:
+        self.sql.write_text(
+            "-- weight 3\nSELECT id FROM customer WHERE name > 'A';\nSELECT id FROM customer WHERE city = 'City 3';\n"
+        )
+        found = self.advise(STAND_IN_MOST="1")
+        self.assertEqual([it["columns"] for it in found["picks"]], [["city"]])
+        self.assertEqual(found["rules"], ["never customer(name)"])
+        why = [(it["columns"], it["why"]) for it in found["left_out"]]
+        self.assertEqual(why, [(["name"], "no plan of the server takes it")])
+        self.assertIn("customer(name)", (self.folder / "advice.txt").read_text())
+        self.assertNotIn("customer(name)", (self.folder / "ruled.txt").read_text())
+        self.assertIn(f"budget {found['budget_pages']}", found["proved"])
+        steps = [shlex.split(it) for it in (self.folder / "commands.txt").read_text().splitlines()[2:]]
+        (ruled,) = [it for it in steps if it[1] == "ruled"]
+        few = {**os.environ, "STAND_IN_MOST": "1"}
+        said = subprocess.run(ruled, capture_output=True, check=True, env=few).stdout
+        self.assertEqual(said, (self.folder / "ruled.txt").read_bytes())
+        summary = (self.folder / "summary.txt").read_text()
+        self.assertIn("without rules, and with what was left out, it is reached", summary)
+
+    def test_rules_say_what_has_to_be_and_what_never_may(self) -> None:
+        rules = self.here / "rules"
+        rules.write_text("# ours\nnever sales.orders(total)\nmust product(stock)\nnever nowhere\n")
+        self.sql.write_text(QUERIES + "SELECT id FROM product WHERE stock > 0;\n")
+        found = self.advise("--rules", str(rules))
+        self.assertEqual(found["rules"][:2], ["never sales_orders(total)", "must product(stock)"])
+        picks = {f"{it['table']}({', '.join(it['columns'])})": it["outcome"] for it in found["picks"]}
+        self.assertEqual(picks.get("product(stock)"), "not taken")
+        self.assertNotIn("sales_orders(total)", picks)
+        summary = (self.folder / "summary.txt").read_text()
+        self.assertIn("a rule asks for it, no plan takes it", summary)
+        if HAS_JINJA:
+            self.assertIn("A rule asks for it", (self.folder / "report.html").read_text())
+        self.assertIn("rules, line 4: the catalogue has no table 'nowhere'", found["warnings"])
+        rules.write_text("must product\n")
+        words = (
+            "advise",
+            "--sql",
+            str(self.sql),
+            "--budget",
+            "1MB",
+            "--folder",
+            str(self.folder),
+            "--rules",
+            str(rules),
+        )
+        self.assertIn("1 line can't be translated", self.call(*words, status=1).stderr)
 
     def test_limits_leave_out_what_saves_the_least(self) -> None:
         self.sql.write_text(QUERIES + "-- weight 5\nSELECT id FROM customer WHERE name = 'Name 3';\n")

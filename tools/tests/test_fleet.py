@@ -48,7 +48,7 @@ for it in poison late stops recovers lies; do
     cmp -s catalogue.toml "$here/$it.toml" || continue
     case $it:$1 in
         poison:* | late:check) kill -9 "$PPID" && exit 1 ;;
-        stops:*) exit 7 ;;
+        stops:advise) exit 7 ;;
         recovers:*) [ -e "$here/first" ] && [ -e "$here/second" ] || { mkdir "$here/first" || mkdir "$here/second"; exit 7; } ;;
         lies:check) echo "not proved: no candidate 7" && exit 6 ;;
     esac
@@ -127,16 +127,18 @@ class OverFleet(unittest.TestCase):
 @unittest.skipUnless(COPHY.exists(), "the program isn't built")
 class Fleet(OverFleet):
     def proves(self, name: str) -> None:
-        """Sees that the program itself accepts each certificate that is kept of a database."""
+        """Sees that the program itself accepts each certificate that is kept of a database, over the inputs kept with it."""
         with sqlite3.connect(self.here / "fleet.sqlite") as store:
             rows = store.execute(
                 "SELECT budget, cost, bound, certificate FROM point WHERE database = ? ORDER BY budget", (name,)
             ).fetchall()
+            inputs = store.execute("SELECT catalogue, workload FROM input WHERE database = ?", (name,)).fetchone()
         self.assertEqual((len(rows) >= 2, rows[0][0], rows[-1][0]), (True, 0, 10**12))
         for budget, cost, bound, certificate in rows:
-            (self.here / "certificate").write_bytes(zlib.decompress(certificate))
-            files = [str(self.here / it) for it in (f"{name}.toml", f"{name}.sql", "certificate")]
-            ran = subprocess.run([str(COPHY), "check", *files], capture_output=True, text=True, check=False)
+            files = [self.here / it for it in ("kept.toml", "kept.sql", "certificate")]
+            for file, content in zip(files, (*inputs, certificate)):
+                file.write_bytes(zlib.decompress(content))
+            ran = subprocess.run([str(COPHY), "check", *map(str, files)], capture_output=True, text=True, check=False)
             self.assertEqual(ran.stdout, f"proved cost {cost} bound {bound} budget {budget}\n")
 
     def test_forty_databases_of_which_three_have_no_answer_while_workers_die(self) -> None:

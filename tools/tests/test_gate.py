@@ -64,7 +64,7 @@ class Completion(unittest.TestCase):
     def test_each_place_is_completed_by_what_may_stand_there(self) -> None:
         files = sorted(str(it.relative_to(ROOT)) for it in ROOT.glob("examples/shop.*"))
         table = [
-            ("_cophy", ("cophy", "c"), ["candidates", "check", "cost"]),
+            ("_cophy", ("cophy", "c"), ["candidates", "check", "check-ruled", "cost"]),
             ("_cophy", ("cophy", "--u"), ["--unproved"]),
             ("_cophy", ("cophy", "--unproved", "ex"), ["explain"]),
             ("_cophy", ("cophy", "cost", "examples/shop."), files),

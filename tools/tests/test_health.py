@@ -52,22 +52,23 @@ SELECT count(*) FROM part WHERE day = '2021-05-05';"""
 class Stored(unittest.TestCase):
     def test_entries_and_pages(self) -> None:
         four, few = Part(4, 4, 1000000), Part(4, 4, 50)
-        # 20,000,000 bytes are 2727 leaves of 7335, and 11 pages and a root stand above them, and one before all.
-        self.assertEqual(pages(1000000, [four], True), 1 + 2727 + 11 + 1)
+        # 20,000,000 bytes are 2731 leaves of 7335 less half an entry, and 11 pages and a root stand above them, and one before
+        # all. PostgreSQL's own is of 2745.
+        self.assertEqual(pages(1000000, [four], True), 1 + 2731 + 11 + 1)
         for parts, entry in (
             ([four, four], 20),
             ([four, Part(8, 8, 9)], 28),
             ([Part(9, 1, 9)], 28),
             ([Part(1, 1, 9), four], 20),
         ):
-            leaves = math.ceil(1000000 * entry / 7335)
+            leaves = math.ceil(1000000 * entry / (7335 - entry / 2))
             self.assertEqual(pages(1000000, parts, False), 1 + leaves + math.ceil(leaves / 250) + 1)
         # 50 keys of 20,000 rows each are stored as 7576 of 132.
-        self.assertEqual(pages(1000000, [few], True), 1 + 842 + 4 + 1)
-        self.assertEqual(pages(1000000, [few], False), 1 + 2727 + 11 + 1)
+        self.assertEqual(pages(1000000, [few], True), 1 + 843 + 4 + 1)
+        self.assertEqual(pages(1000000, [few], False), 1 + 2731 + 11 + 1)
         # Of rows without a value the key is stored as seldom.
-        self.assertEqual(pages(1000000, [Part(4, 4, 1000, 1.0)], True), 1 + 842 + 4 + 1)
-        self.assertEqual(pages(1000000, [Part(4, 4, 500000, 0.5)], True), 1 + 1785 + 8 + 1)
+        self.assertEqual(pages(1000000, [Part(4, 4, 1000, 1.0)], True), 1 + 843 + 4 + 1)
+        self.assertEqual(pages(1000000, [Part(4, 4, 500000, 0.5)], True), 1 + 1787 + 8 + 1)
         self.assertEqual(pages(0, [four], True), 2)
 
 

@@ -83,7 +83,7 @@ class Isolated(OverCopy):
         found = scripts()
         names = {str(it.relative_to(ROOT)) for it in found}
         self.assertLessEqual({"tools/pg/cophy-pg", "tools/pg/measure/agree.py", "tools/tests/run"}, names)
-        self.assertEqual(len([it for it in names if it.startswith("bench/")]), 13)
+        self.assertEqual(len([it for it in names if it.startswith("bench/")]), 14)
         for it in found:
             with self.subTest(script=it.name):
                 self.assertRegex(it.read_bytes().split(b"\n")[0], rb"python3 -I\w*\Z")
@@ -157,7 +157,7 @@ class Isolated(OverCopy):
         self.assertIn("no results", self.call(tool, "share", "5", "fleet.toml").stderr)
         program = self.copy.root / "crates" / "cophy_cli" / "out" / "cophy_cli"
         ran = self.call(tool, "run", "fleet.toml", "--workers", "1", "--program", program, FAKE_STATUS="7")
-        self.assertIn('"fault": "cophy advise stopped with status 7"', ran.stdout)
+        self.assertIn('"fault": "cophy fold stopped with status 7"', ran.stdout)
 
     @unittest.skipUnless(HAS_PARSER, "python3-pglast isn't installed")
     def test_rewriting(self) -> None:

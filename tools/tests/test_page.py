@@ -66,7 +66,7 @@ def document(folder: str) -> dict[str, Any]:
         "database": "shop & <b>",
         "server": "15.18",
         "folder": folder,
-        "options": options | {"tables": [], "users": []},
+        "options": options | {"rules": None, "tables": [], "users": []},
         "asked_pages": 262144,
         "budget_pages": 262144,
         "size_pages": 30,
@@ -78,6 +78,7 @@ def document(folder: str) -> dict[str, Any]:
         "warnings": ["t was never analysed: run ANALYZE, its numbers are guesses"],
         "lint": ["note: LIMIT costs and saves nothing, the whole statement is priced: statement 1"],
         "rewriting": ["3 statements, written as 2"],
+        "rules": ["never t(c)"],
         "functions": [],
         "picks": [
             {
