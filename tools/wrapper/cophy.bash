@@ -13,12 +13,12 @@ _cophy() {
     COMPREPLY=()
     case "$at:$command" in
         0:* | 1:*)
-            local words="cost explain whatif candidates advise check ruled bench"
+            local words="cost explain whatif candidates advise check ruled check-ruled fold bench"
             if [ "${COMP_WORDS[1]-}" != --unproved ] || [ "$COMP_CWORD" -eq 1 ]; then words+=" help version --unproved"; fi
             _cophy_words "$words" "$current"
             ;;
         [23]:cost | [23]:explain | [23]:whatif | [23]:candidates | [23]:advise | [23]:check) _cophy_files "$current" ;;
-        [23]:ruled) _cophy_files "$current" ;;
+        [23]:ruled | [2345]:check-ruled | [234]:fold) _cophy_files "$current" ;;
         4:explain | 4:whatif | 4:check | 5:ruled) _cophy_files "$current" ;;
         [5678]:advise | [6789]:ruled)
             case "${COMP_WORDS[COMP_CWORD - 1]}" in
@@ -40,7 +40,7 @@ _cophy_pg() {
     fi
     case "$command" in
         advise)
-            options+=" --budget --folder --since --min-calls --min-saving --most-per-table --table --user --nodes --sql --log"
+            options+=" --budget --folder --since --min-calls --min-saving --rules --most-per-table --no-curve --table --user --nodes --sql --log"
             options+="$rewriting --dsn --timeout --i-trust-the-statements --program --json"
             ;;
         health) options+=" --folder --min-size --dsn --timeout --program --json" ;;
