@@ -1,13 +1,19 @@
--- Internal costs by number.
+-- Internal costs by number, and the limits of free offers.
 use Rattle.std.proofs.Common.{◌≡◌, inl, inr, ℕ, ◌+◌, List, [], ◌∷◌, ◌++◌, get_or, sym, ap, ◌∙◌, subst, arith}
 use Rattle.std.proofs.lemmas.Bool.{cases_lt}
 use Rattle.std.proofs.lemmas.List.{length_push, get_or_push, get_or_append_left}
+use Rattle.std.proofs.lemmas.List.Elements.{All-cons, All-nil}
 use Rattle.adv_base.specs.Items.{Order}
+use Rattle.adv_base.specs.OfferTables.{OfferLimits, OfferTableLimits}
 use Rattle.plan_model.specs.declared.task.Task.{Task}
-use Rattle.plan_model.specs.Combinations.{IsInternal}
-use Rattle.inum_cache.specs.Numbering.{place_of, needs_in, needs_of}
+use Rattle.plan_model.specs.Combinations.{free, IsInternal}
+use Rattle.inum_cache.specs.Numbering.{order_in, place_of, needs_in, needs_of}
 use Rattle.inum_cache.specs.inner.Costing.{AreInternal}
 use Rattle.inum_cache.proofs.Testing.{same-places}
+
+pub free-limited : (orders : List (List Order)) (places : ℕ → ℕ) → ((slot place : ℕ) → OfferLimits slot (order_in orders slot place, 0)) → OfferTableLimits (free (needs_in orders places))
+free-limited orders places own slot =
+    All-cons (OfferLimits slot) (needs_in orders places slot, 0) [] (own slot (places slot)) (All-nil (OfferLimits slot))
 
 -- the cost of one combination more
 pub costs-more : (task : Task) (orders : List (List Order)) (costs places : List ℕ) (n cost : ℕ) → AreInternal task orders costs n → ((slot : ℕ) → get_or places slot 0 ≡ place_of orders n slot) → IsInternal task (needs_in orders (λ s. get_or places s 0)) cost → AreInternal task orders (costs ++ cost ∷ []) (n + 1)

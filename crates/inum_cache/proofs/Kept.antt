@@ -44,7 +44,7 @@ order-same task orders are slot place =
           ∙ sym (ap (λ (os : List Order). get_or os place []) (interesting_orders-past task slot past) ∙ single-at place)
     ]
 
-pub size-same : (task : Task) (orders : List (List Order)) → AreOrders task orders → (slot : ℕ) → slot < task.slots → size_in orders slot ≡ length (interesting_orders task slot)
+size-same : (task : Task) (orders : List (List Order)) → AreOrders task orders → (slot : ℕ) → slot < task.slots → size_in orders slot ≡ length (interesting_orders task slot)
 size-same task orders are slot below = ap length (are.each slot below)
 
 past-order : (task : Task) (orders : List (List Order)) → AreOrders task orders → (slot place : ℕ) → task.slots ≤ slot → order_in orders slot place ≡ []

@@ -5,11 +5,4 @@ pub mod Costing
 pub mod Kept
 pub mod Pricing
 pub mod Made
-pub mod Taking
-pub mod Fitting
-pub mod Passing
-pub mod Rowing
-pub mod Bounding
-pub mod Enough
-pub mod Least
 pub mod Cached

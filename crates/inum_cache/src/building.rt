@@ -67,10 +67,9 @@ fn made(alloc: Global, task: &Task, count: usize) -> Result<Cache, NoMemory>
 }
 
 /// The cache of a task: one template for each combination of interesting orders that no weaker one replaces, where one
-/// is weaker if it asks of each slot for a front of what the other asks, and replaces it if it costs no more. Costs come
-/// from one pass over the sets of slots, which keeps for each set, and each front of an order that an operator above can
-/// want, the templates that no other replaces (INUM's cache, over System R's interesting orders). Beside the cache it takes
-/// what the pass keeps, and one number for each combination. `TooManyCombinations` comes where the task has more than
+/// is weaker if it asks of each slot for a front of what the other asks, and replaces it if it costs no more. Costs
+/// come from one search, whose table keeps the rows of the slots whose orders stay from one combination to the next
+/// (INUM's cache, over System R's interesting orders). Beside the cache it takes one number for each combination. `TooManyCombinations` comes where the task has more than
 /// `MOST_COMBINATIONS`, with their number; `Memory` is want of memory.
 pub fn build(alloc: Global, task: &Task) -> Result<Cache, CacheFault>
     ensures made { IfOk result (λ cache. caches.IsCacheOf task.now cache) }

@@ -1,0 +1,5 @@
+pub mod Combinations
+pub mod Kept
+pub mod Sessions
+pub mod Steps
+pub mod inner

@@ -1,0 +1,2 @@
+-- What retells the loops of the code; nothing above this crate cites it.
+pub mod Parts
