@@ -1,18 +1,18 @@
 -- The options of a search behind its plain words.
-use Rattle.std.proofs.Common.{◌≡◌, ◌∙◌, ◌⊎◌, inl, inr, ℕ, suc, ◌+◌, ◌-◌, ◌<◌, ◌≤◌, Bool, true, false, cond, List, [], ◌∷◌, ◌++◌, length, codes, nat_eq, Option, Some, None, Result, Ok, Err, refl, sym, ap, subst, arith}
+use Rattle.std.proofs.Common.{◌≡◌, ◌∙◌, ◌⊎◌, inl, inr, ℕ, suc, ◌+◌, ◌≤◌, Bool, true, false, cond, List, [], ◌∷◌, ◌++◌, length, codes, nat_eq, Option, Some, None, Result, Ok, Err, refl, sym, ap, subst, arith}
 use Rattle.std.specs.Prelude.{decimal, option_to_list, is_some}
 use Rattle.std.specs.List.{starts_with}
 use Rattle.std.specs.Str.{bytes_eq}
 use Rattle.std.proofs.lemmas.List.{append_assoc, length-append}
 use Rattle.std.proofs.lemmas.Slice.Eq.{bytes_eq-Decides}
-use Rattle.adv_base.specs.Readings.{◌>>=◌, or_fault}
+use Rattle.adv_base.specs.Readings.{◌>>=◌}
 use Rattle.command_line.specs.declared.fault.WordFault.{WordFault}
-use Rattle.command_line.specs.declared.fault.WordFault.TheVariants.{BadNumber, Extra, Twice, UnknownOption, Missing}
+use Rattle.command_line.specs.declared.fault.WordFault.TheVariants.{Extra, Twice, UnknownOption, Missing}
 use Rattle.command_line.specs.CommandLine.{PlainOptions, no_options, word_at, number_at, nodes_option, cert_option, option_of, option_at, options_from}
 use Rattle.command_line.specs.Spellings.{IsWithin, Choice, Nodes, Cert, words_of, Choose}
 use Rattle.command_line.proofs.OptionLaws.{options_from-end, options_from-next}
 use Rattle.command_line.proofs.Results.{pick, pick_else, not_ok, bind_ok}
-use Rattle.command_line.proofs.WordLaws.{one_longer, moved, word_is, no_word, number_of_word, number_here, no_number, within}
+use Rattle.command_line.proofs.WordLaws.{one_longer, moved, word_is, no_word, number_here, within}
 
 -- ## One option
 

@@ -1,6 +1,6 @@
 -- What is read as a command is in the grammar as that command, and the other way round.
-use Rattle.std.proofs.Common.{◌≡◌, ◌∙◌, ◌⊎◌, inl, inr, ℕ, suc, ◌+◌, ◌-◌, ◌*◌, ◌<◌, ◌≤◌, ◌^◌, Bool, true, false, cond, nat_le, List, [], ◌∷◌, ◌++◌, length, codes, Option, Some, None, Result, Ok, Err, refl, sym, ap, subst, arith}
-use Rattle.std.specs.Prelude.{decimal, unwrap_or}
+use Rattle.std.proofs.Common.{◌≡◌, ◌∙◌, ◌⊎◌, inl, inr, ℕ, suc, ◌+◌, ◌<◌, ◌≤◌, ◌^◌, Bool, true, false, cond, nat_le, List, [], ◌∷◌, ◌++◌, length, codes, Option, Some, None, Result, Ok, Err, refl, sym, ap, subst, arith}
+use Rattle.std.specs.Prelude.{decimal}
 use Rattle.std.specs.Str.{bytes_eq}
 use Rattle.std.proofs.lemmas.Bool.{leb-true, le-leb}
 use Rattle.std.proofs.lemmas.Bool.Decides.{nat_tests}
@@ -10,8 +10,8 @@ use Rattle.adv_base.specs.Readings.{◌>>=◌, or_fault}
 use Rattle.command_line.specs.declared.fault.WordFault.{WordFault}
 use Rattle.command_line.specs.declared.fault.WordFault.TheVariants.{BadNumber, Extra, Missing, NoCommand, UnknownCommand}
 use Rattle.command_line.specs.Numbers.{number_within}
-use Rattle.command_line.specs.CommandLine.{PlainCommand, Cost, WhatIf, Explain, Candidates, Advise, Ruled, Check, CheckRuled, Fold, Bench, PlainOptions, no_options, nodes_of, WordKind, File, Number, Takes, Row, Plain, Search, word_at, number_at, end_at, options_from, cost_row, what_if_row, explain_row, candidates_row, advise_row, ruled_row, check_row, check_ruled_row, fold_row, bench_row, commands, name_of, read_plain, read_row, read_named, named_command, command_of}
-use Rattle.command_line.specs.Spellings.{IsWithin, Choice, words_of, Choose, IsSearch, IsCommandLine}
+use Rattle.command_line.specs.CommandLine.{PlainCommand, Cost, WhatIf, Explain, Candidates, Advise, Ruled, Sweep, Check, CheckRuled, Fold, Bench, PlainOptions, no_options, nodes_of, last_budget, asked_sweep, WordKind, File, Number, Takes, Row, Plain, Search, end_at, options_from, cost_row, what_if_row, explain_row, candidates_row, advise_row, ruled_row, sweep_row, check_row, check_ruled_row, fold_row, bench_row, commands, name_of, read_plain, read_row, read_named, named_command, command_of}
+use Rattle.command_line.specs.Spellings.{IsWithin, AreSweepBudgets, Choice, words_of, Choose, IsCommandLine}
 use Rattle.command_line.proofs.Choices.{chosen_reads, chosen_back}
 use Rattle.command_line.proofs.Results.{pick, not_ok, bind_ok}
 use Rattle.command_line.proofs.WordLaws.{one_longer, moved, word_is, no_word, number_of_word, no_number, number_here, within}
@@ -227,6 +227,10 @@ named_ruled : (words : List (List ℕ)) → command_of (codes "ruled" ∷ words)
 unfolding command_of named_command
 named_ruled words = refl
 
+named_sweep : (words : List (List ℕ)) → command_of (codes "sweep" ∷ words) ≡ read_row (codes "sweep" ∷ words) sweep_row
+unfolding command_of named_command
+named_sweep words = refl
+
 named_check : (words : List (List ℕ)) → command_of (codes "check" ∷ words) ≡ read_row (codes "check" ∷ words) check_row
 unfolding command_of named_command
 named_check words = refl
@@ -242,6 +246,20 @@ named_fold words = refl
 named_bench : (words : List (List ℕ)) → command_of (codes "bench" ∷ words) ≡ read_row (codes "bench" ∷ words) bench_row
 unfolding command_of named_command
 named_bench words = refl
+
+-- the budgets of a sweep go together exactly where the last is one
+steps_told : (cat load : List ℕ) (first step count : ℕ) → AreSweepBudgets first step count → asked_sweep cat load first step count ≡ Some (λ options. Sweep cat load first step count (nodes_of options) options.cert)
+steps_told cat load first step count steps = rw (le-leb (last_budget first step count) 1000000000000 steps.last_is.high)
+
+told_steps : (cat load : List ℕ) (first step count : ℕ) (command : PlainOptions → PlainCommand) → asked_sweep cat load first step count ≡ Some command →
+    (last_budget first step count ≤ 1000000000000) × ((λ options. Sweep cat load first step count (nodes_of options) options.cert) ≡ command)
+told_steps cat load first step count command e =
+    by_test (nat_le (last_budget first step count) 1000000000000) _ command refl e
+  where
+    by_test : (test : Bool) (asks command : PlainOptions → PlainCommand) → nat_le (last_budget first step count) 1000000000000 ≡ test → cond test (Some asks) None ≡ Some command →
+        (last_budget first step count ≤ 1000000000000) × (asks ≡ command)
+    by_test true asks command is told = (leb-true (last_budget first step count) 1000000000000 is, in_row asks command told)
+    by_test false asks command is told = absurd cc
 
 -- what is in the grammar is read
 pub reads : (words : List (List ℕ)) (command : PlainCommand) → IsCommandLine words command → command_of words ≡ Ok command
@@ -261,6 +279,11 @@ reads words (Ruled cat load budget rules nodes cert) h =
     rw (h.0.words_are, h.0.nodes_are) (named_ruled (cat ∷ load ∷ decimal budget ∷ rules ∷ words_of h.0.choices)
     ∙ search_reads (codes "ruled") (File ∷ File ∷ Number 0 1000000000000 ∷ File ∷ []) (λ cat load budget rules. Some (λ options. Ruled cat load budget rules (nodes_of options) options.cert))
     (cat, (load, (budget, (rules, tt)))) (λ options. Ruled cat load budget rules (nodes_of options) options.cert) h.0.choices h.0.given cert (omega arith, tt) (h.1, tt) refl h.0.chosen)
+reads words (Sweep cat load first step count nodes cert) h =
+    rw (h.0.words_are, h.0.nodes_are) (named_sweep (cat ∷ load ∷ decimal first ∷ decimal step ∷ decimal count ∷ words_of h.0.choices)
+    ∙ search_reads (codes "sweep") (File ∷ File ∷ Number 0 1000000000000 ∷ Number 1 1000000000000 ∷ Number 1 16 ∷ []) asked_sweep
+    (cat, (load, (first, (step, (count, tt))))) (λ options. Sweep cat load first step count (nodes_of options) options.cert) h.0.choices h.0.given cert
+    (omega arith, (omega arith, (omega arith, tt))) (h.1.first_is, (h.1.step_is, (h.1.count_is, tt))) (steps_told cat load first step count h.1) h.0.chosen)
 reads words (Check cat load third) h =
     rw h (named_check (cat ∷ load ∷ third ∷ []) ∙ row_reads (codes "check") (File ∷ File ∷ File ∷ []) Check (cat, (load, (third, tt))) tt tt)
 reads words (CheckRuled cat load rules cert) h =
@@ -320,22 +343,30 @@ in_row_of w words c (inr (inr (inr (inr (inr (inl h)))))) =
     let same : Ruled r.values.0 r.values.1.0 r.values.1.1.0 r.values.1.1.1.0 (nodes_of r.options) r.options.cert ≡ c = ap (λ (f : PlainOptions → PlainCommand). f r.options) asks ∙ r.same in
     subst (IsCommandLine (w ∷ words)) same (record { choices = r.choices; given = r.options.nodes; chosen = r.chosen; nodes_are = refl; words_are = line }, r.are.0)
 in_row_of w words c (inr (inr (inr (inr (inr (inr (inl h))))))) =
+    let r = search_back (codes "sweep") w words (File ∷ File ∷ Number 0 1000000000000 ∷ Number 1 1000000000000 ∷ Number 1 16 ∷ []) asked_sweep c h.1 in
+    let v = r.values.1.1 in
+    let line : w ∷ words ≡ codes "sweep" ∷ r.values.0 ∷ r.values.1.0 ∷ decimal v.0 ∷ decimal v.1.0 ∷ decimal v.1.1.0 ∷ words_of r.choices = cc (h.0, r.words_are) in
+    let told = told_steps r.values.0 r.values.1.0 v.0 v.1.0 v.1.1.0 r.command r.told in
+    let steps : AreSweepBudgets v.0 v.1.0 v.1.1.0 = record { first_is = r.are.0; step_is = r.are.1.0; count_is = r.are.1.1.0; last_is = record { low = omega arith; high = told.0 } } in
+    let same : Sweep r.values.0 r.values.1.0 v.0 v.1.0 v.1.1.0 (nodes_of r.options) r.options.cert ≡ c = ap (λ (f : PlainOptions → PlainCommand). f r.options) told.1 ∙ r.same in
+    subst (IsCommandLine (w ∷ words)) same (record { choices = r.choices; given = r.options.nodes; chosen = r.chosen; nodes_are = refl; words_are = line }, steps)
+in_row_of w words c (inr (inr (inr (inr (inr (inr (inr (inl h)))))))) =
     let r = row_back (codes "check") w words (File ∷ File ∷ File ∷ []) Check c h.1 in
     let line : w ∷ words ≡ codes "check" ∷ r.values.0 ∷ r.values.1.0 ∷ r.values.1.1.0 ∷ [] = cc (h.0, r.words_are) in
     subst (IsCommandLine (w ∷ words)) r.same line
-in_row_of w words c (inr (inr (inr (inr (inr (inr (inr (inl h)))))))) =
+in_row_of w words c (inr (inr (inr (inr (inr (inr (inr (inr (inl h))))))))) =
     let r = row_back (codes "check-ruled") w words (File ∷ File ∷ File ∷ File ∷ []) CheckRuled c h.1 in
     let line : w ∷ words ≡ codes "check-ruled" ∷ r.values.0 ∷ r.values.1.0 ∷ r.values.1.1.0 ∷ r.values.1.1.1.0 ∷ [] = cc (h.0, r.words_are) in
     subst (IsCommandLine (w ∷ words)) r.same line
-in_row_of w words c (inr (inr (inr (inr (inr (inr (inr (inr (inl h))))))))) =
+in_row_of w words c (inr (inr (inr (inr (inr (inr (inr (inr (inr (inl h)))))))))) =
     let r = row_back (codes "fold") w words (File ∷ File ∷ File ∷ []) Fold c h.1 in
     let line : w ∷ words ≡ codes "fold" ∷ r.values.0 ∷ r.values.1.0 ∷ r.values.1.1.0 ∷ [] = cc (h.0, r.words_are) in
     subst (IsCommandLine (w ∷ words)) r.same line
-in_row_of w words c (inr (inr (inr (inr (inr (inr (inr (inr (inr (inl h)))))))))) =
+in_row_of w words c (inr (inr (inr (inr (inr (inr (inr (inr (inr (inr (inl h))))))))))) =
     let r = row_back (codes "bench") w words (Number 0 18446744073709551615 ∷ Number 2 20 ∷ Number 1 500 ∷ Number 0 1000000000000 ∷ []) Bench c h.1 in
     let line : w ∷ words ≡ codes "bench" ∷ decimal r.values.0 ∷ decimal r.values.1.0 ∷ decimal r.values.1.1.0 ∷ decimal r.values.1.1.1.0 ∷ [] = cc (h.0, r.words_are) in
     subst (IsCommandLine (w ∷ words)) r.same (line, (r.are.0, (r.are.1.0, (r.are.1.1.0, r.are.1.1.1.0))))
-in_row_of w words c (inr (inr (inr (inr (inr (inr (inr (inr (inr (inr none)))))))))) = absurd none
+in_row_of w words c (inr (inr (inr (inr (inr (inr (inr (inr (inr (inr (inr none))))))))))) = absurd none
 
 -- what is read is in the grammar
 pub in_grammar : (words : List (List ℕ)) (command : PlainCommand) → command_of words ≡ Ok command → IsCommandLine words command

@@ -52,6 +52,14 @@ unfolding rest
 row_searches (Ok u) words at command = let same : at + 0 ≡ at = omega arith in rw same
 row_searches (Err fault) words at command = refl
 
+-- plain words go together, or the last of them is at fault
+pub row_together : (told : Bool) (before after : Result (Unit {0}) WordFault) (words : List (List ℕ)) (at : ℕ) (command : PlainOptions → PlainCommand) →
+    after ≡ (before >>= λ _. cond told (Ok tt) (Err (BadNumber at))) → rest true before words at [] (cond told (Some command) None) ≡ rest true after words at [] (Some command)
+unfolding rest
+row_together true (Ok u) after words at command is = rw is refl
+row_together false (Ok u) after words at command is = let same : at + 0 ≡ at = omega arith in rw (is, same) refl
+row_together told (Err fault) after words at command is = rw is refl
+
 -- ## Rows by their names
 
 -- what the words behind a row's name give, read one after another

@@ -1,8 +1,8 @@
 -- The word behind a front of words.
-use Rattle.std.proofs.Common.{◌≡◌, ◌∙◌, ℕ, suc, ◌+◌, ◌-◌, ◌<◌, ◌^◌, List, [], ◌∷◌, ◌++◌, length, slice_get, Option, Some, None, Ok, Err, refl, sym, ap, arith}
+use Rattle.std.proofs.Common.{◌≡◌, ◌∙◌, ℕ, suc, ◌-◌, ◌<◌, ◌^◌, List, [], ◌∷◌, ◌++◌, length, slice_get, Option, Some, None, Ok, Err, refl, ap, arith}
 use Rattle.std.specs.Prelude.{decimal}
-use Rattle.std.proofs.lemmas.List.{append_assoc, length-append}
-use Rattle.adv_base.specs.Readings.{◌>>=◌, or_fault}
+use Rattle.std.proofs.lemmas.List.{append_assoc}
+use Rattle.adv_base.specs.Readings.{or_fault}
 use Rattle.command_line.specs.declared.fault.WordFault.TheVariants.{BadNumber, Missing}
 use Rattle.command_line.specs.Numbers.{number_within}
 use Rattle.command_line.specs.Spellings.{IsWithin}

@@ -18,6 +18,7 @@ pub data PlainCommand : Type 0 where
   Candidates : (cat load : List ℕ) → PlainCommand
   Advise : (cat load : List ℕ) → (budget nodes : ℕ) → (cert : Option (List ℕ)) → PlainCommand
   Ruled : (cat load : List ℕ) → (budget : ℕ) → (rules : List ℕ) → (nodes : ℕ) → (cert : Option (List ℕ)) → PlainCommand
+  Sweep : (cat load : List ℕ) → (first step count nodes : ℕ) → (cert : Option (List ℕ)) → PlainCommand
   Check : (cat load cert : List ℕ) → PlainCommand
   CheckRuled : (cat load rules cert : List ℕ) → PlainCommand
   Fold : (cat load out : List ℕ) → PlainCommand
@@ -30,6 +31,7 @@ plain_command (code.Explain cat load conf number) = Explain cat.now load.now con
 plain_command (code.Candidates cat load) = Candidates cat.now load.now
 plain_command (code.Advise cat load budget nodes cert) = Advise cat.now load.now budget nodes (option_map (λ name. name.now) cert)
 plain_command (code.Ruled cat load budget rules nodes cert) = Ruled cat.now load.now budget rules.now nodes (option_map (λ name. name.now) cert)
+plain_command (code.Sweep cat load first step count nodes cert) = Sweep cat.now load.now first step count nodes (option_map (λ name. name.now) cert)
 plain_command (code.Check cat load cert) = Check cat.now load.now cert.now
 plain_command (code.CheckRuled cat load rules cert) = CheckRuled cat.now load.now rules.now cert.now
 plain_command (code.Fold cat load out) = Fold cat.now load.now out.now
@@ -143,6 +145,18 @@ advise_row = Search (codes "advise") (File ∷ File ∷ pages ∷ []) (λ cat lo
 abbrev pub ruled_row : Row
 ruled_row = Search (codes "ruled") (File ∷ File ∷ pages ∷ File ∷ []) (λ cat load budget rules. Some (λ options. Ruled cat load budget rules (nodes_of options) options.cert))
 
+-- the last of so many budgets, from the first one in steps
+abbrev pub last_budget : ℕ → ℕ → ℕ → ℕ
+last_budget first step count = first + step * (count - 1)
+
+-- the budgets of a sweep go together where the last is one
+abbrev pub asked_sweep : List ℕ → List ℕ → ℕ → ℕ → ℕ → Option (PlainOptions → PlainCommand)
+asked_sweep cat load first step count =
+    if nat_le (last_budget first step count) 1000000000000 then Some (λ options. Sweep cat load first step count (nodes_of options) options.cert) else None
+
+abbrev pub sweep_row : Row
+sweep_row = Search (codes "sweep") (File ∷ File ∷ pages ∷ Number 1 1000000000000 ∷ Number 1 16 ∷ []) asked_sweep
+
 abbrev pub check_row : Row
 check_row = Plain (codes "check") (File ∷ File ∷ File ∷ []) Check
 
@@ -156,7 +170,7 @@ abbrev pub bench_row : Row
 bench_row = Plain (codes "bench") (Number 0 18446744073709551615 ∷ Number 2 20 ∷ Number 1 500 ∷ pages ∷ []) Bench
 
 abbrev pub commands : List Row
-commands = cost_row ∷ what_if_row ∷ explain_row ∷ candidates_row ∷ advise_row ∷ ruled_row ∷ check_row ∷ check_ruled_row ∷ fold_row ∷ bench_row ∷ []
+commands = cost_row ∷ what_if_row ∷ explain_row ∷ candidates_row ∷ advise_row ∷ ruled_row ∷ sweep_row ∷ check_row ∷ check_ruled_row ∷ fold_row ∷ bench_row ∷ []
 
 -- ## Reading by the table
 
@@ -172,7 +186,7 @@ abbrev pub read_row : List (List ℕ) → Row → Result PlainCommand WordFault
 read_row words (Plain name kinds asked) =
     read_plain words 2 kinds asked (λ command. end_at words (length kinds + 1) >>= λ _. Ok command)
 read_row words (Search name kinds asked) =
-    read_plain words 2 kinds asked (λ told. or_fault (BadNumber (length kinds + 1)) told >>= λ command.
+    read_plain words 2 kinds asked (λ waiting. or_fault (BadNumber (length kinds + 1)) waiting >>= λ command.
     options_from words 3 (length kinds + 2) no_options >>= λ options. Ok (command options))
 
 abbrev pub name_of : Row → List ℕ

@@ -1,6 +1,6 @@
 -- The command lines, one form a command. A number stands as its decimal digits.
-use Rattle.std.specs.Prelude.{◌≡◌, ℕ, ◌+◌, ◌-◌, ◌*◌, ◌≤◌, List, [], ◌∷◌, ◌++◌, codes, decimal, option_to_list, unwrap_or, Option, IfSome}
-use Rattle.command_line.specs.CommandLine.{PlainCommand, Cost, WhatIf, Explain, Candidates, Advise, Ruled, Check, CheckRuled, Fold, Bench}
+use Rattle.std.specs.Prelude.{◌≡◌, ℕ, ◌≤◌, List, [], ◌∷◌, ◌++◌, codes, decimal, option_to_list, unwrap_or, Option, IfSome}
+use Rattle.command_line.specs.CommandLine.{PlainCommand, Cost, WhatIf, Explain, Candidates, Advise, Ruled, Sweep, Check, CheckRuled, Fold, Bench, last_budget}
 
 pub record IsWithin (least most n : ℕ) : Type 0 where
   pub low : least ≤ n
@@ -46,6 +46,13 @@ pub record IsSearch (words plain : List (List ℕ)) (nodes : ℕ) (cert : Option
 abbrev pub IsBudget : ℕ → Type 0
 IsBudget budget = IsWithin 0 1000000000000 budget
 
+-- the budgets of a sweep: the first, the step from one to the next, and how many there are; the last is a budget, too
+pub record AreSweepBudgets (first step count : ℕ) : Type 0 where
+  pub first_is : IsBudget first
+  pub step_is : IsWithin 1 1000000000000 step
+  pub count_is : IsWithin 1 16 count
+  pub last_is : IsBudget (last_budget first step count)
+
 -- the words are this command
 abbrev pub IsCommandLine : List (List ℕ) → PlainCommand → Type 0
 IsCommandLine words (Cost cat load) = words ≡ codes "cost" ∷ cat ∷ load ∷ []
@@ -57,6 +64,8 @@ IsCommandLine words (Advise cat load budget nodes cert) =
     IsSearch words (codes "advise" ∷ cat ∷ load ∷ decimal budget ∷ []) nodes cert × IsBudget budget
 IsCommandLine words (Ruled cat load budget rules nodes cert) =
     IsSearch words (codes "ruled" ∷ cat ∷ load ∷ decimal budget ∷ rules ∷ []) nodes cert × IsBudget budget
+IsCommandLine words (Sweep cat load first step count nodes cert) =
+    IsSearch words (codes "sweep" ∷ cat ∷ load ∷ decimal first ∷ decimal step ∷ decimal count ∷ []) nodes cert × AreSweepBudgets first step count
 IsCommandLine words (Check cat load cert) = words ≡ codes "check" ∷ cat ∷ load ∷ cert ∷ []
 IsCommandLine words (CheckRuled cat load rules cert) = words ≡ codes "check-ruled" ∷ cat ∷ load ∷ rules ∷ cert ∷ []
 IsCommandLine words (Fold cat load out) = words ≡ codes "fold" ∷ cat ∷ load ∷ out ∷ []
@@ -67,6 +76,12 @@ IsCommandLine words (Bench seed tables statements budget) =
 -- the budgets of a search are in their ranges
 pub record AreBudgets (budget nodes : ℕ) : Type 0 where
   pub budget_most : budget ≤ 1000000000000
+  pub some_node : 1 ≤ nodes
+  pub nodes_most : nodes ≤ 1000000
+
+-- so are the budgets of a sweep, with its nodes
+pub record AreSweepNumbers (first step count nodes : ℕ) : Type 0 where
+  pub steps : AreSweepBudgets first step count
   pub some_node : 1 ≤ nodes
   pub nodes_most : nodes ≤ 1000000
 
@@ -83,5 +98,6 @@ pub record AreSizes (seed tables statements budget : ℕ) : Type 0 where
 abbrev pub IsInRange : PlainCommand → Type 0
 IsInRange (Advise cat load budget nodes cert) = AreBudgets budget nodes
 IsInRange (Ruled cat load budget rules nodes cert) = AreBudgets budget nodes
+IsInRange (Sweep cat load first step count nodes cert) = AreSweepNumbers first step count nodes
 IsInRange (Bench seed tables statements budget) = AreSizes seed tables statements budget
 IsInRange command = Unit {0}

@@ -1,7 +1,7 @@
 //! The words of a command line, one after another.
 ghost use Rattle.std.specs.Prelude.{◌≡◌, ◌+◌, ◌≤◌, ◌<◌, IfOk};
 ghost use Rattle.command_line.specs.CommandLine as spec;
-ghost use Rattle.command_line.specs.inner.Arguments.{next_word, next_number, next_options, at_end, ReadsFile, ReadsNumber};
+ghost use Rattle.command_line.specs.inner.Arguments.{next_word, next_number, next_options, at_end, judged, GoTogether, ReadsFile, ReadsNumber};
 
 use crate::options::{Options, read_options};
 use crate::words::{end_at, number_at, word_at};
@@ -71,6 +71,25 @@ impl<'a> Arguments<'a> {
                 0
             }
         }
+    }
+
+    /// The first fault so far; else a bad number of the last plain word, where the plain words don't go together.
+    fn judged(&self, go_together: bool) -> Result<(), WordFault>
+        ensures { result ≡ judged go_together self.now }
+    {
+        self.so_far?;
+        if go_together {
+            Ok(())
+        } else {
+            Err(WordFault::BadNumber(self.at))
+        }
+    }
+
+    /// Judges the plain words that were read as a whole.
+    pub(crate) fn together(&mut self, go_together: bool)
+        ensures { GoTogether go_together self.old self.new }
+    {
+        self.so_far = self.judged(go_together);
     }
 
     /// The options of a search, which are the rest of the words, or the first fault.

@@ -47,6 +47,17 @@ pub enum Command<'a> {
         nodes: u32,
         cert: Option<&'a str>,
     },
+    /// Searches for a best configuration within each of `count` budgets, from `first` in steps of `step`, perhaps with a
+    /// certificate each, in files whose names begin with `cert`.
+    Sweep {
+        cat: &'a str,
+        load: &'a str,
+        first: u64,
+        step: u64,
+        count: u32,
+        nodes: u32,
+        cert: Option<&'a str>,
+    },
     /// Checks a certificate.
     Check {
         cat: &'a str,

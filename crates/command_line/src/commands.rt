@@ -1,5 +1,5 @@
 //! The command line.
-ghost use Rattle.std.specs.Prelude.{◌≡◌, ◌<◌, ◌↔◌, Ok, IfOk};
+ghost use Rattle.std.specs.Prelude.{◌≡◌, ◌<◌, ◌≤◌, ◌↔◌, Ok, IfOk};
 ghost use Rattle.command_line.specs.Spellings.{IsCommandLine, IsInRange};
 ghost use Rattle.command_line.specs.CommandLine as spec;
 ghost use Rattle.command_line.specs.inner.Arguments.{by_row};
@@ -9,6 +9,19 @@ use crate::{Command, DEFAULT_NODES, WordFault};
 
 /// The most pages of a space budget.
 const MOST_BUDGET: u64 = 1000000000000;
+
+/// The most budgets of a sweep.
+const MOST_POINTS: u64 = 16;
+
+/// The last of so many budgets, from the first one in steps.
+fn last_budget(first: u64, step: u64, count: u32) -> u64
+    requires first { first ≤ MOST_BUDGET }
+    requires step { step ≤ MOST_BUDGET }
+    requires few { count ≤ MOST_POINTS }
+    ensures { result ≡ spec.last_budget first step count }
+{
+    first + step * count.saturating_sub(1) as u64
+}
 
 /// A method for each command, which reads the words behind its name.
 impl<'a> Arguments<'a> {
@@ -101,6 +114,29 @@ impl<'a> Arguments<'a> {
         })
     }
 
+    /// `sweep CAT LOAD FIRST STEP COUNT [--nodes N] [--cert PREFIX]`.
+    fn sweep(mut self) -> Result<Command<'a>, WordFault>
+        requires { self.at < 70 }
+        ensures { spec.GivesBy spec.plain_command result (by_row spec.sweep_row self.entry) }
+    {
+        let cat = self.file();
+        let load = self.file();
+        let first = self.number(0, MOST_BUDGET);
+        let step = self.number(1, MOST_BUDGET);
+        let count = self.number(1, MOST_POINTS) as u32;
+        self.together(last_budget(first, step, count) <= MOST_BUDGET);
+        let given = self.options()?;
+        Ok(Command::Sweep {
+            cat,
+            load,
+            first,
+            step,
+            count,
+            nodes: given.nodes.unwrap_or(DEFAULT_NODES),
+            cert: given.cert,
+        })
+    }
+
     /// `check CAT LOAD CERT`.
     fn check(mut self) -> Result<Command<'a>, WordFault>
         requires { self.at < 70 }
@@ -172,6 +208,7 @@ fn named<'a>(name: &str, words: &'a [String]) -> Result<Command<'a>, WordFault>
         "candidates" => line.candidates(),
         "advise" => line.advise(),
         "ruled" => line.ruled(),
+        "sweep" => line.sweep(),
         "check" => line.check(),
         "check-ruled" => line.check_ruled(),
         "fold" => line.fold(),

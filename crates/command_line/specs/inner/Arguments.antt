@@ -1,5 +1,5 @@
 -- What is left of a command line, where its words are read one after another.
-use Rattle.std.specs.Prelude.{◌≡◌, ℕ, suc, ◌+◌, Bool, true, false, List, ◌∷◌, length, Option, Result, Ok}
+use Rattle.std.specs.Prelude.{◌≡◌, ℕ, suc, ◌+◌, Bool, true, false, if◌then◌else◌, List, [], ◌∷◌, length, Option, Some, None, Result, Ok, Err}
 use Rattle.adv_base.specs.Readings.{◌>>=◌, or_fault}
 use Rattle.command_line.specs.declared.fault.WordFault.{WordFault}
 use Rattle.command_line.specs.declared.arguments.Arguments.{Arguments}
@@ -19,6 +19,9 @@ next_options line = line.so_far >>= λ _. options_from (texts line.words.now) 3 
 abbrev pub at_end : Arguments → PlainCommand → Result PlainCommand WordFault
 at_end line command = line.so_far >>= λ _. end_at (texts line.words.now) line.at >>= λ _. Ok command
 
+abbrev pub judged : Bool → Arguments → Result (Unit {0}) WordFault
+judged go_together line = line.so_far >>= λ _. if go_together then Ok tt else Err (BadNumber line.at)
+
 -- what plain words give: a command, or one that waits for the options of a search, unless they don't go together
 abbrev pub Asked : Bool → Type 0
 Asked false = PlainCommand
@@ -27,7 +30,7 @@ Asked true = Option (PlainOptions → PlainCommand)
 -- what is read behind the last plain word
 abbrev pub behind : (searches : Bool) → List (List ℕ) → ℕ → Asked searches → Result PlainCommand WordFault
 behind false words at command = end_at words at >>= λ _. Ok command
-behind true words at told = or_fault (BadNumber at) told >>= λ command. options_from words 3 (at + 1) no_options >>= λ options. Ok (command options)
+behind true words at waiting = or_fault (BadNumber at) waiting >>= λ command. options_from words 3 (at + 1) no_options >>= λ options. Ok (command options)
 
 -- what the words behind the one of a number give by these kinds, unless there was a fault before
 unfoldable pub rest : (searches : Bool) → Result (Unit {0}) WordFault → List (List ℕ) → ℕ → (kinds : List WordKind) → Takes kinds (Asked searches) → Result PlainCommand WordFault
@@ -47,3 +50,9 @@ pub record ReadsFile (old new : Arguments) (name : List ℕ) : Type 0 where
 pub record ReadsNumber (least most : ℕ) (old new : Arguments) (number : ℕ) : Type 0 where
   pub step : (searches : Bool) (kinds : List WordKind) (asked : ℕ → Takes kinds (Asked searches)) →
       rest searches old.so_far (texts old.words.now) old.at (Number least most ∷ kinds) asked ≡ rest searches new.so_far (texts new.words.now) new.at kinds (asked number)
+
+-- plain words were judged as a whole, and do or don't go together, so that what is left gives what was left before
+pub record GoTogether (go_together : Bool) (old new : Arguments) : Type 0 where
+  pub at_is : new.at ≡ old.at
+  pub step : (command : PlainOptions → PlainCommand) →
+      rest true old.so_far (texts old.words.now) old.at [] (if go_together then Some command else None) ≡ rest true new.so_far (texts new.words.now) new.at [] (Some command)

@@ -1,5 +1,5 @@
 use Rattle.std.proofs.Common.{codes, refl}
-use Rattle.command_line.specs.CommandLine.{texts, named_command, cost_row, what_if_row, explain_row, candidates_row, advise_row, ruled_row, check_row, check_ruled_row, fold_row, bench_row}
+use Rattle.command_line.specs.CommandLine.{texts, named_command, cost_row, what_if_row, explain_row, candidates_row, advise_row, ruled_row, sweep_row, check_row, check_ruled_row, fold_row, bench_row}
 use Rattle.command_line.proofs.Rows.{row_gives, other_name}
 use Rattle.command_line.proofs.commands.named.Goals as goal
 
@@ -22,6 +22,10 @@ returns-in-candidates c = row_gives candidates_row c.args.name.now (texts c.args
 pub returns-in-advise : goal.returns-in-advise
 unfolding named_command
 returns-in-advise c = row_gives advise_row c.args.name.now (texts c.args.words.now) c.advise.result c.in-advise.is refl c.advise.ensures
+
+pub returns-in-sweep : goal.returns-in-sweep
+unfolding named_command
+returns-in-sweep c = row_gives sweep_row c.args.name.now (texts c.args.words.now) c.sweep.result c.in-sweep.is refl c.sweep.ensures
 
 pub returns-in-check : goal.returns-in-check
 unfolding named_command
@@ -52,6 +56,7 @@ returns-in_default c = rw (
   other_name c.args.name.now (codes "candidates") c.in_default.not-candidates,
   other_name c.args.name.now (codes "advise") c.in_default.not-advise,
   other_name c.args.name.now (codes "ruled") c.in_default.not-ruled,
+  other_name c.args.name.now (codes "sweep") c.in_default.not-sweep,
   other_name c.args.name.now (codes "check") c.in_default.not-check,
   other_name c.args.name.now (codes "check-ruled") c.in_default.not-text,
   other_name c.args.name.now (codes "fold") c.in_default.not-fold,
