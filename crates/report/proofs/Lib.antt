@@ -1,5 +1,6 @@
 pub mod CostLines
 pub mod CandidateLines
 pub mod PickLines
+pub mod PointLines
 pub mod TwoParts
 pub mod ToldAlone

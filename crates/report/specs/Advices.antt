@@ -2,7 +2,7 @@
 use Rattle.std.specs.Prelude.{◌⊎◌, Bool, true, false, List, [], ◌∷◌}
 use Rattle.report.specs.declared.done.Advice.{Advice}
 use Rattle.report.specs.declared.done.Done.{Done}
-use Rattle.report.specs.declared.done.Done.TheVariants.{Priced, Listed, Advised, Ruled, Folded, Benched}
+use Rattle.report.specs.declared.done.Done.TheVariants.{Priced, Listed, Advised, Ruled, Swept, Folded, Benched}
 
 -- in its order; an answer of another kind gives none
 abbrev pub advices : Done → List Advice
@@ -17,6 +17,7 @@ needs_setting (Priced prices) = true
 needs_setting (Listed found) = true
 needs_setting (Advised advice) = true
 needs_setting (Ruled ruled) = true
+needs_setting (Swept points) = true
 needs_setting (Folded folded) = true
 needs_setting (Benched bench) = true
 needs_setting done = false

@@ -1,4 +1,6 @@
 pub mod Paths
 pub mod Listings
+pub mod Words
+pub mod Sweeps
 pub mod Texts
 pub mod Advices

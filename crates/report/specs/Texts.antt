@@ -1,7 +1,6 @@
 -- The texts that stand for answers. Each line ends with a line feed.
-use Rattle.std.specs.Fmt.{signed_decimal}
 use Rattle.std.specs.Str.{bytes_eq}
-use Rattle.std.specs.Prelude.{◌≡◌, ℕ, suc, ◌+◌, ◌-◌, ◌<◌, ◌==◌, if◌then◌else◌, ℤ, pos, negsuc, ◌≤ℤ◌, All, List, [], ◌∷◌, ◌++◌, length, codes, decimal, Option, Some, None, slice_get, unwrap_or}
+use Rattle.std.specs.Prelude.{◌≡◌, ℕ, suc, ◌+◌, ◌-◌, ◌<◌, ◌==◌, if◌then◌else◌, ℤ, pos, negsuc, ◌≤ℤ◌, All, List, [], ◌∷◌, ◌++◌, length, codes, Option, Some, None, slice_get, unwrap_or}
 use Rattle.adv_base.specs.declared.workload.Statement.{Statement}
 use Rattle.adv_base.specs.Configs.{config_pages}
 use Rattle.adv_base.specs.Named.{NamesShape}
@@ -21,7 +20,7 @@ use Rattle.sql_reader.specs.declared.parsed.SqlFault.TheVariants as sql
 use Rattle.report.specs.declared.done.Advice.{Advice}
 use Rattle.report.specs.declared.done.Bench.{Bench}
 use Rattle.report.specs.declared.done.Done.{Done}
-use Rattle.report.specs.declared.done.Done.TheVariants.{Usage, ReadFault, Refused, Priced, Listed, Explained as ExplainedDone, Advised, Ruled as RuledDone, Checked as CheckedDone, NotProved as NotProvedDone, Folded, Benched}
+use Rattle.report.specs.declared.done.Done.TheVariants.{Usage, ReadFault, Refused, Priced, Listed, Explained as ExplainedDone, Advised, Ruled as RuledDone, Swept, Checked as CheckedDone, NotProved as NotProvedDone, Folded, Benched}
 use Rattle.report.specs.declared.done.Explained.{Explained}
 use Rattle.report.specs.declared.done.FoldDone.{FoldDone}
 use Rattle.report.specs.declared.done.Ruled.{Ruled}
@@ -37,15 +36,9 @@ use Rattle.command_line.specs.declared.fault.WordFault.TheVariants.{NoCommand, U
 use Rattle.report.specs.Advices.{advices, EachAdvice}
 use Rattle.report.specs.Listings.{candidate_lines, pick_lines}
 use Rattle.report.specs.Paths.{path_text}
+use Rattle.report.specs.Sweeps.{swept_text}
+use Rattle.report.specs.Words.{numbered, signed, line}
 use Rattle.adv_base.specs.Settings.{TheSetting}
-
--- what stands before a number, and the number
-abbrev pub numbered : List ℕ → ℕ → List ℕ
-numbered words n = words ++ decimal n
-
--- what stands before a number that may be negative, and the number
-abbrev pub signed : List ℕ → ℤ → List ℕ
-signed words z = words ++ signed_decimal z
 
 -- a fault of the words, behind `usage: `
 abbrev pub word_fault : WordFault → List ℕ
@@ -123,9 +116,6 @@ refusal words (Rules fault) = rule_fault fault
 refusal words (TooManyCombinations n count) =
     numbered (codes "statement ") n ++ (numbered (codes " has ") count ++ codes " combinations")
 refusal words (FoldTooLong length) = numbered (codes "folded workload too long ") length
-
-abbrev pub line : List ℕ → List ℕ
-line text = text ++ 10 ∷ []
 
 -- the pages of a configuration, where there is one
 abbrev pub size_line : Option ℕ → List ℕ
@@ -272,6 +262,7 @@ done_text words setting (Listed found) = listed_text setting found
 done_text words setting (ExplainedDone explained) = explained_text explained
 done_text words setting (Advised advice) = advised_text setting advice
 done_text words setting (RuledDone ruled) = ruled_text setting ruled
+done_text words setting (Swept points) = swept_text setting points
 done_text words setting (CheckedDone checked) = checked_text checked
 done_text words setting (NotProvedDone why) = line (codes "not proved: " ++ not_proved why)
 done_text words setting (Folded folded) = folding_text folded

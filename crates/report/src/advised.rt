@@ -4,7 +4,8 @@ ghost use Rattle.adv_base.specs.declared.limits.TheConstants.{MOST_CANDIDATES};
 ghost use Rattle.adv_base.specs.Named.{NamesShape};
 ghost use Rattle.report.specs.Listings as lists;
 ghost use Rattle.adv_base.specs.Settings.{the_setting};
-ghost use Rattle.report.specs.Texts.{gap, line, numbered, proposal_text, worth_text, end_word, search_text, advice_text, advised_text, rules_text, ruled_text, sizes_text, benched_text, IsBoundedBy, IsAdvice};
+ghost use Rattle.report.specs.Texts.{gap, proposal_text, worth_text, end_word, search_text, advice_text, advised_text, rules_text, ruled_text, sizes_text, benched_text, IsBoundedBy, IsAdvice};
+ghost use Rattle.report.specs.Words.{line, numbered};
 
 use crate::listed::push_line;
 use crate::usage::{push_numbered, push_signed};

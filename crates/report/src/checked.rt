@@ -1,6 +1,7 @@
 //! The texts of what a check of a certificate answers.
 ghost use Rattle.std.specs.Prelude.{◌≡◌, ◌++◌, ◌∷◌, [], OnOk, codes};
-ghost use Rattle.report.specs.Texts.{line, numbered, signed, bound_words, proved_words, checked_text, check_fault, not_proved};
+ghost use Rattle.report.specs.Texts.{bound_words, proved_words, checked_text, check_fault, not_proved};
+ghost use Rattle.report.specs.Words.{line, numbered, signed};
 
 use crate::NotProved;
 use crate::usage::{push_both, push_numbered, push_signed};

@@ -1,7 +1,7 @@
 //! Answers.
 use adv_base::{Bytes, List};
 use binder::BindFault;
-use bip_model::Answer;
+use bip_model::{Answer, Point};
 use candidates::Candidates;
 use catalogue::CatFault;
 use command_line::WordFault;
@@ -122,6 +122,7 @@ pub enum Done {
     Explained(Explained),
     Advised(Advice),
     Ruled(Ruled),
+    Swept(List<Point>),
     Checked(Checked),
     NotProved(NotProved),
     Folded(FoldDone),

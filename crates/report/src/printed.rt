@@ -2,12 +2,14 @@
 ghost use Rattle.std.specs.Prelude.{◌≡◌, ◌++◌, OnOk, IfOk, All, length, map, codes, string_bytes, option_map, Some};
 ghost use Rattle.adv_base.specs.Named.{NamesShape};
 ghost use Rattle.adv_base.specs.Settings.{the_setting};
-ghost use Rattle.report.specs.Texts.{size_line, cost_line, cost_lines, prices_text, plan_part, explained_text, folding_text, done_text, line, numbered, word_fault, file_name, refusal, statements_in, listed_text, AreNamedIn, FitsSetting};
+ghost use Rattle.report.specs.Texts.{size_line, cost_line, cost_lines, prices_text, plan_part, explained_text, folding_text, done_text, word_fault, file_name, refusal, statements_in, listed_text, AreNamedIn, FitsSetting};
+ghost use Rattle.report.specs.Words.{line, numbered};
 
 use crate::advised::{push_advised, push_benched, push_ruled};
 use crate::checked::{push_checked, push_unproved};
 use crate::listed::push_candidates;
 use crate::refusal::{push_about_file, push_refusal};
+use crate::swept::push_swept;
 use crate::usage::{push_both, push_numbered, push_word_fault};
 use crate::{Done, Explained, FoldDone, Prices, Refusal, Role, WordFault};
 use adv_base::{Bytes, NoMemory, Setting, Statement};
@@ -211,6 +213,7 @@ fn push_done(
         Done::Explained(explained) => push_explained(alloc, out, explained),
         Done::Advised(advice) => push_advised(alloc, out, setting, advice),
         Done::Ruled(ruled) => push_ruled(alloc, out, setting, ruled),
+        Done::Swept(points) => push_swept(alloc, out, setting, points.as_slice()),
         Done::Checked(checked) => push_checked(alloc, out, checked),
         Done::NotProved(why) => push_unproved(alloc, out, *why),
         Done::Folded(folded) => push_folded(alloc, out, folded),
@@ -221,7 +224,8 @@ fn push_done(
 }
 
 /// The text of an answer to the words. Prices want the setting whose statements they price, one price each, candidates
-/// that whose catalogue has their tables and columns, and advice that whose candidates it picks. `NoMemory` is want of memory.
+/// that whose catalogue has their tables and columns, and advice and the points of a sweep that whose candidates they pick; of a
+/// sweep nothing is told without it. `NoMemory` is want of memory.
 pub fn text(
     alloc: Global,
     done: &Done,

@@ -1,6 +1,7 @@
 //! The texts of refusals.
 ghost use Rattle.std.specs.Prelude.{◌≡◌, ◌++◌, OnOk, Some, codes, map, slice_get, string_bytes};
-ghost use Rattle.report.specs.Texts.{role_word, third_word, file_name as name_of_file, rule_fault, cat_fault, sql_fault, bind_fault, refusal, numbered};
+ghost use Rattle.report.specs.Texts.{role_word, third_word, file_name as name_of_file, rule_fault, cat_fault, sql_fault, bind_fault, refusal};
+ghost use Rattle.report.specs.Words.{numbered};
 ghost use Rattle.report.specs.Paths.{path_text};
 
 use crate::path::push_path;

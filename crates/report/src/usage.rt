@@ -1,6 +1,7 @@
 //! The texts of faulty command lines.
 ghost use Rattle.std.specs.Prelude.{◌≡◌, ◌++◌, OnOk};
-ghost use Rattle.report.specs.Texts.{word_fault, numbered, signed};
+ghost use Rattle.report.specs.Texts.{word_fault};
+ghost use Rattle.report.specs.Words.{numbered, signed};
 
 use crate::WordFault;
 use adv_base::push_decimal;

@@ -1,5 +1,6 @@
 use Rattle.std.proofs.Common.{codes}
-use Rattle.report.specs.Texts.{numbered, bound_words, proved_words}
+use Rattle.report.specs.Texts.{bound_words, proved_words}
+use Rattle.report.specs.Words.{numbered}
 use Rattle.report.proofs.TwoParts.{in_two_parts}
 use Rattle.report.proofs.checked.push_proved.Goals as goal
 

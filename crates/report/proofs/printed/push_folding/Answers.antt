@@ -1,5 +1,5 @@
 use Rattle.std.proofs.Common.{◌++◌, codes}
-use Rattle.report.specs.Texts.{numbered}
+use Rattle.report.specs.Words.{numbered}
 use Rattle.report.proofs.TwoParts.{in_two_parts}
 use Rattle.report.proofs.printed.push_folding.Goals as goal
 
