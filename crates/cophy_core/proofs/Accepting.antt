@@ -21,12 +21,12 @@ use Rattle.cophy_core.proofs.Certified.{Laws, proving, told}
 use Rattle.cophy_core.proofs.Works.{with_fourth}
 
 -- a file is none of these
-abbrev Apart : List ℕ → List InputFile → Type 0
+abbrev pub Apart : List ℕ → List InputFile → Type 0
 Apart file [] = Unit {0}
 Apart file (own ∷ uses) = (own.name ≢ file) × Apart file uses
 
 -- then they hold what they held
-stay : (files : Files) (file bytes : List ℕ) (uses : List InputFile) (inputs : List (List ℕ)) → Apart file uses → AreInputs (Some files) uses inputs → AreInputs (put_file (Some files) file bytes) uses inputs
+pub stay : (files : Files) (file bytes : List ℕ) (uses : List InputFile) (inputs : List (List ℕ)) → Apart file uses → AreInputs (Some files) uses inputs → AreInputs (put_file (Some files) file bytes) uses inputs
 stay files file bytes [] [] apart are = tt
 stay files file bytes [] (x ∷ inputs) apart are = absurd are
 stay files file bytes (own ∷ uses) [] apart are = absurd are

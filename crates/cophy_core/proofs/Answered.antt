@@ -16,7 +16,7 @@ use Rattle.report.specs.declared.done.Refusal.TheVariants.{TooLong, Cat, Sql, Bi
 use Rattle.cophy_core.specs.declared.stop.Stop.{Stop}
 use Rattle.cophy_core.specs.declared.stop.Stop.TheVariants.{Memory, Failed, Refused}
 use Rattle.cophy_core.specs.Answers.{RefusesOver, GivesOver, files_put, PutsOver, OfSetting, Answers}
-use Rattle.command_line.specs.CommandLine.{PlainCommand, Candidates, Cost, WhatIf, Explain, Advise, Ruled, Check, CheckRuled, Fold, Bench}
+use Rattle.command_line.specs.CommandLine.{PlainCommand, Candidates, Cost, WhatIf, Explain, Advise, Ruled, Sweep, Check, CheckRuled, Fold, Bench}
 use Rattle.command_line.specs.Spellings.{IsInRange}
 use Rattle.cophy_core.specs.Files.{InputFile, input_file, setting_files, files_of, AreInputs, input, ReadCounts}
 use Rattle.cophy_core.specs.Inputs.{HasInputs}
@@ -25,6 +25,8 @@ use Rattle.cophy_core.specs.Settings.{IsSetting, IsSettingRefusal}
 use Rattle.cophy_core.specs.Endings.{Put}
 use Rattle.cophy_core.specs.Replies.{ArePuts, IsTextOf}
 use Rattle.cophy_core.specs.Stops.{StopsAt}
+use Rattle.cophy_core.specs.commands.Sweep.{names_from}
+use Rattle.cophy_core.proofs.Sweeping.{names_are}
 
 -- a refusal that is neither of the files nor of the setting
 abbrev IsOwn : Refusal → Type 0
@@ -43,6 +45,7 @@ IsCommandsOwn (answers.Advised advice) = Unit {0}
 IsCommandsOwn (answers.Checked checked) = Unit {0}
 IsCommandsOwn (answers.NotProved why) = Unit {0}
 IsCommandsOwn (answers.Ruled ruled) = Unit {0}
+IsCommandsOwn (answers.Swept points) = Unit {0}
 IsCommandsOwn (answers.Folded folded) = Unit {0}
 IsCommandsOwn (answers.Benched bench) = Unit {0}
 IsCommandsOwn done = ⊥
@@ -61,6 +64,7 @@ second_short (WhatIf cat load conf) files inputs range are = second_file files c
 second_short (Explain cat load conf number) files inputs range are = second_file files cat load (input_file Third conf MOST_FILE_BYTES ∷ []) inputs are
 second_short (Advise cat load budget nodes cert) files inputs range are = second_file files cat load [] inputs are
 second_short (Ruled cat load budget rules nodes cert) files inputs range are = second_file files cat load (input_file Third rules MOST_FILE_BYTES ∷ []) inputs are
+second_short (Sweep cat load first step count nodes cert) files inputs range are = second_file files cat load [] inputs are
 second_short (Check cat load cert) files inputs range are = second_file files cat load (input_file Third cert MOST_CERTIFICATE_BYTES ∷ []) inputs are
 second_short (CheckRuled cat load rules cert) files inputs range are =
     second_file files cat load (input_file Third rules MOST_FILE_BYTES ∷ input_file Fourth cert MOST_CERTIFICATE_BYTES ∷ []) inputs are
@@ -109,6 +113,11 @@ own (Ruled cat load budget rules nodes cert) inputs setting (Cat fault) h = h
 own (Ruled cat load budget rules nodes cert) inputs setting (Sql fault) h = h
 own (Ruled cat load budget rules nodes cert) inputs setting (Bind fault) h = h
 own (Ruled cat load budget rules nodes cert) inputs setting why h = tt
+own (Sweep cat load first step count nodes cert) inputs setting (TooLong role) h = h
+own (Sweep cat load first step count nodes cert) inputs setting (Cat fault) h = h
+own (Sweep cat load first step count nodes cert) inputs setting (Sql fault) h = h
+own (Sweep cat load first step count nodes cert) inputs setting (Bind fault) h = h
+own (Sweep cat load first step count nodes cert) inputs setting why h = tt
 own (CheckRuled cat load rules cert) inputs setting (TooLong role) h = h
 own (CheckRuled cat load rules cert) inputs setting (Cat fault) h = h
 own (CheckRuled cat load rules cert) inputs setting (Sql fault) h = h
@@ -156,6 +165,8 @@ given (Advise cat load budget nodes cert) inputs setting (answers.Advised advice
 given (Advise cat load budget nodes cert) inputs setting done h = absurd h
 given (Ruled cat load budget rules nodes cert) inputs setting (answers.Ruled ruled) h = tt
 given (Ruled cat load budget rules nodes cert) inputs setting done h = absurd h
+given (Sweep cat load first step count nodes cert) inputs setting (answers.Swept points) h = tt
+given (Sweep cat load first step count nodes cert) inputs setting done h = absurd h
 given (Check cat load cert) inputs setting (answers.Checked checked) h = tt
 given (Check cat load cert) inputs setting (answers.NotProved why) h = tt
 given (Check cat load cert) inputs setting done h = absurd h
@@ -175,6 +186,7 @@ given_over command files (answers.Advised advice) is_given h = h
 given_over command files (answers.Checked checked) is_given h = h
 given_over command files (answers.NotProved why) is_given h = h
 given_over command files (answers.Ruled ruled) is_given h = h
+given_over command files (answers.Swept points) is_given h = h
 given_over command files (answers.Folded folded) is_given h = h
 given_over command files (answers.Benched bench) is_given h = h
 given_over command files done is_given h = absurd is_given
@@ -198,6 +210,8 @@ none_put (Advise cat load budget nodes cert) inputs setting (answers.Advised adv
 none_put (Advise cat load budget nodes cert) inputs setting done puts other h = h
 none_put (Ruled cat load budget rules nodes cert) inputs setting (answers.Ruled ruled) puts other h = absurd cc
 none_put (Ruled cat load budget rules nodes cert) inputs setting done puts other h = h
+none_put (Sweep cat load first step count nodes cert) inputs setting (answers.Swept points) puts other h = absurd cc
+none_put (Sweep cat load first step count nodes cert) inputs setting done puts other h = h
 none_put (Fold cat load out) inputs setting (answers.Folded folded) puts other h = absurd cc
 none_put (Fold cat load out) inputs setting done puts other h = h
 none_put command inputs setting done puts other h = h
@@ -210,6 +224,10 @@ names_put (Advise cat load budget nodes cert) inputs setting done puts gives h =
 names_put (Ruled cat load budget rules nodes (Some file)) inputs setting (answers.Ruled ruled) puts gives h = ap (map (λ (put : Put). put.name)) h.puts_are
 names_put (Ruled cat load budget rules nodes None) inputs setting (answers.Ruled ruled) puts gives h = ap (map (λ (put : Put). put.name)) h
 names_put (Ruled cat load budget rules nodes cert) inputs setting done puts gives h = absurd gives
+names_put (Sweep cat load first step count nodes (Some prefix)) inputs setting (answers.Swept points) puts gives h =
+    names_are setting prefix 1 points puts h ∙ ap (names_from prefix 1) gives.curve_is.counted
+names_put (Sweep cat load first step count nodes None) inputs setting (answers.Swept points) puts gives h = ap (map (λ (put : Put). put.name)) h
+names_put (Sweep cat load first step count nodes cert) inputs setting done puts gives h = absurd gives
 names_put (Fold cat load out) inputs setting (answers.Folded folded) puts gives h = ap (map (λ (put : Put). put.name)) h.puts_are
 names_put (Fold cat load out) inputs setting done puts gives h = absurd gives
 names_put command inputs setting done puts gives h = ap (map (λ (put : Put). put.name)) h

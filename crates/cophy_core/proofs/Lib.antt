@@ -10,6 +10,7 @@ pub mod Combinations
 pub mod Folding
 pub mod OneRefusal
 pub mod Stopped
+pub mod Sweeping
 pub mod Mapped
 pub mod FilesRead
 pub mod Puts
@@ -21,5 +22,6 @@ pub mod LeftFiles
 pub mod Certified
 pub mod Headlines
 pub mod Accepting
+pub mod SweptAccepting
 pub mod Gaps
 pub mod Parts

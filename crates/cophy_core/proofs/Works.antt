@@ -40,11 +40,11 @@ pub record Texts (files : Option Files) (command : PlainCommand) (whole : List (
   pub second : input texts 1 ≡ input whole 1
 
 -- and behind them these bytes of a certificate
-record AllTexts (files : Option Files) (cat load cert : List ℕ) (whole : List (List ℕ)) (bytes : List ℕ) : Type 0 where
-  texts : Texts files (Check cat load cert) whole
-  third : input texts.texts 2 ≡ bytes
+pub record AllTexts (files : Option Files) (cat load cert : List ℕ) (whole : List (List ℕ)) (bytes : List ℕ) : Type 0 where
+  pub texts : Texts files (Check cat load cert) whole
+  pub third : input texts.texts 2 ≡ bytes
 
-with_third : (files : Option Files) (cat load cert : List ℕ) (whole : List (List ℕ)) (bytes : List ℕ) → AreInputs files (setting_files cat load) whole → IsInput files (certificate_file Third cert) bytes → AllTexts files cat load cert whole bytes
+pub with_third : (files : Option Files) (cat load cert : List ℕ) (whole : List (List ℕ)) (bytes : List ℕ) → AreInputs files (setting_files cat load) whole → IsInput files (certificate_file Third cert) bytes → AllTexts files cat load cert whole bytes
 with_third files cat load cert [] bytes are is = absurd are
 with_third files cat load cert (a ∷ []) bytes are is = absurd are.1
 with_third files cat load cert (a ∷ b ∷ []) bytes are is =

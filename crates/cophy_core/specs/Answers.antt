@@ -15,9 +15,10 @@ use Rattle.cophy_core.specs.commands.Cost as cost
 use Rattle.cophy_core.specs.commands.Explain as explain
 use Rattle.cophy_core.specs.commands.Fold as fold
 use Rattle.cophy_core.specs.commands.Ruled as ruled
+use Rattle.cophy_core.specs.commands.Sweep as sweep
 use Rattle.cophy_core.specs.commands.WhatIf as what_if
 use Rattle.cophy_core.specs.Endings.{Put}
-use Rattle.command_line.specs.CommandLine.{PlainCommand, Candidates, Cost, WhatIf, Explain, Advise, Ruled, Check, CheckRuled, Fold, Bench}
+use Rattle.command_line.specs.CommandLine.{PlainCommand, Candidates, Cost, WhatIf, Explain, Advise, Ruled, Sweep, Check, CheckRuled, Fold, Bench}
 use Rattle.cophy_core.specs.Stops.{LacksProgramme}
 use Rattle.cophy_core.specs.Files.{files_of, input, IsTooLong}
 use Rattle.cophy_core.specs.Inputs.{HasInputs}
@@ -29,6 +30,7 @@ RefusesOver (WhatIf cat load conf) inputs setting why = what_if.Refuses (input i
 RefusesOver (Explain cat load conf number) inputs setting why = explain.Refuses number (input inputs 2) setting why
 RefusesOver (Advise cat load budget nodes cert) inputs setting why = LacksProgramme setting why
 RefusesOver (Ruled cat load budget rules nodes cert) inputs setting why = ruled.Refuses budget (input inputs 2) setting why
+RefusesOver (Sweep cat load first step count nodes cert) inputs setting why = LacksProgramme setting why
 RefusesOver (CheckRuled cat load rules cert) inputs setting why = check_ruled.Refuses (input inputs 2) setting why
 RefusesOver (Fold cat load out) inputs setting why = fold.Refuses (input inputs 1) setting why
 RefusesOver (Bench seed tables statements budget) inputs setting why = LacksProgramme setting why
@@ -42,6 +44,7 @@ GivesOver (WhatIf cat load conf) inputs setting done = what_if.Gives (input inpu
 GivesOver (Explain cat load conf number) inputs setting done = explain.Gives number (input inputs 2) setting done
 GivesOver (Advise cat load budget nodes cert) inputs setting done = advise.Gives budget nodes setting done
 GivesOver (Ruled cat load budget rules nodes cert) inputs setting done = ruled.Gives budget nodes (input inputs 2) setting done
+GivesOver (Sweep cat load first step count nodes cert) inputs setting done = sweep.Gives first step count nodes setting done
 GivesOver (Check cat load cert) inputs setting done = check.Gives (input inputs 2) setting done
 GivesOver (CheckRuled cat load rules cert) inputs setting done = check_ruled.Gives (input inputs 2) (input inputs 3) setting done
 GivesOver (Fold cat load out) inputs setting done = fold.Gives (input inputs 1) setting done
@@ -51,6 +54,7 @@ GivesOver (Bench seed tables statements budget) inputs setting done = bench.Give
 abbrev pub files_put : PlainCommand → List (List ℕ)
 files_put (Advise cat load budget nodes cert) = option_to_list cert
 files_put (Ruled cat load budget rules nodes cert) = option_to_list cert
+files_put (Sweep cat load first step count nodes cert) = sweep.certificate_names cert count
 files_put (Fold cat load out) = out ∷ []
 files_put command = []
 
@@ -58,6 +62,7 @@ files_put command = []
 abbrev pub PutsOver : PlainCommand → List (List ℕ) → TheSetting → Done → List Put → Type 0
 PutsOver (Advise cat load budget nodes cert) inputs setting done puts = advise.Puts cert setting done puts
 PutsOver (Ruled cat load budget rules nodes cert) inputs setting done puts = ruled.Puts cert setting done puts
+PutsOver (Sweep cat load first step count nodes cert) inputs setting done puts = sweep.Puts cert setting done puts
 PutsOver (Fold cat load out) inputs setting done puts = fold.Puts (input inputs 0) (input inputs 1) out setting done puts
 PutsOver command inputs setting done puts = puts ≡ []
 

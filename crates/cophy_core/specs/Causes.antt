@@ -1,19 +1,22 @@
 -- When each answer comes, and what it says.
-use Rattle.std.specs.Prelude.{◌≡◌, ℕ, ◌+◌, ◌-◌, ◌*◌, ◌^◌, ◌<◌, ◌==◌, if◌then◌else◌, ℤ, pos, negsuc, ◌<ℤ◌, ◌⊎◌, max, List, [], ◌∷◌, length, All, Option, Result, Ok, Err}
+use Rattle.std.specs.Prelude.{◌≡◌, ℕ, ◌+◌, ◌-◌, ◌*◌, ◌^◌, ◌<◌, if◌then◌else◌, ℤ, pos, ◌<ℤ◌, ◌⊎◌, max, List, [], ◌∷◌, length, slice_get, All, Option, Some, Result, Ok, Err}
 use Rattle.adv_base.specs.declared.limits.TheConstants.{MOST_CANDIDATES, MOST_INDEXES, MOST_UPKEEP}
 use Rattle.adv_shelf.specs.Faults.{Rose}
 use Rattle.adv_shelf.specs.Shelf.{Files}
 use Rattle.adv_shelf.specs.Sink.{append_to}
 use Rattle.bip_model.specs.Proves.{free_node}
+use Rattle.bip_model.specs.declared.answer.Answer.{Answer}
+use Rattle.bip_model.specs.declared.point.Point.{Point}
 use Rattle.plan_model.specs.declared.plan.TheConstants.{MOST_COST, MOST_TOTAL}
 use Rattle.report.specs.Advices.{advices, EachAdvice, SomeAdvice}
+use Rattle.report.specs.Sweeps.{has_no_gap, have_no_gap}
 use Rattle.report.specs.declared.done.Advice.{Advice}
 use Rattle.report.specs.declared.done.Done.{Done}
-use Rattle.report.specs.declared.done.Done.TheVariants.{Usage, ReadFault, WriteFault, Refused, Memory, Priced, Explained as ExplainedDone, Checked as CheckedDone, NotProved as NotProvedDone, Folded as FoldedDone}
+use Rattle.report.specs.declared.done.Done.TheVariants.{Usage, ReadFault, WriteFault, Refused, Memory, Priced, Explained as ExplainedDone, Swept, Checked as CheckedDone, NotProved as NotProvedDone, Folded as FoldedDone}
 use Rattle.report.specs.declared.done.NotProved.{NotProved}
 use Rattle.command_line.specs.declared.fault.WordFault.{WordFault}
 use Rattle.cophy_core.specs.Answers.{Answers, OfSetting}
-use Rattle.command_line.specs.CommandLine.{PlainCommand, command_of, Check, CheckRuled}
+use Rattle.command_line.specs.CommandLine.{PlainCommand, command_of, Sweep, Check, CheckRuled}
 use Rattle.cophy_core.specs.Files.{files_of, IsReadFault, input}
 use Rattle.cophy_core.specs.Endings.{Outside}
 use Rattle.cophy_core.specs.Left.{PutsFileTo, IsCutShort}
@@ -23,14 +26,17 @@ use Rattle.cophy_core.specs.Replies.{MayAnswerWords, IsTextTo}
 
 -- the exit status of a search: 1 where its bound isn't its cost
 abbrev pub gap_status : ℕ → ℤ → ℕ
-gap_status cost (pos bound) = if bound == cost then 0 else 1
-gap_status cost (negsuc below) = 1
+gap_status cost bound = if has_no_gap cost bound then 0 else 1
 
 -- that of searches, the greatest of theirs
 abbrev pub search_status : List Advice → ℕ
 search_status [] = 0
 search_status (advice ∷ []) = gap_status advice.answer.cost advice.answer.bound
 search_status (advice ∷ other ∷ more) = max (gap_status advice.answer.cost advice.answer.bound) (search_status (other ∷ more))
+
+-- that of a sweep: 1 where at some point the greatest bound isn't the least cost
+abbrev pub sweep_status : List Point → ℕ
+sweep_status points = if have_no_gap points then 0 else 1
 
 -- the exit status of an answer; where nothing failed, that of its searches
 abbrev pub status_of : Done → ℕ
@@ -40,18 +46,33 @@ status_of WriteFault = 4
 status_of (Refused why) = 5
 status_of (NotProvedDone why) = 6
 status_of Memory = 7
+status_of (Swept points) = sweep_status points
 status_of done = search_status (advices done)
 
--- The search behind advice gave up: its bound is below its cost, its tree has as many nodes as it might have or one less, and
--- these were fewer than a whole tree over the useful candidates has.
-pub record HasGivenUp (advice : Advice) : Type 0 where
-  pub below : advice.answer.bound <ℤ pos advice.answer.cost
-  pub spent : (length advice.answer.tree ≡ advice.nodes) ⊎ (length advice.answer.tree + 1 ≡ advice.nodes)
-  pub fewer : advice.nodes < 2 ^ (advice.answer.useful + 1) - 1
+-- The search of at most so many nodes gave up: its bound is below its cost, its tree has as many nodes as it might have or one
+-- less, and these were fewer than a whole tree over the useful candidates has.
+pub record HasGivenUp (nodes : ℕ) (answer : Answer) : Type 0 where
+  pub below : answer.bound <ℤ pos answer.cost
+  pub spent : (length answer.tree ≡ nodes) ⊎ (length answer.tree + 1 ≡ nodes)
+  pub fewer : nodes < 2 ^ (answer.useful + 1) - 1
 
--- status 1 is that of advice, and comes only where a search gave up
-abbrev pub GapIsTrue : Done → Type 0
-GapIsTrue done = status_of done ≡ 1 → SomeAdvice HasGivenUp (advices done)
+-- at some point of a sweep the greatest bound is below the least cost, and its search gave up
+pub record HasGapPoint (nodes : ℕ) (points : List Point) : Type 0 where
+  pub at : ℕ
+  pub point : Point
+  pub found : slice_get points at ≡ Some point
+  pub below : point.low <ℤ pos point.best
+  pub given_up : HasGivenUp nodes point.answer
+
+-- so it is with the nodes that the words say
+abbrev pub HasGapPointBy : Result PlainCommand WordFault → List Point → Type 0
+HasGapPointBy (Ok (Sweep cat load first step count nodes cert)) points = HasGapPoint nodes points
+HasGapPointBy words points = ⊥
+
+-- status 1 is that of advice or of a sweep, and comes only where a search gave up
+abbrev pub GapIsTrue : Result PlainCommand WordFault → Done → Type 0
+GapIsTrue words (Swept points) = sweep_status points ≡ 1 → HasGapPointBy words points
+GapIsTrue words done = status_of done ≡ 1 → SomeAdvice (λ advice. HasGivenUp advice.nodes advice.answer) (advices done)
 
 -- this answer, or want of memory
 abbrev pub IsOrMemory : Done → Done → Type 0
@@ -137,5 +158,6 @@ abbrev pub IsBounded : Done → Type 0
 IsBounded (Priced prices) = All (λ cost. cost < most_statement_cost) prices.costs × (prices.total < MOST_TOTAL)
 IsBounded (ExplainedDone explained) = explained.cost < MOST_COST
 IsBounded (CheckedDone checked) = checked.cost < MOST_TOTAL
+IsBounded (Swept points) = (i : ℕ) (point : Point) → slice_get points i ≡ Some point → point.answer.cost < MOST_TOTAL
 IsBounded (FoldedDone folded) = folded.total < MOST_TOTAL
 IsBounded done = EachAdvice (λ advice. advice.answer.cost < MOST_TOTAL) (advices done)

@@ -1,12 +1,14 @@
 -- Laws of answers.
-use Rattle.std.specs.Prelude.{◌≡◌, ◌≢◌, ◌↔◌, ℕ, List, Some}
+use Rattle.std.specs.Prelude.{◌≡◌, ◌≢◌, ◌↔◌, ℕ, ◌+◌, ◌≤◌, List, ◌++◌, decimal, slice_get, Some}
 use Rattle.adv_shelf.specs.Shelf.{Files}
+use Rattle.bip_model.specs.declared.point.Point.{Point}
 use Rattle.report.specs.declared.done.Done.{Done}
-use Rattle.report.specs.declared.done.Done.TheVariants.{Refused, Ruled as RuledDone, Checked}
+use Rattle.report.specs.declared.done.Done.TheVariants.{Refused, Ruled as RuledDone, Swept, Checked}
 use Rattle.report.specs.declared.done.Refusal.{Refusal}
 use Rattle.report.specs.declared.done.Ruled.{Ruled as UnderRules}
 use Rattle.cophy_core.specs.Answers.{Answers}
-use Rattle.command_line.specs.CommandLine.{PlainCommand, Ruled, Check, CheckRuled}
+use Rattle.command_line.specs.CommandLine.{PlainCommand, Ruled, Sweep, Check, CheckRuled}
+use Rattle.command_line.specs.Spellings.{IsInRange}
 use Rattle.cophy_core.specs.Endings.{Put, put_all}
 use Rattle.cophy_core.specs.Replies.{ArePuts}
 
@@ -35,3 +37,14 @@ RuledAreAccepted =
     ArePuts (Ruled cat load budget rules nodes (Some file)) (Some files) words (RuledDone under) puts text → file ≢ cat → file ≢ load → file ≢ rules →
     Answers (CheckRuled cat load rules file) (put_all (Some files) puts) done
     ↔ (done ≡ Checked (record { budget = budget; cost = under.advice.answer.cost; bound = under.advice.answer.bound }))
+
+-- The certificates of a sweep, whose budgets and nodes are in their ranges, were put into files that are none of those that were
+-- read: then `check` of these and of the file of a point finds that point's budget, cost and bound proved, and nothing else.
+abbrev pub SweptAreAccepted : Type 0
+SweptAreAccepted =
+    (cat load prefix : List ℕ) (first step count nodes : ℕ) (files : Files) (words : List (List ℕ)) (points : List Point) (puts : List Put) (text : List ℕ) (i : ℕ) (point : Point) (done : Done) →
+    ArePuts (Sweep cat load first step count nodes (Some prefix)) (Some files) words (Swept points) puts text →
+    IsInRange (Sweep cat load first step count nodes (Some prefix)) →
+    ((k : ℕ) → 1 ≤ k → k ≤ count → (prefix ++ decimal k ≢ cat) × (prefix ++ decimal k ≢ load)) → slice_get points i ≡ Some point →
+    Answers (Check cat load (prefix ++ decimal (i + 1))) (put_all (Some files) puts) done
+    ↔ (done ≡ Checked (record { budget = point.budget; cost = point.answer.cost; bound = point.answer.bound }))

@@ -8,3 +8,4 @@ pub mod Explain
 pub mod Fold
 pub mod WhatIf
 pub mod Ruled
+pub mod Sweep

@@ -1,3 +1,4 @@
 -- What retells the loops of the code; nothing above this crate cites it.
 pub mod Parts
+pub mod Sweeps
 pub mod Work

@@ -24,6 +24,7 @@ use crate::commands::explain::explain;
 use crate::commands::fold::fold;
 use crate::commands::list_candidates::list_candidates;
 use crate::commands::ruled::ruled;
+use crate::commands::sweep::sweep;
 use crate::commands::what_if::what_if;
 use crate::files::{Inputs, bytes_at, certificate_file, inputs_of};
 use crate::reply::Reply;
@@ -95,6 +96,14 @@ fn work<S: Shelf>(
             let rules = bytes_at(&whole, 2);
             ruled(alloc, setting, left_over, rules, budget, nodes, cert)
         }
+        Command::Sweep {
+            first,
+            step,
+            count,
+            nodes,
+            cert,
+            ..
+        } => sweep(alloc, setting, first, step, count, nodes, cert),
         Command::Check { cert, .. } => match scanner {
             Some(scanner) => {
                 let file = certificate_file(Role::Third, cert);

@@ -8,4 +8,5 @@ pub(crate) mod explain;
 pub(crate) mod fold;
 pub(crate) mod list_candidates;
 pub(crate) mod ruled;
+pub(crate) mod sweep;
 pub(crate) mod what_if;

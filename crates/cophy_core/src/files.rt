@@ -155,6 +155,7 @@ fn whole_of<S: Shelf>(
         Command::Candidates { cat, load }
         | Command::Cost { cat, load }
         | Command::Advise { cat, load, .. }
+        | Command::Sweep { cat, load, .. }
         | Command::Fold { cat, load, .. } => {
             let files = [
                 plain_file(Role::Catalogue, cat),

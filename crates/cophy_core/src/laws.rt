@@ -1,5 +1,5 @@
 //! Laws of answers, each proved of all files.
-ghost use Rattle.cophy_core.specs.Laws.{RefusalsStandAlone, ChecksStandAlone, RuledChecksStandAlone, RuledAreAccepted};
+ghost use Rattle.cophy_core.specs.Laws.{RefusalsStandAlone, ChecksStandAlone, RuledChecksStandAlone, RuledAreAccepted, SweptAreAccepted};
 
 use crate::commands::check::checks_have_one_answer;
 use certificate::{texts_are_one, written_certificates_fit};
@@ -22,6 +22,18 @@ pub fn checks_stand_alone()
 /// certificate took the place of none of those that were read.
 pub fn ruled_certificates_are_accepted()
     ensures { RuledAreAccepted }
+{
+    written_certificates_fit();
+    texts_are_one();
+    best_answers_are_proved();
+    faults_exclude_proofs();
+    checks_stand_alone();
+}
+
+/// `check` accepts the certificate of each point of a sweep, and answers nothing else, where the files are told and no certificate
+/// took the place of one of those that were read.
+pub fn swept_certificates_are_accepted()
+    ensures { SweptAreAccepted }
 {
     written_certificates_fit();
     texts_are_one();

@@ -3,7 +3,8 @@
 //! `run` reads the words, the files that they name and the setting in them, does what the command asks for, and writes the
 //! text of the answer. What is read, put and written goes through a shelf and a sink of `adv_shelf`. Costs are in
 //! thousandths of a sequential page read, and a space budget is in pages. What a least plan costs is found by `planner`,
-//! over the offers of `access_paths`, or told by the programme of `tuning`; advice is found by `branch_bound` over that.
+//! over the offers of `access_paths`, or told by the programme of `tuning`; advice is found by `branch_bound` over that, and the
+//! points of a sweep by `budget_sweep`.
 //!
 //! An `Outcome` is the exit status with `report`'s `Done`, the answer. `read_words` tells the `Command` of the words alone,
 //! and `read_conf` the configuration of a file's bytes, or the first fault of either.
@@ -37,5 +38,8 @@ mod worked;
 pub use command_line::{Command, DEFAULT_NODES, read_words};
 pub use commands::check::checks_have_one_answer;
 pub use conf::read_conf;
-pub use laws::{checks_stand_alone, refusals_stand_alone, ruled_certificates_are_accepted};
+pub use laws::{
+    checks_stand_alone, refusals_stand_alone, ruled_certificates_are_accepted,
+    swept_certificates_are_accepted,
+};
 pub use top::{Outcome, run};

@@ -2,7 +2,7 @@
 ghost use Rattle.std.specs.Prelude.{◌≡◌, ◌≢◌, ◌≤◌, ◌⊎◌, ℕ, List, Some, Ok, Err};
 ghost use Rattle.adv_shelf.specs.Shelf.{Files};
 ghost use Rattle.command_line.specs.declared.fault.WordFault.{WordFault};
-ghost use Rattle.cophy_core.specs.Causes.{gap_status, status_of, IsAnswered, IsOrMemory, IsSteady, UsageIsTrue, ReadFaultIsTrue, WriteFaultIsTrue, RefusalIsTrue, NotProvedIsTrue, GapIsTrue, MemoryWritesNothing, IsSound, IsWritten, IsBounded};
+ghost use Rattle.cophy_core.specs.Causes.{gap_status, sweep_status as status_of_points, status_of, IsAnswered, IsOrMemory, IsSteady, UsageIsTrue, ReadFaultIsTrue, WriteFaultIsTrue, RefusalIsTrue, NotProvedIsTrue, GapIsTrue, MemoryWritesNothing, IsSound, IsWritten, IsBounded};
 ghost use Rattle.cophy_core.specs.Answers.{Answers};
 ghost use Rattle.command_line.specs.CommandLine.{texts, PlainCommand, command_of};
 ghost use Rattle.cophy_core.specs.Endings.{outside};
@@ -15,9 +15,10 @@ use crate::answer::reply;
 use crate::laws::checks_stand_alone;
 use crate::reply::give;
 use adv_shelf::{Shelf, Sink};
+use bip_model::Point;
 use certificate::{texts_are_one, written_certificates_fit};
 use gap_checker::{best_answers_are_proved, faults_exclude_proofs};
-use report::{Advice, Done};
+use report::{Advice, Done, has_no_gap, have_no_gap};
 use std::alloc::Global;
 
 /// The answer to the words of a command line, and the exit status that goes with it.
@@ -32,11 +33,18 @@ fn advice_status(advice: &Advice) -> u8
     ensures { result ≡ gap_status advice.now.answer.cost advice.now.answer.bound }
 {
     let answer = &advice.answer;
-    if answer.bound >= 0 && answer.bound as u128 == answer.cost {
+    if has_no_gap(answer.cost, answer.bound) {
         0
     } else {
         1
     }
+}
+
+/// That of a sweep: 1 where a gap is left at some point.
+fn sweep_status(points: &[Point]) -> u8
+    ensures { result ≡ status_of_points points.now }
+{
+    if have_no_gap(points) { 0 } else { 1 }
 }
 
 /// The exit status of an answer.
@@ -56,6 +64,7 @@ fn status(done: &Done) -> u8
         Done::Checked(_) => 0,
         Done::NotProved(_) => 6,
         Done::Ruled(ruled) => advice_status(&ruled.advice),
+        Done::Swept(points) => sweep_status(points.as_slice()),
         Done::Folded(_) => 0,
         Done::Benched(bench) => advice_status(&bench.advice),
     }
@@ -78,16 +87,17 @@ fn carry_out<S: Shelf, O: Sink>(alloc: Global, words: &[String], shelf: &mut S, 
 }
 
 /// Answers the words of a command line: reads the files that its command names, or makes what `bench` advises on, puts the
-/// certificate of advice where one is asked for, or the workload that `fold` made, and writes the answer's text to the output.
+/// certificate of advice, or those of a sweep's points, where they are asked for, or the workload that `fold` made, and writes the
+/// answer's text to the output.
 /// No other file changes.
 ///
 /// The first of these that fails is the answer: the words; the files, each to its end, in the order of the words; the
 /// catalogue; the workload's text; its names; what the command alone asks for; the work, and with it what a certificate fails
-/// to prove; the put; the write. Prices and explained plans are those of least plans (System R's search,
+/// to prove; the puts; the write. Prices and explained plans are those of least plans (System R's search,
 /// over bushy plans). Advice is a set of candidates that fits, with its exact cost and a bound that no set that fits
 /// undercuts (CoPhy's programme over INUM's templates). A fault of reading or writing is answered only where the shelf's or
 /// the sink's count of faults rose in this call. Want of memory may come at any time before the write, and then nothing is
-/// written and no file changes.
+/// written; no file changes, but of several certificates of a sweep the first ones may have been put.
 pub fn run<S: Shelf, O: Sink>(
     alloc: Global,
     words: &[String],
@@ -112,8 +122,9 @@ pub fn run<S: Shelf, O: Sink>(
     ensures refused { RefusalIsTrue (command_of (texts words.now)) (S.files shelf.old) result.done }
     // A certificate is said to prove nothing only to `check` and `check-ruled`, where nothing is refused, for what fails first.
     ensures not_proved { NotProvedIsTrue (command_of (texts words.now)) (S.files shelf.old) result.done }
-    // Status 1 comes only where the search for advice gave up: its nodes were spent, and a gap is left.
-    ensures gap { GapIsTrue result.done }
+    // Status 1 comes only where the search for advice, or that of a point of a sweep at which a gap is left, gave up: its nodes
+    // were spent, and it left a gap.
+    ensures gap { GapIsTrue (command_of (texts words.now)) result.done }
     ensures memory { MemoryWritesNothing (O.written out.old) (O.written out.new) result.done }
     // Whatever the counts did, what is answered to a command is true of the files.
     ensures soundness { (command : PlainCommand) → command_of (texts words.now) ≡ Ok command → IsSound command (S.files shelf.old) result.done }
@@ -135,7 +146,8 @@ pub fn run<S: Shelf, O: Sink>(
         (outside (S.files shelf.old) (counts (S.read_faults shelf.old) (S.read_faults_at shelf.old)) (S.put_faults shelf.old) (O.written out.old) (O.faults out.old))
         (outside (S.files shelf.new) (counts (S.read_faults shelf.new) (S.read_faults_at shelf.new)) (S.put_faults shelf.new) (O.written out.new) (O.faults out.new)) result.status result.done }
 
-    // No file changes but those that a command puts: for advice, the one of its certificate; for `fold`, the one it names.
+    // No file changes but those that a command puts: for advice, the one of its certificate; for a sweep, one for each
+    // point; for `fold`, the one it names.
     ensures files { LeavesFiles (texts words.now)
         (outside (S.files shelf.old) (counts (S.read_faults shelf.old) (S.read_faults_at shelf.old)) (S.put_faults shelf.old) (O.written out.old) (O.faults out.old))
         (outside (S.files shelf.new) (counts (S.read_faults shelf.new) (S.read_faults_at shelf.new)) (S.put_faults shelf.new) (O.written out.new) (O.faults out.new)) result.done }

@@ -35,7 +35,7 @@ fn free_root() -> Fix
 }
 
 /// A configuration has a flag for each candidate that there may be.
-fn has_all_flags(config: &Config)
+pub(crate) fn has_all_flags(config: &Config)
     ensures { length config.now.on ≡ MOST_CANDIDATES }
 {
     let _flags = config.on;
