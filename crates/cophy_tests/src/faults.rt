@@ -35,6 +35,7 @@ const LINES: &str = r#"4|cost CAT LOAD|statement 1 weight 1 cost 30000~total 300
 5|check CAT LOAD CONF|not proved: malformed at line 1~
 6|check-ruled CAT LOAD CONF CONF|not proved: malformed at line 1~
 5|ruled CAT LOAD 0 CONF|must 0 never 0~budget 0~candidates 1 left over 0~size 0~cost 30000~bound 30000~gap 0~nodes 1 of 20000~finished~
+4|sweep CAT LOAD 0 1 1|point 1 budget 0 size 0 cost 30000 bound 30000 best 30000 low 30000 nodes 1~finished~
 0|cost CAT|usage: missing word 3~
 0|bench 1 2 5 0|tables 2~statements 5~slots 6~budget 0~candidates 11 left over 0~size 0~cost 4944003918~bound 4944003918~gap 0~nodes 1 of 20000~finished~"#;
 

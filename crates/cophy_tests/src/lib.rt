@@ -28,6 +28,8 @@ mod runs;
 #[cfg(test)]
 mod scene;
 #[cfg(test)]
+mod swept;
+#[cfg(test)]
 mod texts;
 #[cfg(test)]
 mod words;

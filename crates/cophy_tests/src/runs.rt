@@ -177,6 +177,7 @@ const WORDS: &str = r#"2||TI|||usage: no command~
 2|advise c l 10 --nodes 0|TI|||usage: bad number at word 6~
 2|advise c l 10 --nodes 5 --nodes 6|TI|||usage: option twice at word 7~
 2|advise c l 10 --node|TI|||usage: unknown option at word 5~
+2|sweep c l 1 1000000000000 2|TI|||usage: bad number at word 6~
 2|bench 1 1 5 0|TI|||usage: bad number at word 3~
 2|bench 1 2 501 0|TI|||usage: bad number at word 4~
 2|bench 1 2 5|TI|||usage: missing word 5~

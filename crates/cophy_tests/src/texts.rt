@@ -7,7 +7,7 @@ use crate::keys::field_of;
 use crate::scene::split;
 use adv_base::{Catalogue, Config, List, Rates, Setting};
 use binder::BindFault;
-use bip_model::Answer;
+use bip_model::{Answer, Point};
 use catalogue::{CatFault, KeyPart, KeyPath};
 use gap_checker::{CheckFault, Checked};
 use report::{Advice, Done, NotProved, Prices, Refusal, Role, WordFault, text};
@@ -312,6 +312,66 @@ fn advice_is_told_with_its_gap(rt: HostRuntime) {
         5,
         -3,
         "budget 10\ncandidates 0 left over 7\nsize 0\ncost 5\nbound -3\ngap 8\nnodes 0 of 20000\nstopped\n",
+    );
+}
+
+/// A point with an answer of so much, over no candidates.
+fn point(alloc: Global, budget: u64, cost: u128, bound: i128, best: u128, low: i128) -> Point {
+    Point {
+        budget,
+        answer: Answer {
+            config: Config::none(),
+            cost,
+            bound,
+            sets: List::new(alloc),
+            tree: List::new(alloc),
+            useful: 0,
+        },
+        best,
+        low,
+    }
+}
+
+/// The text of a sweep over no candidates.
+fn assert_sweep(rt: &impl Abort, alloc: Global, points: List<Point>, want: &str) {
+    let cat = Catalogue {
+        rates: Rates::default(),
+        tables: List::new(alloc),
+    };
+    let setting = Setting {
+        cat: &cat,
+        statements: &[],
+        shapes: &[],
+    };
+    assert_text(rt, alloc, &Done::Swept(points), Some(&setting), want);
+}
+
+/// A gap is that of `best` and `low`, whatever the point's own answer says.
+#[test]
+fn points_are_told_with_their_own_bound_and_the_curves(rt: HostRuntime) {
+    let alloc = rt.alloc();
+    let mut items = Vec::new(alloc);
+    items
+        .push(point(alloc, 2, 50, -9, 48, -7))
+        .expect(&rt, "memory");
+    items
+        .push(point(alloc, 6, 40, 39, 40, 39))
+        .expect(&rt, "memory");
+    assert_sweep(
+        &rt,
+        alloc,
+        List { items },
+        "point 1 budget 2 size 0 cost 50 bound -9 best 48 low -7 nodes 0\npoint 2 budget 6 size 0 cost 40 bound 39 best 40 low 39 nodes 0\nstopped\n",
+    );
+    let mut items = Vec::new(alloc);
+    items
+        .push(point(alloc, 2, 5, 3, 4, 4))
+        .expect(&rt, "memory");
+    assert_sweep(
+        &rt,
+        alloc,
+        List { items },
+        "point 1 budget 2 size 0 cost 5 bound 3 best 4 low 4 nodes 0\nfinished\n",
     );
 }
 

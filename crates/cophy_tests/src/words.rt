@@ -55,6 +55,23 @@ Err(BadNumber(4))|ruled c l r 4
 Err(Missing(5))|ruled c l 4
 Err(UnknownOption(6))|ruled c l 4 r --fast
 Err(Extra(6))|ruled c l 4 r x
+Ok(Sweep { cat: "c", load: "l", first: 0, step: 3, count: 4, nodes: 20000, cert: None })|sweep c l 0 3 4
+Ok(Sweep { cat: "c", load: "l", first: 1000000000000, step: 1000000000000, count: 1, nodes: 7, cert: Some("p") })|sweep c l 1000000000000 1000000000000 1 --cert p --nodes 7
+Ok(Sweep { cat: "c", load: "l", first: 1, step: 66666666666, count: 16, nodes: 20000, cert: None })|sweep c l 1 66666666666 16
+Err(BadNumber(6))|sweep c l 1 1000000000000 2
+Err(BadNumber(6))|sweep c l 1 66666666667 16
+Err(BadNumber(6))|sweep c l 1 1000000000000 2 --fast
+Err(BadNumber(6))|sweep c l 0 1 17
+Err(BadNumber(6))|sweep c l 0 1 0
+Err(BadNumber(5))|sweep c l 0 0 1
+Err(BadNumber(4))|sweep c l 1000000000001 1 1
+Err(Missing(6))|sweep c l 0 1
+Err(UnknownOption(7))|sweep c l 0 1 4 --fast
+Err(Extra(7))|sweep c l 0 1 4 x
+Err(Missing(8))|sweep c l 0 1 4 --cert
+Err(Twice(9))|sweep c l 0 1 4 --nodes 5 --nodes 6
+Err(Extra(11))|sweep c l 0 1 4 --nodes 5 --cert p x
+Err(BadNumber(6))|sweep c l 1000000000000 1 2
 Ok(CheckRuled { cat: "c", load: "l", rules: "r", cert: "f" })|check-ruled c l r f
 Err(Missing(5))|check-ruled c l r
 Err(Extra(6))|check-ruled c l r f x
