@@ -1,5 +1,8 @@
 #!/usr/bin/python3 -IB
-"""A fleet of made databases on a local cluster: throughput by workers, a worker's memory, and what Dask takes a task."""
+"""A fleet of made databases on a local cluster: throughput by workers, a worker's memory, and what Dask takes.
+
+By the clock it wants a machine with nothing else at work; the processor's time says more on one that others use.
+"""
 import argparse
 import asyncio
 import os
@@ -30,6 +33,12 @@ def peak() -> float:
     return resource.getrusage(resource.RUSAGE_SELF).ru_maxrss / 1024
 
 
+def spent() -> tuple[float, float]:
+    """The processor's seconds of a worker's process, and of the programs that it called and that have ended."""
+    mine, called = (resource.getrusage(it) for it in (resource.RUSAGE_SELF, resource.RUSAGE_CHILDREN))
+    return mine.ru_utime + mine.ru_stime, called.ru_utime + called.ru_stime
+
+
 def nothing(number: int) -> int:
     """A task without work."""
     return number
@@ -42,9 +51,12 @@ async def measure(fleet: Fleet, workers: int, program: str, folder: str) -> dict
     results = os.path.join(folder, f"results{workers}.sqlite")
     with opened(results, is_new=True) as store:
         async with client(None, workers) as found:
+            before = await found.run(spent)
             began, used = time.monotonic(), time.process_time()
             await Run(found, fleet, settings, store, lambda answer, _: faults.append(answer.fault)).all()
             took, ours = time.monotonic() - began, time.process_time() - used
+            after = await found.run(spent)
+            theirs, called = (sum(after[it][at] - before[it][at] for it in after) for at in (0, 1))
             largest = max((await found.run(peak)).values())
             used = time.process_time()
             await found.gather(found.map(nothing, range(TASKS), pure=False))
@@ -55,7 +67,8 @@ async def measure(fleet: Fleet, workers: int, program: str, folder: str) -> dict
     bad = [it for it in faults if it]
     if bad:
         sys.exit(f"{len(bad)} databases have no answer: {bad[0]}")
-    return {"seconds": took, "client": ours, "peak": largest, "alone": alone, "again": again}
+    parts = {"run": ours, "workers": theirs, "program": called}
+    return {"seconds": took, **parts, "peak": largest, "alone": alone, "again": again}
 
 
 def direct(fleet: Fleet, program: str, folder: str, count: int) -> float:
@@ -92,15 +105,17 @@ def main() -> None:
             f"{fleet.steps + 1} budgets each; {os.cpu_count()} processors"
         )
         print(f"without a cluster, one after the other: {1000 * alone:.1f} ms a database")
-        print("workers  seconds  databases/s  times one  client+scheduler ms/task  empty task ms  worker MiB  again s")
+        print(f"{'':39}processor's ms a database")
+        print("workers  seconds  databases/s  times one  run  workers  program  empty task ms  worker MiB  again s")
         first = None
         for workers in map(int, words.workers.split(",")):
             found = asyncio.run(measure(fleet, workers, words.program, folder))
             first = first or found["seconds"]
             rate = words.databases / found["seconds"]
+            run, theirs, called = (1000 * found[it] / words.databases for it in ("run", "workers", "program"))
             print(
                 f"{workers:7d}  {found['seconds']:7.1f}  {rate:11.1f}  {first / found['seconds']:9.2f}  "
-                f"{1000 * found['client'] / (3 * words.databases):24.2f}  {1000 * found['alone']:13.2f}  "
+                f"{run:3.0f}  {theirs:7.0f}  {called:7.0f}  {1000 * found['alone']:13.2f}  "
                 f"{found['peak']:10.0f}  {found['again']:7.1f}",
                 flush=True,
             )

@@ -69,7 +69,7 @@ class Points(InFolder):
         self.assertEqual(self.commands()[:7], ["advise", "candidates", "sweep", *4 * ["advise"]])
         self.assertEqual(at_once, one_by_one)
         self.assertEqual([it.budget for it in at_once], [0, 33, 66, 99, 10**12])
-        self.assertEqual([len(it.numbers().picks) for it in at_once], [0, 2, 3, 4, 6])
+        self.assertEqual([len(it.numbers.picks) for it in at_once], [0, 2, 3, 4, 6])
 
     def test_more_points_than_a_sweep_has_take_several(self) -> None:
         found = self.swept(self.settings(steps=40))
@@ -112,6 +112,28 @@ class Points(InFolder):
             fold(str(self.folder), replace(settings, program=self.lay_program(refusing, "refusing")))
         with self.assertRaises(NoCommand):
             said(str(self.folder), settings, "fold", "folded.sql")
+
+
+@unittest.skipIf(MISSING_FLEET, MISSING_FLEET)
+class Order(InFolder):
+    def test_what_is_new_and_what_took_long_is_begun_first(self) -> None:
+        from cophy_fleet.run import Run
+        from cophy_fleet.settings import Database, Fleet
+        from cophy_fleet.store import Answer, opened
+
+        fleet = [Database(it, service="x") for it in ("refused", "short", "long", "failed", "new")]
+        for name, statements in (("small", 10), ("large", 100)):
+            (self.folder / name).write_text("SELECT a FROM t;\n" * statements)
+            fleet.append(Database(name, catalogue="none", workload=str(self.folder / name)))
+        with opened(str(self.folder / "fleet.sqlite"), is_new=True) as store:
+            store.keep(Answer("refused", "digest", "refused: syntax at 8"))
+            for name, seconds in (("short", 1.0), ("long", 9.0)):
+                store.keep(Answer(name, "digest", "", "one", "two", seconds, seconds))
+            store.fail("failed", "nothing listens there")
+            settings = Settings("", "", 8, 20000, 600)
+            run = Run(None, Fleet(tuple(fleet)), settings, store, print)  # type: ignore[arg-type]
+            found = [it.name for it in run.longest_first()]
+        self.assertEqual(found, ["large", "small", "failed", "new", "long", "short", "refused"])
 
 
 @unittest.skipIf(MISSING_FLEET, MISSING_FLEET)

@@ -4,13 +4,14 @@ from __future__ import annotations
 import os
 import subprocess
 from dataclasses import dataclass
+from functools import cache
 from pathlib import Path
 
 DONE, NODES_SPENT, FAULTY_WORDS, REFUSED, NOT_PROVED = 0, 1, 2, 5, 6
 """Statuses of the program that are answers, of words that it doesn't know, and of inputs that it refuses; another says that it
 stopped."""
 UNKNOWN = b"usage: unknown command"
-CONNECTED = "PG"
+CONNECTED = b"PG"
 """What variables of a connection begin with; the program gets none of them."""
 
 
@@ -56,12 +57,11 @@ def said(folder: str, settings: Settings, command: str, *more: str) -> str:
 
 def ran(words: list[str], timeout: int, folder: str | None = None, **more: str) -> subprocess.CompletedProcess[bytes]:
     """A call in a folder; with more variables, those of a connection are handed on too."""
-    kept = {it: value for it, value in os.environ.items() if more or not it.startswith(CONNECTED)}
     try:
         return subprocess.run(
             words,
             cwd=folder,
-            env={**kept, **more, "COPHY_HINTS": "0"},
+            env={**os.environ, **more, "COPHY_HINTS": "0"} if more else _variables(),
             stdin=subprocess.DEVNULL,
             capture_output=True,
             timeout=timeout,
@@ -71,6 +71,12 @@ def ran(words: list[str], timeout: int, folder: str | None = None, **more: str) 
         raise Failed(f"{Path(words[0]).name} {words[1]} took more than {timeout} seconds") from None
     except OSError as fault:
         raise Failed(f"{words[0]} can't be run: {fault.strerror}") from None
+
+
+@cache
+def _variables() -> dict[bytes, bytes]:
+    """The variables of a program, as bytes: they are looked up once and not by each call."""
+    return {it: value for it, value in os.environb.items() if not it.startswith(CONNECTED)} | {b"COPHY_HINTS": b"0"}
 
 
 def last_line(text: bytes) -> str:

@@ -29,6 +29,14 @@ _SETTINGS = {
     "distributed.deploy.lost-worker-timeout": "1 hour",
     # The scheduler's own queue lets a task go whose inputs were lost with a worker, and waits for it for ever (2022.12).
     "distributed.scheduler.worker-saturation": "inf",
+    # What Dask looks at for its dashboard, many times a second in each process; nobody looks at that here.
+    "distributed.worker.profile.enabled": False,
+    "distributed.worker.memory.monitor-interval": "1s",
+    "distributed.admin.tick.interval": "1s",
+    "distributed.admin.system-monitor.interval": "10s",
+    "distributed.admin.system-monitor.disk": False,
+    # The source of what calls for a task is looked up for each task, but for these modules: all.
+    "distributed.diagnostics.computations.ignore-modules": [""],
 }
 
 

@@ -2,6 +2,7 @@
 from __future__ import annotations
 
 from dataclasses import dataclass, field
+from functools import cached_property
 
 from cophy_text.answers import Advice, read_advice
 
@@ -14,14 +15,15 @@ class Point:
     advice: str = field(repr=False)
     certificate: bytes = field(repr=False)
 
+    @cached_property
     def numbers(self) -> Advice:
-        """The advice, taken apart."""
+        """The advice, taken apart by whoever asks first: from the worker that checks it goes along with the point."""
         return read_advice(self.advice)
 
 
 @dataclass(frozen=True)
-class Kept:
-    """The catalogue and the workload that certificates are of, compressed: alike statements of the workload may be one."""
+class Inputs:
+    """A catalogue and a workload, compressed."""
 
     catalogue: bytes = field(default=b"", repr=False)
     workload: bytes = field(default=b"", repr=False)
@@ -29,22 +31,28 @@ class Kept:
 
 @dataclass(frozen=True)
 class Advised:
-    """Points with rising budgets, what their certificates are of, the worker that made them and its seconds. A refusal is the
-    program's first line; without one and without points nothing has changed."""
+    """Points with rising budgets, what they were advised from and what their certificates are of (alike statements of the
+    workload may be one there), the worker that made them and its seconds. A refusal is the program's first line; without one
+    and without points nothing has changed."""
 
     digest: str
     worker: str
     points: tuple[Point, ...] = ()
-    kept: Kept = Kept()
+    inputs: Inputs = Inputs()
+    kept: Inputs = Inputs()
     refusal: str = ""
     seconds: float = 0.0
+
+    def is_new(self) -> bool:
+        """Whether there is more than that nothing has changed."""
+        return bool(self.points or self.refusal)
 
 
 @dataclass(frozen=True)
 class Checked:
-    """Where certificates were made and where they were checked; a fault names the first that proves something else."""
+    """What was checked, and where; a fault names the first certificate that proves something else."""
 
-    advised_on: str
-    checked_on: str
+    advised: Advised
+    worker: str
     fault: str = ""
     seconds: float = 0.0

@@ -38,7 +38,7 @@ def fold(folder: str, settings: Settings) -> None:
 def sweep(folder: str, settings: Settings) -> tuple[Point, ...]:
     """The points at budgets an equal step apart from 0, below the size that no budget limits, and the one without a limit."""
     last = _advice(folder, MOST, settings)
-    most = last.numbers().size
+    most = last.numbers.size
     step = max(1, -(-most // settings.steps))
     count = max(1, -(-most // step))
     try:
@@ -55,7 +55,7 @@ def fault_of(folder: str, points: Iterable[Point], settings: Settings) -> str:
     for it in points:
         Path(folder, "certificate").write_bytes(zlib.decompress(it.certificate))
         answer = said(folder, settings, "check", "certificate")
-        advice = it.numbers()
+        advice = it.numbers
         if answer != f"proved cost {advice.cost} bound {advice.bound} budget {it.budget}\n":
             return f"the certificate for {it.budget} pages: {last_line(answer.encode())}"
     return ""

@@ -1,15 +1,18 @@
 """A run over a fleet: what is asked of the cluster for each database, and what is done where a part of it fails.
 
-Dask places, moves and retries tasks. For each database it gets three, one after the other: `read_inputs`, `advise` and
-`check`, the last one held to the workers that didn't advise. It blames a worker's death on all that waits there, so a
-database that is blamed has no fault yet: it is tried once more when the others are done and nothing waits beside it.
+Dask places, moves and retries tasks. For each database it gets two, one after the other: `advise`, and `check` that is held to
+the workers that didn't advise; before them `export` where the inputs come from a server. It blames a worker's death on all
+that waits there, so a database that is blamed has no fault yet: it is tried once more when the others are done and nothing
+waits beside it.
 """
 from __future__ import annotations
 
 import asyncio
+import math
+import os
 from collections.abc import Callable
 from concurrent.futures import CancelledError
-from contextlib import nullcontext, suppress
+from contextlib import suppress
 from dataclasses import replace
 from typing import Any
 
@@ -17,7 +20,7 @@ from distributed import Client, Future, KilledWorker, Semaphore
 
 from cophy_fleet import work
 from cophy_fleet.calls import Failed, Settings
-from cophy_fleet.outcomes import Advised, Checked
+from cophy_fleet.outcomes import Checked
 from cophy_fleet.settings import Database, Fault, Fleet
 from cophy_fleet.store import Answer, Store, answer_of
 
@@ -67,7 +70,7 @@ class Run:
                     lost.append(database)
 
         async def each() -> None:
-            await asyncio.gather(*(one(it) for it in self.fleet.databases))
+            await asyncio.gather(*(one(it) for it in self.longest_first()))
             for it in lost:
                 await self._answered(it, is_alone=True)
 
@@ -83,6 +86,17 @@ class Run:
             whole.cancel()
             await asyncio.gather(whole, return_exceptions=True)
 
+    def longest_first(self) -> list[Database]:
+        """The databases in the order in which they are begun. What is new comes first, by the sizes of workloads that are here,
+        then the others by what they took: a long one that began last would be waited for by all other workers."""
+        took = self.store.seconds()
+
+        def length(database: Database) -> tuple[float, int]:
+            is_here = bool(database.workload) and os.path.isfile(database.workload)
+            return took.get(database.name, math.inf), os.path.getsize(database.workload) if is_here else 0
+
+        return sorted(self.fleet.databases, key=length, reverse=True)
+
     def _keep(self, answer: Answer, is_new: bool) -> None:
         if answer.fault and not answer.digest:
             self.store.fail(answer.database, answer.fault)
@@ -94,7 +108,7 @@ class Run:
         """Whether there is an answer, which then is kept: none where the fault may be that of another database, unless it is
         tried alone. An answer without a digest is tried again by the next run."""
         try:
-            answer, is_new = await self._tried(database)
+            answer, is_new = self._told(database.name, await self._checked(database))
         except Exception as fault:
             if isinstance(fault, LOST) and not is_alone:
                 return False
@@ -102,47 +116,39 @@ class Run:
         self._keep(answer, is_new)
         return True
 
-    async def _tried(self, database: Database) -> tuple[Answer, bool]:
-        known = self.store.digest(database.name)
-        async with self._gate(database):
-            inputs = self._task(work.read_inputs, database)
-            fault = await inputs.exception()
-        if fault is not None:
-            raise fault
-        made = self._task(work.advise, inputs, known, priority=1)
-        advised: Advised = await made.result()
-        if advised.refusal:
-            return Answer(database.name, advised.digest, advised.refusal), True
-        kept = None if advised.points else self.store.answer(database.name)
-        if kept is None:
-            answer = answer_of(database.name, advised, await self._checked(inputs, made, advised.worker))
-            return (answer if self.fleet.keep_inputs else replace(answer, kept=None)), True
-        # Inputs that are what they were have the points that they had, or are refused again.
-        is_back = bool(kept.points and kept.fault)
-        return (replace(kept, fault="") if is_back else kept), is_back
+    def _told(self, database: str, checked: Checked) -> tuple[Answer, bool]:
+        """The answer, and whether it is new. Inputs that are what they were have the points that they had, or are refused
+        again."""
+        if not checked.advised.is_new() and (kept := self.store.answer(database)) is not None:
+            is_back = bool(kept.points and kept.fault)
+            return (replace(kept, fault="") if is_back else kept), is_back
+        answer = answer_of(database, checked)
+        return (answer if self.fleet.keep_inputs else replace(answer, kept=None)), True
 
-    def _gate(self, database: Database) -> Any:
-        """What an export waits at until its server has a connection to give. Databases that name no server count as one
-        server's."""
-        return self.gates[database.server] if database.service else nullcontext()
-
-    async def _checked(self, inputs: Future, made: Future, advised_on: str) -> Checked:
-        """What a check says, on another worker than advised as long as there is one."""
+    async def _checked(self, database: Database) -> Checked:
+        """Advice that is checked, on another worker than advised as long as there is one."""
+        source: Future | Database = database
+        if database.service:
+            # An export waits until its server has a connection to give.
+            async with self.gates[database.server]:
+                source = await _ended(self._task(work.export, database))
+        made = await _ended(self._task(work.advise, source, self.store.digest(database.name), priority=1))
+        advised_on = next(iter((await self.client.who_has([made]))[made.key]), "")
         for _ in range(CHECKS):
             others = await self._others(advised_on)
-            checked = await self._check(inputs, made, others)
+            checked = await self._check(made, others)
             if checked is None:
                 continue
             # Advice that was lost with its worker is made anew by another one, which may be the one that checks.
-            if checked.advised_on != checked.checked_on or not others:
+            if checked.advised.worker != checked.worker or not others:
                 return checked
-            advised_on = checked.advised_on
+            advised_on = checked.advised.worker
         raise Deserted
 
-    async def _check(self, inputs: Future, made: Future, others: list[str]) -> Checked | None:
+    async def _check(self, made: Future, others: list[str]) -> Checked | None:
         """What a check on one of these workers says, on any where they are none; nothing where all of them have gone. It would
         wait for them for ever, as would a result that they had."""
-        task = self._task(work.check, inputs, made, priority=2, workers=others or None)
+        task = self._task(work.check, made, priority=2, workers=others or None)
         ended = asyncio.ensure_future(task.result())
         try:
             while not ended.done() and (not others or set(others) & {*self.workers}):
@@ -161,7 +167,6 @@ class Run:
     async def _others(self, worker: str) -> list[str]:
         """The workers but this one; where the last of them has gone, its successor is awaited."""
         for _ in range(PATIENCE // GLANCE):
-            await self._look()
             others = [it for it in self.workers if it != worker]
             if others or self.most < 2:
                 return others
@@ -171,8 +176,7 @@ class Run:
 
     async def _look(self) -> None:
         """Asks the scheduler for the workers that are there now, with their threads. What Dask keeps of that here is late."""
-        told = await self.client.scheduler.identity()  # type: ignore[union-attr]
-        self.workers = {it: int(one["nthreads"]) for it, one in told["workers"].items()}
+        self.workers = dict(await self.client.nthreads())
         self.most = max(self.most, len(self.workers))
 
     def _task(self, function: Callable[..., Any], *values: Any, **how: Any) -> Future:
@@ -181,6 +185,14 @@ class Run:
             function, *values, self.settings, retries=self.fleet.retries, pure=False, **how
         )
         return task
+
+
+async def _ended(task: Future) -> Future:
+    """A task that has come to an end without a fault; its result stays where it is."""
+    fault = await task.exception()
+    if fault is not None:
+        raise fault
+    return task
 
 
 def _named(fault: Exception) -> str:

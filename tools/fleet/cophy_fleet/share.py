@@ -114,7 +114,7 @@ def share_budget(words: argparse.Namespace, results: str) -> int:
             continue
         if answer.fault:
             say(f"{database.name}: its answer is of an earlier run, and the last one failed: {answer.fault}")
-        sweeps.append(Sweep(database.name, database.weight, tuple(it.numbers() for it in answer.points)))
+        sweeps.append(Sweep(database.name, database.weight, tuple(it.numbers for it in answer.points)))
         kept.append(answer)
     if not sweeps:
         say("there is nothing to share")

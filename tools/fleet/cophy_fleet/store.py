@@ -10,11 +10,12 @@ from dataclasses import dataclass
 from pathlib import Path
 from typing import Any
 
-from cophy_fleet.outcomes import Advised, Checked, Kept, Point
+from cophy_fleet.outcomes import Checked, Inputs, Point
 from cophy_fleet.settings import Fault
 
 _FORM = """
 PRAGMA journal_mode = WAL;
+PRAGMA synchronous = NORMAL; -- a machine that loses its power may lose the last answers, not the file
 CREATE TABLE IF NOT EXISTS answer (
     database TEXT PRIMARY KEY,
     digest TEXT NOT NULL, -- of the inputs and the program that the points are of, or that are refused; else empty
@@ -53,7 +54,7 @@ class Answer:
     advise_seconds: float = 0.0
     check_seconds: float = 0.0
     points: tuple[Point, ...] = ()
-    kept: Kept | None = None
+    kept: Inputs | None = None
 
     def line(self, is_new: bool) -> str:
         """The answer as a line of JSON."""
@@ -65,16 +66,17 @@ class Answer:
         return json.dumps(told | {"points": [_told(it) for it in self.points]})
 
 
-def answer_of(database: str, advised: Advised, checked: Checked) -> Answer:
+def answer_of(database: str, checked: Checked) -> Answer:
     """The answer that a fleet keeps; points whose certificates prove something else are no answer."""
-    if checked.fault:
-        return Answer(database, "", checked.fault)
-    where = (checked.advised_on, checked.checked_on, advised.seconds, checked.seconds)
+    advised = checked.advised
+    if advised.refusal or checked.fault:
+        return Answer(database, "" if checked.fault else advised.digest, checked.fault or advised.refusal)
+    where = (advised.worker, checked.worker, advised.seconds, checked.seconds)
     return Answer(database, advised.digest, "", *where, advised.points, advised.kept)
 
 
 def _told(point: Point) -> dict[str, Any]:
-    advice = point.numbers()
+    advice = point.numbers
     told = {key: getattr(advice, key) for key in ("budget", "size", "cost", "bound", "nodes", "is_finished")}
     return told | {"picks": [it.shown() for it in advice.picks]}
 
@@ -90,6 +92,11 @@ class Store:
         row = self.connection.execute("SELECT digest FROM answer WHERE database = ?", (database,)).fetchone()
         return str(row[0]) if row else ""
 
+    def seconds(self) -> dict[str, float]:
+        """How long each database took, by its name."""
+        rows = "SELECT database, advise_seconds + check_seconds FROM answer WHERE digest != ''"
+        return dict(self.connection.execute(rows))
+
     def answer(self, database: str) -> Answer | None:
         """The answer that is kept."""
         row = self.connection.execute(f"SELECT {_COLUMNS} FROM answer WHERE database = ?", (database,)).fetchone()
@@ -101,7 +108,7 @@ class Store:
         named = dict(zip(_COLUMNS.split(", "), row, strict=True))
         inputs = self.connection.execute("SELECT catalogue, workload FROM input WHERE database = ?", (database,))
         kept = inputs.fetchone()
-        return Answer(**named, points=tuple(Point(*it) for it in rows), kept=Kept(*kept) if kept else None)
+        return Answer(**named, points=tuple(Point(*it) for it in rows), kept=Inputs(*kept) if kept else None)
 
     def keep(self, answer: Answer) -> None:
         """Keeps an answer, with its inputs where it has them, in the place of the one before."""
@@ -134,7 +141,7 @@ class Store:
 
 
 def _row(database: str, point: Point) -> tuple[Any, ...]:
-    advice = point.numbers()
+    advice = point.numbers
     numbers = (point.budget, advice.size, str(advice.cost), str(advice.bound))
     return (database, *numbers, point.advice, point.certificate)
 
