@@ -63,6 +63,8 @@ class Marks(unittest.TestCase):
     def test_all_that_is_to_be_run_is_in_a_document_whose_commands_are(self) -> None:
         run = {"README.md", "docs/POSTGRES.md", "examples/README.md"}
         self.assertLessEqual({it for it in documents() if [*commands(it)]}, run)
+        of_tools = {it for it in commands("README.md") if it.startswith("tools/")}
+        self.assertLessEqual(of_tools, {*commands("docs/POSTGRES.md")}, "the walk runs those of POSTGRES.md alone")
 
 
 @unittest.skipUnless(os.access(COPHY, os.X_OK), "the program isn't built")

@@ -10,16 +10,18 @@ import unittest
 from pathlib import Path
 
 from cophy_text.answers import Advice, Candidate
-from fixtures import TOOL
+from fixtures import HERE, TOOL
 from patience import LONG
 
 HAS_PARSER = importlib.util.find_spec("pglast") is not None
 HAS_MATPLOTLIB = importlib.util.find_spec("matplotlib") is not None
 if HAS_PARSER:
-    from cophy_pg.curve import Search, between
+    from cophy_pg.curve import Search, _database, between
     from cophy_pg.curves import Point, bound_steps, cost_steps
+    from cophy_pg.drawing import _lines, _scales
     from cophy_pg.program import NoCommand, Program
 
+STAND_IN = HERE / "stand_in.py"
 # Indexes of 3, 40 and 300 pages that save 5000, 2000 and 1000 of 9000; the bound is 100 below the cost.
 SIZES = ((3, 5000), (40, 2000), (300, 1000))
 PROGRAM = """#!/bin/sh
@@ -172,6 +174,53 @@ class Command(unittest.TestCase):
         self.assertEqual([it.budget for it in found], sorted({it.budget for it in found}))
         known = {(it.size, it.cost) for it in found}
         self.assertEqual(known, {(0, 9000), (3, 4000), (43, 2000), (343, 1000)})
+
+    def test_even_budgets_by_one_sweep_are_those_of_one_advice_after_the_other(self) -> None:
+        columns = "".join(f'[[table.column]]\nname = "{it}"\nkind = "int"\nwidth = 4\n' for it in "ab")
+        tables = "".join(f'[[table]]\nname = "t{it}"\nrows = 9\npages = {40 * it}\n{columns}' for it in (1, 2, 3))
+        (self.folder / "c.toml").write_text(f"version = 1\n{tables}")
+        texts = (f"-- weight {it}\nselect a from t{it}\nwhere b = 5;\n" for it in (1, 2, 3))
+        (self.folder / "l.sql").write_text("".join(texts))
+        found = []
+        for without in ("none", "sweep"):
+            lines = (
+                "#!/bin/sh",
+                f'echo "$1" >>{self.folder}/{without}',
+                f'[ "$1" != {without} ] || {{ echo "usage: unknown command at word 1"; exit 2; }}',
+                f'exec {STAND_IN} "$@"',
+            )
+            self.program.write_text("\n".join(lines) + "\n")
+            found.append(json.loads(self.call("--even", "--steps", "5", "--json")))
+        self.assertEqual(found[0], found[1])
+        self.assertEqual([it["budget"] for it in found[0]], [0, 14, 28, 42, 56, 70])
+        self.assertEqual((self.folder / "none").read_text().split(), ["advise", "sweep", "candidates"])
+        self.assertEqual((self.folder / "sweep").read_text().split(), ["advise", "sweep", *6 * ["advise"]])
+        # Budgets that are named are no sweep, be they even or not.
+        self.call("--budgets", "0,10,20")
+        self.assertEqual((self.folder / "sweep").read_text().split()[8:], 3 * ["advise"])
+
+    def test_the_title_has_the_database_or_the_file(self) -> None:
+        (self.folder / "plain.toml").write_text("version = 2\n")
+        for file, title in (("c.toml", "sh$o_p"), ("plain.toml", "plain.toml")):
+            self.assertEqual(_database(str(self.folder / file)), title)
+
+    @unittest.skipUnless(HAS_MATPLOTLIB, "python3-matplotlib isn't installed")
+    def test_axes_of_the_picture(self) -> None:
+        from matplotlib import pyplot
+
+        points = [Point(0, 0, 9000000, 8000000, 0), Point(10**6, 10**6, 1000, -5000, 17)]
+        axes = pyplot.figure().add_subplot()
+        _lines(axes, points, 8192 / 2**20, 10**6)
+        _scales(axes, 9000000, 8192 / 2**20, "MB")
+        axes.figure.canvas.draw()
+        texts = [it.get_text() for it in axes.texts]
+        self.assertEqual(texts, ["0", "17"])
+        self.assertLess(axes.texts[-1].get_window_extent().x1, axes.get_window_extent().x1)
+        shown = [axes.xaxis, axes.yaxis, *(it for child in axes.child_axes for it in (child.xaxis, child.yaxis))]
+        self.assertEqual({it.get_offset_text().get_text() for it in shown}, {""})
+        labels = {it.get_label_text() for it in shown}
+        self.assertLessEqual({"budget (MB)", "pages of 8192 bytes", "saved by our model"}, labels)
+        pyplot.close("all")
 
     @unittest.skipUnless(HAS_MATPLOTLIB, "python3-matplotlib isn't installed")
     def test_it_draws_a_png(self) -> None:

@@ -1,9 +1,10 @@
-"""What the documents show is what the program prints: each example of README.md, and the stored run of the main job."""
+"""What the documents show is what the program prints, what they name is there, and they stay short enough to be read."""
 from __future__ import annotations
 
 import os
 import re
 import subprocess
+import sys
 import tempfile
 import unittest
 from pathlib import Path
@@ -14,6 +15,24 @@ from patience import LONG
 STORED = ROOT / "crates" / "cophy_cli"
 BLOCK = re.compile(r"^```\n(\$ \./cophy .*?)^```$", re.MULTILINE | re.DOTALL)
 CALL = re.compile(r"^\$ \./cophy (.*)$", re.MULTILINE)
+FENCED = re.compile(r"^```.*?^```$", re.MULTILINE | re.DOTALL)
+LINK = re.compile(r"\]\(([^)\s]+)\)")
+HEADING = re.compile(r"^#+ (.*)$", re.MULTILINE)
+PATH = re.compile(r"`((?:crates|tools|docs|bench|examples)/[\w./-]+)`")
+EVIDENCE = ROOT / "tools" / "docs" / "evidence"
+TABLE = re.compile(r"<!-- tools/docs/evidence -->\n(.*?)<!-- -->", re.DOTALL)
+MOST_WORDS = {"docs/ARCHITECTURE.md": 2500, "docs/PROOFS.md": 1500, "bench/README.md": 800}
+
+
+def documents() -> list[Path]:
+    """All documents of the repository."""
+    return sorted(it for it in ROOT.rglob("*.md") if not {"out", ".git"} & {*it.relative_to(ROOT).parts})
+
+
+def anchors(text: str) -> set[str]:
+    """What links may name of a document: its headings in small letters, with `-` for spaces."""
+    headings = HEADING.findall(FENCED.sub("", text))
+    return {re.sub(r"[^\w -]", "", it.lower()).replace(" ", "-") for it in headings}
 
 
 def shown(document: str) -> list[tuple[list[str], str]]:
@@ -46,14 +65,70 @@ class Documents(unittest.TestCase):
                         if output:
                             self.assertEqual(ran.stdout, output)
 
-    def test_code_of_the_documents_stands_in_the_tests(self) -> None:
-        text = (ROOT / "docs" / "CRATES.md").read_text()
-        files = [(ROOT / it).read_text() for it in re.findall(r"`(crates/\S+\.rt)`", text)]
-        blocks = re.findall(r"^```rust\n(.*?)^```$", text, re.MULTILINE | re.DOTALL)
-        self.assertGreater(len(blocks), 4)
-        for block in blocks:
-            with self.subTest(block=block[:60]):
-                self.assertTrue(any(block in it for it in files))
+    def test_code_of_the_documents_stands_in_the_sources(self) -> None:
+        for document, least in (("docs/CRATES.md", 5), ("docs/PROOFS.md", 1)):
+            text = (ROOT / document).read_text()
+            files = [(ROOT / it).read_text() for it in re.findall(r"`(crates/\S+\.rt)`", text)]
+            blocks = re.findall(r"^```rust\n(.*?)^```$", text, re.MULTILINE | re.DOTALL)
+            self.assertGreaterEqual(len(blocks), least)
+            for block in blocks:
+                with self.subTest(document=document, block=block[:60]):
+                    self.assertTrue(any(block in it for it in files))
+
+    def test_the_example_of_the_formats_stands_in_the_examples(self) -> None:
+        text = (ROOT / "docs" / "FORMATS.md").read_text()
+        for mark, name in (("toml", "two.toml"), ("sql", "two.sql"), ("", "two.cert")):
+            with self.subTest(name=name):
+                self.assertIn(f"```{mark}\n{(ROOT / 'examples' / name).read_text()}```\n", text)
+
+
+class Named(unittest.TestCase):
+    def test_links_lead_somewhere(self) -> None:
+        for document in documents():
+            text = document.read_text()
+            for link in LINK.findall(FENCED.sub("", text)):
+                if link.startswith("http"):
+                    continue
+                with self.subTest(document=str(document.relative_to(ROOT)), link=link):
+                    file, _, anchor = link.partition("#")
+                    target = document.parent / file if file else document
+                    self.assertTrue(target.exists())
+                    if anchor:
+                        self.assertIn(anchor, anchors(target.read_text()))
+
+    def test_files_that_are_named_are_there(self) -> None:
+        for document in documents():
+            for name in PATH.findall(document.read_text()):
+                with self.subTest(document=str(document.relative_to(ROOT)), name=name):
+                    self.assertTrue("/out/" in name or (ROOT / name).exists())
+
+    def test_laws_and_wrong_changes_are_those_of_the_sources(self) -> None:
+        ran = subprocess.run(
+            [sys.executable, "-ISB", str(EVIDENCE)], capture_output=True, text=True, check=True, timeout=LONG
+        )
+        found = TABLE.findall((ROOT / "docs" / "PROOFS.md").read_text())
+        self.assertEqual(found, [ran.stdout], "run tools/docs/evidence --write")
+
+    def test_names_of_the_proofs_are_those_of_the_sources(self) -> None:
+        text = (ROOT / "docs" / "PROOFS.md").read_text()
+        parts = {it.split("\n", 1)[0]: it for it in text.split("\n## ")}
+        top = (ROOT / "crates" / "cophy_core" / "src" / "top.rt").read_text().split("pub fn run", 1)[1]
+        rows = re.findall(r"^\| (`.*?`) \|", parts["What the program promises"], re.MULTILINE)
+        told = [name for row in rows for name in re.findall(r"`(\w+)`", row)]
+        self.assertEqual(sorted(told), sorted(re.findall(r"^    ensures (\w+) ", top, re.MULTILINE)))
+        files = [it for kind in ("src/**/*.rt", "specs/**/*.antt") for it in ROOT.glob(f"crates/*/{kind}")]
+        known = {it for file in files for it in re.findall(r"\w+", file.read_text())} | {it.stem for it in files}
+        known |= {it.name for it in (ROOT / "crates").iterdir()}
+        named = set(re.findall(r"`(\w+)`", parts["What proves that a bound is one"]))
+        self.assertEqual(named - known, set())
+
+
+class Short(unittest.TestCase):
+    def test_documents_are_short_enough_to_be_read(self) -> None:
+        self.assertLess(len((ROOT / "README.md").read_text().splitlines()), 150)
+        for document, most in MOST_WORDS.items():
+            with self.subTest(document=document):
+                self.assertLessEqual(len(TABLE.sub("", (ROOT / document).read_text()).split()), most)
 
 
 if __name__ == "__main__":

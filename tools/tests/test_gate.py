@@ -1,13 +1,16 @@
 """The script of the merge gate, and what is typed and read beside `cophy`: the completion, the help and the manual."""
 from __future__ import annotations
 
+import importlib.util
 import os
+import re
 import shutil
 import subprocess
 import tempfile
 import unittest
 from pathlib import Path
 
+from fixtures import TOOL
 from script_copy import ROOT
 
 
@@ -73,6 +76,10 @@ class Completion(unittest.TestCase):
             ("_cophy", ("cophy", "advise", "a", "b", "9", "--cert", "examples/shop."), files),
             ("_cophy", ("cophy", "ruled", "a", "b", "9", "examples/shop."), files),
             ("_cophy", ("cophy", "ruled", "a", "b", "9", "r", "--n"), ["--nodes"]),
+            ("_cophy", ("cophy", "sweep", "a", "examples/shop."), files),
+            ("_cophy", ("cophy", "sweep", "a", "b", "0", "1", ""), []),
+            ("_cophy", ("cophy", "sweep", "a", "b", "0", "1", "2", "--n"), ["--nodes"]),
+            ("_cophy", ("cophy", "sweep", "a", "b", "0", "1", "2", "--nodes", "9", "--cert", "examples/shop."), files),
             ("_cophy_pg", ("cophy-pg", "ex"), ["export"]),
             ("_cophy_pg", ("cophy-pg", "curve", "--e"), ["--even"]),
             ("_cophy_pg", ("cophy-pg", "rules", "--s"), ["--skip-unknown"]),
@@ -84,6 +91,19 @@ class Completion(unittest.TestCase):
             with self.subTest(words=words):
                 self.assertEqual(self.completed(function, *words), wanted)
 
+    @unittest.skipUnless(importlib.util.find_spec("pglast"), "python3-pglast isn't installed")
+    def test_each_command_and_option_of_cophy_pg_is_completed(self) -> None:
+        def listed(form: str, *words: str) -> list[str]:
+            ran = subprocess.run([str(TOOL), *words, "--help"], stdout=subprocess.PIPE, text=True, check=True)
+            return sorted(set(re.findall(form, ran.stdout, re.MULTILINE)))
+
+        commands = listed("^    ([a-z]+) ")
+        self.assertEqual([it for it in self.completed("_cophy_pg", "cophy-pg", "") if it.isalpha()], commands)
+        for it in commands:
+            with self.subTest(command=it):
+                options = listed("^  (?:-h, )?(--[a-z-]+)", it)
+                self.assertEqual(self.completed("_cophy_pg", "cophy-pg", it, "--"), options)
+
     def test_help_and_manual_name_every_command(self) -> None:
         for file in ("help.txt", "cophy.1"):
             text = (ROOT / "tools" / "wrapper" / file).read_text()
@@ -94,7 +114,9 @@ class Completion(unittest.TestCase):
                 "candidates",
                 "advise",
                 "check",
+                "sweep",
                 "ruled",
+                "fold",
                 "bench",
                 "unproved",
                 "COPHY_HINTS",

@@ -224,6 +224,14 @@ class Unwritten(OverCopy):
             with self.subTest(words=words):
                 self.assertEqual([*outputs.unwritten(words)], [f"{told}: there is no folder nowhere"])
 
+    def test_the_first_certificate_of_a_sweep_with_a_cause_is_named(self) -> None:
+        prefix = str(self.copy.root / "k")
+        for it in ("2", "4", "5"):
+            (self.copy.root / f"k{it}").mkdir()
+        for first, told in (("1", []), ("2", [f"{prefix}2: the certificate can't be written: Is a directory"])):
+            words = ["sweep", "c", "l", "0", "1", first, "--nodes", "4", "--cert", prefix]
+            self.assertEqual([it for it in outputs.unwritten(words) if "output" not in it], told)
+
     def test_an_output_that_takes_nothing_is_named(self) -> None:
         told = "cophy: the standard output can't be written: it is /dev/full, which takes nothing\n"
         self.assertEqual(self.hinted(None, "/dev/full"), told)

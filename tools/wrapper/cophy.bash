@@ -13,14 +13,14 @@ _cophy() {
     COMPREPLY=()
     case "$at:$command" in
         0:* | 1:*)
-            local words="cost explain whatif candidates advise check ruled check-ruled fold bench"
+            local words="cost explain whatif candidates advise check sweep ruled check-ruled fold bench"
             if [ "${COMP_WORDS[1]-}" != --unproved ] || [ "$COMP_CWORD" -eq 1 ]; then words+=" help version --unproved"; fi
             _cophy_words "$words" "$current"
             ;;
-        [23]:cost | [23]:explain | [23]:whatif | [23]:candidates | [23]:advise | [23]:check) _cophy_files "$current" ;;
+        [23]:cost | [23]:explain | [23]:whatif | [23]:candidates | [23]:advise | [23]:check | [23]:sweep) _cophy_files "$current" ;;
         [23]:ruled | [2345]:check-ruled | [234]:fold) _cophy_files "$current" ;;
         4:explain | 4:whatif | 4:check | 5:ruled) _cophy_files "$current" ;;
-        [5678]:advise | [6789]:ruled)
+        [5678]:advise | [6789]:ruled | [789]:sweep | 10:sweep)
             case "${COMP_WORDS[COMP_CWORD - 1]}" in
                 --cert) _cophy_files "$current" ;;
                 --nodes) ;;
@@ -35,22 +35,28 @@ _cophy_pg() {
     local rewriting=" --no-ranges --no-rows --no-limits --no-look-ups --no-deletes --no-insert-share"
     COMPREPLY=()
     if [ "$COMP_CWORD" -eq 1 ]; then
-        _cophy_words "advise report health snapshot export rewrite rules ddl verify why curve --help --version" "$current"
+        local words="advise report health daily changes snapshot export rewrite rules ddl verify why curve"
+        _cophy_words "$words --help --version" "$current"
         return
     fi
     case "$command" in
-        advise)
+        advise | daily)
+            if [ "$command" = daily ]; then options+=" --keep"; fi
             options+=" --budget --folder --since --min-calls --min-saving --rules --most-per-table --no-curve --table --user --nodes --sql --log"
             options+="$rewriting --dsn --timeout --i-trust-the-statements --program --json"
             ;;
         health) options+=" --folder --min-size --dsn --timeout --program --json" ;;
+        changes) options+=" --json" ;;
         report) options+=" --output" ;;
         snapshot) options+=" --dsn --timeout" ;;
-        export) options+=" --dsn --sql --log --report --since --min-calls --table --user$rewriting --program" ;;
+        export) options+=" --dsn --sql --log --report --since --min-calls --table --user --timeout$rewriting --program" ;;
         rewrite) options+=" --report$rewriting --program" ;;
         rules) options+=" --skip-unknown" ;;
         ddl) options+=" --script --include --rows-a-second --json" ;;
-        verify) options+=" --dsn --sql --log --since --min-calls --table --user --advice --rules --json --program" ;;
+        verify)
+            options+=" --dsn --sql --log --since --min-calls --table --user --timeout --i-trust-the-statements"
+            options+=" --advice --rules --json --program"
+            ;;
         why) options+=" --json --program" ;;
         curve) options+=" --budgets --even --steps --nodes --png --json --program" ;;
     esac

@@ -3,6 +3,7 @@ from __future__ import annotations
 
 import argparse
 import json
+import os
 import re
 from contextlib import suppress
 from dataclasses import replace
@@ -134,4 +135,4 @@ def _row(it: Advice, without: int) -> str:
 def _database(catalogue: str) -> str:
     """The database that a catalogue was exported from, or else the name of its file."""
     found = re.match(rb"# The database '([ -~]+)', exported by cophy-pg\.\n", files.read(catalogue))
-    return found[1].decode() if found else files.shown(catalogue)
+    return found[1].decode() if found else files.shown(os.path.basename(catalogue))

@@ -8,8 +8,8 @@ from cophy_text.answers import PAGE
 from cophy_pg.curves import Point, bound_steps, cost_steps
 from cophy_pg.progress import say
 
-NEAR = 0.035
-"""Corners that are nearer to each other, as a share of the picture, have one number of indexes."""
+DIGIT, LINE = 0.013, 0.035
+"""How wide a digit and how high a line is, as a share of the picture, with the space beside it."""
 
 
 def draw(points: list[Point], without: int, title: str, file: str) -> None:
@@ -38,15 +38,17 @@ def _lines(axes: Any, points: list[Point], unit: float, last: int) -> None:
     axes.plot(across, up, "o", color=line.get_color(), markersize=4)
     across_bounds, bounds_up = [it.pages * unit for it in bounds], [it.cost / 1000 for it in bounds]
     axes.step([0, *across_bounds], [bounds_up[0], *bounds_up], where="pre", linestyle="--", label="proved bound")
-    axes.set_xlim(-0.02 * last * unit, 1.02 * last * unit)
+    # Beyond the last budget there is room for the number of indexes there.
+    axes.set_xlim(-0.02 * last * unit, 1.05 * last * unit)
     axes.set_ylim(bottom=0, top=1.08 * max(*up, *bounds_up, 0.001))
     height = axes.get_ylim()[1]
-    shown: tuple[float, float] | None = None
+    end, base = -1.0, 0.0
     for x, y, it in zip(across, up, costs):
         place = (x / (last * unit), y / height)
-        if shown is None or max(abs(place[0] - shown[0]), abs(place[1] - shown[1])) >= NEAR:
+        # A number that would stand on the one before it is left out.
+        if place[0] >= end or base - place[1] >= LINE:
             axes.annotate(str(it.picks), (x, y), xytext=(4, 4), textcoords="offset points", fontsize=9)
-            shown = place
+            end, base = place[0] + DIGIT * len(str(it.picks)), place[1]
 
 
 def _scales(axes: Any, without: int, unit: float, name: str) -> None:

@@ -2,6 +2,7 @@
 from __future__ import annotations
 
 import os
+import re
 import stat
 from collections.abc import Iterator
 
@@ -11,7 +12,7 @@ ROOM = 65536
 
 
 def unwritten(words: list[str]) -> Iterator[str]:
-    """What is seen of an answer that couldn't be written: the file that is put first, or the standard output."""
+    """What is seen of an answer that couldn't be written: the first file with a cause, or the standard output."""
     for file, what in _puts(words):
         cause = file_cause(file)
         if cause:
@@ -23,12 +24,18 @@ def unwritten(words: list[str]) -> Iterator[str]:
 
 
 def _puts(words: list[str]) -> Iterator[tuple[str, str]]:
-    """The first file that a call puts, with what it holds."""
+    """The files that a call puts, in their order, with what they hold."""
     for option, file in zip(words, words[1:]):
         if option == "--cert":
-            yield file + "1" * (words[0] == "sweep"), "certificate"
+            yield from ((file + it, "certificate") for it in (_points(words) if words[0] == "sweep" else ("",)))
     if words[:1] == ["fold"] and len(words) > 3:
         yield words[3], "folded workload"
+
+
+def _points(words: list[str]) -> list[str]:
+    """The numbers of the points of a sweep, which end the names of its certificates."""
+    count = words[5] if len(words) > 5 and re.fullmatch("[0-9]{1,2}", words[5]) else "1"
+    return [str(it) for it in range(1, int(count) + 1)]
 
 
 def file_cause(name: str) -> str | None:
