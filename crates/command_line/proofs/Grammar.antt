@@ -10,9 +10,9 @@ use Rattle.adv_base.specs.Readings.{◌>>=◌, or_fault}
 use Rattle.command_line.specs.declared.fault.WordFault.{WordFault}
 use Rattle.command_line.specs.declared.fault.WordFault.TheVariants.{BadNumber, Extra, Missing, NoCommand, UnknownCommand}
 use Rattle.command_line.specs.Numbers.{number_within}
-use Rattle.command_line.specs.CommandLine.{PlainCommand, Cost, WhatIf, Explain, Candidates, Advise, Ruled, Sweep, Check, CheckRuled, Fold, Bench, PlainOptions, no_options, nodes_of, last_budget, asked_sweep, WordKind, File, Number, Takes, Row, Plain, Search, end_at, options_from, cost_row, what_if_row, explain_row, candidates_row, advise_row, ruled_row, sweep_row, check_row, check_ruled_row, fold_row, bench_row, commands, name_of, read_plain, read_row, read_named, named_command, command_of}
+use Rattle.command_line.specs.CommandLine.{PlainCommand, Cost, WhatIf, Explain, Candidates, Advise, Ruled, Sweep, Retune, Check, CheckRuled, Fold, Bench, PlainOptions, no_options, nodes_of, last_budget, asked_sweep, WordKind, File, Number, Takes, Row, Plain, Search, end_at, options_from, cost_row, what_if_row, explain_row, candidates_row, advise_row, ruled_row, sweep_row, retune_row, check_row, check_ruled_row, fold_row, bench_row, commands, name_of, read_plain, read_row, read_named, named_command, command_of}
 use Rattle.command_line.specs.Spellings.{IsWithin, AreSweepBudgets, Choice, words_of, Choose, IsCommandLine}
-use Rattle.command_line.proofs.Choices.{chosen_reads, chosen_back}
+use Rattle.command_line.proofs.Choices.{IsAllowed, chosen_reads, chosen_back}
 use Rattle.command_line.proofs.Results.{pick, not_ok, bind_ok}
 use Rattle.command_line.proofs.WordLaws.{one_longer, moved, word_is, no_word, number_of_word, no_number, number_here, within}
 
@@ -113,16 +113,16 @@ row_reads name kinds asked values small are =
     no_more [] = refl
     no_more (x ∷ xs) = ap (λ (ys : List (List ℕ)). x ∷ ys) (no_more xs)
 
-search_reads : (name : List ℕ) (kinds : List WordKind) (asked : Takes kinds (Option (PlainOptions → PlainCommand))) (values : Values kinds) (command : PlainOptions → PlainCommand)
-    (choices : List Choice) (given : Option ℕ) (cert : Option (List ℕ)) → AreSmall kinds → AreWithin kinds values → of_values kinds asked values ≡ Some command → Choose choices given cert →
-    read_row (name ∷ (spelled kinds values ++ words_of choices)) (Search name kinds asked) ≡ Ok (command (record { nodes = given; cert = cert }))
-search_reads name kinds asked values command choices given cert small are told chosen =
+search_reads : (certifies : Bool) (name : List ℕ) (kinds : List WordKind) (asked : Takes kinds (Option (PlainOptions → PlainCommand))) (values : Values kinds) (command : PlainOptions → PlainCommand)
+    (choices : List Choice) (given : Option ℕ) (cert : Option (List ℕ)) → AreSmall kinds → AreWithin kinds values → of_values kinds asked values ≡ Some command → IsAllowed certifies cert → Choose choices given cert →
+    read_row (name ∷ (spelled kinds values ++ words_of choices)) (Search name certifies kinds asked) ≡ Ok (command (record { nodes = given; cert = cert }))
+search_reads certifies name kinds asked values command choices given cert small are told may chosen =
     let words = name ∷ (spelled kinds values ++ words_of choices) in
-    let go = λ (o : Option (PlainOptions → PlainCommand)). or_fault (BadNumber (length kinds + 1)) o >>= λ asks. options_from words 3 (length kinds + 2) no_options >>= λ options. Ok (asks options) in
+    let go = λ (o : Option (PlainOptions → PlainCommand)). or_fault (BadNumber (length kinds + 1)) o >>= λ asks. options_from certifies words 3 (length kinds + 2) no_options >>= λ options. Ok (asks options) in
     let read = plain_reads (name ∷ []) kinds asked go values (words_of choices) small are in
     let size = spelled_length kinds values in
     let place : suc (length (name ∷ spelled kinds values)) ≡ length kinds + 2 = omega (arith, size) in
-    let options = rw place at (chosen_reads (name ∷ spelled kinds values) choices given cert chosen) in
+    let options = rw place at (chosen_reads certifies (name ∷ spelled kinds values) choices given cert may chosen) in
     read
     ∙ (ap go told ∙ ap (λ (r : Result PlainOptions WordFault). r >>= λ said. Ok (command said)) options)
 
@@ -158,7 +158,7 @@ row_back name w words kinds asked c e =
         absurd (not_ok (Extra (length kinds + 1 + 1)) c (rw beyond at goes))
 
 -- the plain words of a search, and its options
-record SearchRead (words : List (List ℕ)) (kinds : List WordKind) (asked : Takes kinds (Option (PlainOptions → PlainCommand))) (c : PlainCommand) : Type 0 where
+record SearchRead (certifies : Bool) (words : List (List ℕ)) (kinds : List WordKind) (asked : Takes kinds (Option (PlainOptions → PlainCommand))) (c : PlainCommand) : Type 0 where
   values : Values kinds
   are : AreWithin kinds values
   command : PlainOptions → PlainCommand
@@ -166,6 +166,7 @@ record SearchRead (words : List (List ℕ)) (kinds : List WordKind) (asked : Tak
   options : PlainOptions
   choices : List Choice
   chosen : Choose choices options.nodes options.cert
+  may : IsAllowed certifies options.cert
   words_are : words ≡ spelled kinds values ++ words_of choices
   same : command options ≡ c
 
@@ -173,18 +174,18 @@ known : {A : Type 0} (fault : WordFault) (o : Option A) (x : A) → or_fault fau
 known fault None x e = absurd (not_ok fault x e)
 known fault (Some y) x e = let same : y ≡ x = cc in ap Some same
 
-search_back : (name w : List ℕ) (words : List (List ℕ)) (kinds : List WordKind) (asked : Takes kinds (Option (PlainOptions → PlainCommand))) (c : PlainCommand) →
-    read_row (w ∷ words) (Search name kinds asked) ≡ Ok c → SearchRead words kinds asked c
-search_back name w words kinds asked c e =
-    let r = plain_back (w ∷ []) words kinds asked (λ o. or_fault (BadNumber (length kinds + 1)) o >>= λ asks. options_from (w ∷ words) 3 (length kinds + 2) no_options >>= λ options. Ok (asks options)) c e in
+search_back : (certifies : Bool) (name w : List ℕ) (words : List (List ℕ)) (kinds : List WordKind) (asked : Takes kinds (Option (PlainOptions → PlainCommand))) (c : PlainCommand) →
+    read_row (w ∷ words) (Search name certifies kinds asked) ≡ Ok c → SearchRead certifies words kinds asked c
+search_back certifies name w words kinds asked c e =
+    let r = plain_back (w ∷ []) words kinds asked (λ o. or_fault (BadNumber (length kinds + 1)) o >>= λ asks. options_from certifies (w ∷ words) 3 (length kinds + 2) no_options >>= λ options. Ok (asks options)) c e in
     let told = bind_ok (or_fault (BadNumber (length kinds + 1)) (of_values kinds asked r.values)) _ c r.goes_on in
-    let read = bind_ok (options_from (w ∷ words) 3 (length kinds + 2) no_options) _ c told.1.1 in
+    let read = bind_ok (options_from certifies (w ∷ words) 3 (length kinds + 2) no_options) _ c told.1.1 in
     let size = spelled_length kinds r.values in
     let place : length kinds + 2 ≡ suc (length (w ∷ spelled kinds r.values)) = omega (arith, size) in
-    let behind : options_from ((w ∷ spelled kinds r.values) ++ r.back) 3 (suc (length (w ∷ spelled kinds r.values))) no_options ≡ Ok read.0 =
-    subst (λ (k : ℕ). options_from ((w ∷ spelled kinds r.values) ++ r.back) 3 k no_options ≡ Ok read.0) place
-    (ap (λ (xs : List (List ℕ)). options_from (w ∷ xs) 3 (length kinds + 2) no_options) (sym r.words_are) ∙ read.1.0) in
-    let chosen = chosen_back (w ∷ spelled kinds r.values) r.back read.0 behind in
+    let behind : options_from certifies ((w ∷ spelled kinds r.values) ++ r.back) 3 (suc (length (w ∷ spelled kinds r.values))) no_options ≡ Ok read.0 =
+    subst (λ (k : ℕ). options_from certifies ((w ∷ spelled kinds r.values) ++ r.back) 3 k no_options ≡ Ok read.0) place
+    (ap (λ (xs : List (List ℕ)). options_from certifies (w ∷ xs) 3 (length kinds + 2) no_options) (sym r.words_are) ∙ read.1.0) in
+    let chosen = chosen_back certifies (w ∷ spelled kinds r.values) r.back read.0 behind in
     let is : Ok (told.0 read.0) ≡ Ok c = read.1.1 in
     record {
       values = r.values;
@@ -193,7 +194,8 @@ search_back name w words kinds asked c e =
       told = known (BadNumber (length kinds + 1)) (of_values kinds asked r.values) told.0 told.1.0;
       options = read.0;
       choices = chosen.0;
-      chosen = chosen.1.1;
+      chosen = chosen.1.1.0;
+      may = chosen.1.1.1;
       words_are = r.words_are ∙ ap (λ (xs : List (List ℕ)). spelled kinds r.values ++ xs) chosen.1.0;
       same = cc;
     }
@@ -230,6 +232,10 @@ named_ruled words = refl
 named_sweep : (words : List (List ℕ)) → command_of (codes "sweep" ∷ words) ≡ read_row (codes "sweep" ∷ words) sweep_row
 unfolding command_of named_command
 named_sweep words = refl
+
+named_retune : (words : List (List ℕ)) → command_of (codes "retune" ∷ words) ≡ read_row (codes "retune" ∷ words) retune_row
+unfolding command_of named_command
+named_retune words = refl
 
 named_check : (words : List (List ℕ)) → command_of (codes "check" ∷ words) ≡ read_row (codes "check" ∷ words) check_row
 unfolding command_of named_command
@@ -273,17 +279,21 @@ reads words (Candidates cat load) h =
     rw h (named_candidates (cat ∷ load ∷ []) ∙ row_reads (codes "candidates") (File ∷ File ∷ []) Candidates (cat, (load, tt)) tt tt)
 reads words (Advise cat load budget nodes cert) h =
     rw (h.0.words_are, h.0.nodes_are) (named_advise (cat ∷ load ∷ decimal budget ∷ words_of h.0.choices)
-    ∙ search_reads (codes "advise") (File ∷ File ∷ Number 0 1000000000000 ∷ []) (λ cat load budget. Some (λ options. Advise cat load budget (nodes_of options) options.cert))
-    (cat, (load, (budget, tt))) (λ options. Advise cat load budget (nodes_of options) options.cert) h.0.choices h.0.given cert (omega arith, tt) (h.1, tt) refl h.0.chosen)
+    ∙ search_reads true (codes "advise") (File ∷ File ∷ Number 0 1000000000000 ∷ []) (λ cat load budget. Some (λ options. Advise cat load budget (nodes_of options) options.cert))
+    (cat, (load, (budget, tt))) (λ options. Advise cat load budget (nodes_of options) options.cert) h.0.choices h.0.given cert (omega arith, tt) (h.1, tt) refl (λ e. refl) h.0.chosen)
 reads words (Ruled cat load budget rules nodes cert) h =
     rw (h.0.words_are, h.0.nodes_are) (named_ruled (cat ∷ load ∷ decimal budget ∷ rules ∷ words_of h.0.choices)
-    ∙ search_reads (codes "ruled") (File ∷ File ∷ Number 0 1000000000000 ∷ File ∷ []) (λ cat load budget rules. Some (λ options. Ruled cat load budget rules (nodes_of options) options.cert))
-    (cat, (load, (budget, (rules, tt)))) (λ options. Ruled cat load budget rules (nodes_of options) options.cert) h.0.choices h.0.given cert (omega arith, tt) (h.1, tt) refl h.0.chosen)
+    ∙ search_reads true (codes "ruled") (File ∷ File ∷ Number 0 1000000000000 ∷ File ∷ []) (λ cat load budget rules. Some (λ options. Ruled cat load budget rules (nodes_of options) options.cert))
+    (cat, (load, (budget, (rules, tt)))) (λ options. Ruled cat load budget rules (nodes_of options) options.cert) h.0.choices h.0.given cert (omega arith, tt) (h.1, tt) refl (λ e. refl) h.0.chosen)
 reads words (Sweep cat load first step count nodes cert) h =
     rw (h.0.words_are, h.0.nodes_are) (named_sweep (cat ∷ load ∷ decimal first ∷ decimal step ∷ decimal count ∷ words_of h.0.choices)
-    ∙ search_reads (codes "sweep") (File ∷ File ∷ Number 0 1000000000000 ∷ Number 1 1000000000000 ∷ Number 1 16 ∷ []) asked_sweep
+    ∙ search_reads true (codes "sweep") (File ∷ File ∷ Number 0 1000000000000 ∷ Number 1 1000000000000 ∷ Number 1 16 ∷ []) asked_sweep
     (cat, (load, (first, (step, (count, tt))))) (λ options. Sweep cat load first step count (nodes_of options) options.cert) h.0.choices h.0.given cert
-    (omega arith, (omega arith, (omega arith, tt))) (h.1.first_is, (h.1.step_is, (h.1.count_is, tt))) (steps_told cat load first step count h.1) h.0.chosen)
+    (omega arith, (omega arith, (omega arith, tt))) (h.1.first_is, (h.1.step_is, (h.1.count_is, tt))) (steps_told cat load first step count h.1) (λ e. refl) h.0.chosen)
+reads words (Retune cat load edits budget nodes) h =
+    rw (h.0.words_are, h.0.nodes_are) (named_retune (cat ∷ load ∷ edits ∷ decimal budget ∷ words_of h.0.choices)
+    ∙ search_reads false (codes "retune") (File ∷ File ∷ File ∷ Number 0 1000000000000 ∷ []) (λ cat load edits budget. Some (λ options. Retune cat load edits budget (nodes_of options)))
+    (cat, (load, (edits, (budget, tt)))) (λ options. Retune cat load edits budget (nodes_of options)) h.0.choices h.0.given None (omega arith, tt) (h.1, tt) refl (λ e. e) h.0.chosen)
 reads words (Check cat load third) h =
     rw h (named_check (cat ∷ load ∷ third ∷ []) ∙ row_reads (codes "check") (File ∷ File ∷ File ∷ []) Check (cat, (load, (third, tt))) tt tt)
 reads words (CheckRuled cat load rules cert) h =
@@ -331,19 +341,19 @@ in_row_of w words c (inr (inr (inr (inl h)))) =
     let line : w ∷ words ≡ codes "candidates" ∷ r.values.0 ∷ r.values.1.0 ∷ [] = cc (h.0, r.words_are) in
     subst (IsCommandLine (w ∷ words)) r.same line
 in_row_of w words c (inr (inr (inr (inr (inl h))))) =
-    let r = search_back (codes "advise") w words (File ∷ File ∷ Number 0 1000000000000 ∷ []) (λ cat load budget. Some (λ options. Advise cat load budget (nodes_of options) options.cert)) c h.1 in
+    let r = search_back true (codes "advise") w words (File ∷ File ∷ Number 0 1000000000000 ∷ []) (λ cat load budget. Some (λ options. Advise cat load budget (nodes_of options) options.cert)) c h.1 in
     let line : w ∷ words ≡ codes "advise" ∷ r.values.0 ∷ r.values.1.0 ∷ decimal r.values.1.1.0 ∷ words_of r.choices = cc (h.0, r.words_are) in
     let asks = in_row (λ (options : PlainOptions). Advise r.values.0 r.values.1.0 r.values.1.1.0 (nodes_of options) options.cert) r.command r.told in
     let same : Advise r.values.0 r.values.1.0 r.values.1.1.0 (nodes_of r.options) r.options.cert ≡ c = ap (λ (f : PlainOptions → PlainCommand). f r.options) asks ∙ r.same in
     subst (IsCommandLine (w ∷ words)) same (record { choices = r.choices; given = r.options.nodes; chosen = r.chosen; nodes_are = refl; words_are = line }, r.are.0)
 in_row_of w words c (inr (inr (inr (inr (inr (inl h)))))) =
-    let r = search_back (codes "ruled") w words (File ∷ File ∷ Number 0 1000000000000 ∷ File ∷ []) (λ cat load budget rules. Some (λ options. Ruled cat load budget rules (nodes_of options) options.cert)) c h.1 in
+    let r = search_back true (codes "ruled") w words (File ∷ File ∷ Number 0 1000000000000 ∷ File ∷ []) (λ cat load budget rules. Some (λ options. Ruled cat load budget rules (nodes_of options) options.cert)) c h.1 in
     let line : w ∷ words ≡ codes "ruled" ∷ r.values.0 ∷ r.values.1.0 ∷ decimal r.values.1.1.0 ∷ r.values.1.1.1.0 ∷ words_of r.choices = cc (h.0, r.words_are) in
     let asks = in_row (λ (options : PlainOptions). Ruled r.values.0 r.values.1.0 r.values.1.1.0 r.values.1.1.1.0 (nodes_of options) options.cert) r.command r.told in
     let same : Ruled r.values.0 r.values.1.0 r.values.1.1.0 r.values.1.1.1.0 (nodes_of r.options) r.options.cert ≡ c = ap (λ (f : PlainOptions → PlainCommand). f r.options) asks ∙ r.same in
     subst (IsCommandLine (w ∷ words)) same (record { choices = r.choices; given = r.options.nodes; chosen = r.chosen; nodes_are = refl; words_are = line }, r.are.0)
 in_row_of w words c (inr (inr (inr (inr (inr (inr (inl h))))))) =
-    let r = search_back (codes "sweep") w words (File ∷ File ∷ Number 0 1000000000000 ∷ Number 1 1000000000000 ∷ Number 1 16 ∷ []) asked_sweep c h.1 in
+    let r = search_back true (codes "sweep") w words (File ∷ File ∷ Number 0 1000000000000 ∷ Number 1 1000000000000 ∷ Number 1 16 ∷ []) asked_sweep c h.1 in
     let v = r.values.1.1 in
     let line : w ∷ words ≡ codes "sweep" ∷ r.values.0 ∷ r.values.1.0 ∷ decimal v.0 ∷ decimal v.1.0 ∷ decimal v.1.1.0 ∷ words_of r.choices = cc (h.0, r.words_are) in
     let told = told_steps r.values.0 r.values.1.0 v.0 v.1.0 v.1.1.0 r.command r.told in
@@ -351,22 +361,34 @@ in_row_of w words c (inr (inr (inr (inr (inr (inr (inl h))))))) =
     let same : Sweep r.values.0 r.values.1.0 v.0 v.1.0 v.1.1.0 (nodes_of r.options) r.options.cert ≡ c = ap (λ (f : PlainOptions → PlainCommand). f r.options) told.1 ∙ r.same in
     subst (IsCommandLine (w ∷ words)) same (record { choices = r.choices; given = r.options.nodes; chosen = r.chosen; nodes_are = refl; words_are = line }, steps)
 in_row_of w words c (inr (inr (inr (inr (inr (inr (inr (inl h)))))))) =
+    let r = search_back false (codes "retune") w words (File ∷ File ∷ File ∷ Number 0 1000000000000 ∷ []) (λ cat load edits budget. Some (λ options. Retune cat load edits budget (nodes_of options))) c h.1 in
+    let v = r.values.1.1 in
+    let line : w ∷ words ≡ codes "retune" ∷ r.values.0 ∷ r.values.1.0 ∷ v.0 ∷ decimal v.1.0 ∷ words_of r.choices = cc (h.0, r.words_are) in
+    let asks = in_row (λ (options : PlainOptions). Retune r.values.0 r.values.1.0 v.0 v.1.0 (nodes_of options)) r.command r.told in
+    let same : Retune r.values.0 r.values.1.0 v.0 v.1.0 (nodes_of r.options) ≡ c = ap (λ (f : PlainOptions → PlainCommand). f r.options) asks ∙ r.same in
+    let chosen = subst (Choose r.choices r.options.nodes) (no_cert r.options.cert r.may) r.chosen in
+    subst (IsCommandLine (w ∷ words)) same (record { choices = r.choices; given = r.options.nodes; chosen = chosen; nodes_are = refl; words_are = line }, r.are.0)
+  where
+    no_cert : (cert : Option (List ℕ)) → IsAllowed false cert → cert ≡ None
+    no_cert None may = refl
+    no_cert (Some name) may = absurd (let e : false ≡ true = may refl in cc)
+in_row_of w words c (inr (inr (inr (inr (inr (inr (inr (inr (inl h))))))))) =
     let r = row_back (codes "check") w words (File ∷ File ∷ File ∷ []) Check c h.1 in
     let line : w ∷ words ≡ codes "check" ∷ r.values.0 ∷ r.values.1.0 ∷ r.values.1.1.0 ∷ [] = cc (h.0, r.words_are) in
     subst (IsCommandLine (w ∷ words)) r.same line
-in_row_of w words c (inr (inr (inr (inr (inr (inr (inr (inr (inl h))))))))) =
+in_row_of w words c (inr (inr (inr (inr (inr (inr (inr (inr (inr (inl h)))))))))) =
     let r = row_back (codes "check-ruled") w words (File ∷ File ∷ File ∷ File ∷ []) CheckRuled c h.1 in
     let line : w ∷ words ≡ codes "check-ruled" ∷ r.values.0 ∷ r.values.1.0 ∷ r.values.1.1.0 ∷ r.values.1.1.1.0 ∷ [] = cc (h.0, r.words_are) in
     subst (IsCommandLine (w ∷ words)) r.same line
-in_row_of w words c (inr (inr (inr (inr (inr (inr (inr (inr (inr (inl h)))))))))) =
+in_row_of w words c (inr (inr (inr (inr (inr (inr (inr (inr (inr (inr (inl h))))))))))) =
     let r = row_back (codes "fold") w words (File ∷ File ∷ File ∷ []) Fold c h.1 in
     let line : w ∷ words ≡ codes "fold" ∷ r.values.0 ∷ r.values.1.0 ∷ r.values.1.1.0 ∷ [] = cc (h.0, r.words_are) in
     subst (IsCommandLine (w ∷ words)) r.same line
-in_row_of w words c (inr (inr (inr (inr (inr (inr (inr (inr (inr (inr (inl h))))))))))) =
+in_row_of w words c (inr (inr (inr (inr (inr (inr (inr (inr (inr (inr (inr (inl h)))))))))))) =
     let r = row_back (codes "bench") w words (Number 0 18446744073709551615 ∷ Number 2 20 ∷ Number 1 500 ∷ Number 0 1000000000000 ∷ []) Bench c h.1 in
     let line : w ∷ words ≡ codes "bench" ∷ decimal r.values.0 ∷ decimal r.values.1.0 ∷ decimal r.values.1.1.0 ∷ decimal r.values.1.1.1.0 ∷ [] = cc (h.0, r.words_are) in
     subst (IsCommandLine (w ∷ words)) r.same (line, (r.are.0, (r.are.1.0, (r.are.1.1.0, r.are.1.1.1.0))))
-in_row_of w words c (inr (inr (inr (inr (inr (inr (inr (inr (inr (inr (inr none))))))))))) = absurd none
+in_row_of w words c (inr (inr (inr (inr (inr (inr (inr (inr (inr (inr (inr (inr none)))))))))))) = absurd none
 
 -- what is read is in the grammar
 pub in_grammar : (words : List (List ℕ)) (command : PlainCommand) → command_of words ≡ Ok command → IsCommandLine words command

@@ -1,5 +1,5 @@
 -- The command that the words of a command line are, read from left to right by the table of commands, or the first fault.
-use Rattle.std.specs.Prelude.{◌≡◌, ℕ, zero, suc, ◌+◌, ◌-◌, nat_eq, nat_lt, nat_le, ◌*◌, if◌then◌else◌, List, [], ◌∷◌, length, map, codes, bytes_eq, is_some, slice_get, unwrap_or, Option, Some, None, option_map, Result, Ok, Err, String, string_bytes}
+use Rattle.std.specs.Prelude.{◌≡◌, ℕ, zero, suc, ◌+◌, ◌-◌, nat_eq, nat_lt, nat_le, ◌*◌, if◌then◌else◌, Bool, true, false, ◌&&◌, List, [], ◌∷◌, length, map, codes, bytes_eq, is_some, slice_get, unwrap_or, Option, Some, None, option_map, Result, Ok, Err, String, string_bytes}
 use Rattle.std.specs.List.{starts_with}
 use Rattle.std.specs.declared.alloc.Global.{Global}
 use Rattle.adv_base.specs.Readings.{◌>>=◌, or_fault}
@@ -19,6 +19,7 @@ pub data PlainCommand : Type 0 where
   Advise : (cat load : List ℕ) → (budget nodes : ℕ) → (cert : Option (List ℕ)) → PlainCommand
   Ruled : (cat load : List ℕ) → (budget : ℕ) → (rules : List ℕ) → (nodes : ℕ) → (cert : Option (List ℕ)) → PlainCommand
   Sweep : (cat load : List ℕ) → (first step count nodes : ℕ) → (cert : Option (List ℕ)) → PlainCommand
+  Retune : (cat load edits : List ℕ) → (budget nodes : ℕ) → PlainCommand
   Check : (cat load cert : List ℕ) → PlainCommand
   CheckRuled : (cat load rules cert : List ℕ) → PlainCommand
   Fold : (cat load out : List ℕ) → PlainCommand
@@ -32,6 +33,7 @@ plain_command (code.Candidates cat load) = Candidates cat.now load.now
 plain_command (code.Advise cat load budget nodes cert) = Advise cat.now load.now budget nodes (option_map (λ name. name.now) cert)
 plain_command (code.Ruled cat load budget rules nodes cert) = Ruled cat.now load.now budget rules.now nodes (option_map (λ name. name.now) cert)
 plain_command (code.Sweep cat load first step count nodes cert) = Sweep cat.now load.now first step count nodes (option_map (λ name. name.now) cert)
+plain_command (code.Retune cat load edits budget nodes) = Retune cat.now load.now edits.now budget nodes
 plain_command (code.Check cat load cert) = Check cat.now load.now cert.now
 plain_command (code.CheckRuled cat load rules cert) = CheckRuled cat.now load.now rules.now cert.now
 plain_command (code.Fold cat load out) = Fold cat.now load.now out.now
@@ -79,23 +81,23 @@ cert_option words number given =
     if is_some given.cert then Err (Twice number)
     else (word_at words (number + 1) >>= λ name. Ok (record { nodes = given.nodes; cert = Some name }))
 
--- a word where an option may stand
-abbrev pub option_of : List (List ℕ) → ℕ → PlainOptions → List ℕ → Result PlainOptions WordFault
-option_of words number given word =
+-- a word where an option may stand; `--cert` is one where the search may give a certificate
+abbrev pub option_of : Bool → List (List ℕ) → ℕ → PlainOptions → List ℕ → Result PlainOptions WordFault
+option_of certifies words number given word =
     if bytes_eq word (codes "--nodes") then nodes_option words number given
-    else (if bytes_eq word (codes "--cert") then cert_option words number given
+    else (if certifies && bytes_eq word (codes "--cert") then cert_option words number given
     else (if starts_with nat_eq word (codes "--") then Err (UnknownOption number) else Err (Extra number)))
 
 -- the option at the word of a number, and its value at the next
-unfoldable pub option_at : List (List ℕ) → ℕ → PlainOptions → Result PlainOptions WordFault
-option_at words number given = word_at words number >>= option_of words number given
+unfoldable pub option_at : Bool → List (List ℕ) → ℕ → PlainOptions → Result PlainOptions WordFault
+option_at certifies words number given = word_at words number >>= option_of certifies words number given
 
--- the options from the word of a number on; there are two, so that none is left at the third
-unfoldable pub options_from : List (List ℕ) → ℕ → ℕ → PlainOptions → Result PlainOptions WordFault
-options_from words zero number given = Err (Extra number)
-options_from words (suc turns) number given =
+-- the options from the word of a number on; there are at most two, so that none is left at the third
+unfoldable pub options_from : Bool → List (List ℕ) → ℕ → ℕ → PlainOptions → Result PlainOptions WordFault
+options_from certifies words zero number given = Err (Extra number)
+options_from certifies words (suc turns) number given =
     if nat_lt (length words) number then Ok given
-    else (option_at words number given >>= options_from words turns (number + 2))
+    else (option_at certifies words number given >>= options_from certifies words turns (number + 2))
 
 -- ## The table of commands
 
@@ -111,10 +113,10 @@ Takes (File ∷ kinds) X = List ℕ → Takes kinds X
 Takes (Number least most ∷ kinds) X = ℕ → Takes kinds X
 
 -- a command: its name, the kinds of the plain words behind it, and what is asked for by these; or also by the options of a
--- search, unless the plain words don't go together
+-- search, which may or may not give a certificate, unless the plain words don't go together
 pub data Row : Type 0 where
   Plain : (name : List ℕ) (kinds : List WordKind) → Takes kinds PlainCommand → Row
-  Search : (name : List ℕ) (kinds : List WordKind) → Takes kinds (Option (PlainOptions → PlainCommand)) → Row
+  Search : (name : List ℕ) (certifies : Bool) (kinds : List WordKind) → Takes kinds (Option (PlainOptions → PlainCommand)) → Row
 
 -- a number of a statement, and a space budget in pages
 abbrev pub statement : WordKind
@@ -140,10 +142,10 @@ abbrev pub nodes_of : PlainOptions → ℕ
 nodes_of options = unwrap_or options.nodes 20000
 
 abbrev pub advise_row : Row
-advise_row = Search (codes "advise") (File ∷ File ∷ pages ∷ []) (λ cat load budget. Some (λ options. Advise cat load budget (nodes_of options) options.cert))
+advise_row = Search (codes "advise") true (File ∷ File ∷ pages ∷ []) (λ cat load budget. Some (λ options. Advise cat load budget (nodes_of options) options.cert))
 
 abbrev pub ruled_row : Row
-ruled_row = Search (codes "ruled") (File ∷ File ∷ pages ∷ File ∷ []) (λ cat load budget rules. Some (λ options. Ruled cat load budget rules (nodes_of options) options.cert))
+ruled_row = Search (codes "ruled") true (File ∷ File ∷ pages ∷ File ∷ []) (λ cat load budget rules. Some (λ options. Ruled cat load budget rules (nodes_of options) options.cert))
 
 -- the last of so many budgets, from the first one in steps
 abbrev pub last_budget : ℕ → ℕ → ℕ → ℕ
@@ -155,7 +157,10 @@ asked_sweep cat load first step count =
     if nat_le (last_budget first step count) 1000000000000 then Some (λ options. Sweep cat load first step count (nodes_of options) options.cert) else None
 
 abbrev pub sweep_row : Row
-sweep_row = Search (codes "sweep") (File ∷ File ∷ pages ∷ Number 1 1000000000000 ∷ Number 1 16 ∷ []) asked_sweep
+sweep_row = Search (codes "sweep") true (File ∷ File ∷ pages ∷ Number 1 1000000000000 ∷ Number 1 16 ∷ []) asked_sweep
+
+abbrev pub retune_row : Row
+retune_row = Search (codes "retune") false (File ∷ File ∷ File ∷ pages ∷ []) (λ cat load edits budget. Some (λ options. Retune cat load edits budget (nodes_of options)))
 
 abbrev pub check_row : Row
 check_row = Plain (codes "check") (File ∷ File ∷ File ∷ []) Check
@@ -170,7 +175,7 @@ abbrev pub bench_row : Row
 bench_row = Plain (codes "bench") (Number 0 18446744073709551615 ∷ Number 2 20 ∷ Number 1 500 ∷ pages ∷ []) Bench
 
 abbrev pub commands : List Row
-commands = cost_row ∷ what_if_row ∷ explain_row ∷ candidates_row ∷ advise_row ∷ ruled_row ∷ sweep_row ∷ check_row ∷ check_ruled_row ∷ fold_row ∷ bench_row ∷ []
+commands = cost_row ∷ what_if_row ∷ explain_row ∷ candidates_row ∷ advise_row ∷ ruled_row ∷ sweep_row ∷ retune_row ∷ check_row ∷ check_ruled_row ∷ fold_row ∷ bench_row ∷ []
 
 -- ## Reading by the table
 
@@ -185,13 +190,13 @@ read_plain words number (Number least most ∷ kinds) asked go = number_at words
 abbrev pub read_row : List (List ℕ) → Row → Result PlainCommand WordFault
 read_row words (Plain name kinds asked) =
     read_plain words 2 kinds asked (λ command. end_at words (length kinds + 1) >>= λ _. Ok command)
-read_row words (Search name kinds asked) =
+read_row words (Search name certifies kinds asked) =
     read_plain words 2 kinds asked (λ waiting. or_fault (BadNumber (length kinds + 1)) waiting >>= λ command.
-    options_from words 3 (length kinds + 2) no_options >>= λ options. Ok (command options))
+    options_from certifies words 3 (length kinds + 2) no_options >>= λ options. Ok (command options))
 
 abbrev pub name_of : Row → List ℕ
 name_of (Plain name kinds asked) = name
-name_of (Search name kinds asked) = name
+name_of (Search name certifies kinds asked) = name
 
 -- the first row of that name
 abbrev pub read_named : List ℕ → List (List ℕ) → List Row → Result PlainCommand WordFault

@@ -1,6 +1,6 @@
 -- The command lines, one form a command. A number stands as its decimal digits.
-use Rattle.std.specs.Prelude.{◌≡◌, ℕ, ◌≤◌, List, [], ◌∷◌, ◌++◌, codes, decimal, option_to_list, unwrap_or, Option, IfSome}
-use Rattle.command_line.specs.CommandLine.{PlainCommand, Cost, WhatIf, Explain, Candidates, Advise, Ruled, Sweep, Check, CheckRuled, Fold, Bench, last_budget}
+use Rattle.std.specs.Prelude.{◌≡◌, ℕ, ◌≤◌, List, [], ◌∷◌, ◌++◌, codes, decimal, option_to_list, unwrap_or, Option, None, IfSome}
+use Rattle.command_line.specs.CommandLine.{PlainCommand, Cost, WhatIf, Explain, Candidates, Advise, Ruled, Sweep, Retune, Check, CheckRuled, Fold, Bench, last_budget}
 
 pub record IsWithin (least most n : ℕ) : Type 0 where
   pub low : least ≤ n
@@ -66,6 +66,8 @@ IsCommandLine words (Ruled cat load budget rules nodes cert) =
     IsSearch words (codes "ruled" ∷ cat ∷ load ∷ decimal budget ∷ rules ∷ []) nodes cert × IsBudget budget
 IsCommandLine words (Sweep cat load first step count nodes cert) =
     IsSearch words (codes "sweep" ∷ cat ∷ load ∷ decimal first ∷ decimal step ∷ decimal count ∷ []) nodes cert × AreSweepBudgets first step count
+IsCommandLine words (Retune cat load edits budget nodes) =
+    IsSearch words (codes "retune" ∷ cat ∷ load ∷ edits ∷ decimal budget ∷ []) nodes None × IsBudget budget
 IsCommandLine words (Check cat load cert) = words ≡ codes "check" ∷ cat ∷ load ∷ cert ∷ []
 IsCommandLine words (CheckRuled cat load rules cert) = words ≡ codes "check-ruled" ∷ cat ∷ load ∷ rules ∷ cert ∷ []
 IsCommandLine words (Fold cat load out) = words ≡ codes "fold" ∷ cat ∷ load ∷ out ∷ []
@@ -99,5 +101,6 @@ abbrev pub IsInRange : PlainCommand → Type 0
 IsInRange (Advise cat load budget nodes cert) = AreBudgets budget nodes
 IsInRange (Ruled cat load budget rules nodes cert) = AreBudgets budget nodes
 IsInRange (Sweep cat load first step count nodes cert) = AreSweepNumbers first step count nodes
+IsInRange (Retune cat load edits budget nodes) = AreBudgets budget nodes
 IsInRange (Bench seed tables statements budget) = AreSizes seed tables statements budget
 IsInRange command = Unit {0}

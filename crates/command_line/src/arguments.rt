@@ -92,13 +92,13 @@ impl<'a> Arguments<'a> {
         self.so_far = self.judged(go_together);
     }
 
-    /// The options of a search, which are the rest of the words, or the first fault.
-    pub(crate) fn options(&self) -> Result<Options<'a>, WordFault>
+    /// The options of a search, which are the rest of the words, or the first fault; `--cert` is one where `certifies`.
+    pub(crate) fn options(&self, certifies: bool) -> Result<Options<'a>, WordFault>
         requires { self.now.at < 80 }
-        ensures { spec.GivesBy spec.plain_options result (next_options self.now) }
+        ensures { spec.GivesBy spec.plain_options result (next_options certifies self.now) }
     {
         self.so_far?;
-        read_options(self.words, self.at + 1)
+        read_options(self.words, certifies, self.at + 1)
     }
 
     /// The command, if nothing stands behind its words, or the first fault.

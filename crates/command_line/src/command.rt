@@ -58,6 +58,14 @@ pub enum Command<'a> {
         nodes: u32,
         cert: Option<&'a str>,
     },
+    /// Searches for a best configuration each time that a script of edits asks for one, over the workload as it is then.
+    Retune {
+        cat: &'a str,
+        load: &'a str,
+        edits: &'a str,
+        budget: u64,
+        nodes: u32,
+    },
     /// Checks a certificate.
     Check {
         cat: &'a str,

@@ -84,7 +84,7 @@ impl<'a> Arguments<'a> {
         let cat = self.file();
         let load = self.file();
         let budget = self.number(0, MOST_BUDGET);
-        let given = self.options()?;
+        let given = self.options(true)?;
         Ok(Command::Advise {
             cat,
             load,
@@ -103,7 +103,7 @@ impl<'a> Arguments<'a> {
         let load = self.file();
         let budget = self.number(0, MOST_BUDGET);
         let rules = self.file();
-        let given = self.options()?;
+        let given = self.options(true)?;
         Ok(Command::Ruled {
             cat,
             load,
@@ -125,7 +125,7 @@ impl<'a> Arguments<'a> {
         let step = self.number(1, MOST_BUDGET);
         let count = self.number(1, MOST_POINTS) as u32;
         self.together(last_budget(first, step, count) <= MOST_BUDGET);
-        let given = self.options()?;
+        let given = self.options(true)?;
         Ok(Command::Sweep {
             cat,
             load,
@@ -134,6 +134,25 @@ impl<'a> Arguments<'a> {
             count,
             nodes: given.nodes.unwrap_or(DEFAULT_NODES),
             cert: given.cert,
+        })
+    }
+
+    /// `retune CAT LOAD EDITS BUDGET [--nodes N]`.
+    fn retune(mut self) -> Result<Command<'a>, WordFault>
+        requires { self.at < 70 }
+        ensures { spec.GivesBy spec.plain_command result (by_row spec.retune_row self.entry) }
+    {
+        let cat = self.file();
+        let load = self.file();
+        let edits = self.file();
+        let budget = self.number(0, MOST_BUDGET);
+        let given = self.options(false)?;
+        Ok(Command::Retune {
+            cat,
+            load,
+            edits,
+            budget,
+            nodes: given.nodes.unwrap_or(DEFAULT_NODES),
         })
     }
 
@@ -209,6 +228,7 @@ fn named<'a>(name: &str, words: &'a [String]) -> Result<Command<'a>, WordFault>
         "advise" => line.advise(),
         "ruled" => line.ruled(),
         "sweep" => line.sweep(),
+        "retune" => line.retune(),
         "check" => line.check(),
         "check-ruled" => line.check_ruled(),
         "fold" => line.fold(),

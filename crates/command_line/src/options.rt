@@ -53,22 +53,23 @@ fn cert_option<'a>(
     })
 }
 
-/// The option at the word of a number.
+/// The option at the word of a number; `--cert` is one where `certifies`.
 #[tactic(auto, unfolding(crate::specs::CommandLine::option_at))]
 fn option_at<'a>(
     words: &'a [String],
+    certifies: bool,
     number: u32,
     given: Options<'a>,
 ) -> Result<Options<'a>, WordFault>
     requires some { 1 ≤ number }
     requires few { number < 100 }
-    ensures { spec.GivesBy spec.plain_options result (spec.option_at (spec.texts words.now) number (spec.plain_options given.entry)) }
+    ensures { spec.GivesBy spec.plain_options result (spec.option_at certifies (spec.texts words.now) number (spec.plain_options given.entry)) }
 {
     let word = word_at(words, number)?;
     if word == "--nodes" {
         return nodes_option(words, number, given);
     }
-    if word == "--cert" {
+    if certifies && word == "--cert" {
         return cert_option(words, number, given);
     }
     if word.as_bytes().starts_with(b"--") {
@@ -77,11 +78,15 @@ fn option_at<'a>(
     Err(WordFault::Extra(number))
 }
 
-/// The options of a search, from the word of a number on.
-pub(crate) fn read_options<'a>(words: &'a [String], first: u32) -> Result<Options<'a>, WordFault>
+/// The options of a search, from the word of a number on; `--cert` is one where `certifies`.
+pub(crate) fn read_options<'a>(
+    words: &'a [String],
+    certifies: bool,
+    first: u32,
+) -> Result<Options<'a>, WordFault>
     requires some { 1 ≤ first }
     requires few { first < 90 }
-    ensures { spec.GivesBy spec.plain_options result (spec.options_from (spec.texts words.now) 3 first spec.no_options) }
+    ensures { spec.GivesBy spec.plain_options result (spec.options_from certifies (spec.texts words.now) 3 first spec.no_options) }
 {
     let mut given = Options {
         nodes: None,
@@ -92,7 +97,7 @@ pub(crate) fn read_options<'a>(words: &'a [String], first: u32) -> Result<Option
         if words.len() < number as usize {
             return Ok(given);
         }
-        given = match option_at(words, number, given) {
+        given = match option_at(words, certifies, number, given) {
             Ok(next) => next,
             Err(fault) => return Err(fault),
         };

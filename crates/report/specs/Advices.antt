@@ -1,13 +1,15 @@
 -- The advice that an answer gives, whichever command it answers.
-use Rattle.std.specs.Prelude.{◌⊎◌, Bool, true, false, List, [], ◌∷◌}
+use Rattle.std.specs.Prelude.{◌⊎◌, Bool, true, false, List, [], ◌∷◌, map}
 use Rattle.report.specs.declared.done.Advice.{Advice}
 use Rattle.report.specs.declared.done.Done.{Done}
-use Rattle.report.specs.declared.done.Done.TheVariants.{Priced, Listed, Advised, Ruled, Swept, Folded, Benched}
+use Rattle.report.specs.declared.done.Done.TheVariants.{Priced, Listed, Advised, Ruled, Swept, Retuned, Folded, Benched}
+use Rattle.report.specs.declared.done.Tuned.{Tuned}
 
 -- in its order; an answer of another kind gives none
 abbrev pub advices : Done → List Advice
 advices (Advised advice) = advice ∷ []
 advices (Ruled ruled) = ruled.advice ∷ []
+advices (Retuned tuned) = map (λ (each : Tuned). each.advice) tuned
 advices (Benched bench) = bench.advice ∷ []
 advices done = []
 
@@ -18,6 +20,7 @@ needs_setting (Listed found) = true
 needs_setting (Advised advice) = true
 needs_setting (Ruled ruled) = true
 needs_setting (Swept points) = true
+needs_setting (Retuned tuned) = true
 needs_setting (Folded folded) = true
 needs_setting (Benched bench) = true
 needs_setting done = false

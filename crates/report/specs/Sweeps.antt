@@ -27,14 +27,10 @@ answer_words cost bound = numbered (codes " cost ") cost ++ signed (codes " boun
 unfoldable pub curve_words : ℕ → ℤ → ℕ → List ℕ
 curve_words best low nodes = numbered (codes " best ") best ++ (signed (codes " low ") low ++ numbered (codes " nodes ") nodes)
 
-abbrev pub figures : Point → List ℕ
-figures point = answer_words point.answer.cost point.answer.bound ++ curve_words point.best point.low (length point.answer.tree)
-
-unfoldable pub point_words : TheSetting → ℕ → Point → List ℕ
-point_words setting number point = place_words number point.budget (config_pages setting.cat setting.shapes point.answer.config) ++ figures point
-
 unfoldable pub point_line : TheSetting → ℕ → Point → List ℕ
-point_line setting number point = line (point_words setting number point)
+point_line setting number point =
+    line (place_words number point.budget (config_pages setting.cat setting.shapes point.answer.config)
+    ++ (answer_words point.answer.cost point.answer.bound ++ curve_words point.best point.low (length point.answer.tree)))
 
 -- a line for each, numbered from there on
 unfoldable pub point_lines : TheSetting → ℕ → List Point → List ℕ

@@ -1,8 +1,9 @@
 -- The texts that stand for answers. Each line ends with a line feed.
 use Rattle.std.specs.Str.{bytes_eq}
-use Rattle.std.specs.Prelude.{◌≡◌, ℕ, suc, ◌+◌, ◌-◌, ◌<◌, ◌==◌, if◌then◌else◌, ℤ, pos, negsuc, ◌≤ℤ◌, All, List, [], ◌∷◌, ◌++◌, length, codes, Option, Some, None, slice_get, unwrap_or}
+use Rattle.std.specs.Prelude.{◌≡◌, ℕ, ◌+◌, ◌<◌, ◌≤◌, if◌then◌else◌, ℤ, pos, ◌≤ℤ◌, All, List, [], ◌∷◌, ◌++◌, length, codes, Option, Some, None, slice_get, unwrap_or}
 use Rattle.adv_base.specs.declared.workload.Statement.{Statement}
-use Rattle.adv_base.specs.Configs.{config_pages}
+use Rattle.adv_base.specs.declared.catalogue.Catalogue.{Catalogue as TheCatalogue}
+use Rattle.adv_base.specs.declared.limits.TheConstants.{MOST_CANDIDATES}
 use Rattle.adv_base.specs.Named.{NamesShape}
 use Rattle.binder.specs.declared.fault.BindFault.{BindFault}
 use Rattle.binder.specs.declared.fault.BindFault.TheVariants as bind
@@ -20,7 +21,9 @@ use Rattle.sql_reader.specs.declared.parsed.SqlFault.TheVariants as sql
 use Rattle.report.specs.declared.done.Advice.{Advice}
 use Rattle.report.specs.declared.done.Bench.{Bench}
 use Rattle.report.specs.declared.done.Done.{Done}
-use Rattle.report.specs.declared.done.Done.TheVariants.{Usage, ReadFault, Refused, Priced, Listed, Explained as ExplainedDone, Advised, Ruled as RuledDone, Swept, Checked as CheckedDone, NotProved as NotProvedDone, Folded, Benched}
+use Rattle.report.specs.declared.done.Done.TheVariants.{Usage, ReadFault, Refused, Priced, Listed, Explained as ExplainedDone, Advised, Ruled as RuledDone, Swept, Retuned, Checked as CheckedDone, NotProved as NotProvedDone, Folded, Benched}
+use Rattle.report.specs.declared.done.EditFault.{EditFault}
+use Rattle.report.specs.declared.done.EditFault.TheVariants as edit
 use Rattle.report.specs.declared.done.Explained.{Explained}
 use Rattle.report.specs.declared.done.FoldDone.{FoldDone}
 use Rattle.report.specs.declared.done.Ruled.{Ruled}
@@ -28,14 +31,17 @@ use Rattle.report.specs.declared.done.NotProved.{NotProved}
 use Rattle.report.specs.declared.done.NotProved.TheVariants.{Malformed, Disobeys, Fault}
 use Rattle.report.specs.declared.done.Prices.{Prices}
 use Rattle.report.specs.declared.done.Refusal.{Refusal}
-use Rattle.report.specs.declared.done.Refusal.TheVariants.{TooLong, Cat, Sql, Bind, NoStatement, BadConf, Rules, TooManyCombinations, FoldTooLong}
+use Rattle.report.specs.declared.done.Refusal.TheVariants.{TooLong, Cat, Sql, Bind, NoStatement, BadConf, Rules, TooManyCombinations, FoldTooLong, Edit}
 use Rattle.report.specs.declared.done.Role.{Role}
 use Rattle.report.specs.declared.done.Role.TheVariants.{Catalogue, Workload, Third, Fourth}
+use Rattle.report.specs.declared.done.Tuned.{Tuned}
 use Rattle.command_line.specs.declared.fault.WordFault.{WordFault}
 use Rattle.command_line.specs.declared.fault.WordFault.TheVariants.{NoCommand, UnknownCommand, Missing, Extra, UnknownOption, Twice, BadNumber}
+use Rattle.report.specs.Advised.{advice_text}
 use Rattle.report.specs.Advices.{advices, EachAdvice}
-use Rattle.report.specs.Listings.{candidate_lines, pick_lines}
+use Rattle.report.specs.Listings.{candidate_lines}
 use Rattle.report.specs.Paths.{path_text}
+use Rattle.report.specs.Retuned.{retuned_text}
 use Rattle.report.specs.Sweeps.{swept_text}
 use Rattle.report.specs.Words.{numbered, signed, line}
 use Rattle.adv_base.specs.Settings.{TheSetting}
@@ -104,6 +110,19 @@ rule_fault (rules.Contrary number candidate) = numbered (codes "rules line ") nu
 rule_fault (rules.TooLarge size budget) = numbered (codes "rules need ") size ++ numbered (codes " over ") budget
 rule_fault (rules.Clash first second) = numbered (codes "rules clash on ") first ++ numbered (codes " and ") second
 
+-- how many combinations of interesting orders a statement has
+abbrev pub combinations : ℕ → ℕ → List ℕ
+combinations number count = numbered (codes "statement ") number ++ (numbered (codes " has ") count ++ codes " combinations")
+
+abbrev pub edit_fault : EditFault → List ℕ
+edit_fault edit.BadLine = codes "bad line"
+edit_fault (edit.Sql fault) = sql_fault fault
+edit_fault (edit.Bind fault) = bind_fault fault
+edit_fault (edit.NoStatement number) = numbered (codes "no statement ") number
+edit_fault edit.TooManyStatements = codes "more than 1000 statements"
+edit_fault edit.TooManySlots = codes "more than 2000 slots"
+edit_fault (edit.TooManyCombinations number count) = combinations number count
+
 -- a refusal, behind `refused: `
 abbrev pub refusal : List (List ℕ) → Refusal → List ℕ
 refusal words (TooLong role) = codes "too long " ++ file_name words role
@@ -113,9 +132,9 @@ refusal words (Bind fault) = bind_fault fault
 refusal words (NoStatement n count) = numbered (codes "no statement ") n ++ numbered (codes " of ") count
 refusal words (BadConf line) = numbered (codes "configuration line ") line
 refusal words (Rules fault) = rule_fault fault
-refusal words (TooManyCombinations n count) =
-    numbered (codes "statement ") n ++ (numbered (codes " has ") count ++ codes " combinations")
+refusal words (TooManyCombinations n count) = combinations n count
 refusal words (FoldTooLong length) = numbered (codes "folded workload too long ") length
+refusal words (Edit number fault) = numbered (codes "edit line ") number ++ (codes ": " ++ edit_fault fault)
 
 -- the pages of a configuration, where there is one
 abbrev pub size_line : Option ℕ → List ℕ
@@ -162,41 +181,10 @@ listed_text None found = []
 listed_text (Some setting) found =
     candidate_lines setting.cat 1 found.list ++ line (numbered (codes "left over ") found.left_over)
 
--- the cost less the bound, which is at most the cost
-abbrev pub gap : ℕ → ℤ → ℕ
-gap cost (pos bound) = cost - bound
-gap cost (negsuc below) = cost + suc below
-
--- the budget, and how many candidates there are, with those left over
-abbrev pub proposal_text : ℕ → ℕ → ℕ → List ℕ
-proposal_text budget count left_over =
-    line (numbered (codes "budget ") budget) ++ line (numbered (codes "candidates ") count ++ numbered (codes " left over ") left_over)
-
--- the pages of what is picked, what the workload costs then, and what no choice undercuts
-abbrev pub worth_text : ℕ → ℕ → ℤ → List ℕ
-worth_text size cost bound =
-    line (numbered (codes "size ") size)
-    ++ (line (numbered (codes "cost ") cost) ++ (line (signed (codes "bound ") bound) ++ line (numbered (codes "gap ") (gap cost bound))))
-
--- the search ended by itself where no gap is left
-abbrev pub end_word : ℕ → List ℕ
-end_word left = if left == 0 then codes "finished" else codes "stopped"
-
--- how many nodes the search made, of how many that it might, and how it ended
-abbrev pub search_text : ℕ → ℕ → ℕ → List ℕ
-search_text made nodes left = line (numbered (codes "nodes ") made ++ numbered (codes " of ") nodes) ++ line (end_word left)
-
--- advice over the setting whose candidates it picks
-abbrev pub advice_text : TheSetting → Advice → List ℕ
-advice_text setting advice =
-    proposal_text advice.budget (length setting.shapes) advice.left_over
-    ++ (pick_lines setting.cat advice.answer.config 1 setting.shapes
-    ++ (worth_text (config_pages setting.cat setting.shapes advice.answer.config) advice.answer.cost advice.answer.bound
-    ++ search_text (length advice.answer.tree) advice.nodes (gap advice.answer.cost advice.answer.bound)))
-
+-- over the setting that is there
 abbrev pub advised_text : Option TheSetting → Advice → List ℕ
 advised_text None advice = []
-advised_text (Some setting) advice = advice_text setting advice
+advised_text (Some setting) advice = advice_text setting.cat setting.shapes advice
 
 -- how many candidates rules make in, and how many out
 abbrev pub rules_text : ℕ → ℕ → List ℕ
@@ -263,6 +251,7 @@ done_text words setting (ExplainedDone explained) = explained_text explained
 done_text words setting (Advised advice) = advised_text setting advice
 done_text words setting (RuledDone ruled) = ruled_text setting ruled
 done_text words setting (Swept points) = swept_text setting points
+done_text words setting (Retuned tuned) = retuned_text setting tuned
 done_text words setting (CheckedDone checked) = checked_text checked
 done_text words setting (NotProvedDone why) = line (codes "not proved: " ++ not_proved why)
 done_text words setting (Folded folded) = folding_text folded
@@ -284,9 +273,21 @@ abbrev pub IsAdvice : Option TheSetting → Advice → Type 0
 IsAdvice None advice = ⊥
 IsAdvice (Some setting) advice = IsBoundedBy advice.answer.cost advice.answer.bound
 
+-- advice that has a bound of at most its cost, over candidates that name what the catalogue has
+pub record IsTuned (cat : TheCatalogue) (tuned : Tuned) : Type 0 where
+  pub named : All (NamesShape cat) tuned.shapes
+  pub few : length tuned.shapes ≤ MOST_CANDIDATES
+  pub bounded : IsBoundedBy tuned.advice.answer.cost tuned.advice.answer.bound
+
+-- so is each of them, over the catalogue of their setting
+abbrev pub AreTuned : Option TheSetting → List Tuned → Type 0
+AreTuned None tuned = ⊥
+AreTuned (Some setting) tuned = All (IsTuned setting.cat) tuned
+
 -- Prices have a cost for each statement of their setting, candidates are of its catalogue, and each advice has a bound of at
 -- most its cost.
 abbrev pub FitsSetting : Option TheSetting → Done → Type 0
 FitsSetting setting (Priced prices) = length prices.costs ≡ length (statements_in setting)
 FitsSetting setting (Listed found) = AreNamedIn setting found
+FitsSetting setting (Retuned tuned) = AreTuned setting tuned
 FitsSetting setting done = EachAdvice (IsAdvice setting) (advices done)

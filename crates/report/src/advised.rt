@@ -4,7 +4,8 @@ ghost use Rattle.adv_base.specs.declared.limits.TheConstants.{MOST_CANDIDATES};
 ghost use Rattle.adv_base.specs.Named.{NamesShape};
 ghost use Rattle.report.specs.Listings as lists;
 ghost use Rattle.adv_base.specs.Settings.{the_setting};
-ghost use Rattle.report.specs.Texts.{gap, proposal_text, worth_text, end_word, search_text, advice_text, advised_text, rules_text, ruled_text, sizes_text, benched_text, IsBoundedBy, IsAdvice};
+ghost use Rattle.report.specs.Advised.{gap, proposal_text, worth_text, end_word, search_text, advice_text};
+ghost use Rattle.report.specs.Texts.{advised_text, rules_text, ruled_text, sizes_text, benched_text, IsBoundedBy, IsAdvice};
 ghost use Rattle.report.specs.Words.{line, numbered};
 
 use crate::listed::push_line;
@@ -27,7 +28,7 @@ fn gap_of(cost: u128, bound: i128) -> u128
 }
 
 /// Adds the line of words and a number.
-fn push_line_of(
+pub(crate) fn push_line_of(
     alloc: Global,
     out: &mut Vec<u8>,
     words: &[u8],
@@ -134,27 +135,24 @@ fn push_search(
     out.extend_from_slice(b"\n")
 }
 
-/// Adds the text of advice over its setting.
-fn push_advice(
+/// Adds the text of advice over the candidates that it picks from.
+pub(crate) fn push_advice(
     alloc: Global,
     out: &mut Vec<u8>,
-    setting: &Setting<'_>,
+    cat: &Catalogue,
+    shapes: &[IndexShape],
     advice: &Advice,
 ) -> Result<(), AllocError>
-    requires { IsBoundedBy advice.now.answer.cost advice.now.answer.bound }
-    ensures { OnOk result (out.new.items ≡ out.old.items ++ advice_text (the_setting setting.now) advice.now) }
+    requires few { length shapes.now ≤ MOST_CANDIDATES }
+    requires named { All (NamesShape cat.now) shapes.now }
+    requires bounded { IsBoundedBy advice.now.answer.cost advice.now.answer.bound }
+    ensures { OnOk result (out.new.items ≡ out.old.items ++ advice_text cat.now shapes.now advice.now) }
 {
     let answer = &advice.answer;
     let left = gap_of(answer.cost, answer.bound);
-    let size = config_pages(setting.cat, setting.shapes, &answer.config);
-    push_proposal(
-        alloc,
-        out,
-        advice.budget,
-        setting.shapes.len(),
-        advice.left_over,
-    )?;
-    push_picks(alloc, out, setting.cat, &answer.config, setting.shapes)?;
+    let size = config_pages(cat, shapes, &answer.config);
+    push_proposal(alloc, out, advice.budget, shapes.len(), advice.left_over)?;
+    push_picks(alloc, out, cat, &answer.config, shapes)?;
     push_worth(alloc, out, size, answer.cost, answer.bound)?;
     push_search(alloc, out, answer.tree.len(), advice.nodes, left)
 }
@@ -171,7 +169,7 @@ pub(crate) fn push_advised(
 {
     match setting {
         None => Ok(()),
-        Some(setting) => push_advice(alloc, out, setting, advice),
+        Some(setting) => push_advice(alloc, out, setting.cat, setting.shapes, advice),
     }
 }
 

@@ -1,5 +1,5 @@
 //! Answers.
-use adv_base::{Bytes, List};
+use adv_base::{Bytes, IndexShape, List};
 use binder::BindFault;
 use bip_model::{Answer, Point};
 use candidates::Candidates;
@@ -17,6 +17,25 @@ pub enum Role {
     Workload,
     Third,
     Fourth,
+}
+
+/// Why an edit of a workload can't be made.
+#[derive(Clone, Copy, Debug, PartialEq, Eq)]
+pub enum EditFault {
+    /// The line is none of a script.
+    BadLine,
+    /// The statement that is added is at fault.
+    Sql(SqlFault),
+    /// A name in it is at fault.
+    Bind(BindFault),
+    /// There is no statement of that number.
+    NoStatement(u32),
+    /// The workload would have more statements than it may.
+    TooManyStatements,
+    /// Its statements would have more slots than they may.
+    TooManySlots,
+    /// The statement of that number has this many combinations of interesting orders, too many for a cache of its plans.
+    TooManyCombinations(u32, u64),
 }
 
 /// Why the input of a command is refused.
@@ -40,6 +59,8 @@ pub enum Refusal {
     TooManyCombinations(u32, u64),
     /// The folded workload would have this many bytes, more than a file may.
     FoldTooLong(u64),
+    /// The edit in that line, from 1, is at fault.
+    Edit(u32, EditFault),
 }
 
 /// Why a certificate proves nothing.
@@ -91,6 +112,13 @@ pub struct Ruled {
     pub advice: Advice,
 }
 
+/// Advice over the candidates as they are where a script of edits asks for it.
+#[derive(Drop)]
+pub struct Tuned {
+    pub shapes: List<IndexShape>,
+    pub advice: Advice,
+}
+
 /// Advice on a made workload, with how large that is: its tables, its statements, and the slots of all of them (tables that
 /// their blocks read, each as often as it stands there).
 #[derive(Drop)]
@@ -123,6 +151,7 @@ pub enum Done {
     Advised(Advice),
     Ruled(Ruled),
     Swept(List<Point>),
+    Retuned(List<Tuned>),
     Checked(Checked),
     NotProved(NotProved),
     Folded(FoldDone),

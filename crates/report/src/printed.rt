@@ -9,6 +9,7 @@ use crate::advised::{push_advised, push_benched, push_ruled};
 use crate::checked::{push_checked, push_unproved};
 use crate::listed::push_candidates;
 use crate::refusal::{push_about_file, push_refusal};
+use crate::retuned::push_retuned;
 use crate::swept::push_swept;
 use crate::usage::{push_both, push_numbered, push_word_fault};
 use crate::{Done, Explained, FoldDone, Prices, Refusal, Role, WordFault};
@@ -214,6 +215,7 @@ fn push_done(
         Done::Advised(advice) => push_advised(alloc, out, setting, advice),
         Done::Ruled(ruled) => push_ruled(alloc, out, setting, ruled),
         Done::Swept(points) => push_swept(alloc, out, setting, points.as_slice()),
+        Done::Retuned(tuned) => push_retuned(alloc, out, setting, tuned.as_slice()),
         Done::Checked(checked) => push_checked(alloc, out, checked),
         Done::NotProved(why) => push_unproved(alloc, out, *why),
         Done::Folded(folded) => push_folded(alloc, out, folded),
@@ -223,9 +225,9 @@ fn push_done(
     }
 }
 
-/// The text of an answer to the words. Prices want the setting whose statements they price, one price each, candidates
-/// that whose catalogue has their tables and columns, and advice and the points of a sweep that whose candidates they pick; of a
-/// sweep nothing is told without it. `NoMemory` is want of memory.
+/// The text of an answer to the words. Prices want the setting whose statements they price, one price each; candidates that
+/// whose catalogue has their tables and columns, also where a script asks for advice over them; other advice and the points of
+/// a sweep that whose candidates they pick. Of a sweep nothing is told without it. `NoMemory` is want of memory.
 pub fn text(
     alloc: Global,
     done: &Done,

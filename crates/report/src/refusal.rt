@@ -1,12 +1,12 @@
 //! The texts of refusals.
 ghost use Rattle.std.specs.Prelude.{◌≡◌, ◌++◌, OnOk, Some, codes, map, slice_get, string_bytes};
-ghost use Rattle.report.specs.Texts.{role_word, third_word, file_name as name_of_file, rule_fault, cat_fault, sql_fault, bind_fault, refusal};
+ghost use Rattle.report.specs.Texts.{role_word, third_word, file_name as name_of_file, rule_fault, cat_fault, sql_fault, bind_fault, combinations, edit_fault, refusal};
 ghost use Rattle.report.specs.Words.{numbered};
 ghost use Rattle.report.specs.Paths.{path_text};
 
 use crate::path::push_path;
 use crate::usage::{push_both, push_numbered};
-use crate::{Refusal, Role};
+use crate::{EditFault, Refusal, Role};
 use binder::BindFault;
 use catalogue::{CatFault, KeyPath};
 use dba_rules::RuleFault;
@@ -173,12 +173,42 @@ fn push_combinations(
     number: u32,
     count: u64,
 ) -> Result<(), AllocError>
-    ensures { OnOk result (out.new.items ≡ out.old.items
-        ++ (numbered (codes "statement ") number ++ (numbered (codes " has ") count ++ codes " combinations"))) }
+    ensures { OnOk result (out.new.items ≡ out.old.items ++ combinations number count) }
 {
     push_numbered(alloc, out, b"statement ", number as u128)?;
     push_numbered(alloc, out, b" has ", count as u128)?;
     out.extend_from_slice(b" combinations")
+}
+
+/// Adds a fault of an edit.
+fn push_edit_fault(alloc: Global, out: &mut Vec<u8>, fault: EditFault) -> Result<(), AllocError>
+    ensures { OnOk result (out.new.items ≡ out.old.items ++ edit_fault fault) }
+{
+    match fault {
+        EditFault::BadLine => out.extend_from_slice(b"bad line"),
+        EditFault::Sql(fault) => push_sql_fault(alloc, out, fault),
+        EditFault::Bind(fault) => push_bind_fault(alloc, out, fault),
+        EditFault::NoStatement(n) => push_numbered(alloc, out, b"no statement ", n as u128),
+        EditFault::TooManyStatements => out.extend_from_slice(b"more than 1000 statements"),
+        EditFault::TooManySlots => out.extend_from_slice(b"more than 2000 slots"),
+        EditFault::TooManyCombinations(number, count) => {
+            push_combinations(alloc, out, number, count)
+        }
+    }
+}
+
+/// Adds the line of an edit and its fault.
+fn push_edit(
+    alloc: Global,
+    out: &mut Vec<u8>,
+    line: u32,
+    fault: EditFault,
+) -> Result<(), AllocError>
+    ensures { OnOk result (out.new.items ≡ out.old.items ++ (numbered (codes "edit line ") line ++ (codes ": " ++ edit_fault fault))) }
+{
+    push_numbered(alloc, out, b"edit line ", line as u128)?;
+    out.extend_from_slice(b": ")?;
+    push_edit_fault(alloc, out, fault)
 }
 
 /// Adds a refusal.
@@ -213,5 +243,6 @@ pub(crate) fn push_refusal(
         Refusal::FoldTooLong(length) => {
             push_numbered(alloc, out, b"folded workload too long ", length as u128)
         }
+        Refusal::Edit(line, fault) => push_edit(alloc, out, line, fault),
     }
 }

@@ -1,7 +1,7 @@
 //! The text of a sweep over budgets.
 ghost use Rattle.std.specs.Prelude.{◌≡◌, ◌++◌, OnOk, length, option_map};
 ghost use Rattle.adv_base.specs.Settings.{the_setting};
-ghost use Rattle.report.specs.Sweeps.{has_no_gap, have_no_gap, place_words, answer_words, curve_words, figures, point_words, point_line, point_lines, ending_line, curve_text, swept_text};
+ghost use Rattle.report.specs.Sweeps.{has_no_gap, have_no_gap, place_words, answer_words, curve_words, point_line, point_lines, ending_line, curve_text, swept_text};
 
 use crate::usage::{push_numbered, push_signed};
 use adv_base::Setting;
@@ -58,29 +58,6 @@ fn push_curve(alloc: Global, out: &mut Vec<u8>, point: &Point) -> Result<(), All
     push_numbered(alloc, out, b" nodes ", point.answer.tree.len() as u128)
 }
 
-/// Adds the figures of a point.
-fn push_figures(alloc: Global, out: &mut Vec<u8>, point: &Point) -> Result<(), AllocError>
-    ensures { OnOk result (out.new.items ≡ out.old.items ++ figures point.now) }
-{
-    push_answer(alloc, out, &point.answer)?;
-    push_curve(alloc, out, point)
-}
-
-/// Adds the words of a point.
-fn push_words(
-    alloc: Global,
-    out: &mut Vec<u8>,
-    setting: &Setting<'_>,
-    number: u128,
-    point: &Point,
-) -> Result<(), AllocError>
-    ensures { OnOk result (out.new.items ≡ out.old.items ++ point_words (the_setting setting.now) number point.now) }
-{
-    let size = config_pages(setting.cat, setting.shapes, &point.answer.config);
-    push_place(alloc, out, number, point.budget, size)?;
-    push_figures(alloc, out, point)
-}
-
 /// Adds the line of a point.
 #[tactic(auto, unfolding(crate::specs::Sweeps::point_line))]
 fn push_point(
@@ -92,7 +69,10 @@ fn push_point(
 ) -> Result<(), AllocError>
     ensures { OnOk result (out.new.items ≡ out.old.items ++ point_line (the_setting setting.now) number point.now) }
 {
-    push_words(alloc, out, setting, number, point)?;
+    let size = config_pages(setting.cat, setting.shapes, &point.answer.config);
+    push_place(alloc, out, number, point.budget, size)?;
+    push_answer(alloc, out, &point.answer)?;
+    push_curve(alloc, out, point)?;
     out.extend_from_slice(b"\n")
 }
 

@@ -1,5 +1,5 @@
 use Rattle.std.proofs.Common.{codes, refl}
-use Rattle.command_line.specs.CommandLine.{texts, named_command, cost_row, what_if_row, explain_row, candidates_row, advise_row, ruled_row, sweep_row, check_row, check_ruled_row, fold_row, bench_row}
+use Rattle.command_line.specs.CommandLine.{texts, named_command, cost_row, what_if_row, explain_row, candidates_row, advise_row, ruled_row, sweep_row, retune_row, check_row, check_ruled_row, fold_row, bench_row}
 use Rattle.command_line.proofs.Rows.{row_gives, other_name}
 use Rattle.command_line.proofs.commands.named.Goals as goal
 
@@ -26,6 +26,10 @@ returns-in-advise c = row_gives advise_row c.args.name.now (texts c.args.words.n
 pub returns-in-sweep : goal.returns-in-sweep
 unfolding named_command
 returns-in-sweep c = row_gives sweep_row c.args.name.now (texts c.args.words.now) c.sweep.result c.in-sweep.is refl c.sweep.ensures
+
+pub returns-in-retune : goal.returns-in-retune
+unfolding named_command
+returns-in-retune c = row_gives retune_row c.args.name.now (texts c.args.words.now) c.retune.result c.in-retune.is refl c.retune.ensures
 
 pub returns-in-check : goal.returns-in-check
 unfolding named_command
@@ -57,6 +61,7 @@ returns-in_default c = rw (
   other_name c.args.name.now (codes "advise") c.in_default.not-advise,
   other_name c.args.name.now (codes "ruled") c.in_default.not-ruled,
   other_name c.args.name.now (codes "sweep") c.in_default.not-sweep,
+  other_name c.args.name.now (codes "retune") c.in_default.not-retune,
   other_name c.args.name.now (codes "check") c.in_default.not-check,
   other_name c.args.name.now (codes "check-ruled") c.in_default.not-text,
   other_name c.args.name.now (codes "fold") c.in_default.not-fold,
