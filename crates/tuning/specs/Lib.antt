@@ -1,4 +1,1 @@
 pub mod Refusals
-pub mod Kept
-pub mod Laws
-pub mod inner

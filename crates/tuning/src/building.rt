@@ -1,32 +1,49 @@
 //! How a programme is made.
-ghost use Rattle.std.specs.Prelude.{◌≡◌, ◌+◌, ◌++◌, ◌∷◌, [], IfErr, IfOk, OnOk, Some, length, slice_get};
+ghost use Rattle.std.specs.Prelude.{◌≡◌, ◌+◌, IfErr, IfOk, OnOk, Some, length, slice_get, take};
 ghost use Rattle.adv_base.specs.declared.setting.Config.{Config};
+ghost use Rattle.adv_base.specs.Settings.{the_setting};
 ghost use Rattle.bip_model.specs.StandsFor as stands;
 ghost use Rattle.bip_model.specs.Values as values;
 ghost use Rattle.plan_model.specs.Totals as totals;
-ghost use Rattle.tuning.specs.Kept.{HasKept};
-ghost use Rattle.tuning.specs.Refusals as refusals;
-ghost use Rattle.adv_base.specs.Settings.{the_setting};
-ghost use Rattle.tuning.specs.inner.Parts as inner;
+ghost use Rattle.programme_parts.specs.Caches.{IsCached};
+ghost use Rattle.programme_parts.specs.Combinations.{AreFew, HasFew};
+ghost use Rattle.programme_parts.specs.Kept.{HasKept};
+ghost use Rattle.programme_parts.specs.Parts.{ArePartsBelow};
+ghost use Rattle.tuning.specs.Refusals.{IsCause};
 
 use crate::fault::TuneFault;
-use crate::parts::part;
-use adv_base::{List, Setting, Statement};
+use adv_base::{Block, List, Setting, Statement};
 use bip_model::{Part, Programme};
-use hypo_indexes::Figures;
+use inum_cache::{Cache, CacheFault};
+use programme_parts::{block_cache, programme_with_parts, push_part};
 use std::alloc::Global;
 
-/// Puts a part at the end.
-fn put(parts: &mut Vec<Part>, part: Part) -> Result<(), TuneFault>
-    ensures put { OnOk result (parts.new.items ≡ parts.old.items ++ part ∷ []) }
-    ensures fault { IfErr result (λ fault. fault ≡ TuneFault.Memory) }
+/// The cache of the block of a statement. `at` is its place, from 0.
+fn cache_of(
+    alloc: Global,
+    setting: &Setting<'_>,
+    at: usize,
+    statement: &Statement,
+    block: &Block,
+) -> Result<Cache, TuneFault>
+    requires found { slice_get setting.now.statements.now at ≡ Some statement.now }
+    requires block_is { totals.block_of statement.now.work ≡ Some block.now }
+    requires few_before { AreFew setting.now.cat.now (take at setting.now.statements.now) }
+    ensures cache { IfOk result (IsCached setting.now.cat.now block.now) }
+    ensures few { IfOk result (λ _. HasFew setting.now.cat.now statement.now) }
+    ensures fault { IfErr result (IsCause (the_setting setting.now)) }
 {
-    parts.push(part)?;
-    Ok(())
+    match block_cache(alloc, setting.cat, block) {
+        Ok(cache) => Ok(cache),
+        Err(CacheFault::Memory) => Err(TuneFault::Memory),
+        Err(CacheFault::TooManyCombinations(count)) => {
+            Err(TuneFault::TooManyCombinations(at as u32 + 1, count))
+        }
+    }
 }
 
-/// Puts the part of the next statement at the end, where it has a block. `at` is its place, from 0.
-fn push_part(
+/// Puts the part of the next statement at the end, where it has a block.
+fn push_next(
     alloc: Global,
     setting: &Setting<'_>,
     at: usize,
@@ -34,15 +51,17 @@ fn push_part(
     parts: &mut Vec<Part>,
 ) -> Result<(), TuneFault>
     requires found { slice_get setting.now.statements.now at ≡ Some statement.now }
-    requires before { inner.ArePartsBelow (the_setting setting.now) at parts.old.items }
-    ensures after { OnOk result (inner.ArePartsBelow (the_setting setting.now) (at + 1) parts.new.items) }
-    ensures fault { IfErr result (refusals.IsCause (the_setting setting.now)) }
+    requires before { ArePartsBelow (the_setting setting.now) at parts.old.items }
+    requires few_before { AreFew setting.now.cat.now (take at setting.now.statements.now) }
+    ensures after { OnOk result (ArePartsBelow (the_setting setting.now) (at + 1) parts.new.items) }
+    ensures few { OnOk result (AreFew setting.now.cat.now (take (at + 1) setting.now.statements.now)) }
+    ensures fault { IfErr result (IsCause (the_setting setting.now)) }
 {
     match statement.work.block() {
         None => Ok(()),
         Some(block) => {
-            let own = part(alloc, setting, at as u16 + 1, statement.weight, block)?;
-            put(parts, own)?;
+            let cache = cache_of(alloc, setting, at, statement, block)?;
+            push_part(alloc, setting, at, statement, block, &cache, parts)?;
             Ok(())
         }
     }
@@ -50,12 +69,13 @@ fn push_part(
 
 /// The parts of the statements that have a block.
 fn parts_of(alloc: Global, setting: &Setting<'_>) -> Result<List<Part>, TuneFault>
-    ensures parts { IfOk result (inner.ArePartsBelow (the_setting setting.now) (length setting.now.statements.now)) }
-    ensures fault { IfErr result (refusals.IsCause (the_setting setting.now)) }
+    ensures parts { IfOk result (ArePartsBelow (the_setting setting.now) (length setting.now.statements.now)) }
+    ensures few { IfOk result (λ _. AreFew setting.now.cat.now setting.now.statements.now) }
+    ensures fault { IfErr result (IsCause (the_setting setting.now)) }
 {
     let mut parts = Vec::new(alloc);
     for at in 0..setting.statements.len() {
-        push_part(alloc, setting, at, &setting.statements[at], &mut parts)?;
+        push_next(alloc, setting, at, &setting.statements[at], &mut parts)?;
     }
     Ok(List { items: parts })
 }
@@ -69,17 +89,12 @@ fn parts_of(alloc: Global, setting: &Setting<'_>) -> Result<List<Part>, TuneFaul
 /// `MOST_COMBINATIONS` combinations of interesting orders, and always there but for want of memory, which is `Memory`.
 pub fn programme(alloc: Global, setting: &Setting<'_>) -> Result<Programme, TuneFault>
     ensures stands { IfOk result (stands.StandsFor (the_setting setting.now)) }
-    ensures kept { IfOk result (λ programme. stands.AreEach (HasKept (the_setting setting.now)) (stands.blocked_from 1 setting.now.statements.now) programme.parts) }
+    ensures kept { IfOk result (λ programme. stands.AreEach (HasKept setting.now.cat.now) (stands.blocked_from 1 setting.now.statements.now) programme.parts) }
     ensures total { IfOk result (λ programme. (config : Config) → totals.IsTotal setting.now.cat.now setting.now.shapes.now config setting.now.statements.now (values.value programme config)) }
-    ensures few { IfOk result (λ _. refusals.AreFew setting.now.cat.now setting.now.statements.now) }
-    ensures fault { IfErr result (refusals.IsCause (the_setting setting.now)) }
+    ensures few { IfOk result (λ _. AreFew setting.now.cat.now setting.now.statements.now) }
+    ensures fault { IfErr result (IsCause (the_setting setting.now)) }
 {
     let parts = parts_of(alloc, setting)?;
-    let figures = Figures::new(alloc, setting)?;
-    Ok(Programme {
-        sizes: figures.sizes,
-        upkeep: figures.upkeep,
-        kept: figures.kept,
-        parts,
-    })
+    let programme = programme_with_parts(alloc, setting, parts)?;
+    Ok(programme)
 }

@@ -3,7 +3,6 @@ ghost use Rattle.std.specs.Prelude.{◌≡◌};
 ghost use Rattle.tuning.specs.declared.fault.TuneFault.TheVariants.{Memory};
 
 use adv_base::NoMemory;
-use std::alloc::{AllocError, AllocFailed};
 
 /// Why a setting has no programme.
 #[derive(Clone, Copy, Debug, PartialEq, Eq)]
@@ -19,22 +18,6 @@ impl From<NoMemory> for TuneFault {
     ghost from_gives = { λ _ fault. fault ≡ Memory };
 
     fn from(_: NoMemory) -> TuneFault {
-        TuneFault::Memory
-    }
-}
-
-impl From<AllocError> for TuneFault {
-    ghost from_gives = { λ _ fault. fault ≡ Memory };
-
-    fn from(_: AllocError) -> TuneFault {
-        TuneFault::Memory
-    }
-}
-
-impl<T: Drop> From<AllocFailed<T>> for TuneFault {
-    ghost from_gives = { λ _ fault. fault ≡ Memory };
-
-    fn from(_: AllocFailed<T>) -> TuneFault {
         TuneFault::Memory
     }
 }

@@ -22,9 +22,6 @@
 
 mod building;
 mod fault;
-mod laws;
-mod parts;
 
 pub use building::programme;
 pub use fault::TuneFault;
-pub use laws::blocks_have_one_count;

@@ -1,53 +1,6 @@
-use Rattle.std.proofs.Common.{◌≡◌, ◌∙◌, length, All, List, ℕ, sym, ap, subst, arith}
-use Rattle.std.proofs.Math.Seq.{take-length}
-use Rattle.std.proofs.lemmas.List.{length-map}
-use Rattle.adv_base.specs.declared.workload.Statement.{Statement}
-use Rattle.adv_base.specs.Settings.{TheSetting}
-use Rattle.adv_base.specs.Sizes.{shape_pages}
-use Rattle.plan_model.specs.Lagrangian.{weighted_upkeep}
-use Rattle.bip_model.specs.Limits.Programmes.{GrantsWithin}
-use Rattle.bip_model.specs.StandsFor.{AreEach, IsPart, blocked_from}
-use Rattle.bip_model.proofs.Totalling.{value-total}
-use Rattle.tuning.specs.Refusals.{AreFew}
 use Rattle.adv_base.specs.Settings.{the_setting}
-use Rattle.tuning.proofs.Statements.{parts-few, all-within}
+use Rattle.bip_model.proofs.Totalling.{value-total}
 use Rattle.tuning.proofs.building.programme.Goals as goal
 
-pub invariant_of-result : goal.invariant_of-result
-invariant_of-result c =
-    let now = c.args.setting.now in
-    let setting : TheSetting = the_setting now in
-    let parts = c.in_ok-parts.parts in
-    let are = subst (λ (statements : List Statement). AreEach (IsPart setting) (blocked_from 1 statements) parts) (take-length now.statements.now) c.in_ok-parts.ensures.parts.parts_are in
-    let sizes : length c.in_ok-figures.figures.sizes ≡ length now.shapes.now = ap length c.in_ok-figures.ensures.sizes_are ∙ length-map now.shapes.now (shape_pages now.cat.now) in
-    let upkeeps : length c.in_ok-figures.figures.upkeep ≡ length now.shapes.now = ap length c.in_ok-figures.ensures.upkeep_is ∙ length-map now.shapes.now (weighted_upkeep setting) in
-    record {
-      limits =
-          record {
-            sizes_most = omega (arith, sizes, now.limits.shapes_most);
-            pages_most = c.in_ok-figures.ensures.sizes_most;
-            upkeep_each = omega (arith, sizes, upkeeps);
-            upkeep_most = c.in_ok-figures.ensures.upkeep_most;
-            kept_most = c.in_ok-figures.ensures.kept_most;
-            parts_most = omega (arith, parts-few setting now.statements.now parts are, now.limits.statements_most);
-            candidates = subst (λ (n : ℕ). All (GrantsWithin n) parts) (sym sizes) (all-within setting (blocked_from 1 now.statements.now) parts are);
-          };
-    }
-
 pub returns-clause-total : goal.returns-clause-total
-returns-clause-total c = λ config.
-    let now = c.args.setting.now in
-    let setting : TheSetting = the_setting now in
-    let parts = c.in_ok-parts.parts in
-    value-total setting _ config now.limits
-    (record {
-      sizes_are = c.in_ok-figures.ensures.sizes_are;
-      upkeep_is = c.in_ok-figures.ensures.upkeep_is;
-      kept_is = c.in_ok-figures.ensures.kept_is;
-      parts_are = subst (λ (statements : List Statement). AreEach (IsPart setting) (blocked_from 1 statements) parts) (take-length now.statements.now) c.in_ok-parts.ensures.parts.parts_are;
-    })
-
-pub returns-clause-few : goal.returns-clause-few
-returns-clause-few c =
-    let now = c.args.setting.now in
-    subst (AreFew now.cat.now) (take-length now.statements.now) c.in_ok-parts.ensures.parts.few
+returns-clause-total c = λ config. value-total (the_setting c.args.setting.now) _ config c.args.setting.now.limits c.in_ok-programme.ensures.stands

@@ -1,3 +1,0 @@
-pub mod Reading
-pub mod Limits
-pub mod Parting

@@ -1,3 +1,0 @@
-pub mod Every
-pub mod Prices
-pub mod inner

@@ -1,3 +1,0 @@
--- What retells the loops of the code; nothing above this crate cites it.
-pub mod Offered
-pub mod Readers

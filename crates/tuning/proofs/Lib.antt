@@ -1,3 +1,0 @@
-pub mod SlotParts
-pub mod Statements
-pub mod Counting

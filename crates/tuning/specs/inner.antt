@@ -1,2 +1,0 @@
--- What retells the loops of the code; nothing above this crate cites it.
-pub mod Parts
