@@ -1,9 +1,8 @@
 //! Configurations with what they cost in whole numbers, and moves of one candidate or a few.
 
-use crate::matrix::{Matrix, float_of};
-use crate::places::{at, put};
 use adv_base::NoMemory;
 use bip_model::{Fix, State};
+use interior_point::{Matrix, at, float_of, put};
 use std::alloc::Global;
 use std::num::nearest_i64_to_f64;
 

@@ -1,16 +1,11 @@
 //! The search for the cheapest configuration: best bound first, over linear relaxations, with fixings and roundings.
 
 use crate::configuration::{Chosen, Incumbent};
-use crate::fixing::Losses;
-use crate::lagrangian::Lagrangian;
-use crate::matrix::{Matrix, float_of};
-use crate::places::{Places, at, put};
-use crate::relaxation::Relaxation;
-use crate::rounding::{Rounding, Shared};
+use crate::rounding::{Rounding, Shared, view_node};
 use crate::tree::{MOST_NODES, Tree};
-use crate::view::View;
 use adv_base::NoMemory;
 use bip_model::{Fix, State};
+use interior_point::{Lagrangian, Losses, Matrix, Places, Relaxation, View, at, float_of, put};
 use std::alloc::Global;
 
 /// How near a relaxation comes to its optimum, as a part of what is missing.
@@ -65,18 +60,18 @@ impl Finder {
     /// All memory that searches over a matrix take. Want of memory is the one error.
     pub(crate) fn new(alloc: Global, matrix: &Matrix) -> Result<Finder, NoMemory> {
         Ok(Finder {
-            view: View::new(alloc, matrix)?,
-            lagrangian: Lagrangian::new(alloc, matrix)?,
-            relaxation: Relaxation::new(alloc, matrix)?,
+            rents: vec![in alloc; 0.0; matrix.links.len()]?,
+            own_rents: vec![in alloc; 0.0; matrix.links.len()]?,
             tree: Tree::new(alloc)?,
+            lagrangian: Lagrangian::new(alloc, matrix)?,
             rounding: Rounding::new(alloc, matrix)?,
+            view: View::new(alloc, matrix)?,
+            relaxation: Relaxation::new(alloc, matrix)?,
             losses: Losses::BLANK,
             best: Incumbent {
                 on: [false; 256],
                 cost: 0,
             },
-            rents: vec![in alloc; 0.0; matrix.links.len()]?,
-            own_rents: vec![in alloc; 0.0; matrix.links.len()]?,
             shares: [0.0; 256],
             root_bound: 0.0,
         })
@@ -104,8 +99,8 @@ impl Finder {
 
     /// Opens the view of a node. Where no candidate is left, what is in is all there is.
     fn open(&mut self, matrix: &Matrix, budget: i64, visit: &mut Visit) {
-        self.view
-            .open(matrix, &visit.fix, budget, float_of(self.best.cost));
+        let node = view_node(&visit.fix, budget);
+        self.view.open(matrix, &node, float_of(self.best.cost));
         if self.view.candidates.is_empty() {
             self.rounding
                 .close(matrix, &visit.fix, budget, &mut self.best);

@@ -1,10 +1,9 @@
 //! By how much a Lagrangian value rises at least on either side of a branch, and which branch promises most.
 
 use crate::ledger::{Each, Ledger};
-use crate::matrix::{Matrix, float_of};
 use crate::path::Path;
-use crate::places::{at, put};
 use crate::tree::{TreeNode, is_marked};
+use interior_point::{Matrix, at, float_of, put};
 
 /// What both sides of a branch on each candidate gain at least, where it is left out and where it comes in; and the
 /// candidates by size.

@@ -1,7 +1,6 @@
 //! What the least plans of parts cost where some candidates may be used, each use for a rent.
 
-use crate::matrix::{Matrix, MatrixPart};
-use crate::places::at;
+use interior_point::{Matrix, MatrixPart, at};
 
 /// Which candidates are meant; several share a bit.
 pub(crate) type Shades = u64;

@@ -3,11 +3,10 @@
 use crate::least_plans::{
     LeastPlan, NO_LOSSES, NO_PLAN, NO_ROW, PlanLosses, RowPrice, Usable, shade,
 };
-use crate::matrix::{Matrix, MatrixPart};
 use crate::path::{MOST_STEPS, Path};
-use crate::places::{at, put};
 use adv_base::NoMemory;
 use bip_model::State;
+use interior_point::{Matrix, MatrixPart, at, put};
 use std::alloc::Global;
 
 /// A number for each candidate, in parts of 65536.

@@ -5,32 +5,23 @@
 //! that they end and can't fail is proved.
 #![tactic(auto)]
 
-mod capping;
-mod cholesky;
 mod configuration;
 mod deepening;
 mod entering;
 mod finding;
-mod fixing;
 mod gains;
-mod interior;
-mod lagrangian;
 mod least_plans;
 mod ledger;
 mod lifting;
-mod matrix;
 mod own_sets;
 mod path;
-mod places;
 mod planner;
 mod planning;
 mod proposals;
-mod relaxation;
 mod rounding;
 mod splitting;
 mod thinning;
 mod tree;
 mod trial;
-mod view;
 
 pub use proposals::{Proposals, Step};

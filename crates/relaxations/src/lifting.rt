@@ -2,11 +2,10 @@
 //! and what is out there may be used. The bound at the node itself stays.
 
 use crate::least_plans::{NO_CANDIDATE, NO_LINK, NO_ROW, RowPrice, Usable};
-use crate::matrix::{LARGEST, Matrix, MatrixPart, NO_PRICE};
 use crate::path::Path;
-use crate::places::{NO_PLACES, Places, at, put};
 use adv_base::NoMemory;
 use bip_model::State;
+use interior_point::{LARGEST, Matrix, MatrixPart, NO_PLACES, NO_PRICE, Places, at, put};
 use std::alloc::Global;
 
 /// A rent is raised so often in a part at most, for what is in.

@@ -2,9 +2,9 @@
 
 use crate::finding::Finder;
 use crate::ledger::Ledger;
-use crate::matrix::{LARGEST, Matrix, float_of};
-use crate::places::put;
 use crate::planner::{Planner, Task};
+use crate::rounding::view_node;
+use interior_point::{LARGEST, Matrix, float_of, put};
 use std::num::{nearest_i64_to_f64, saturating_f64_to_i64};
 
 /// How near the relaxation of a set comes to its optimum, as a part of what is missing.
@@ -18,9 +18,8 @@ impl Planner {
             return 0;
         }
         let cost = float_of(task.cost);
-        finder
-            .view
-            .open(task.matrix, &self.path.fix, task.budget, cost);
+        let node = view_node(&self.path.fix, task.budget);
+        finder.view.open(task.matrix, &node, cost);
         let ledger = &mut self.ledgers[set];
         for rent in ledger.rents.iter_mut() {
             *rent = 0;

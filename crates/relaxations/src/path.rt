@@ -1,9 +1,8 @@
 //! The way from a root to a node, one candidate after the other.
 
-use crate::matrix::Matrix;
-use crate::places::{NO_PLACES, Places};
 use adv_base::NoMemory;
 use bip_model::{Fix, State};
+use interior_point::{Matrix, NO_PLACES, Places};
 use std::alloc::Global;
 
 /// The most steps: each takes a candidate that is open.

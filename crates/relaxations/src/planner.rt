@@ -3,12 +3,11 @@
 use crate::gains::Gains;
 use crate::ledger::Ledger;
 use crate::lifting::Lifting;
-use crate::matrix::Matrix;
 use crate::path::Path;
-use crate::places::{at, put};
 use adv_base::NoMemory;
 use adv_base::limits::MOST_ENTRIES;
 use bip_model::Fix;
+use interior_point::{Matrix, at, put};
 use std::alloc::Global;
 
 /// The most sets that are kept, zeros among them.

@@ -2,10 +2,10 @@
 
 use crate::deepening::MOST_DEEPER;
 use crate::finding::Finder;
-use crate::matrix::float_of;
 use crate::planner::{Best, Fixing, Planner, Settled, Task};
 use crate::tree::{NO_BRANCH, NO_NODE, Tree, TreeNode, is_marked};
 use crate::trial::MOST_LEVELS;
+use interior_point::float_of;
 
 /// An inner node has a set of its own where the others miss this many times what its own bound misses.
 const FAR: f64 = 1.2;

@@ -3,14 +3,14 @@ ghost use Rattle.std.specs.Prelude.{◌≡◌, ◌≤◌, All, length};
 ghost use Rattle.adv_base.specs.declared.limits.TheConstants.{MOST_RENT};
 ghost use Rattle.bip_model.specs.Views.{AreMultipliers};
 
+use crate::entering::matrix_of;
 use crate::finding::Finder;
-use crate::matrix::Matrix;
-use crate::places::at;
 use crate::planner::{MOST_SETS, PlanNode, Planner, Task};
 use crate::splitting::Splitter;
 use adv_base::limits::{MOST_PAGE_PRICE, MOST_RENT};
 use adv_base::{Config, NoMemory};
 use bip_model::{Fix, Multipliers, Programme, State};
+use interior_point::{Matrix, at};
 use std::alloc::Global;
 
 /// The nodes that trials have, one time after the other while something is left open.
@@ -48,17 +48,21 @@ impl Proposals {
     /// All memory of proposals for a programme, with plans of at most so many nodes. Want of memory is the one error.
     pub fn new(alloc: Global, programme: &Programme, nodes: u32) -> Result<Proposals, NoMemory> {
         let most = nodes as usize;
-        let matrix = Matrix::new(alloc, programme)?;
+        let steps = Vec::with_capacity(alloc, most)?;
+        let kept = Vec::with_capacity(alloc, MOST_SETS)?;
+        let waiting = Vec::with_capacity(alloc, 257)?;
+        let splitter = Splitter::new(alloc, most)?;
+        let matrix = matrix_of(alloc, programme)?;
         let finder = Finder::new(alloc, &matrix)?;
         let planner = Planner::new(alloc, &matrix, most)?;
         Ok(Proposals {
             matrix,
             finder,
             planner,
-            splitter: Splitter::new(alloc, most)?,
-            steps: Vec::with_capacity(alloc, most)?,
-            kept: Vec::with_capacity(alloc, MOST_SETS)?,
-            waiting: Vec::with_capacity(alloc, 257)?,
+            splitter,
+            steps,
+            kept,
+            waiting,
             root: Fix::free(),
             budget: 0,
         })

@@ -1,8 +1,8 @@
 //! Splitting: what a plan leaves open is branched on, least bound first, while there are nodes.
 
-use crate::places::{at, put};
 use crate::planner::{PlanNode, Planner, Task};
 use adv_base::NoMemory;
+use interior_point::{at, put};
 use std::alloc::Global;
 
 /// In place of a node where there is none.

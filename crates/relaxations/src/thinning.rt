@@ -1,7 +1,7 @@
 //! Thinning: fixings that nothing needed are taken out above a subtree that is closed.
 
-use crate::places::{at, put};
 use crate::planner::{Fixing, PlanNode, Planner, Start, Task};
+use interior_point::{at, put};
 
 /// The most nodes of a subtree whose fixings are thinned.
 const MOST_THINNED: usize = 200;

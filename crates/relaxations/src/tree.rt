@@ -1,8 +1,8 @@
 //! The tree of the search for a configuration, kept for the plan.
 
-use crate::places::append;
 use adv_base::NoMemory;
 use bip_model::{Fix, State};
+use interior_point::append;
 use std::alloc::Global;
 
 /// The most nodes.

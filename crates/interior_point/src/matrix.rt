@@ -4,17 +4,17 @@ use crate::places::{NO_PLACES, Places, at, put};
 use std::num::nearest_i64_to_f64;
 
 /// The most of a price, an internal cost or a size that is looked at, 2^55: what a plan costs stays below 2^59.
-pub(crate) const LARGEST: i64 = 36_028_797_018_963_968;
+pub const LARGEST: i64 = 36_028_797_018_963_968;
 /// In place of a base where nothing that exists gives an order, 2^59: more than any plan costs.
-pub(crate) const NO_PRICE: i64 = 576_460_752_303_423_488;
+pub const NO_PRICE: i64 = 576_460_752_303_423_488;
 /// The most of an upkeep that is looked at, 2^100.
-pub(crate) const MOST_UPKEEP: u128 = 1_267_650_600_228_229_401_496_703_205_376;
+pub const MOST_UPKEEP: u128 = 1_267_650_600_228_229_401_496_703_205_376;
 /// The rows of a part whose prices fit a short list.
 const FEW_ROWS: usize = 64;
 
 /// What a candidate, counted from 0, offers for an order, with the place of its link.
 #[derive(Clone, Copy)]
-pub(crate) struct Offer {
+pub struct Offer {
     pub price: i64,
     pub link: u32,
     pub candidate: u8,
@@ -23,21 +23,21 @@ pub(crate) struct Offer {
 /// An order of a slot that a template needs and that a candidate offers below what exists: the price of what exists, and the
 /// offers below it, by price.
 #[derive(Clone, Copy)]
-pub(crate) struct Row {
+pub struct Row {
     pub base: i64,
     pub offers: Places,
 }
 
 /// A template: its internal cost with the bases of the orders that have no row, and where its rows stand in `needs`.
 #[derive(Clone, Copy)]
-pub(crate) struct Template {
+pub struct Template {
     pub internal: i64,
     pub needs: Places,
 }
 
 /// A part of the programme. Some template of it has a price without candidates.
 #[derive(Clone, Copy)]
-pub(crate) struct MatrixPart {
+pub struct MatrixPart {
     pub weight: i64,
     pub rows: Places,
     pub templates: Places,
@@ -46,7 +46,7 @@ pub(crate) struct MatrixPart {
 
 /// A grant that offers something: its candidate, from 0, its part, and the place of its rent among those of multipliers.
 #[derive(Clone, Copy)]
-pub(crate) struct Link {
+pub struct Link {
     pub candidate: u8,
     pub part: u32,
     pub rent: usize,
@@ -55,7 +55,7 @@ pub(crate) struct Link {
 /// The matrix. Candidates are counted from 0. `touched` has the places of the parts in which a candidate offers something, at
 /// the places that `touches` has for it.
 #[derive(Drop)]
-pub(crate) struct Matrix {
+pub struct Matrix {
     pub parts: Vec<MatrixPart>,
     pub rows: Vec<Row>,
     pub offers: Vec<Offer>,
@@ -72,7 +72,7 @@ pub(crate) struct Matrix {
 }
 
 /// The float nearest to a number, or one beside it.
-pub(crate) fn float_of(number: i128) -> f64 {
+pub fn float_of(number: i128) -> f64 {
     let high = (number >> 32).clamp(i64::MIN as i128, i64::MAX as i128) as i64;
     let low = (number & 0xffff_ffff) as i64;
     nearest_i64_to_f64(high) * 4_294_967_296.0 + nearest_i64_to_f64(low)
@@ -124,7 +124,7 @@ impl Matrix {
     }
 
     /// What the plan of a part costs under a configuration, without its weight; 0 where there is no such part.
-    pub(crate) fn part_cost(&self, part: usize, on: &[bool; 256]) -> i64 {
+    pub fn part_cost(&self, part: usize, on: &[bool; 256]) -> i64 {
         if part >= self.parts.len() {
             return 0;
         }
@@ -137,7 +137,7 @@ impl Matrix {
     }
 
     /// What a configuration costs in all.
-    pub(crate) fn total(&self, on: &[bool; 256]) -> i128 {
+    pub fn total(&self, on: &[bool; 256]) -> i128 {
         let mut total = self.kept;
         for (chosen, upkeep) in on.iter().zip(self.upkeep) {
             if *chosen {

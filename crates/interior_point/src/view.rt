@@ -3,7 +3,6 @@
 use crate::matrix::{Matrix, MatrixPart, NO_PRICE, Row, Template, float_of};
 use crate::places::{NO_PLACES, Places, append, at, put};
 use adv_base::NoMemory;
-use bip_model::{Fix, State};
 use std::alloc::Global;
 use std::num::nearest_i64_to_f64;
 
@@ -16,21 +15,21 @@ pub(crate) const NO_LOCAL: u16 = u16::MAX;
 
 /// An order that some open candidate offers: what it costs without them (at most BIG), and their offers, by price.
 #[derive(Clone, Copy)]
-pub(crate) struct ViewRow {
+pub struct ViewRow {
     pub base: f64,
     pub offers: Places,
 }
 
 /// An offer, with the place of its link in the view.
 #[derive(Clone, Copy)]
-pub(crate) struct ViewOffer {
+pub struct ViewOffer {
     pub price: f64,
     pub link: u32,
 }
 
 /// A template that needs a row: the rest of its cost, and where its rows stand in `needs`.
 #[derive(Clone, Copy)]
-pub(crate) struct ViewTemplate {
+pub struct ViewTemplate {
     pub cost: f64,
     pub needs: Places,
 }
@@ -38,7 +37,7 @@ pub(crate) struct ViewTemplate {
 /// A part in which a candidate offers something: the least cost of templates without rows (at most BIG), its place in the
 /// matrix, and what it has.
 #[derive(Clone, Copy)]
-pub(crate) struct ViewPart {
+pub struct ViewPart {
     pub fixed: f64,
     pub part: u32,
     pub rows: Places,
@@ -46,9 +45,17 @@ pub(crate) struct ViewPart {
     pub links: Places,
 }
 
+/// A node of a search: which candidates are in, which aren't out, and the budget in pages.
+#[derive(Clone, Copy)]
+pub struct ViewNode {
+    pub inside: [bool; 256],
+    pub allowed: [bool; 256],
+    pub budget: i64,
+}
+
 /// The view of a node. Its candidates are those that are open and offer something; `local` has the number of each in the view.
 #[derive(Drop)]
-pub(crate) struct View {
+pub struct View {
     pub candidates: Vec<u8>,
     pub local: [u16; 256],
     pub sizes: Vec<f64>,
@@ -80,7 +87,7 @@ struct OpenedRow {
 #[derive(Clone, Copy)]
 struct Opening<'a> {
     matrix: &'a Matrix,
-    fix: &'a Fix,
+    inside: &'a [bool; 256],
     weight: f64,
 }
 
@@ -95,7 +102,7 @@ fn weighted(price: i64, weight: f64) -> f64 {
 
 impl View {
     /// All memory that views of a matrix take. Want of memory is the one error.
-    pub(crate) fn new(alloc: Global, matrix: &Matrix) -> Result<View, NoMemory> {
+    pub fn new(alloc: Global, matrix: &Matrix) -> Result<View, NoMemory> {
         let links = matrix.links.len();
         let mut rows = 0;
         for part in matrix.parts.as_slice() {
@@ -121,13 +128,13 @@ impl View {
     }
 
     /// Makes the view of a node, with prices cut to what a configuration can pay that costs less than a known cost.
-    pub(crate) fn open(&mut self, matrix: &Matrix, fix: &Fix, budget: i64, cost: f64) {
+    pub fn open(&mut self, matrix: &Matrix, node: &ViewNode, cost: f64) {
         self.clear();
-        self.admit(matrix, fix, budget);
+        self.admit(matrix, node);
         for (place, part) in matrix.parts.as_slice().iter().enumerate() {
             let opening = Opening {
                 matrix,
-                fix,
+                inside: &node.inside,
                 weight: nearest_i64_to_f64(part.weight),
             };
             self.open_part(&opening, part, place);
@@ -153,17 +160,17 @@ impl View {
     }
 
     /// Counts what is in, and lists the open candidates.
-    fn admit(&mut self, matrix: &Matrix, fix: &Fix, budget: i64) {
-        let mut left = budget;
+    fn admit(&mut self, matrix: &Matrix, node: &ViewNode) {
+        let mut left = node.budget;
         let mut constant = matrix.kept;
         for a in 0..matrix.count.min(256) {
-            if fix.state[a] == State::In {
+            if node.inside[a] {
                 left = left.saturating_sub(matrix.sizes[a]);
                 constant = constant.saturating_add(matrix.upkeep[a]);
             }
         }
         for a in 0..matrix.count.min(256) {
-            if fix.state[a] == State::Free && matrix.sizes[a] <= left {
+            if node.allowed[a] && !node.inside[a] && matrix.sizes[a] <= left {
                 self.local[a] = (self.candidates.len() & 255) as u16;
                 append(&mut self.candidates, (a & 255) as u8);
                 append(&mut self.sizes, nearest_i64_to_f64(matrix.sizes[a]));
@@ -234,7 +241,7 @@ impl View {
         let mut base = row.base;
         for offer in row.offers.of(opening.matrix.offers.as_slice()) {
             let a = offer.candidate as usize;
-            if opening.fix.state[a] == State::In {
+            if opening.inside[a] {
                 base = offer.price;
                 break;
             }

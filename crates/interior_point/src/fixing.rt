@@ -6,14 +6,14 @@ use crate::view::{BIG, NO_LOCAL, View};
 
 /// By how much a value rises at least where a candidate is in, and where it is out.
 #[derive(Clone, Copy)]
-pub(crate) struct Rises {
+pub struct Rises {
     pub inside: f64,
     pub outside: f64,
 }
 
 /// What all parts cost more without each candidate of a view, and what candidates earn in all.
 #[derive(Clone, Copy)]
-pub(crate) struct Losses {
+pub struct Losses {
     losses: [f64; 256],
     taken: f64,
 }
@@ -52,7 +52,7 @@ fn earned_in(view: &View, lagrangian: &Lagrangian, room: f64, other: usize, larg
 }
 
 impl Losses {
-    pub(crate) const BLANK: Losses = Losses {
+    pub const BLANK: Losses = Losses {
         losses: [0.0; 256],
         taken: 0.0,
     };
@@ -76,13 +76,7 @@ impl Losses {
     }
 
     /// Weighs the candidates of a view at rents at which it was evaluated. Losses that come to `need` aren't looked at further.
-    pub(crate) fn weigh(
-        &mut self,
-        view: &View,
-        rents: &[f64],
-        lagrangian: &mut Lagrangian,
-        need: f64,
-    ) {
+    pub fn weigh(&mut self, view: &View, rents: &[f64], lagrangian: &mut Lagrangian, need: f64) {
         *self = Losses::BLANK;
         let mut place = 0usize;
         for (part, own) in view.parts.iter().enumerate() {
@@ -104,7 +98,7 @@ impl Losses {
     }
 
     /// What the value rises by on both sides, at the best price of a page there.
-    pub(crate) fn best_rises(&self, view: &View, lagrangian: &Lagrangian, number: usize) -> Rises {
+    pub fn best_rises(&self, view: &View, lagrangian: &Lagrangian, number: usize) -> Rises {
         let left = view.room - size(view, number);
         let inside = if left < 0.0 {
             BIG
@@ -119,7 +113,7 @@ impl Losses {
     }
 
     /// What the value rises by on both sides, at the price of a page where it was evaluated.
-    pub(crate) fn rises(&self, view: &View, lagrangian: &Lagrangian, number: usize) -> Rises {
+    pub fn rises(&self, view: &View, lagrangian: &Lagrangian, number: usize) -> Rises {
         let cost = earned(lagrangian, number) + lagrangian.page * size(view, number);
         Rises {
             inside: cost.max(0.0),

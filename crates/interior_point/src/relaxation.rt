@@ -22,7 +22,7 @@ const SHORT_STEP: f64 = 0.02;
 
 /// What the last solution found.
 #[derive(Drop)]
-pub(crate) struct Relaxation {
+pub struct Relaxation {
     /// The best bound, with its price of a page and its rents by link of the view.
     pub bound: f64,
     pub page: f64,
@@ -36,7 +36,7 @@ pub(crate) struct Relaxation {
 
 impl Relaxation {
     /// All memory that relaxations of views of a matrix take. Want of memory is the one error.
-    pub(crate) fn new(alloc: Global, matrix: &Matrix) -> Result<Relaxation, NoMemory> {
+    pub fn new(alloc: Global, matrix: &Matrix) -> Result<Relaxation, NoMemory> {
         Ok(Relaxation {
             bound: f64::NEG_INFINITY,
             page: 0.0,
@@ -49,7 +49,7 @@ impl Relaxation {
 
     /// Solves the relaxation of a view until the bound is so near to the target, as a part of what is missing; whether the
     /// bound reaches it. The bound is that of the best rents, and minus infinity where none were evaluated.
-    pub(crate) fn solve(
+    pub fn solve(
         &mut self,
         view: &View,
         lagrangian: &mut Lagrangian,

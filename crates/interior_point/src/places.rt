@@ -2,35 +2,35 @@
 
 /// The places of a list from one on and before another.
 #[derive(Clone, Copy)]
-pub(crate) struct Places {
+pub struct Places {
     pub from: usize,
     pub to: usize,
 }
 
 /// No places.
-pub(crate) const NO_PLACES: Places = Places { from: 0, to: 0 };
+pub const NO_PLACES: Places = Places { from: 0, to: 0 };
 
 impl Places {
     /// How many places there are.
-    pub(crate) fn count(&self) -> usize {
+    pub fn count(&self) -> usize {
         self.to.saturating_sub(self.from)
     }
 
     /// What stands at the places, as far as the list goes.
-    pub(crate) fn of<'a, T>(&self, list: &'a [T]) -> &'a [T] {
+    pub fn of<'a, T>(&self, list: &'a [T]) -> &'a [T] {
         let to = self.to.min(list.len());
         &list[self.from.min(to)..to]
     }
 
     /// The same, to be written.
-    pub(crate) fn of_mut<'a, T>(&self, list: &'a mut [T]) -> &'a mut [T] {
+    pub fn of_mut<'a, T>(&self, list: &'a mut [T]) -> &'a mut [T] {
         let to = self.to.min(list.len());
         &mut list[self.from.min(to)..to]
     }
 }
 
 /// What stands at a place, or another value where there is no such place.
-pub(crate) fn at<T: Copy>(list: &[T], place: usize, other: T) -> T {
+pub fn at<T: Copy>(list: &[T], place: usize, other: T) -> T {
     if place < list.len() {
         list[place]
     } else {
@@ -39,14 +39,14 @@ pub(crate) fn at<T: Copy>(list: &[T], place: usize, other: T) -> T {
 }
 
 /// Puts a value at a place, where there is one.
-pub(crate) fn put<T: Copy>(list: &mut [T], place: usize, value: T) {
+pub fn put<T: Copy>(list: &mut [T], place: usize, value: T) {
     if place < list.len() {
         list[place] = value;
     }
 }
 
 /// Appends a value where there is room.
-pub(crate) fn append<T: Copy>(list: &mut Vec<T>, value: T) {
+pub fn append<T: Copy>(list: &mut Vec<T>, value: T) {
     match list.push(value) {
         Ok(()) => {}
         Err(_) => {}
