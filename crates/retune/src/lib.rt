@@ -1,0 +1,26 @@
+//! A workload that is changed step by step, with its candidates and its programme.
+//!
+//! In go a catalogue and statements, then statements that are added, and numbers of statements that are removed or get
+//! another weight. After each step the session has the statements as they are, the candidates that they propose, and
+//! CoPhy's programme that stands for both: what would be built from scratch. It keeps the cache of plans of each statement,
+//! so only an added one is planned; prices are found anew where a step may change the candidates, which another weight
+//! can't. A step that is refused changes nothing. Searching the programme is left to others.
+//!
+//! ```rust
+//! let mut session = Session::new(alloc, &cat, statements)?;
+//! session.reweigh(1, 20)?;
+//! session.remove(2)?;
+//! let total = value(session.programme(), &Config::none());
+//! ```
+#![tactic(auto)]
+
+mod caches;
+mod fault;
+mod lists;
+mod parts;
+mod programme;
+mod session;
+mod weights;
+
+pub use fault::RetuneFault;
+pub use session::Session;
