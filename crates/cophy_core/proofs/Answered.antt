@@ -16,7 +16,7 @@ use Rattle.report.specs.declared.done.Refusal.TheVariants.{TooLong, Cat, Sql, Bi
 use Rattle.cophy_core.specs.declared.stop.Stop.{Stop}
 use Rattle.cophy_core.specs.declared.stop.Stop.TheVariants.{Memory, Failed, Refused}
 use Rattle.cophy_core.specs.Answers.{RefusesOver, GivesOver, files_put, PutsOver, OfSetting, Answers}
-use Rattle.command_line.specs.CommandLine.{PlainCommand, Candidates, Cost, WhatIf, Explain, Advise, Ruled, Sweep, Check, CheckRuled, Fold, Bench}
+use Rattle.command_line.specs.CommandLine.{PlainCommand, Candidates, Cost, WhatIf, Explain, Advise, Ruled, Sweep, Retune, Check, CheckRuled, Fold, Bench}
 use Rattle.command_line.specs.Spellings.{IsInRange}
 use Rattle.cophy_core.specs.Files.{InputFile, input_file, setting_files, files_of, AreInputs, input, ReadCounts}
 use Rattle.cophy_core.specs.Inputs.{HasInputs}
@@ -46,6 +46,7 @@ IsCommandsOwn (answers.Checked checked) = Unit {0}
 IsCommandsOwn (answers.NotProved why) = Unit {0}
 IsCommandsOwn (answers.Ruled ruled) = Unit {0}
 IsCommandsOwn (answers.Swept points) = Unit {0}
+IsCommandsOwn (answers.Retuned tuned) = Unit {0}
 IsCommandsOwn (answers.Folded folded) = Unit {0}
 IsCommandsOwn (answers.Benched bench) = Unit {0}
 IsCommandsOwn done = ⊥
@@ -65,6 +66,7 @@ second_short (Explain cat load conf number) files inputs range are = second_file
 second_short (Advise cat load budget nodes cert) files inputs range are = second_file files cat load [] inputs are
 second_short (Ruled cat load budget rules nodes cert) files inputs range are = second_file files cat load (input_file Third rules MOST_FILE_BYTES ∷ []) inputs are
 second_short (Sweep cat load first step count nodes cert) files inputs range are = second_file files cat load [] inputs are
+second_short (Retune cat load edits budget nodes) files inputs range are = second_file files cat load (input_file Third edits MOST_FILE_BYTES ∷ []) inputs are
 second_short (Check cat load cert) files inputs range are = second_file files cat load (input_file Third cert MOST_CERTIFICATE_BYTES ∷ []) inputs are
 second_short (CheckRuled cat load rules cert) files inputs range are =
     second_file files cat load (input_file Third rules MOST_FILE_BYTES ∷ input_file Fourth cert MOST_CERTIFICATE_BYTES ∷ []) inputs are
@@ -118,6 +120,11 @@ own (Sweep cat load first step count nodes cert) inputs setting (Cat fault) h = 
 own (Sweep cat load first step count nodes cert) inputs setting (Sql fault) h = h
 own (Sweep cat load first step count nodes cert) inputs setting (Bind fault) h = h
 own (Sweep cat load first step count nodes cert) inputs setting why h = tt
+own (Retune cat load edits budget nodes) inputs setting (TooLong role) h = h
+own (Retune cat load edits budget nodes) inputs setting (Cat fault) h = h
+own (Retune cat load edits budget nodes) inputs setting (Sql fault) h = h
+own (Retune cat load edits budget nodes) inputs setting (Bind fault) h = h
+own (Retune cat load edits budget nodes) inputs setting why h = tt
 own (CheckRuled cat load rules cert) inputs setting (TooLong role) h = h
 own (CheckRuled cat load rules cert) inputs setting (Cat fault) h = h
 own (CheckRuled cat load rules cert) inputs setting (Sql fault) h = h
@@ -167,6 +174,8 @@ given (Ruled cat load budget rules nodes cert) inputs setting (answers.Ruled rul
 given (Ruled cat load budget rules nodes cert) inputs setting done h = absurd h
 given (Sweep cat load first step count nodes cert) inputs setting (answers.Swept points) h = tt
 given (Sweep cat load first step count nodes cert) inputs setting done h = absurd h
+given (Retune cat load edits budget nodes) inputs setting (answers.Retuned tuned) h = tt
+given (Retune cat load edits budget nodes) inputs setting done h = absurd h
 given (Check cat load cert) inputs setting (answers.Checked checked) h = tt
 given (Check cat load cert) inputs setting (answers.NotProved why) h = tt
 given (Check cat load cert) inputs setting done h = absurd h
@@ -187,6 +196,7 @@ given_over command files (answers.Checked checked) is_given h = h
 given_over command files (answers.NotProved why) is_given h = h
 given_over command files (answers.Ruled ruled) is_given h = h
 given_over command files (answers.Swept points) is_given h = h
+given_over command files (answers.Retuned tuned) is_given h = h
 given_over command files (answers.Folded folded) is_given h = h
 given_over command files (answers.Benched bench) is_given h = h
 given_over command files done is_given h = absurd is_given

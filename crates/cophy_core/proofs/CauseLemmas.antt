@@ -16,7 +16,7 @@ use Rattle.report.specs.declared.done.NotProved.{NotProved}
 use Rattle.command_line.specs.declared.fault.WordFault.{WordFault}
 use Rattle.cophy_core.specs.Answers.{GivesOver, files_put, OfSetting, Answers}
 use Rattle.cophy_core.specs.Causes.{IsAnswered, IsOrMemory, IsSteady, UsageIsTrue, ReadFaultIsTrue, WriteFaultIsTrue, RefusalIsTrue, MemoryWritesNothing, IsSound, IsWritten, IsBounded, IsUnproved, NotProvedIsTrue}
-use Rattle.command_line.specs.CommandLine.{PlainCommand, Candidates, Cost, WhatIf, Explain, Advise, Ruled, Sweep, Check, CheckRuled, Fold, Bench, command_of}
+use Rattle.command_line.specs.CommandLine.{PlainCommand, Candidates, Cost, WhatIf, Explain, Advise, Ruled, Sweep, Retune, Check, CheckRuled, Fold, Bench, command_of}
 use Rattle.cophy_core.specs.Endings.{Put, Outside, outside, put_all, put_answer, IsPutFault, IsUnput, EndsWhole, EndsUnput, Ends}
 use Rattle.cophy_core.specs.Left.{PutsFileTo, IsCutShort}
 use Rattle.cophy_core.specs.Files.{ReadCounts, counts}
@@ -299,6 +299,7 @@ unproved (Explain cat load conf number) files why h = absurd h.holds
 unproved (Advise cat load budget nodes cert) files why h = absurd h.holds
 unproved (Ruled cat load budget rules nodes cert) files why h = absurd h.holds
 unproved (Sweep cat load first step count nodes cert) files why h = absurd h.holds
+unproved (Retune cat load edits budget nodes) files why h = absurd h.holds
 unproved (Fold cat load out) files why h = absurd h.holds
 unproved (Bench seed tables statements budget) files why h = absurd h.holds
 

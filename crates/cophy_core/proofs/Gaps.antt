@@ -1,6 +1,6 @@
 -- Status 1 is that of advice or of a sweep whose search gave up.
-use Rattle.std.proofs.Common.{◌≡◌, ◌⊎◌, inl, inr, ℕ, ◌+◌, ◌-◌, ◌^◌, ◌<◌, ℤ, pos, negsuc, suc, Bool, true, false, List, [], ◌∷◌, length, Option, Some, Result, Ok, Err, refl, sym, subst, ◌∙◌, arith}
-use Rattle.std.specs.Prelude.{◌<ℤ◌, slice_get}
+use Rattle.std.proofs.Common.{◌≡◌, ◌⊎◌, inl, inr, ℕ, ◌+◌, ◌-◌, ◌^◌, ◌<◌, ℤ, pos, negsuc, suc, Bool, true, false, List, [], ◌∷◌, map, length, Option, Some, Result, Ok, Err, refl, sym, ap, subst, ◌∙◌, arith}
+use Rattle.std.specs.Prelude.{◌<ℤ◌, max, slice_get}
 use Rattle.std.proofs.lemmas.Bool.Decides.{nat_tests}
 use Rattle.std.proofs.lemmas.Int.{ints}
 use Rattle.bip_model.specs.declared.answer.Answer.{Answer}
@@ -9,22 +9,31 @@ use Rattle.plan_model.specs.Lagrangian.{IsAtMost}
 use Rattle.report.specs.Sweeps.{has_no_gap}
 use Rattle.adv_base.specs.Nodes as nodes
 use Rattle.adv_base.specs.Settings.{TheSetting}
+use Rattle.adv_base.specs.declared.catalogue.Catalogue.{Catalogue}
+use Rattle.adv_base.specs.declared.workload.Statement.{Statement}
+use Rattle.edit_script.specs.Scripts as script
+use Rattle.edit_script.specs.Scripts.{TheEdit}
 use Rattle.bip_model.specs.Best.{IsBest}
 use Rattle.adv_shelf.specs.Shelf.{Files}
 use Rattle.report.specs.declared.done.Advice.{Advice}
 use Rattle.report.specs.declared.done.Bench.{Bench as Made}
+use Rattle.report.specs.Advices.{SomeAdvice}
 use Rattle.report.specs.declared.done.Done.{Done}
+use Rattle.report.specs.declared.done.Tuned.{Tuned}
 use Rattle.report.specs.declared.done.Ruled.{Ruled as Obeying}
-use Rattle.report.specs.declared.done.Done.TheVariants.{Advised, Ruled as RuledDone, Swept, Benched}
+use Rattle.report.specs.declared.done.Done.TheVariants.{Advised, Ruled as RuledDone, Swept, Retuned, Benched}
 use Rattle.command_line.specs.declared.fault.WordFault.{WordFault}
 use Rattle.bip_model.specs.Proves.{free_node}
 use Rattle.bip_model.specs.Views.{node_of}
 use Rattle.cophy_core.specs.Answers.{Answers}
-use Rattle.cophy_core.specs.Causes.{gap_status, sweep_status, HasGivenUp, GapIsTrue, IsAnswered}
+use Rattle.cophy_core.specs.commands.Advise.{IsAdvice}
+use Rattle.cophy_core.specs.commands.Retune.{AreTuned}
+use Rattle.cophy_core.specs.Causes.{gap_status, search_status, sweep_status, HasGivenUp, GapIsTrue, IsAnswered}
 use Rattle.cophy_core.specs.Endings.{Outside}
-use Rattle.command_line.specs.CommandLine.{PlainCommand, Advise, Ruled, Sweep, CheckRuled, Bench, command_of}
+use Rattle.command_line.specs.CommandLine.{PlainCommand, Advise, Ruled, Sweep, Retune, CheckRuled, Bench, command_of}
 use Rattle.cophy_core.specs.Replies.{IsRun}
 use Rattle.cophy_core.proofs.CauseLemmas.{answer}
+use Rattle.cophy_core.proofs.Statuses.{none_lost}
 use Rattle.cophy_core.proofs.Headlines.{spent_nodes, gap_by}
 
 -- at some point the greatest bound is below the least cost
@@ -98,11 +107,54 @@ of_sweep (Sweep cat load first step count nodes cert) files points h = λ one.
 of_sweep (CheckRuled cat load rules cert) files points h = absurd h.holds.gives
 of_sweep command files points h = absurd h.holds
 
+-- the advice of a script, each on some statements
+abbrev AreAdvised : ℕ → ℕ → List Tuned → Type 0
+AreAdvised budget nodes [] = Unit {0}
+AreAdvised budget nodes (tuned ∷ more) = ((setting : TheSetting) × IsAdvice budget nodes setting tuned.advice) × AreAdvised budget nodes more
+
+are_advised : (cat : Catalogue) (budget nodes : ℕ) (statements : List Statement) (edits : List TheEdit) (tuned : List Tuned) → AreTuned cat budget nodes statements edits tuned → AreAdvised budget nodes tuned
+are_advised cat budget nodes statements [] [] h = tt
+are_advised cat budget nodes statements [] (tuned ∷ more) h = absurd cc
+are_advised cat budget nodes statements (script.Advise ∷ edits) [] h = absurd h
+are_advised cat budget nodes statements (script.Advise ∷ edits) (tuned ∷ more) h =
+    ((record { cat = cat; statements = statements; shapes = tuned.shapes }, h.0.advice_is), are_advised cat budget nodes statements edits more h.1)
+are_advised cat budget nodes statements (script.Add weight sql ∷ edits) tuned h = are_advised cat budget nodes h.0 edits tuned h.2
+are_advised cat budget nodes statements (script.Remove number ∷ edits) tuned h = are_advised cat budget nodes h.0 edits tuned h.2
+are_advised cat budget nodes statements (script.Weigh number weight ∷ edits) tuned h = are_advised cat budget nodes h.0 edits tuned h.2
+
+abbrev GaveUp : Advice → Type 0
+GaveUp advice = HasGivenUp advice.nodes advice.answer
+
+some_gave_up : (budget nodes : ℕ) (tuned : List Tuned) → AreAdvised budget nodes tuned → search_status (map (λ t. t.advice) tuned) ≡ 1 → SomeAdvice GaveUp (map (λ t. t.advice) tuned)
+some_gave_up budget nodes [] are one = absurd (omega (arith, one))
+some_gave_up budget nodes (tuned ∷ []) are one = inl (given_up free_node budget nodes are.0.0 tuned.advice are.0.1.nodes_is are.0.1.best one)
+some_gave_up budget nodes (tuned ∷ other ∷ more) are one =
+    by_test (has_no_gap tuned.advice.answer.cost tuned.advice.answer.bound) refl (some_gave_up budget nodes (other ∷ more) are.1)
+  where
+    by_test : (test : Bool) → has_no_gap tuned.advice.answer.cost tuned.advice.answer.bound ≡ test →
+        (search_status (map (λ t. t.advice) (other ∷ more)) ≡ 1 → SomeAdvice GaveUp (map (λ t. t.advice) (other ∷ more))) → SomeAdvice GaveUp (map (λ t. t.advice) (tuned ∷ other ∷ more))
+    by_test false is behind =
+        let own : gap_status tuned.advice.answer.cost tuned.advice.answer.bound ≡ 1 = rw is refl in
+        inl (given_up free_node budget nodes are.0.0 tuned.advice are.0.1.nodes_is are.0.1.best own)
+    by_test true is behind =
+        let none : gap_status tuned.advice.answer.cost tuned.advice.answer.bound ≡ 0 = rw is refl in
+        let rest : search_status (map (λ t. t.advice) (other ∷ more)) ≡ 1 =
+        sym (none_lost (search_status (map (λ t. t.advice) (other ∷ more)))) ∙ (sym (ap (λ (k : ℕ). max k (search_status (map (λ t. t.advice) (other ∷ more)))) none) ∙ one) in
+        inr (behind rest)
+
+of_retuned : (command : PlainCommand) (files : Option Files) (tuned : List Tuned) → Answers command files (Retuned tuned) → GapIsTrue (Ok command) (Retuned tuned)
+of_retuned (Retune cat load edits budget nodes) files tuned h =
+    λ one. some_gave_up budget nodes tuned (are_advised h.setting.cat budget nodes h.setting.statements h.holds.edits tuned h.holds.tuned_are) one
+of_retuned (CheckRuled cat load rules cert) files tuned h = absurd h.holds.gives
+of_retuned command files tuned h = absurd h.holds
+
 of_answer : (words : Result PlainCommand WordFault) (before after : Outside) (done : Done) → IsAnswered words before after done → GapIsTrue words done
 of_answer (Ok command) before after (Advised advice) h = of_advice command before.files advice h
 of_answer (Ok command) before after (Benched bench) h = of_bench command before.files bench h
 of_answer (Ok command) before after (RuledDone ruled) h = of_ruled command before.files ruled h
 of_answer (Ok command) before after (Swept points) h = of_sweep command before.files points h
+of_answer (Ok command) before after (Retuned tuned) h = of_retuned command before.files tuned h
+of_answer (Err fault) before after (Retuned tuned) h = absurd h
 of_answer (Err fault) before after (RuledDone ruled) h = absurd h
 of_answer (Err fault) before after (Swept points) h = absurd h
 of_answer (Err fault) before after (Advised advice) h = absurd h

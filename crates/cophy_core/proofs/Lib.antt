@@ -10,6 +10,9 @@ pub mod Combinations
 pub mod Folding
 pub mod OneRefusal
 pub mod Stopped
+pub mod Retuning
+pub mod Statuses
+pub mod Taking
 pub mod Sweeping
 pub mod Mapped
 pub mod FilesRead

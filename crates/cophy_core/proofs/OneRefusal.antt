@@ -9,7 +9,7 @@ use Rattle.binder.specs.Statements.{statements_of}
 use Rattle.binder.specs.declared.fault.BindFault.{BindFault}
 use Rattle.catalogue.specs.declared.fault.CatFault.{CatFault}
 use Rattle.report.specs.declared.done.Done.{Done}
-use Rattle.report.specs.declared.done.Done.TheVariants.{Refused, Priced, Explained, Advised, Ruled as RuledDone, Swept, Folded, Benched}
+use Rattle.report.specs.declared.done.Done.TheVariants.{Refused, Priced, Explained, Advised, Ruled as RuledDone, Swept, Retuned, Folded, Benched}
 use Rattle.report.specs.declared.done.Refusal.{Refusal}
 use Rattle.report.specs.declared.done.Refusal.TheVariants.{TooLong, Cat, Sql, Bind, NoStatement, BadConf, Rules, TooManyCombinations, FoldTooLong}
 use Rattle.report.specs.declared.done.Role.{Role}
@@ -17,7 +17,7 @@ use Rattle.sql_reader.proofs.Unique.{one_workload, workload_or_fault, one_sql_fa
 use Rattle.sql_reader.specs.declared.parsed.ParsedStatement.{ParsedStatement}
 use Rattle.sql_reader.specs.declared.parsed.SqlFault.{SqlFault}
 use Rattle.cophy_core.specs.Answers.{RefusesOver, GivesOver, OfFiles, OfSetting, Answers}
-use Rattle.command_line.specs.CommandLine.{PlainCommand, WhatIf, Explain, Advise, Ruled, Sweep, Check, CheckRuled, Fold, Bench}
+use Rattle.command_line.specs.CommandLine.{PlainCommand, WhatIf, Explain, Advise, Ruled, Sweep, Retune, Check, CheckRuled, Fold, Bench}
 use Rattle.cophy_core.specs.Files.{InputFile, AreInputs, IsTooLong, files_of, input}
 use Rattle.cophy_core.specs.Inputs.{HasInputs}
 use Rattle.cophy_core.specs.Settings.{IsCatalogueOf, IsSetting, HasCatFault, IsSqlRefusal, IsBindRefusal}
@@ -28,6 +28,7 @@ use Rattle.cophy_core.proofs.FilesRead.{one_each, none_long, one_long}
 use Rattle.cophy_core.proofs.Folding.{one_length, long_or_folded}
 use Rattle.cophy_core.proofs.Lines.{not_nothing, conf_or_fault, one_conf_fault}
 use Rattle.cophy_core.proofs.Obeying.{not_both, one_rule_fault, faulty_or_root}
+use Rattle.cophy_core.proofs.Retuning.{one_retune_refusal, refused_or_tuned}
 use Rattle.cophy_core.proofs.OneSetting.{one_catalogue, one_setting, few_shapes}
 
 -- ## The bytes that a command answers from
@@ -131,6 +132,7 @@ one_own (Ruled cat load budget rules nodes cert) inputs setting why other few a 
 one_own (Sweep cat load first step steps nodes cert) inputs setting (TooManyCombinations n count) (TooManyCombinations m other) few a b = too_many_same setting n m count other (one_beyond setting n m count other a b)
 one_own (Sweep cat load first step steps nodes cert) inputs setting (TooManyCombinations n count) other few a b = absurd b
 one_own (Sweep cat load first step steps nodes cert) inputs setting why other few a b = absurd a
+one_own (Retune cat load edits budget nodes) inputs setting why other few a b = one_retune_refusal (input inputs 2) setting why other a b
 one_own (Bench seed tables statements budget) inputs setting (TooManyCombinations n count) (TooManyCombinations m other) few a b = too_many_same setting n m count other (one_beyond setting n m count other a b)
 one_own (Bench seed tables statements budget) inputs setting (TooManyCombinations n count) other few a b = absurd b
 one_own (Bench seed tables statements budget) inputs setting why other few a b = absurd a
@@ -162,6 +164,8 @@ refused_or_given (Advise cat load budget nodes cert) inputs setting why done few
 refused_or_given (Sweep cat load first step steps nodes cert) inputs setting (TooManyCombinations n count) (Swept points) few a b = none_beyond setting n count b.few a
 refused_or_given (Sweep cat load first step steps nodes cert) inputs setting why (Swept points) few a b = absurd a
 refused_or_given (Sweep cat load first step steps nodes cert) inputs setting why done few a b = absurd b
+refused_or_given (Retune cat load edits budget nodes) inputs setting why (Retuned tuned) few a b = refused_or_tuned budget nodes (input inputs 2) setting why tuned a b
+refused_or_given (Retune cat load edits budget nodes) inputs setting why done few a b = absurd b
 refused_or_given (Ruled cat load budget rules nodes cert) inputs setting (Rules fault) (RuledDone ruled) few a b = faulty_or_root setting (input inputs 2) budget fault b.root a b.root_is
 refused_or_given (Ruled cat load budget rules nodes cert) inputs setting (TooManyCombinations n count) (RuledDone ruled) few a b = none_beyond setting n count b.advice_is.few a.first
 refused_or_given (Ruled cat load budget rules nodes cert) inputs setting why (RuledDone ruled) few a b = absurd a

@@ -165,14 +165,14 @@ same_work (works.Insert table rows) (works.Delete b) e = absurd cc
 statement_prop : (weight : ℕ) (work : Work) → IsProp (StatementLimits weight work)
 statement_prop weight work = hlevel props
 
-same_statement : (x y : Statement) → plain_statement x ≡ plain_statement y → x ≡ y
+pub same_statement : (x y : Statement) → plain_statement x ≡ plain_statement y → x ≡ y
 same_statement x y e =
     let work = same_work x.work y.work (λ i. (e i).work) in
     let limits = is_prop→PathP (λ i. StatementLimits (e i).weight (work i)) (λ i. statement_prop (e i).weight (work i)) x.limits y.limits in
     λ i. record { weight = (e i).weight; work = work i; limits = limits i }
 
 -- a text means one list of statements over a catalogue
-one_list : (cat : Catalogue) (text : List ℕ) (xs ys : List Statement) → AreStatementsOf cat text xs → AreStatementsOf cat text ys → xs ≡ ys
+pub one_list : (cat : Catalogue) (text : List ℕ) (xs ys : List Statement) → AreStatementsOf cat text xs → AreStatementsOf cat text ys → xs ≡ ys
 one_list cat text xs ys a b =
     let parsed = one_workload text a.parsed b.parsed a.is_workload b.is_workload in
     let bound = subst (λ ps. statements_of cat text ps ≡ Ok (map plain_statement xs)) parsed a.bound in

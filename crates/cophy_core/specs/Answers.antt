@@ -14,11 +14,12 @@ use Rattle.cophy_core.specs.commands.CheckRuled as check_ruled
 use Rattle.cophy_core.specs.commands.Cost as cost
 use Rattle.cophy_core.specs.commands.Explain as explain
 use Rattle.cophy_core.specs.commands.Fold as fold
+use Rattle.cophy_core.specs.commands.Retune as retune
 use Rattle.cophy_core.specs.commands.Ruled as ruled
 use Rattle.cophy_core.specs.commands.Sweep as sweep
 use Rattle.cophy_core.specs.commands.WhatIf as what_if
 use Rattle.cophy_core.specs.Endings.{Put}
-use Rattle.command_line.specs.CommandLine.{PlainCommand, Candidates, Cost, WhatIf, Explain, Advise, Ruled, Sweep, Check, CheckRuled, Fold, Bench}
+use Rattle.command_line.specs.CommandLine.{PlainCommand, Candidates, Cost, WhatIf, Explain, Advise, Ruled, Sweep, Retune, Check, CheckRuled, Fold, Bench}
 use Rattle.cophy_core.specs.Stops.{LacksProgramme}
 use Rattle.cophy_core.specs.Files.{files_of, input, IsTooLong}
 use Rattle.cophy_core.specs.Inputs.{HasInputs}
@@ -31,6 +32,7 @@ RefusesOver (Explain cat load conf number) inputs setting why = explain.Refuses 
 RefusesOver (Advise cat load budget nodes cert) inputs setting why = LacksProgramme setting why
 RefusesOver (Ruled cat load budget rules nodes cert) inputs setting why = ruled.Refuses budget (input inputs 2) setting why
 RefusesOver (Sweep cat load first step count nodes cert) inputs setting why = LacksProgramme setting why
+RefusesOver (Retune cat load edits budget nodes) inputs setting why = retune.Refuses (input inputs 2) setting why
 RefusesOver (CheckRuled cat load rules cert) inputs setting why = check_ruled.Refuses (input inputs 2) setting why
 RefusesOver (Fold cat load out) inputs setting why = fold.Refuses (input inputs 1) setting why
 RefusesOver (Bench seed tables statements budget) inputs setting why = LacksProgramme setting why
@@ -45,6 +47,7 @@ GivesOver (Explain cat load conf number) inputs setting done = explain.Gives num
 GivesOver (Advise cat load budget nodes cert) inputs setting done = advise.Gives budget nodes setting done
 GivesOver (Ruled cat load budget rules nodes cert) inputs setting done = ruled.Gives budget nodes (input inputs 2) setting done
 GivesOver (Sweep cat load first step count nodes cert) inputs setting done = sweep.Gives first step count nodes setting done
+GivesOver (Retune cat load edits budget nodes) inputs setting done = retune.Gives budget nodes (input inputs 2) setting done
 GivesOver (Check cat load cert) inputs setting done = check.Gives (input inputs 2) setting done
 GivesOver (CheckRuled cat load rules cert) inputs setting done = check_ruled.Gives (input inputs 2) (input inputs 3) setting done
 GivesOver (Fold cat load out) inputs setting done = fold.Gives (input inputs 1) setting done

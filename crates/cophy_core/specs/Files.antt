@@ -6,7 +6,7 @@ use Rattle.adv_shelf.specs.Shelf.{Files, HasFile, IsFile}
 use Rattle.report.specs.declared.done.Role.{Role}
 use Rattle.report.specs.declared.done.Role.TheVariants.{Catalogue, Workload, Third, Fourth}
 use Rattle.cophy_core.specs.declared.files.FileUse.{FileUse}
-use Rattle.command_line.specs.CommandLine.{PlainCommand, Candidates, Cost, WhatIf, Explain, Advise, Ruled, Sweep, Check, CheckRuled, Fold, Bench}
+use Rattle.command_line.specs.CommandLine.{PlainCommand, Candidates, Cost, WhatIf, Explain, Advise, Ruled, Sweep, Retune, Check, CheckRuled, Fold, Bench}
 
 -- a file that a command reads: in which role, by what name, and of how many bytes at most
 pub record InputFile : Type 0 where
@@ -37,6 +37,7 @@ files_of (Explain cat load conf number) = setting_files cat load ++ input_file T
 files_of (Advise cat load budget nodes cert) = setting_files cat load
 files_of (Ruled cat load budget rules nodes cert) = ruled_files cat load rules
 files_of (Sweep cat load first step count nodes cert) = setting_files cat load
+files_of (Retune cat load edits budget nodes) = setting_files cat load ++ input_file Third edits MOST_FILE_BYTES ∷ []
 files_of (Check cat load cert) = setting_files cat load ++ input_file Third cert MOST_CERTIFICATE_BYTES ∷ []
 files_of (CheckRuled cat load rules cert) = ruled_files cat load rules ++ input_file Fourth cert MOST_CERTIFICATE_BYTES ∷ []
 files_of (Fold cat load out) = setting_files cat load

@@ -21,7 +21,7 @@ use Rattle.report.specs.declared.done.Done.TheVariants.{Advised, Checked}
 use Rattle.report.specs.declared.done.Refusal.{Refusal}
 use Rattle.report.specs.declared.done.Role.TheVariants.{Catalogue, Workload}
 use Rattle.report.specs.Texts.{done_text}
-use Rattle.tuning.specs.Refusals.{AreFew}
+use Rattle.programme_parts.specs.Combinations.{AreFew}
 use Rattle.cophy_core.specs.commands.Advise.{IsAdvice, IsCertificateOf}
 use Rattle.cophy_core.specs.commands.Check as check
 use Rattle.cophy_core.specs.Answers.{Answers}

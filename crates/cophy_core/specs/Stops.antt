@@ -3,7 +3,7 @@ use Rattle.std.specs.Prelude.{◌≡◌, ◌≢◌}
 use Rattle.adv_base.specs.Settings.{TheSetting}
 use Rattle.tuning.specs.declared.fault.TuneFault.{TuneFault}
 use Rattle.tuning.specs.declared.fault.TuneFault.TheVariants as tune
-use Rattle.tuning.specs.Refusals.{IsFirstBeyond}
+use Rattle.programme_parts.specs.Combinations.{IsFirstBeyond}
 use Rattle.report.specs.declared.done.Done.{Done}
 use Rattle.report.specs.declared.done.Done.TheVariants as answers
 use Rattle.report.specs.declared.done.Refusal.{Refusal}
@@ -30,7 +30,7 @@ StopsAt P (Refused why) = P why
 
 -- why a setting has no programme: the first statement with more combinations of interesting orders than a cache of plans takes
 abbrev pub LacksProgramme : TheSetting → Refusal → Type 0
-LacksProgramme setting (TooManyCombinations number count) = IsFirstBeyond setting number count
+LacksProgramme setting (TooManyCombinations number count) = IsFirstBeyond setting.cat setting.statements number count
 LacksProgramme setting why = ⊥
 
 -- the stop where a setting has no programme

@@ -7,5 +7,6 @@ pub mod Cost
 pub mod Explain
 pub mod Fold
 pub mod WhatIf
+pub mod Retune
 pub mod Ruled
 pub mod Sweep

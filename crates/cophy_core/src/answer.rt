@@ -23,6 +23,7 @@ use crate::commands::cost::cost;
 use crate::commands::explain::explain;
 use crate::commands::fold::fold;
 use crate::commands::list_candidates::list_candidates;
+use crate::commands::retune_workload::retune_workload;
 use crate::commands::ruled::ruled;
 use crate::commands::sweep::sweep;
 use crate::commands::what_if::what_if;
@@ -104,6 +105,12 @@ fn work<S: Shelf>(
             cert,
             ..
         } => sweep(alloc, setting, first, step, count, nodes, cert),
+        Command::Retune { budget, nodes, .. } => {
+            let load = bytes_at(&whole, 1);
+            let edits = bytes_at(&whole, 2);
+            let done = retune_workload(alloc, setting, load, edits, budget, nodes)?;
+            Ok(Worked::alone(alloc, done))
+        }
         Command::Check { cert, .. } => match scanner {
             Some(scanner) => {
                 let file = certificate_file(Role::Third, cert);

@@ -199,6 +199,12 @@ fn whole_of<S: Shelf>(
             load,
             rules: third,
             ..
+        }
+        | Command::Retune {
+            cat,
+            load,
+            edits: third,
+            ..
         } => {
             let files = [
                 plain_file(Role::Catalogue, cat),

@@ -3,8 +3,8 @@
 //! `run` reads the words, the files that they name and the setting in them, does what the command asks for, and writes the
 //! text of the answer. What is read, put and written goes through a shelf and a sink of `adv_shelf`. Costs are in
 //! thousandths of a sequential page read, and a space budget is in pages. What a least plan costs is found by `planner`,
-//! over the offers of `access_paths`, or told by the programme of `tuning`; advice is found by `branch_bound` over that, and the
-//! points of a sweep by `budget_sweep`.
+//! over the offers of `access_paths`, or told by the programme of `tuning`; advice is found by `branch_bound` over that, the
+//! points of a sweep by `budget_sweep`, and a workload is changed step by step by `retune`.
 //!
 //! An `Outcome` is the exit status with `report`'s `Done`, the answer. `read_words` tells the `Command` of the words alone,
 //! and `read_conf` the configuration of a file's bytes, or the first fault of either.

@@ -1,8 +1,10 @@
 //! The call that the program makes.
-ghost use Rattle.std.specs.Prelude.{◌≡◌, ◌≢◌, ◌≤◌, ◌⊎◌, ℕ, List, Some, Ok, Err};
+ghost use Rattle.std.specs.Prelude.{◌≡◌, ◌≢◌, ◌≤◌, ◌⊎◌, ℕ, not, List, map, Some, Ok, Err};
+ghost use Rattle.std.specs.List.{list_any};
+ghost use Rattle.report.specs.Sweeps as gaps;
 ghost use Rattle.adv_shelf.specs.Shelf.{Files};
 ghost use Rattle.command_line.specs.declared.fault.WordFault.{WordFault};
-ghost use Rattle.cophy_core.specs.Causes.{gap_status, sweep_status as status_of_points, status_of, IsAnswered, IsOrMemory, IsSteady, UsageIsTrue, ReadFaultIsTrue, WriteFaultIsTrue, RefusalIsTrue, NotProvedIsTrue, GapIsTrue, MemoryWritesNothing, IsSound, IsWritten, IsBounded};
+ghost use Rattle.cophy_core.specs.Causes.{gap_status, sweep_status as status_of_points, search_status, status_of, IsAnswered, IsOrMemory, IsSteady, UsageIsTrue, ReadFaultIsTrue, WriteFaultIsTrue, RefusalIsTrue, NotProvedIsTrue, GapIsTrue, MemoryWritesNothing, IsSound, IsWritten, IsBounded};
 ghost use Rattle.cophy_core.specs.Answers.{Answers};
 ghost use Rattle.command_line.specs.CommandLine.{texts, PlainCommand, command_of};
 ghost use Rattle.cophy_core.specs.Endings.{outside};
@@ -18,7 +20,7 @@ use adv_shelf::{Shelf, Sink};
 use bip_model::Point;
 use certificate::{texts_are_one, written_certificates_fit};
 use gap_checker::{best_answers_are_proved, faults_exclude_proofs};
-use report::{Advice, Done, has_no_gap, have_no_gap};
+use report::{Advice, Done, Tuned, has_no_gap, have_no_gap};
 use std::alloc::Global;
 
 /// The answer to the words of a command line, and the exit status that goes with it.
@@ -47,6 +49,20 @@ fn sweep_status(points: &[Point]) -> u8
     if have_no_gap(points) { 0 } else { 1 }
 }
 
+/// Whether some advice has a gap.
+fn has_some_gap(all: &[Tuned]) -> bool
+    ensures { result ≡ list_any (λ tuned. not (gaps.has_no_gap tuned.advice.answer.cost tuned.advice.answer.bound)) all.now }
+{
+    all.iter().any(|tuned| !has_no_gap(tuned.advice.answer.cost, tuned.advice.answer.bound))
+}
+
+/// The exit status of the advice of a script: 1 where a gap is left in some of it.
+fn tuned_status(all: &[Tuned]) -> u8
+    ensures { result ≡ search_status (map (λ tuned. tuned.advice) all.now) }
+{
+    if has_some_gap(all) { 1 } else { 0 }
+}
+
 /// The exit status of an answer.
 fn status(done: &Done) -> u8
     ensures { result ≡ status_of done.now }
@@ -65,6 +81,7 @@ fn status(done: &Done) -> u8
         Done::NotProved(_) => 6,
         Done::Ruled(ruled) => advice_status(&ruled.advice),
         Done::Swept(points) => sweep_status(points.as_slice()),
+        Done::Retuned(all) => tuned_status(all.as_slice()),
         Done::Folded(_) => 0,
         Done::Benched(bench) => advice_status(&bench.advice),
     }

@@ -2,7 +2,7 @@
 ghost use Rattle.std.specs.Prelude.{IfErr, IfOk};
 ghost use Rattle.adv_base.specs.Settings.{the_setting};
 ghost use Rattle.bip_model.specs.StandsFor.{StandsFor};
-ghost use Rattle.tuning.specs.Refusals.{AreFew};
+ghost use Rattle.programme_parts.specs.Combinations.{AreFew};
 ghost use Rattle.cophy_core.specs.Stops.{StopsAt, LacksProgramme, IsTuneStop};
 
 use crate::stop::Stop;

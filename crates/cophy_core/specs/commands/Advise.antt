@@ -13,7 +13,7 @@ use Rattle.bip_model.specs.StandsFor.{StandsFor}
 use Rattle.candidates.specs.Candidates as candidates
 use Rattle.certificate.specs.Answers.{answer_cert}
 use Rattle.certificate.specs.Certificates.{IsCertificate}
-use Rattle.tuning.specs.Refusals.{AreFew}
+use Rattle.programme_parts.specs.Combinations.{AreFew}
 use Rattle.report.specs.declared.done.Advice.{Advice}
 use Rattle.report.specs.declared.done.Done.{Done}
 use Rattle.report.specs.declared.done.Done.TheVariants.{Advised}

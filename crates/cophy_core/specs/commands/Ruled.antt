@@ -10,7 +10,7 @@ use Rattle.dba_rules.specs.declared.fault.RuleFault.{RuleFault}
 use Rattle.dba_rules.specs.declared.fault.RuleFault.TheVariants as faults
 use Rattle.dba_rules.specs.Rules.{root_of}
 use Rattle.dba_rules.specs.Settled.{IsApart, IsFault}
-use Rattle.tuning.specs.Refusals.{IsFirstBeyond}
+use Rattle.programme_parts.specs.Combinations.{IsFirstBeyond}
 use Rattle.report.specs.declared.done.Done.{Done}
 use Rattle.report.specs.declared.done.Done.TheVariants.{Ruled as RuledDone}
 use Rattle.report.specs.declared.done.Refusal.{Refusal}
@@ -63,7 +63,7 @@ pub record HasRuleFault (setting : TheSetting) (rules : List ℕ) (budget : ℕ)
 pub record IsBeyond (setting : TheSetting) (rules : List ℕ) (budget number count : ℕ) : Type 0 where
   pub root : Fix
   pub root_is : IsRootOf setting rules budget root
-  pub first : IsFirstBeyond setting number count
+  pub first : IsFirstBeyond setting.cat setting.statements number count
 
 abbrev pub Refuses : ℕ → List ℕ → TheSetting → Refusal → Type 0
 Refuses budget rules setting (Rules fault) = HasRuleFault setting rules budget fault

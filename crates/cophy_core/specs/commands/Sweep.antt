@@ -6,7 +6,7 @@ use Rattle.bip_model.specs.declared.point.Point.{Point}
 use Rattle.bip_model.specs.Laws.{BoundsAll}
 use Rattle.budget_sweep.specs.Curves.{IsCurve}
 use Rattle.budget_sweep.specs.Laws.{IsBoundedAt}
-use Rattle.tuning.specs.Refusals.{AreFew}
+use Rattle.programme_parts.specs.Combinations.{AreFew}
 use Rattle.report.specs.declared.done.Done.{Done}
 use Rattle.report.specs.declared.done.Done.TheVariants.{Swept}
 use Rattle.cophy_core.specs.Endings.{Put}

@@ -9,7 +9,7 @@ use Rattle.report.specs.declared.done.Done.TheVariants.{Priced}
 use Rattle.report.specs.declared.done.Prices.{Prices}
 use Rattle.report.specs.declared.done.Refusal.{Refusal}
 use Rattle.report.specs.declared.done.Refusal.TheVariants.{BadConf, TooManyCombinations}
-use Rattle.tuning.specs.Refusals.{AreFew, IsFirstBeyond}
+use Rattle.programme_parts.specs.Combinations.{AreFew, IsFirstBeyond}
 use Rattle.cophy_core.specs.Confs.{IsConf, IsConfFault}
 
 -- no line of the configuration breaks a rule, and that statement is the first with more combinations of interesting orders
@@ -17,7 +17,7 @@ use Rattle.cophy_core.specs.Confs.{IsConf, IsConfFault}
 pub record HasStatementOfTooMany (setting : TheSetting) (conf : List ℕ) (number count : ℕ) : Type 0 where
   pub config : Config
   pub config_is : IsConf (length setting.shapes) conf config
-  pub first : IsFirstBeyond setting number count
+  pub first : IsFirstBeyond setting.cat setting.statements number count
 
 -- a line of the configuration; a statement with too many combinations
 abbrev pub Refuses : List ℕ → TheSetting → Refusal → Type 0

@@ -8,7 +8,7 @@ ghost use Rattle.adv_base.specs.Settings.{TheSetting, the_setting};
 ghost use Rattle.report.specs.Texts.{FitsSetting, IsBoundedBy};
 ghost use Rattle.certificate.specs.Answers as answers;
 ghost use Rattle.candidates.specs.Candidates.{AreCandidates};
-ghost use Rattle.tuning.specs.Refusals.{AreFew};
+ghost use Rattle.programme_parts.specs.Combinations.{AreFew};
 ghost use Rattle.cophy_core.specs.Causes.{IsBounded};
 ghost use Rattle.cophy_core.specs.Endings.{plain_puts};
 ghost use Rattle.cophy_core.specs.Stops.{StopsAt, LacksProgramme};
@@ -113,7 +113,7 @@ pub(crate) fn advice_below(
 }
 
 /// The same of all sets of candidates that fit.
-fn best_advice(
+pub(crate) fn best_advice(
     alloc: Global,
     setting: &Setting<'_>,
     programme: &Programme,

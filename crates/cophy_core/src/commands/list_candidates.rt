@@ -25,7 +25,7 @@ fn copied(alloc: Global, shape: &IndexShape) -> Result<IndexShape, NoMemory>
 }
 
 /// A copy of a list of indexes.
-fn copies(alloc: Global, shapes: &[IndexShape]) -> Result<List<IndexShape>, NoMemory>
+pub(crate) fn copies(alloc: Global, shapes: &[IndexShape]) -> Result<List<IndexShape>, NoMemory>
     ensures { IfOk result (λ list. list ≡ shapes.now) }
 {
     let mut items = Vec::new(alloc);
