@@ -1,7 +1,7 @@
 //! Catalogues that the tests read.
 use crate::scene::spread;
+use adv_base::NoMemory;
 use std::alloc::Global;
-use std::process::Abort;
 
 /// Catalogues by name. A line `t NAME` stands for a table of 1000 rows and 20 pages, `c NAME` for a column of whole
 /// numbers of width 4 with 1000 values, `d NAME N` for the same with N values, `h NAME ENDS` for one with 1000 values and a
@@ -177,41 +177,42 @@ fn template_of(kind: &str) -> Option<&'static str> {
 }
 
 /// Adds a template's text.
-fn fill(rt: &impl Abort, text: &mut String, template: &str, name: &str, more: &str) {
+fn fill(text: &mut String, template: &str, name: &str, more: &str) -> Result<(), NoMemory> {
     for letter in template.chars() {
         match letter {
-            '@' => text.push_str(name).expect(rt, "memory"),
-            '#' => text.push_str(more).expect(rt, "memory"),
-            _ => text.push(letter).expect(rt, "memory"),
+            '@' => text.push_str(name)?,
+            '#' => text.push_str(more)?,
+            _ => text.push(letter)?,
         }
     }
+    Ok(())
 }
 
 /// Adds what a line of the list stands for.
-fn push_line(rt: &impl Abort, text: &mut String, line: &str) {
+fn push_line(text: &mut String, line: &str) -> Result<(), NoMemory> {
     let (kind, rest) = line.split_once(' ').unwrap_or(("", ""));
     let (name, more) = rest.split_once(' ').unwrap_or((rest, ""));
     match template_of(kind) {
-        Some(template) => fill(rt, text, template, name, more),
-        None => fill(rt, text, "#\n", "", line),
+        Some(template) => fill(text, template, name, more),
+        None => fill(text, "#\n", "", line),
     }
 }
 
 /// The text of the catalogue of a name, of the version that stands behind it, or of version 1; behind `=`, the name is the
 /// text, in which `~` stands for a line feed.
-pub(crate) fn catalogue(rt: &impl Abort, alloc: Global, name: &str) -> Vec<u8> {
+pub fn catalogue(alloc: Global, name: &str) -> Result<Vec<u8>, NoMemory> {
     if let Some(text) = name.strip_prefix("=") {
-        return spread(rt, alloc, text);
+        return spread(alloc, text);
     }
     let (name, version) = name.split_once(' ').unwrap_or((name, "1"));
-    let mut text = format!(in alloc; "version = {version}\n").expect(rt, "memory");
+    let mut text = format!(in alloc; "version = {version}\n")?;
     let mut inside = false;
     for line in CATALOGUES.lines() {
         if let Some(next) = line.strip_prefix("= ") {
             inside = next == name;
         } else if inside {
-            push_line(rt, &mut text, line);
+            push_line(&mut text, line)?;
         }
     }
-    text.into_bytes()
+    Ok(text.into_bytes())
 }

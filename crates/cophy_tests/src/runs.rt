@@ -3,8 +3,7 @@
 //! A line of a table is the exit status, the words, the name of the catalogue in CAT or, behind `=`, its text, the
 //! workload in LOAD, the configuration or the rules in CONF, and the output. `~` stands for a line feed.
 use crate::files::Files;
-use crate::scene::{answer, assert_told, spread};
-use adv_shelf::MemShelf;
+use crate::scene::{answer, spread};
 use std::alloc::Global;
 use std::process::Abort;
 
@@ -120,19 +119,6 @@ const ADVICE: &str =
 1-3|0|advise CAT LOAD 10|T|SELECT c FROM t ORDER BY c; UPDATE t SET c = 1 -- its upkeep is 16020000||budget 10~candidates 1 left over 0~size 0~cost 110000~bound 110000~gap 0~nodes # of 20000~finished~
 1-1|0|advise CAT LOAD 10|EMPTY|||budget 10~candidates 0 left over 0~size 0~cost 0~bound 0~gap 0~nodes # of 20000~finished~"#;
 
-/// Advice on made workloads within no page, so that nothing can be picked. A second program, from what is said of the
-/// generator and of prices, made the same workloads, counted their slots and computed what they cost without an index; the
-/// candidates were counted by hand.
-const MADE: &str =
-    r#"1-1|0|bench 1 2 5 0|T|||tables 2~statements 5~slots 6~budget 0~candidates 11 left over 0~size 0~cost 4944003918~bound 4944003918~gap 0~nodes # of 20000~finished~
-1-1|0|bench 7 20 500 0|T|||tables 20~statements 500~slots 606~budget 0~candidates 180 left over 0~size 0~cost 568912639352~bound 568912639352~gap 0~nodes # of 20000~finished~"#;
-
-/// Command lines that advise on made workloads, and how what they print begins.
-const MADE_TWICE: &str =
-    r#"bench 7 4 20 2000|tables 4~statements 20~slots 25~budget 2000~candidates 23 left over 0~
-bench 18446744073709551615 3 8 1000000000000|tables 3~statements 8~slots 11~budget 1000000000000~
-bench 7 20 500 0|tables 20~statements 500~slots 606~budget 0~candidates 180 left over 0~size 0~cost 568912639352~"#;
-
 /// Certificates, and what each proves.
 const CHECKED: &str =
     r#"0|check CAT LOAD CONF|KNAP|-- weight 10~SELECT c FROM t ORDER BY c;~-- weight 11~SELECT d, e FROM v ORDER BY d, e;~|cophy certificate 1~budget 4~config 2~cost 954000~bound 954000~sets 0~tree 3~B 1~L 0~L 0~end~|proved cost 954000 bound 954000 budget 4~
@@ -217,11 +203,15 @@ fn case_of<'a>(rt: &impl Abort, line: &'a str) -> Case<'a> {
 
 /// Runs the case of a line and compares the output and the status.
 fn compare_case(rt: &impl Abort, alloc: Global, case: &Case<'_>, line: &str) {
-    let mut shelf = case.files.shelf(rt, alloc);
-    let (status, out) = answer(rt, alloc, case.words, &mut shelf, 1000);
-    let output = spread(rt, alloc, case.output);
+    let mut shelf = case.files.shelf(alloc).expect(rt, "memory");
+    let (status, out) = answer(alloc, case.words, &mut shelf, 1000).expect(rt, "memory");
+    let output = spread(alloc, case.output).expect(rt, "memory");
     let wanted = case.status.parse::<u8>().expect(rt, "a status");
-    assert_told(rt, (status, out.bytes()), (wanted, output.as_slice()), line);
+    assert_eq!(rt;
+        (status, out.bytes()),
+        (wanted, output.as_slice()),
+        "{line}"
+    );
 }
 
 /// Runs a line.
@@ -257,7 +247,7 @@ fn has_nodes(
     let (front, back) = want.split_once('#').expect(rt, "a number of nodes");
     for nodes in least..most.saturating_add(1) {
         let text = format!(in alloc; "{front}{nodes}{back}").expect(rt, "memory");
-        let text = spread(rt, alloc, text.as_str());
+        let text = spread(alloc, text.as_str()).expect(rt, "memory");
         if nodes % 2 == 1 && text.as_slice() == out {
             return true;
         }
@@ -273,12 +263,12 @@ fn range(rt: &impl Abort, text: &str) -> (u64, u64) {
 }
 
 /// Advises on a line.
-fn compare_advice(rt: &impl Abort, alloc: Global, line: &str) {
+pub(crate) fn compare_advice(rt: &impl Abort, alloc: Global, line: &str) {
     let (nodes, rest) = line.split_once('|').expect(rt, "a range");
     let nodes = range(rt, nodes);
     let case = case_of(rt, rest);
-    let mut shelf = case.files.shelf(rt, alloc);
-    let (status, out) = answer(rt, alloc, case.words, &mut shelf, 1000);
+    let mut shelf = case.files.shelf(alloc).expect(rt, "memory");
+    let (status, out) = answer(alloc, case.words, &mut shelf, 1000).expect(rt, "memory");
     let wanted = case.status.parse::<u8>().expect(rt, "a status");
     let holds = status == wanted && has_nodes(rt, alloc, out.bytes(), case.output, nodes);
     assert!(rt; holds, "{line}");
@@ -325,32 +315,6 @@ fn advice_is_best(rt: HostRuntime) {
     }
 }
 
-#[test]
-fn advice_on_made_workloads_is_best(rt: HostRuntime) {
-    for line in MADE.lines() {
-        compare_advice(&rt, rt.alloc(), line);
-    }
-}
-
-/// Runs a line twice over no file, and compares the two outputs and how they begin.
-fn compare_twice(rt: &impl Abort, alloc: Global, line: &str) {
-    let (words, front) = line.split_once('|').expect(rt, "words");
-    let front = spread(rt, alloc, front);
-    let mut shelf = MemShelf::new(alloc).expect(rt, "memory");
-    let (status, first) = answer(rt, alloc, words, &mut shelf, 5000);
-    let (again, second) = answer(rt, alloc, words, &mut shelf, 5000);
-    assert_told(rt, (again, second.bytes()), (status, first.bytes()), words);
-    let holds = status <= 1 && first.bytes().starts_with(front.as_slice());
-    assert!(rt; holds, "{words}");
-}
-
-#[test]
-fn a_seed_gives_the_same_advice_each_time(rt: HostRuntime) {
-    for line in MADE_TWICE.lines() {
-        compare_twice(&rt, rt.alloc(), line);
-    }
-}
-
 /// The number on the line of an output that begins with a word.
 fn told(rt: &impl Abort, out: &[u8], word: &str) -> u64 {
     for line in out.split(|byte| *byte == b'\n') {
@@ -372,10 +336,10 @@ fn one_node_is_not_enough(rt: HostRuntime) {
         load: "-- weight 10~SELECT c FROM t ORDER BY c;~-- weight 11~SELECT d, e FROM v ORDER BY d, e;~",
         conf: "",
     };
-    let mut shelf = files.shelf(&rt, alloc);
+    let mut shelf = files.shelf(alloc).expect(&rt, "memory");
     let words = "advise CAT LOAD 4 --nodes 1";
-    let (status, out) = answer(&rt, alloc, words, &mut shelf, 1000);
-    let end = spread(&rt, alloc, "nodes 1 of 1~stopped~");
+    let (status, out) = answer(alloc, words, &mut shelf, 1000).expect(&rt, "memory");
+    let end = spread(alloc, "nodes 1 of 1~stopped~").expect(&rt, "memory");
     let holds = status == 1 && out.bytes().ends_with(end.as_slice());
     assert!(rt; holds);
     let cost = told(&rt, out.bytes(), "cost ");

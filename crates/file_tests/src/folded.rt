@@ -1,7 +1,7 @@
 //! Folded workloads: what is put, what is told, and that both workloads are advised on alike.
-use crate::files::Files;
-use crate::scene::{answer, assert_file, assert_told, spread};
+use crate::asserts::{assert_file, assert_told};
 use adv_shelf::{MemShelf, Shelf};
+use cophy_tests::{Files, answer, spread};
 use std::alloc::Global;
 use std::process::Abort;
 
@@ -19,20 +19,20 @@ fn fold(rt: &impl Abort, alloc: Global, cat: &str, load: &str, want: (&str, &str
         load,
         conf: "",
     };
-    let mut shelf = files.shelf(rt, alloc);
-    let (status, out) = answer(rt, alloc, "fold CAT LOAD OUT", &mut shelf, 1000);
-    let told = spread(rt, alloc, want.0);
+    let mut shelf = files.shelf(alloc).expect(rt, "memory");
+    let (status, out) = answer(alloc, "fold CAT LOAD OUT", &mut shelf, 1000).expect(rt, "memory");
+    let told = spread(alloc, want.0).expect(rt, "memory");
     assert_told(rt, (status, out.bytes()), (0, told.as_slice()), load);
-    let folded = spread(rt, alloc, want.1);
+    let folded = spread(alloc, want.1).expect(rt, "memory");
     assert_file(rt, &shelf, "OUT", Some(folded.as_slice()));
-    files.assert_kept(rt, alloc, &shelf);
+    assert_eq!(rt; files.changed(alloc, &shelf).expect(rt, "memory"), None);
     shelf
 }
 
 /// What a command answers over LOAD it answers over OUT.
 fn assert_alike(rt: &impl Abort, alloc: Global, shelf: &mut MemShelf, load: &str, out: &str) {
-    let (status, text) = answer(rt, alloc, load, shelf, 1000);
-    let (other, told) = answer(rt, alloc, out, shelf, 1000);
+    let (status, text) = answer(alloc, load, shelf, 1000).expect(rt, "memory");
+    let (other, told) = answer(alloc, out, shelf, 1000).expect(rt, "memory");
     assert_told(rt, (other, told.bytes()), (status, text.bytes()), load);
 }
 
@@ -81,10 +81,10 @@ fn assert_left(
     left: &[u8],
 ) {
     let (call, room) = limits;
-    let mut shelf = ONE.shelf(rt, alloc);
+    let mut shelf = ONE.shelf(alloc).expect(rt, "memory");
     shelf.put("OUT", b"old").expect(rt, "memory");
     shelf.fail_at(call).expect(rt, "memory");
-    let (status, out) = answer(rt, alloc, "fold CAT LOAD OUT", &mut shelf, room);
+    let (status, out) = answer(alloc, "fold CAT LOAD OUT", &mut shelf, room).expect(rt, "memory");
     let about = format!(in alloc; "call {call}, room {room}").expect(rt, "memory");
     assert_told(
         rt,
@@ -93,7 +93,7 @@ fn assert_left(
         about.as_str(),
     );
     assert_file(rt, &shelf, "OUT", Some(left));
-    ONE.assert_kept(rt, alloc, &shelf);
+    assert_eq!(rt; ONE.changed(alloc, &shelf).expect(rt, "memory"), None);
 }
 
 /// A read or a put that fails leaves the file old; where the output is full, the file is whole.

@@ -1,7 +1,7 @@
 //! Certificates under an administrator's rules.
-use crate::files::Files;
-use crate::scene::{answer, assert_told, spread};
+use crate::asserts::assert_told;
 use adv_shelf::{MemShelf, Shelf};
+use cophy_tests::{Files, answer, spread};
 use std::alloc::Global;
 use std::process::Abort;
 
@@ -43,8 +43,8 @@ fn knap(rt: &impl Abort, alloc: Global, rules: &str, proof: &str) -> MemShelf {
         load: LOAD,
         conf: rules,
     };
-    let mut shelf = files.shelf(rt, alloc);
-    let proof = spread(rt, alloc, proof);
+    let mut shelf = files.shelf(alloc).expect(rt, "memory");
+    let proof = spread(alloc, proof).expect(rt, "memory");
     shelf.put("PROOF", proof.as_slice()).expect(rt, "memory");
     shelf
 }
@@ -55,15 +55,11 @@ fn compare(rt: &impl Abort, alloc: Global, line: &str) {
     let (rules, rest) = rest.split_once('|').expect(rt, "rules");
     let (proof, output) = rest.split_once('|').expect(rt, "a certificate");
     let mut shelf = knap(rt, alloc, rules, proof);
-    let (found, out) = answer(
-        rt,
-        alloc,
-        "check-ruled CAT LOAD CONF PROOF",
-        &mut shelf,
-        1000,
+    let (found, out) = answer(alloc, "check-ruled CAT LOAD CONF PROOF", &mut shelf, 1000).expect(
+        rt, "memory",
     );
     let wanted = status.parse::<u8>().expect(rt, "a status");
-    let output = spread(rt, alloc, output);
+    let output = spread(alloc, output).expect(rt, "memory");
     assert_told(rt, (found, out.bytes()), (wanted, output.as_slice()), line);
 }
 
@@ -79,16 +75,12 @@ fn advise(rt: &impl Abort, alloc: Global, line: &str) {
     let (rules, output) = line.split_once('|').expect(rt, "rules");
     let mut shelf = knap(rt, alloc, rules, "");
     let words = "ruled CAT LOAD 4 CONF --cert PROOF";
-    let (status, _) = answer(rt, alloc, words, &mut shelf, 1000);
+    let (status, _) = answer(alloc, words, &mut shelf, 1000).expect(rt, "memory");
     assert_eq!(rt; status, 0, "{line}");
-    let (status, out) = answer(
-        rt,
-        alloc,
-        "check-ruled CAT LOAD CONF PROOF",
-        &mut shelf,
-        1000,
+    let (status, out) = answer(alloc, "check-ruled CAT LOAD CONF PROOF", &mut shelf, 1000).expect(
+        rt, "memory",
     );
-    let output = spread(rt, alloc, output);
+    let output = spread(alloc, output).expect(rt, "memory");
     assert_told(rt, (status, out.bytes()), (0, output.as_slice()), line);
 }
 
@@ -109,8 +101,8 @@ fn missing_files_are_named(rt: HostRuntime) {
         ("check-ruled CAT LOAD gone none", "read fault: gone~"),
     ] {
         let mut shelf = knap(&rt, alloc, "", "");
-        let (status, out) = answer(&rt, alloc, words, &mut shelf, 1000);
-        let output = spread(&rt, alloc, output);
+        let (status, out) = answer(alloc, words, &mut shelf, 1000).expect(&rt, "memory");
+        let output = spread(alloc, output).expect(&rt, "memory");
         assert_told(&rt, (status, out.bytes()), (3, output.as_slice()), words);
     }
 }

@@ -1,6 +1,6 @@
 //! Files at their limits: each ends with its answer.
-use crate::catalogues::catalogue;
-use crate::scene::{answer, assert_told, shelf, spread};
+use crate::asserts::assert_told;
+use cophy_tests::{answer, catalogue, shelf, spread};
 use std::alloc::Global;
 use std::process::Abort;
 
@@ -27,9 +27,9 @@ fn repeated(rt: &impl Abort, alloc: Global, parts: (&[u8], &str, &str), len: usi
 /// Prices a workload over a catalogue, and compares the status and the output, in which `~` stands for a line feed.
 fn assert_cost(rt: &impl Abort, alloc: Global, cat: &[u8], load: &[u8], want: (u8, &str)) {
     let (wanted, text) = want;
-    let mut shelf = shelf(rt, alloc, cat, load, b"");
-    let (status, out) = answer(rt, alloc, "cost CAT LOAD", &mut shelf, 50000);
-    let output = spread(rt, alloc, text);
+    let mut shelf = shelf(alloc, cat, load, b"").expect(rt, "memory");
+    let (status, out) = answer(alloc, "cost CAT LOAD", &mut shelf, 50000).expect(rt, "memory");
+    let output = spread(alloc, text).expect(rt, "memory");
     assert_told(rt, (status, out.bytes()), (wanted, output.as_slice()), text);
 }
 
@@ -53,7 +53,7 @@ fn assert_long(rt: &impl Abort, alloc: Global, case: &str) {
     let (end, rest) = rest.split_once('|').expect(rt, "an end");
     let (status, output) = rest.split_once('|').expect(rt, "a status");
     let status = status.parse::<u8>().expect(rt, "a number");
-    let cat = catalogue(rt, alloc, "T");
+    let cat = catalogue(alloc, "T").expect(rt, "memory");
     let load = repeated(rt, alloc, (front.as_bytes(), piece, end), LIMIT);
     assert_cost(rt, alloc, cat.as_slice(), load.as_slice(), (status, output));
 }
@@ -68,7 +68,7 @@ fn long_workloads_end_with_their_answer(rt: HostRuntime) {
 #[test]
 fn files_have_a_limit(rt: HostRuntime) {
     let alloc = rt.alloc();
-    let cat = catalogue(&rt, alloc, "T");
+    let cat = catalogue(alloc, "T").expect(&rt, "memory");
     let cat = cat.as_slice();
     let within = repeated(&rt, alloc, (cat, " ", "\n"), LIMIT);
     let beyond = repeated(&rt, alloc, (cat, " ", "\n"), LIMIT + 1);
@@ -100,16 +100,12 @@ fn assert_check(rt: &impl Abort, alloc: Global, len: usize, want: (u8, &str)) {
     let front = front.get(..over).expect(rt, "a front");
     let cert = repeated(rt, alloc, (front, piece, ""), len);
     assert_eq!(rt; cert.len(), len);
-    let cat = catalogue(rt, alloc, "T");
-    let mut shelf = shelf(rt, alloc, cat.as_slice(), b"", cert.as_slice());
-    let (status, out) = answer(rt, alloc, "check CAT LOAD CONF", &mut shelf, 1000);
-    let output = spread(rt, alloc, want.1);
-    assert_told(
-        rt,
-        (status, out.bytes()),
-        (want.0, output.as_slice()),
-        want.1,
-    );
+    let cat = catalogue(alloc, "T").expect(rt, "memory");
+    let mut shelf = shelf(alloc, cat.as_slice(), b"", cert.as_slice()).expect(rt, "memory");
+    let (status, out) = answer(alloc, "check CAT LOAD CONF", &mut shelf, 1000).expect(rt, "memory");
+    let output = spread(alloc, want.1).expect(rt, "memory");
+    let told = (status, out.bytes());
+    assert_told(rt, told, (want.0, output.as_slice()), want.1);
 }
 
 #[test]

@@ -1,7 +1,7 @@
 //! Certificates that `advise` puts, and what is left of the files where that or the output fails.
-use crate::files::Files;
-use crate::scene::{answer, assert_file, assert_told, spread};
+use crate::asserts::{assert_file, assert_told};
 use adv_shelf::{MemShelf, MemSink, Shelf};
+use cophy_tests::{Files, answer, spread};
 use std::alloc::Global;
 use std::process::Abort;
 
@@ -47,8 +47,8 @@ fn certified_of<'a>(rt: &impl Abort, line: &'a str) -> Certified<'a> {
 
 /// The status and the output of advice without a certificate.
 fn plain_advice(rt: &impl Abort, alloc: Global, case: &Certified<'_>) -> (u8, MemSink) {
-    let mut shelf = case.files.shelf(rt, alloc);
-    let told = answer(rt, alloc, case.words, &mut shelf, 1000);
+    let mut shelf = case.files.shelf(alloc).expect(rt, "memory");
+    let told = answer(alloc, case.words, &mut shelf, 1000).expect(rt, "memory");
     assert_file(rt, &shelf, "PROOF", None);
     told
 }
@@ -62,13 +62,13 @@ fn certified_advice(
     name: &str,
 ) -> (u8, MemSink) {
     let certified = format!(in alloc; "{words} --cert {name}").expect(rt, "memory");
-    answer(rt, alloc, certified.as_str(), shelf, 1000)
+    answer(alloc, certified.as_str(), shelf, 1000).expect(rt, "memory")
 }
 
 /// `check` accepts the certificate on the shelf, and its answer begins with the text.
 fn assert_accepted(rt: &impl Abort, alloc: Global, shelf: &mut MemShelf, says: &str) {
-    let front = spread(rt, alloc, says);
-    let (status, out) = answer(rt, alloc, "check CAT LOAD PROOF", shelf, 1000);
+    let front = spread(alloc, says).expect(rt, "memory");
+    let (status, out) = answer(alloc, "check CAT LOAD PROOF", shelf, 1000).expect(rt, "memory");
     let holds = status == 0 && out.bytes().starts_with(front.as_slice());
     assert!(rt; holds, "{says}");
 }
@@ -78,10 +78,13 @@ fn assert_accepted(rt: &impl Abort, alloc: Global, shelf: &mut MemShelf, says: &
 fn certify(rt: &impl Abort, alloc: Global, line: &str) {
     let case = certified_of(rt, line);
     let (wanted, text) = plain_advice(rt, alloc, &case);
-    let mut shelf = case.files.shelf(rt, alloc);
+    let mut shelf = case.files.shelf(alloc).expect(rt, "memory");
     let (status, out) = certified_advice(rt, alloc, case.words, &mut shelf, "PROOF");
     assert_told(rt, (status, out.bytes()), (wanted, text.bytes()), line);
-    case.files.assert_kept(rt, alloc, &shelf);
+    assert_eq!(rt;
+        case.files.changed(alloc, &shelf).expect(rt, "memory"),
+        None
+    );
     assert_accepted(rt, alloc, &mut shelf, case.says);
 }
 
@@ -103,7 +106,7 @@ fn knap(load: &str) -> Files<'_> {
 
 /// KNAP with a workload, and an older file of the certificate's name.
 fn with_old_proof(rt: &impl Abort, alloc: Global, load: &str) -> MemShelf {
-    let mut shelf = knap(load).shelf(rt, alloc);
+    let mut shelf = knap(load).shelf(alloc).expect(rt, "memory");
     shelf.put("PROOF", b"old").expect(rt, "memory");
     shelf
 }
@@ -112,7 +115,7 @@ fn with_old_proof(rt: &impl Abort, alloc: Global, load: &str) -> MemShelf {
 fn whole(rt: &impl Abort, alloc: Global) -> (Vec<u8>, Vec<u8>) {
     let mut shelf = with_old_proof(rt, alloc, LOAD);
     let words = "advise CAT LOAD 4 --cert PROOF";
-    let (status, out) = answer(rt, alloc, words, &mut shelf, 1000);
+    let (status, out) = answer(alloc, words, &mut shelf, 1000).expect(rt, "memory");
     assert_eq!(rt; status, 0);
     let proof = shelf.file("PROOF").expect(rt, "a certificate");
     (
@@ -135,8 +138,11 @@ fn assert_left(
     let mut shelf = with_old_proof(rt, alloc, load);
     shelf.fail_at(call).expect(rt, "memory");
     let words = "advise CAT LOAD 4 --cert PROOF";
-    let (status, out) = answer(rt, alloc, words, &mut shelf, room);
-    knap(load).assert_kept(rt, alloc, &shelf);
+    let (status, out) = answer(alloc, words, &mut shelf, room).expect(rt, "memory");
+    assert_eq!(rt;
+        knap(load).changed(alloc, &shelf).expect(rt, "memory"),
+        None
+    );
     let about = format!(in alloc; "call {call}, room {room}").expect(rt, "memory");
     assert_told(rt, (status, out.bytes()), want, about.as_str());
     assert_file(rt, &shelf, "PROOF", Some(left));
@@ -226,7 +232,7 @@ fn assert_put(rt: &impl Abort, alloc: Global, shelf: &MemShelf, told: (u8, &[u8]
 /// `check` of the certificate in the place of a file refuses what the file is now.
 fn assert_refused(rt: &impl Abort, alloc: Global, shelf: &mut MemShelf, name: &str, refusal: &str) {
     let words = format!(in alloc; "check CAT LOAD {name}").expect(rt, "memory");
-    let (status, out) = answer(rt, alloc, words.as_str(), shelf, 1000);
+    let (status, out) = answer(alloc, words.as_str(), shelf, 1000).expect(rt, "memory");
     assert_told(rt, (status, out.bytes()), (5, refusal.as_bytes()), name);
 }
 

@@ -1,7 +1,7 @@
 //! Sweeps over budgets: what is told at each point, the certificates, and what a failed put leaves.
-use crate::files::Files;
-use crate::scene::{answer, assert_file, assert_told, spread};
+use crate::asserts::{assert_file, assert_told, without_nodes};
 use adv_shelf::{MemShelf, Shelf};
+use cophy_tests::{Files, answer, spread};
 use std::alloc::Global;
 use std::process::Abort;
 
@@ -36,22 +36,6 @@ const PROVED: [(&str, &str); 4] = [
     ),
 ];
 
-/// A text without the digits behind `nodes`, of which there are some.
-fn without_nodes(rt: &impl Abort, alloc: Global, text: &[u8]) -> Vec<u8> {
-    let mut kept = Vec::new(alloc);
-    let mut digits: u32 = 0;
-    for byte in text {
-        if byte.is_ascii_digit() && kept.as_slice().ends_with(b"nodes ") {
-            digits = digits.saturating_add(1);
-        } else {
-            assert!(rt; digits > 0 || !kept.as_slice().ends_with(b"nodes "));
-            digits = 0;
-            kept.push(*byte).expect(rt, "memory");
-        }
-    }
-    kept
-}
-
 /// What a line that sweeps answers, but for how many nodes each search made.
 fn assert_swept(
     rt: &impl Abort,
@@ -60,9 +44,9 @@ fn assert_swept(
     words: &str,
     want: (u8, &str),
 ) {
-    let (status, out) = answer(rt, alloc, words, shelf, 1000);
+    let (status, out) = answer(alloc, words, shelf, 1000).expect(rt, "memory");
     let found = without_nodes(rt, alloc, out.bytes());
-    let wanted = spread(rt, alloc, want.1);
+    let wanted = spread(alloc, want.1).expect(rt, "memory");
     assert_told(
         rt,
         (status, found.as_slice()),
@@ -74,48 +58,48 @@ fn assert_swept(
 #[test]
 fn a_sweep_is_told_point_by_point(rt: HostRuntime) {
     let alloc = rt.alloc();
-    let mut shelf = TWO.shelf(&rt, alloc);
+    let mut shelf = TWO.shelf(alloc).expect(&rt, "memory");
     assert_swept(&rt, alloc, &mut shelf, "sweep CAT LOAD 0 3 4", (0, CURVE));
     assert_file(&rt, &shelf, "k1", None);
-    TWO.assert_kept(&rt, alloc, &shelf);
+    assert_eq!(rt; TWO.changed(alloc, &shelf).expect(&rt, "memory"), None);
 }
 
 #[test]
 fn each_certificate_of_a_sweep_is_accepted(rt: HostRuntime) {
     let alloc = rt.alloc();
-    let mut shelf = TWO.shelf(&rt, alloc);
+    let mut shelf = TWO.shelf(alloc).expect(&rt, "memory");
     let words = "sweep CAT LOAD 0 3 4 --nodes 7 --cert k";
     assert_swept(&rt, alloc, &mut shelf, words, (0, CURVE));
     for (line, want) in PROVED {
-        let (status, out) = answer(&rt, alloc, line, &mut shelf, 1000);
-        let wanted = spread(&rt, alloc, want);
+        let (status, out) = answer(alloc, line, &mut shelf, 1000).expect(&rt, "memory");
+        let wanted = spread(alloc, want).expect(&rt, "memory");
         assert_told(&rt, (status, out.bytes()), (0, wanted.as_slice()), line);
     }
     assert_file(&rt, &shelf, "k5", None);
-    TWO.assert_kept(&rt, alloc, &shelf);
+    assert_eq!(rt; TWO.changed(alloc, &shelf).expect(&rt, "memory"), None);
 }
 
 /// One node can't decide between the two where one fits.
 #[test]
 fn a_sweep_that_stops_has_status_1(rt: HostRuntime) {
     let alloc = rt.alloc();
-    let mut shelf = TWO.shelf(&rt, alloc);
+    let mut shelf = TWO.shelf(alloc).expect(&rt, "memory");
     let words = "sweep CAT LOAD 0 2 4 --nodes 1";
-    let (status, out) = answer(&rt, alloc, words, &mut shelf, 1000);
+    let (status, out) = answer(alloc, words, &mut shelf, 1000).expect(&rt, "memory");
     assert_eq!(rt; status, 1);
     assert!(rt; out.bytes().ends_with(b"nodes 1\nstopped\n"));
 }
 
 /// A run whose call of a number fails, over old files of these names; it ends with the status and writes nothing.
 fn failed_at(rt: &impl Abort, alloc: Global, words: &str, call: u64, old: &[&str]) -> MemShelf {
-    let mut shelf = TWO.shelf(rt, alloc);
+    let mut shelf = TWO.shelf(alloc).expect(rt, "memory");
     for name in old {
         shelf.put(name, b"old").expect(rt, "memory");
     }
     shelf.fail_at(call).expect(rt, "memory");
-    let (status, out) = answer(rt, alloc, words, &mut shelf, 1000);
+    let (status, out) = answer(alloc, words, &mut shelf, 1000).expect(rt, "memory");
     assert_told(rt, (status, out.bytes()), (4, b""), words);
-    TWO.assert_kept(rt, alloc, &shelf);
+    assert_eq!(rt; TWO.changed(alloc, &shelf).expect(rt, "memory"), None);
     shelf
 }
 
@@ -126,7 +110,7 @@ fn a_failed_put_leaves_the_front_whole(rt: HostRuntime) {
     let alloc = rt.alloc();
     let words = "sweep CAT LOAD 0 3 4 --cert k";
     let names = ["k1", "k2", "k3", "k4"];
-    let mut whole = TWO.shelf(&rt, alloc);
+    let mut whole = TWO.shelf(alloc).expect(&rt, "memory");
     assert_swept(&rt, alloc, &mut whole, words, (0, CURVE));
     for (at, call) in [(0, 5), (1, 6), (3, 8)] {
         let shelf = failed_at(&rt, alloc, words, call, &names);
@@ -146,10 +130,10 @@ fn a_failed_put_leaves_the_front_whole(rt: HostRuntime) {
 fn a_failed_write_leaves_all_certificates(rt: HostRuntime) {
     let alloc = rt.alloc();
     let words = "sweep CAT LOAD 0 3 4 --cert k";
-    let mut whole = TWO.shelf(&rt, alloc);
+    let mut whole = TWO.shelf(alloc).expect(&rt, "memory");
     assert_swept(&rt, alloc, &mut whole, words, (0, CURVE));
-    let mut shelf = TWO.shelf(&rt, alloc);
-    let (status, out) = answer(&rt, alloc, words, &mut shelf, 20);
+    let mut shelf = TWO.shelf(alloc).expect(&rt, "memory");
+    let (status, out) = answer(alloc, words, &mut shelf, 20).expect(&rt, "memory");
     assert_told(
         &rt,
         (status, out.bytes()),
@@ -165,13 +149,9 @@ fn a_failed_write_leaves_all_certificates(rt: HostRuntime) {
 #[test]
 fn the_tenth_certificate_has_two_digits(rt: HostRuntime) {
     let alloc = rt.alloc();
-    let mut shelf = TWO.shelf(&rt, alloc);
-    let (status, _) = answer(
-        &rt,
-        alloc,
-        "sweep CAT LOAD 0 1 11 --cert k",
-        &mut shelf,
-        2000,
+    let mut shelf = TWO.shelf(alloc).expect(&rt, "memory");
+    let (status, _) = answer(alloc, "sweep CAT LOAD 0 1 11 --cert k", &mut shelf, 2000).expect(
+        &rt, "memory",
     );
     assert_eq!(rt; status, 0);
     for name in ["k1", "k9", "k10", "k11"] {
@@ -190,9 +170,9 @@ fn a_refused_sweep_puts_nothing(rt: HostRuntime) {
         load: "SELECT c FROM",
         ..TWO
     };
-    let mut shelf = files.shelf(&rt, alloc);
+    let mut shelf = files.shelf(alloc).expect(&rt, "memory");
     let words = "sweep CAT LOAD 0 3 4 --cert k";
-    let (status, out) = answer(&rt, alloc, words, &mut shelf, 1000);
+    let (status, out) = answer(alloc, words, &mut shelf, 1000).expect(&rt, "memory");
     assert_told(
         &rt,
         (status, out.bytes()),
@@ -200,5 +180,5 @@ fn a_refused_sweep_puts_nothing(rt: HostRuntime) {
         words,
     );
     assert_file(&rt, &shelf, "k1", None);
-    files.assert_kept(&rt, alloc, &shelf);
+    assert_eq!(rt; files.changed(alloc, &shelf).expect(&rt, "memory"), None);
 }

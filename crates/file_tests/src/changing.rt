@@ -1,8 +1,8 @@
 //! A certificate whose file changes while `check` reads it.
-use crate::files::Files;
-use crate::scene::{assert_told, split, spread};
+use crate::asserts::assert_told;
 use adv_shelf::{Failed, MemShelf, MemSink, PutFault, Shelf};
 use cophy_core::run;
+use cophy_tests::{Files, split, spread};
 use std::alloc::Global;
 use std::process::Abort;
 
@@ -77,17 +77,17 @@ fn assert_changed(rt: &impl Abort, alloc: Global, reads: u64, texts: (&str, &str
         load: "-- weight 10~SELECT c FROM t ORDER BY c;~-- weight 11~SELECT d, e FROM v ORDER BY d, e;~",
         conf: texts.0,
     };
-    let later = spread(rt, alloc, texts.1);
+    let later = spread(alloc, texts.1).expect(rt, "memory");
     let mut shelf = Changing {
-        shelf: files.shelf(rt, alloc),
+        shelf: files.shelf(alloc).expect(rt, "memory"),
         reads_left: reads,
     };
     shelf.put(LATER, later.as_slice()).expect(rt, "memory");
-    let words = split(rt, alloc, "check CAT LOAD CONF");
+    let words = split(alloc, "check CAT LOAD CONF").expect(rt, "memory");
     let mut out = MemSink::with_capacity(alloc, 1000).expect(rt, "memory");
     let outcome = run(alloc, words.as_slice(), &mut shelf, &mut out);
     let status = if wanted.starts_with("proved") { 0 } else { 6 };
-    let wanted = spread(rt, alloc, wanted);
+    let wanted = spread(alloc, wanted).expect(rt, "memory");
     let told = (outcome.status, out.bytes());
     assert_told(rt, told, (status, wanted.as_slice()), texts.1);
 }

@@ -1,9 +1,8 @@
 //! Reads and writes that fail, over files in memory and over the system's.
-use crate::catalogues::catalogue;
-use crate::files::Files;
-use crate::scene::{answer, assert_told, split, spread};
+use crate::asserts::assert_told;
 use adv_shelf::{DiskShelf, MemSink, Shelf};
 use cophy_core::run;
+use cophy_tests::{Files, answer, catalogue, split, spread};
 use std::alloc::Global;
 use std::path::AsPath;
 use std::process::Abort;
@@ -56,11 +55,11 @@ fn assert_run(
     call: u64,
     want: (u8, &str),
 ) {
-    let mut shelf = files.shelf(rt, alloc);
+    let mut shelf = files.shelf(alloc).expect(rt, "memory");
     shelf.fail_at(call).expect(rt, "memory");
-    let (status, out) = answer(rt, alloc, words, &mut shelf, 1000);
-    files.assert_kept(rt, alloc, &shelf);
-    let output = spread(rt, alloc, want.1);
+    let (status, out) = answer(alloc, words, &mut shelf, 1000).expect(rt, "memory");
+    assert_eq!(rt; files.changed(alloc, &shelf).expect(rt, "memory"), None);
+    let output = spread(alloc, want.1).expect(rt, "memory");
     let wanted = if want.0 == 0 { status } else { want.0 };
     assert_told(
         rt,
@@ -109,9 +108,9 @@ fn assert_room(
     text: &[u8],
     room: usize,
 ) {
-    let mut shelf = files.shelf(rt, alloc);
-    let (status, out) = answer(rt, alloc, words, &mut shelf, room);
-    files.assert_kept(rt, alloc, &shelf);
+    let mut shelf = files.shelf(alloc).expect(rt, "memory");
+    let (status, out) = answer(alloc, words, &mut shelf, room).expect(rt, "memory");
+    assert_eq!(rt; files.changed(alloc, &shelf).expect(rt, "memory"), None);
     assert_eq!(rt; status == 4, room < text.len(), "{words}, room {room}");
     let front = text.get(..room).expect(rt, "a front");
     assert_told(rt, (status, out.bytes()), (status, front), words);
@@ -120,7 +119,7 @@ fn assert_room(
 /// Gives the output of a line less and less room than its text needs, and then all of it.
 fn assert_rooms(rt: &impl Abort, alloc: Global, files: &Files<'_>, case: &str) {
     let (_, words, output) = parts(rt, case);
-    let text = spread(rt, alloc, output);
+    let text = spread(alloc, output).expect(rt, "memory");
     for room in 0..text.len() {
         assert_room(rt, alloc, files, words, text.as_slice(), room);
     }
@@ -143,7 +142,7 @@ fn assert_disk<S: Shelf>(
     cat: &str,
     want: (u8, Option<&str>),
 ) {
-    let mut words = split(rt, alloc, "cost");
+    let mut words = split(alloc, "cost").expect(rt, "memory");
     words
         .push(String::from_str(alloc, cat).expect(rt, "memory"))
         .expect(rt, "memory");
@@ -162,7 +161,7 @@ fn assert_disk<S: Shelf>(
 #[test]
 fn bad_files_of_the_system_do_no_harm(rt: HostRuntime) {
     let alloc = rt.alloc();
-    let heap = catalogue(&rt, alloc, "T");
+    let heap = catalogue(alloc, "T").expect(&rt, "memory");
     let folder = env::temp_dir(&rt).expect(&rt, "a folder");
     let name = format!(in alloc; "cophy-{}.toml", process::id(rt.process())).expect(&rt, "memory");
     let path = folder.join(alloc, name.as_str()).expect(&rt, "a path");
