@@ -35,16 +35,14 @@ def main() -> int:
     elif command in ("advise", "ruled"):
         is_ruled = command == "ruled"
         budget = int(more[0])
-        picks, size, cost, certificate = advised(budget, every, indexes, Path(more[1]).read_text() if is_ruled else "")
         print("must 0 never 0\n" * is_ruled, end="")
-        print(f"budget {budget}\ncandidates {len(indexes)} left over 0")
-        for at in picks:
-            print(f"pick {at} {indexes[at - 1][0]}({indexes[at - 1][1]}) {indexes[at - 1][2]} pages")
-        print(f"size {size}\ncost {cost}\nbound {cost}\ngap 0\nnodes 1 of 20000\nfinished")
+        certificate = advise(budget, every, indexes, Path(more[1]).read_text() if is_ruled else "")
         if "--cert" in more:
             Path(more[more.index("--cert") + 1]).write_text(certificate)
     elif command == "sweep":
         sweep(more, every, indexes)
+    elif command == "retune":
+        retune(Path(more[0]).read_text(), int(more[1]), every, Path(catalogue).read_text())
     elif command == "candidates":
         for at, (table, column, pages) in enumerate(indexes[:256], 1):
             print(f"{at} {table}({column}) {pages} pages")
@@ -56,6 +54,32 @@ def main() -> int:
     elif command == "explain":
         print(f"statement {more[1]} plan 900000 upkeep 0")
     return 0
+
+
+def advise(budget: int, every: list[tuple[int, str]], indexes: list[tuple[str, str, int]], rules: str = "") -> str:
+    """Prints advice; its certificate."""
+    picks, size, cost, certificate = advised(budget, every, indexes, rules)
+    print(f"budget {budget}\ncandidates {len(indexes)} left over 0")
+    for at in picks:
+        print(f"pick {at} {indexes[at - 1][0]}({indexes[at - 1][1]}) {indexes[at - 1][2]} pages")
+    print(f"size {size}\ncost {cost}\nbound {cost}\ngap 0\nnodes 1 of 20000\nfinished")
+    return certificate
+
+
+def retune(edits: str, budget: int, every: list[tuple[int, str]], catalogue: str) -> None:
+    """Prints advice wherever the edits ask for it."""
+    count = 0
+    for verb, *rest in (it.split(" ", 2) for it in edits.splitlines()):
+        if verb == "add":
+            every.append((int(rest[0]), rest[1].lower().replace(" where ", "\nwhere ")))
+        elif verb == "remove":
+            every.pop(int(rest[0]) - 1)
+        elif verb == "weigh":
+            every[int(rest[0]) - 1] = (int(rest[1]), every[int(rest[0]) - 1][1])
+        else:
+            count += 1
+            print(f"advice {count}")
+            advise(budget, every, candidates(catalogue, " ".join(text for _, text in every)))
 
 
 def sweep(words: list[str], every: list[tuple[int, str]], indexes: list[tuple[str, str, int]]) -> None:

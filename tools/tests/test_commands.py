@@ -93,6 +93,7 @@ class OfTheProgram(unittest.TestCase):
             "workload.sql": "shop.sql",
             "my.conf": "shop.conf",
             "rules.txt": "shop.rules",
+            "edits.txt": "shop.edits",
         }
         text = "\n".join((ROOT / it).read_text() for it in ("README.md", "docs/POSTGRES.md"))
         found = set(re.findall(r"(?:^|`)\./cophy ((?!--)[a-z]+ [^`#>\n]*)", text, re.MULTILINE))

@@ -77,7 +77,7 @@ class Documents(unittest.TestCase):
 
     def test_the_example_of_the_formats_stands_in_the_examples(self) -> None:
         text = (ROOT / "docs" / "FORMATS.md").read_text()
-        for mark, name in (("toml", "two.toml"), ("sql", "two.sql"), ("", "two.cert")):
+        for mark, name in (("toml", "two.toml"), ("sql", "two.sql"), ("", "two.cert"), ("", "two.edits")):
             with self.subTest(name=name):
                 self.assertIn(f"```{mark}\n{(ROOT / 'examples' / name).read_text()}```\n", text)
 

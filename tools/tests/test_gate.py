@@ -80,11 +80,17 @@ class Completion(unittest.TestCase):
             ("_cophy", ("cophy", "sweep", "a", "b", "0", "1", ""), []),
             ("_cophy", ("cophy", "sweep", "a", "b", "0", "1", "2", "--n"), ["--nodes"]),
             ("_cophy", ("cophy", "sweep", "a", "b", "0", "1", "2", "--nodes", "9", "--cert", "examples/shop."), files),
+            ("_cophy", ("cophy", "retune", "a", "b", "examples/shop."), files),
+            ("_cophy", ("cophy", "retune", "a", "b", "e", ""), []),
+            ("_cophy", ("cophy", "retune", "a", "b", "e", "9", "--"), ["--nodes"]),
+            ("_cophy_pg", ("cophy-pg", "ed"), ["edits"]),
+            ("_cophy_pg", ("cophy-pg", "edits", "-"), ["--advise", "--help", "--output"]),
             ("_cophy_pg", ("cophy-pg", "ex"), ["export"]),
             ("_cophy_pg", ("cophy-pg", "curve", "--e"), ["--even"]),
             ("_cophy_pg", ("cophy-pg", "rules", "--s"), ["--skip-unknown"]),
             ("_cophy_pg", ("cophy-pg", "export", "--s"), ["--since", "--sql"]),
             ("_cophy_lint", ("cophy-lint", "examples/shop."), files),
+            ("_cophy_lint", ("cophy-lint", "--e"), ["--edits"]),
             ("_cophy_lint", ("cophy-lint", "--v"), ["--version"]),
         ]
         for function, words, wanted in table:
@@ -101,7 +107,7 @@ class Completion(unittest.TestCase):
         self.assertEqual([it for it in self.completed("_cophy_pg", "cophy-pg", "") if it.isalpha()], commands)
         for it in commands:
             with self.subTest(command=it):
-                options = listed("^  (?:-h, )?(--[a-z-]+)", it)
+                options = listed("^  (?:-[a-z](?: [A-Z]+)?, )?(--[a-z-]+)", it)
                 self.assertEqual(self.completed("_cophy_pg", "cophy-pg", it, "--"), options)
 
     def test_help_and_manual_name_every_command(self) -> None:
@@ -115,6 +121,7 @@ class Completion(unittest.TestCase):
                 "advise",
                 "check",
                 "sweep",
+                "retune",
                 "ruled",
                 "fold",
                 "bench",

@@ -131,6 +131,24 @@ class Hints(OverCopy):
         os.mkfifo(self.copy.root / "pipe")
         self.assertEqual(self.hinted("refused: not toml", "", words=("cost", "pipe", "l.sql")), "")
 
+    def test_no_hint_holds_what_a_terminal_might_obey(self) -> None:
+        """Of names that try to speak to the terminal."""
+        odd = "\x1b]0;x\x07\x1b[2J\r\u202e\u009b"
+        edits = f'advise\nadd 5 SELECT city FROM "{odd}"\nodd {odd}\n'
+        (self.copy.root / "e").write_text(edits)
+        for fault, words in (
+            ("no table at 18", ("cost", "c.toml", "l.sql")),
+            ("no column at 18", ("cost", "c.toml", "l.sql")),
+            ("edit line 2: no table at 18", ("retune", "c.toml", "l.sql", "e", "9")),
+            ("edit line 2: ambiguous at 18", ("retune", "c.toml", "l.sql", "e", "9")),
+            ("edit line 3: bad line", ("retune", "c.toml", "l.sql", "e", "9")),
+        ):
+            with self.subTest(fault=fault):
+                said = self.hinted(f"refused: {fault}", f'SELECT city FROM "{odd}"', words=words)
+                self.assertTrue(said.replace("\n", "").isprintable(), ascii(said))
+                self.assertTrue(all(it.startswith("cophy: ") for it in said.splitlines()))
+                self.assertGreater(said.count("\n"), 2)
+
 
 class OfRules(InFolder):
     """Hints on refusals of a file of rules, without a call of the script."""
@@ -171,6 +189,81 @@ class OfRules(InFolder):
     def test_an_older_program_is_told(self) -> None:
         self.assertEqual(self.hinted("usage: unknown command at word 1", ""), "this program is older than ruled")
         self.assertIn("usage: cophy ruled CAT LOAD BUDGET RULES", self.hinted("usage: missing word 5", ""))
+
+
+class OfEdits(InFolder):
+    """Hints on refusals of edits, without a call of the script."""
+
+    def hinted(self, text: str, edits: str, status: int = 5) -> list[str]:
+        (self.folder / "c.toml").write_text(Hints.CATALOGUE.replace("distnct", "distinct"))
+        (self.folder / "l.sql").write_text("")
+        (self.folder / "e").write_bytes(edits.encode("latin-1"))
+        words = ["retune", *self.in_folder("c.toml", "l.sql", "e"), "9"]
+        return [*hints.hints(hints.Call(status, words, text))]
+
+    def test_a_line_is_shown_with_what_is_wrong_there(self) -> None:
+        for fault, edits, hint in (
+            ("1: bad line", "advis\n", "a line is one of add W SQL, remove N, weigh N W and advise"),
+            ("2: bad line", "advise\n# a comment\n", "no line is empty or a comment"),
+            ("1: bad line", "add 0 SELECT city FROM orders\n", "W is 1 to 1000000"),
+            ("1: bad line", "remove 1001\n", "N is 1 to 1000"),
+            ("1: bad line", "weigh 1\n", "the form is weigh N W"),
+            ("1: bad line", "advise\r\n", "no carriage return"),
+            ("1: bad line", "advise", "the last line ends with a line feed too"),
+            ("1001: bad line", "remove 1\n" * 1001, "at most 1000 lines"),
+            ("17: bad line", "advise\n" * 17, "at most 16 lines ask for advice"),
+            ("1: bad line", "add 1 SELECT city FROM orders; SELECT city FROM orders\n", "here are 2"),
+            ("1: no statement 7", "remove 7\n", "a removal moves later ones down"),
+            ("1: more than 1000 statements", "add 1 SELECT city FROM orders\n", "remove some before"),
+            ("1: more than 2000 slots", "add 1 SELECT city FROM orders\n", "at most 2000 tables"),
+            ("1: statement 3 has 4225 combinations", "add 1 SELECT city FROM orders\n", "more than 4096 combinations"),
+        ):
+            with self.subTest(fault=fault, edits=edits[:40]):
+                number = int(fault.split(":")[0])
+                said = self.hinted(f"refused: edit line {fault}", edits)
+                self.assertEqual(said[0], f"{self.folder}/e, line {number}")
+                shown = "".join(it if it >= " " else " " for it in edits.split("\n")[number - 1][:60])
+                self.assertEqual(said[1], f"  {shown}")
+                self.assertIn(hint, said[2])
+                self.assertEqual(len(said), 3)
+
+    def test_a_place_in_a_statement_is_shown_in_its_line(self) -> None:
+        for fault, sql, hint in (
+            ("syntax at 25", "SELECT city FROM orders  ORDER city", ""),
+            ("no table at 18", "SELECT city FROM order_", "did you mean orders?"),
+            ("no column at 8", "SELECT citty FROM orders", "did you mean city?"),
+            ("bad byte at 12", "SELECT city::text FROM orders", "casts"),
+            ("open text at 38", "SELECT city FROM orders WHERE city = 'a", "never closed"),
+            ("unsupported at 40", "SELECT city FROM orders WHERE city = 1 OR city = 2", "IN (.., ..)"),
+            ("more than 8 slots at 18", "SELECT city FROM orders", "at most 8 tables"),
+        ):
+            with self.subTest(fault=fault):
+                at = int(fault.rsplit(" ", 1)[1])
+                for begin in ("add 5 ", "add 1000000 "):
+                    said = self.hinted(f"refused: edit line 2: {fault}", f"advise\n{begin}{sql}\n")
+                    self.assertEqual(said[0], f"{self.folder}/e, line 2, column {len(begin) + at}")
+                    self.assertEqual(
+                        said[1].removeprefix("  ")[said[2].index("^") - 2 :], (begin + sql)[len(begin) + at - 1 :]
+                    )
+                    self.assertIn(hint, "".join(said[3:]))
+
+    def test_edits_that_ask_for_no_advice_are_told(self) -> None:
+        [said] = self.hinted("", "weigh 1 1\n", status=0)
+        self.assertIn("asks for no advice, so nothing was printed", said)
+        self.assertEqual(self.hinted("", "add 1 SELECT city FROM orders\nadvise\n", status=0), [])
+
+    def test_edits_in_the_place_of_the_workload_are_told(self) -> None:
+        (self.folder / "e").write_text("add 5 SELECT city FROM orders\n")
+        words = ["cost", *self.in_folder("c.toml", "e")]
+        said = [*hints.hints(hints.Call(5, words, "refused: syntax at 1"))]
+        self.assertEqual(said, [f"{self.folder}/e looks like edits: cophy retune takes them behind the workload"])
+
+    def test_an_older_program_is_told(self) -> None:
+        said = self.hinted("usage: unknown command at word 1", "", status=2)
+        self.assertEqual(said, ["this program is older than retune"])
+        said = self.hinted("usage: bad number at word 5", "", status=2)
+        self.assertIn("usage: cophy retune CAT LOAD EDITS BUDGET [--nodes N]", said)
+        self.assertIn("BUDGET is pages from 0 to 10^12", said[1])
 
 
 class Unwritten(OverCopy):

@@ -1,6 +1,7 @@
 """Reading takes time in proportion to what is read, and no statement is too deep for it."""
 from __future__ import annotations
 
+import contextlib
 import importlib.util
 import random
 import subprocess
@@ -27,6 +28,8 @@ LINES = {
     "tags without an end": "SELECT $a$ FROM t;\n",
     "dashes behind a text with E": "SELECT E'a'" + "-" * 70 + " ",
     "data of COPY": "COPY t FROM stdin;\n1\tit's\n",
+    "many statements": "SELECT a FROM t LIMIT 5;\n",
+    "comments within a statement": "-- weight 5\n/**/a",
     "variables": "SELECT :a, `b` FROM t WHERE c = :'d' AND e='it\\'s';\n",
 }
 # By name: a statement of so many levels, some of which hide from who doesn't cut a text as PostgreSQL does.
@@ -75,12 +78,20 @@ class Linear(unittest.TestCase):
     def test_four_times_the_text_takes_about_four_times_the_time(self) -> None:
         from cophy_pg import inputs
         from cophy_pg.rewrite.parse import depth_of
+        from cophy_lint.checks import workload_remarks
         from cophy_text.tokens import tokens
+        from cophy_text.workloads import NoWorkload, read_statements
+
+        def statements(text: str) -> None:
+            with contextlib.suppress(NoWorkload):
+                read_statements(text.encode())
 
         table: dict[str, Callable[[str], object]] = {
             "cutting": lambda text: inputs.from_sql(text.encode()),
             "depth": depth_of,
             "tokens": lambda text: [*tokens(text.encode())],
+            "statements": statements,
+            "lint": lambda text: workload_remarks(text.encode(), {}),
         }
         for what, work in table.items():
             for name, line in LINES.items():

@@ -192,5 +192,62 @@ class Rules(unittest.TestCase):
         )
 
 
+class Edits(unittest.TestCase):
+    """Files of edits."""
+
+    OTHER = '[[table]]\nname = "u"\nrows = 0\npages = 0\n' + COLUMN
+
+    def linted(
+        self, edits: str, workload: str = "SELECT c FROM t;\n-- weight 7\nSELECT c FROM t"
+    ) -> tuple[int, list[str]]:
+        with tempfile.TemporaryDirectory() as folder:
+            for name, text in (("c", HEAD + COLUMN + self.OTHER), ("l", workload), ("e", edits)):
+                (Path(folder) / name).write_text(text)
+            words = [str(ROOT / "tools/lint/cophy-lint"), "c", "l", "--edits", "e"]
+            ran = subprocess.run(words, cwd=folder, capture_output=True, text=True, check=False)
+        self.assertEqual(ran.stderr, "")
+        return ran.returncode, ran.stdout.splitlines()
+
+    def test_good_edits_have_no_warnings(self) -> None:
+        edits = (
+            "advise\nremove 1\nweigh 1 5\nadd 7 SELECT c FROM t WHERE c = ?\nweigh 2 6\nremove 2\nremove 1\nadvise\n"
+        )
+        self.assertEqual(self.linted(edits), (0, []))
+        self.assertEqual(self.linted("add 1 SELECT c FROM t\nadvise\n", ""), (0, []))
+        # Numbers over what isn't a workload aren't looked at.
+        self.assertEqual(self.linted("remove 9\nadvise\n", "SELECT c FROM t; #"), (0, []))
+
+    def test_each_warning_has_its_line_and_its_reason(self) -> None:
+        for edits, line in (
+            ("advis\nadvise\n", "e: line 1: is no edit: a line is one of add W SQL, remove N, weigh N W and advise"),
+            ("advise", "e: line 1: is no edit: the last line ends with a line feed too"),
+            ("remove 2\nweigh 2 1\nadvise\n", "e: line 2: there is no statement 2 here, but 1"),
+            ("weigh 2 7\nadvise\n", "e: line 1: statement 2 has the weight 7 already"),
+            (
+                "add 1 SELECT c FROM t\n" * 998 + "add 1 SELECT c FROM t\nadvise\n",
+                "e: line 999: there are 1000 statements already",
+            ),
+            (
+                "advise\nremove 1\nremove 1\n",
+                "e: line 2: changes nothing that is printed: no line behind it asks for advice",
+            ),
+            ("remove 1\n", "e: edits: no line asks for advice, so nothing is printed"),
+            ("", "e: edits: no line asks for advice"),
+            ("add 1 SELECT c FROM u\nadvise\n", "c: table[2]: 'u' has no rows"),
+        ):
+            with self.subTest(edits=edits[:60]):
+                status, lines = self.linted(edits)
+                self.assertEqual(status, 1)
+                self.assertTrue(lines[0].startswith(line), lines)
+
+    def test_what_is_a_guess_in_an_added_statement_is_noted(self) -> None:
+        status, lines = self.linted(
+            "add 1 SELECT c FROM t WHERE c > ?\nadvise\nadd 1 SELECT c FROM t WHERE c < $1 LIMIT 5\nadvise\n"
+        )
+        self.assertEqual(status, 0)
+        self.assertEqual(lines[0].rsplit(": ", 1)[1], "line 1 ('c'); line 3 ('c')")
+        self.assertIn("LIMIT costs and saves nothing, the whole statement is priced: line 3", lines[1])
+
+
 if __name__ == "__main__":
     unittest.main()

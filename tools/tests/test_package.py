@@ -100,6 +100,8 @@ class Package(OverCopy):
         self.assertEqual((there / "usr/lib/cophy/cophy").read_bytes(), COPHY.read_bytes())
         ran = self.run_there(there, "cost", "examples/single.toml", "examples/single.sql")
         self.assertEqual((ran.returncode, ran.stdout), (0, "statement 1 weight 1 cost 80000\ntotal 80000\n"))
+        ran = self.run_there(there, "retune", *(f"examples/two.{it}" for it in ("toml", "sql", "edits")), "4")
+        self.assertEqual((ran.returncode, ran.stdout.count("advice ")), (0, 3))
         self.assertEqual(self.run_there(there).returncode, 2)
         self.assertEqual(self.run_there(there, "cost", "no.toml", "examples/single.sql").returncode, 3)
 

@@ -769,7 +769,8 @@ IF current_user <> 'app' THEN LOOP {1} END LOOP; END IF; RETURN 1; END $$; CREAT
         self.assertIn(named, ran.stderr, "who owns the database owns the schema public")
 
     def test_functions_that_replaced_those_of_hypopg_are_not_called(self) -> None:
-        body = f"$$ BEGIN COPY (SELECT 1) TO PROGRAM 'touch {mark(self.server)}'; RETURN; END $$"
+        # A program that doesn't read what it is given may end before that is written, which is an error.
+        body = f"$$ BEGIN COPY (SELECT 1) TO PROGRAM 'cat >{mark(self.server)}'; RETURN; END $$"
         given = {
             "hypopg_create_index": "(sql_order text, OUT indexrelid oid, OUT indexname text) RETURNS SETOF record",
             "hypopg_reset": "() RETURNS void",

@@ -13,7 +13,11 @@ ROOT = TOOLS.parent
 
 def scripts(interpreter: bytes) -> list[str]:
     """The files without an ending whose first line names an interpreter."""
-    found = [it for it in (*TOOLS.rglob("*"), *ROOT.glob("*"), *ROOT.glob(".ci/*")) if it.is_file() and not it.suffix]
+    found = [
+        it
+        for it in (*TOOLS.rglob("*"), *ROOT.glob("*"), *ROOT.glob(".ci/*"), *ROOT.glob("examples/*/*"))
+        if it.is_file() and not it.suffix
+    ]
     first = {it: it.read_bytes().split(b"\n", 1)[0] for it in found}
     return sorted(str(it) for it, line in first.items() if line.startswith(b"#!") and interpreter in line)
 
@@ -50,7 +54,8 @@ class Style(unittest.TestCase):
         }
         self.assertLessEqual(wanted, names)
         names = {os.path.relpath(it, ROOT) for it in scripts(b"bash")}
-        self.assertLessEqual({"cophy", ".ci/run", "tools/package", "tools/wrapper/cophy-installed"}, names)
+        wanted = {"cophy", ".ci/run", "tools/package", "tools/wrapper/cophy-installed", "examples/systemd/cophy-retune"}
+        self.assertLessEqual(wanted, names)
 
     @unittest.skipIf(BLACK, BLACK)
     def test_black_changes_nothing(self) -> None:

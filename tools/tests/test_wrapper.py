@@ -50,7 +50,8 @@ class Wrapper(OverCopy):
         marker = self.copy.folder / "marker"
         self.copy.lay_script("bin/python3", f"#!/bin/sh\ntouch {marker}\n")
         good, catalogue = ("cost", "examples/shop.toml", "examples/shop.sql"), self.copy.root / "c.toml"
-        for words in ((), ("help",), ("version",), ("cost", "--help"), ("bench", "1", "2", "3", "4"), good):
+        edited = ("retune", *(f"examples/two.{it}" for it in ("toml", "sql", "edits")), "4")
+        for words in ((), ("help",), ("version",), ("cost", "--help"), ("bench", "1", "2", "3", "4"), good, edited):
             for status in ("0", "1", "6", "7"):
                 self.copy.on_terminal(*words, FAKE_STATUS=status)
         for status in map(str, range(8)):
@@ -59,7 +60,9 @@ class Wrapper(OverCopy):
         self.assertFalse(marker.exists())
         catalogue.write_text("version = 1\nvresion = 1\n")
         faulty = ("cost", "c.toml", "examples/shop.sql")
-        for words, status in ((good, "2"), (good, "3"), (good, "4"), (good, "5"), (faulty, "0")):
+        (self.copy.root / "e").write_text("weigh 1 5\n")
+        silent = (*edited[:3], "e", "4")
+        for words, status in ((good, "2"), (good, "3"), (good, "4"), (good, "5"), (faulty, "0"), (silent, "0")):
             with self.subTest(words=words, status=status):
                 self.copy.on_terminal(*words, FAKE_STATUS=status)
                 self.assertTrue(marker.exists())

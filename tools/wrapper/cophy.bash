@@ -13,13 +13,14 @@ _cophy() {
     COMPREPLY=()
     case "$at:$command" in
         0:* | 1:*)
-            local words="cost explain whatif candidates advise check sweep ruled check-ruled fold bench"
+            local words="cost explain whatif candidates advise check sweep retune ruled check-ruled fold bench"
             if [ "${COMP_WORDS[1]-}" != --unproved ] || [ "$COMP_CWORD" -eq 1 ]; then words+=" help version --unproved"; fi
             _cophy_words "$words" "$current"
             ;;
         [23]:cost | [23]:explain | [23]:whatif | [23]:candidates | [23]:advise | [23]:check | [23]:sweep) _cophy_files "$current" ;;
-        [23]:ruled | [2345]:check-ruled | [234]:fold) _cophy_files "$current" ;;
+        [23]:ruled | [2345]:check-ruled | [234]:fold | [234]:retune) _cophy_files "$current" ;;
         4:explain | 4:whatif | 4:check | 5:ruled) _cophy_files "$current" ;;
+        6:retune) _cophy_words "--nodes" "$current" ;;
         [5678]:advise | [6789]:ruled | [789]:sweep | 10:sweep)
             case "${COMP_WORDS[COMP_CWORD - 1]}" in
                 --cert) _cophy_files "$current" ;;
@@ -35,7 +36,7 @@ _cophy_pg() {
     local rewriting=" --no-ranges --no-rows --no-limits --no-look-ups --no-deletes --no-insert-share"
     COMPREPLY=()
     if [ "$COMP_CWORD" -eq 1 ]; then
-        local words="advise report health daily changes snapshot export rewrite rules ddl verify why curve"
+        local words="advise report health daily changes edits snapshot export rewrite rules ddl verify why curve"
         _cophy_words "$words --help --version" "$current"
         return
     fi
@@ -47,6 +48,7 @@ _cophy_pg() {
             ;;
         health) options+=" --folder --min-size --dsn --timeout --program --json" ;;
         changes) options+=" --json" ;;
+        edits) options+=" --output --advise" ;;
         report) options+=" --output" ;;
         snapshot) options+=" --dsn --timeout" ;;
         export) options+=" --dsn --sql --log --report --since --min-calls --table --user --timeout$rewriting --program" ;;
@@ -69,7 +71,7 @@ _cophy_pg() {
 _cophy_lint() {
     local current="${COMP_WORDS[COMP_CWORD]}"
     case "$current" in
-        -*) _cophy_words "--help --rules --version" "$current" ;;
+        -*) _cophy_words "--help --rules --edits --version" "$current" ;;
         *) _cophy_files "$current" ;;
     esac
 }

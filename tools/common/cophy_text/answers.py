@@ -12,6 +12,7 @@ _POINT = re.compile(
     r"point (\d{1,18}) budget (\d{1,60}) size (\d{1,60}) cost (\d{1,60}) bound (-?\d{1,60}) "
     r"best \d{1,60} low -?\d{1,60} nodes (\d{1,18})\Z"
 )
+_ADVICE = re.compile(r"^advice ([0-9]{1,18})\n", re.MULTILINE)
 _CONFIG = re.compile(r"^config((?: \d{1,18})*)$", re.MULTILINE)
 _FOLDED = re.compile(r"statements (\d{1,18}) folded (\d{1,18}) total (\d{1,60})\n?\Z")
 _NUMBERS = {
@@ -95,6 +96,14 @@ def read_advice(text: str) -> Advice:
             name = line.split(" ")[0]
             setattr(advice, name, _number(name, line))
     raise NoAnswer("this is no advice: it lacks the line 'finished' or 'stopped'")
+
+
+def read_retuned(text: str) -> list[Advice]:
+    """Takes the text of `retune` apart: an advice for each time that the edits ask for it."""
+    first, *parts = _ADVICE.split(text)
+    if first or parts[::2] != [str(it) for it in range(1, len(parts) // 2 + 1)]:
+        raise NoAnswer("this is no answer of retune: its lines 'advice' aren't there in turn")
+    return [read_advice(it) for it in parts[1::2]]
 
 
 def read_points(text: str) -> list[Advice]:

@@ -41,7 +41,8 @@ def read(name: str) -> bytes:
 def check(outputs: list[str | None], inputs: list[str | None] = []) -> None:
     """Refuses outputs that can't be written, that are one file, or that would go over an input."""
     seen: dict[object, str] = {}
-    for name in filter(None, inputs):
+    # The standard input and the standard output are both called `-`.
+    for name in (it for it in inputs if it and it != "-"):
         for it in _identities(name):
             seen.setdefault(it, f"{name} is read")
     for name in filter(None, outputs):
@@ -142,6 +143,8 @@ def _directly(file: File) -> None:
     """Writes to the standard output or to a device, such as /dev/null."""
     try:
         if file.name in OUTPUT:
+            if sys.stdout.isatty() and not _is_plain(file.content):
+                raise NoFile("the standard output is a terminal, which might obey what is to be written: name a file")
             sys.stdout.flush()
             sys.stdout.buffer.write(file.content)
             sys.stdout.buffer.flush()
@@ -152,6 +155,14 @@ def _directly(file: File) -> None:
         raise
     except OSError as fault:
         raise NoFile(_why(file.name, fault)) from None
+
+
+def _is_plain(content: bytes) -> bool:
+    """Whether a terminal shows all of a text."""
+    try:
+        return all(it.isprintable() or it in "\n\t" for it in content.decode())
+    except UnicodeDecodeError:
+        return False
 
 
 def _mask() -> int:

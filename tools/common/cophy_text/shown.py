@@ -40,9 +40,13 @@ def space(pages: int) -> str:
 def short(text: str, most: int = SHORT) -> str:
     """The begin of a statement on one line of printable characters, without comments before it."""
     text = re.sub(r"\A(?:\s+|--[^\n]*(?:\n|\Z)|/\*.*?\*/)+", "", text, flags=re.DOTALL)
-    line = " ".join(text[: 8 * most].split())
-    line = "".join(it if it.isprintable() else "?" for it in line)
+    line = printable(" ".join(text[: 8 * most].split()))
     return line if len(line) <= most else line[: most - 3].rstrip() + "..."
+
+
+def printable(text: str) -> str:
+    """A text in which what a terminal wouldn't show, and might obey, is a `?`."""
+    return "".join(it if it.isprintable() else "?" for it in text)
 
 
 def percent(number: float) -> str:

@@ -25,6 +25,8 @@ _PIECE = re.compile(
     re.VERBOSE,
 )
 _WEIGHT = re.compile(rb"--[ \t\r]*(?P<word>weight)[ \t]+(?P<number>[0-9]+)[ \t\r]*\Z", re.IGNORECASE)
+BLANKS = ("blank", "line", "block")
+"""The kinds of lexemes that separate tokens."""
 
 
 @dataclass(frozen=True)
@@ -41,23 +43,37 @@ class Token:
         return self.text.decode("ascii").upper() if self.kind == "word" else ""
 
 
-def tokens(text: bytes) -> Iterator[Token]:
-    """The tokens of the text, up to its end, to the first byte that no token takes or to a comment without an end.
-
-    A comment `-- weight N` is a token of kind `weight` whose text is the number's digits.
-    """
+def lexemes(text: bytes) -> Iterator[tuple[str, bytes]]:
+    """The kind and the bytes of each blank, comment and token in turn, up to the end of the text, to the first byte that no
+    token takes or to a comment without an end."""
     at = 0
     while at < len(text):
         found = _PIECE.match(text, at)
         if found is None or found.lastgroup == "unended":
             return
-        kind, piece = str(found.lastgroup), found.group()
-        weight = _WEIGHT.match(piece) if kind == "line" else None
-        if weight is not None:
-            yield Token("weight", weight["number"], at + 1)
-        elif kind not in ("blank", "line", "block"):
-            yield Token(kind, piece, at + 1)
+        yield str(found.lastgroup), found.group()
         at = found.end()
+
+
+def weight_in(kind: str, piece: bytes) -> bytes | None:
+    """The digits of a comment `-- weight N`; nothing of any other lexeme."""
+    found = _WEIGHT.match(piece) if kind == "line" else None
+    return found["number"] if found is not None else None
+
+
+def tokens(text: bytes) -> Iterator[Token]:
+    """The tokens among the lexemes of the text.
+
+    A comment `-- weight N` is a token of kind `weight` whose text is the number's digits.
+    """
+    place = 1
+    for kind, piece in lexemes(text):
+        weight = weight_in(kind, piece)
+        if weight is not None:
+            yield Token("weight", weight, place)
+        elif kind not in BLANKS:
+            yield Token(kind, piece, place)
+        place += len(piece)
 
 
 @dataclass(frozen=True)

@@ -7,7 +7,7 @@ from dataclasses import dataclass
 from typing import Any
 
 from cophy_text import keys
-from cophy_text.tokens import Token, names_in, place_of, tokens
+from cophy_text.tokens import Token, names_in, tokens
 
 _RANGES = (b"<", b"<=", b">", b">=")
 _LITERALS = ("whole", "decimal", "text")
@@ -114,23 +114,23 @@ def _column(
 def workload_remarks(content: bytes, document: dict[str, Any]) -> list[Remark]:
     """Statements whose price is a guess, and a workload without any."""
     found, statement = list[Remark](), list[Token]()
-    kinds = _kinds(document)
-    number = 0
+    kinds = kinds_of(document)
+    number, line, at = 0, 1, 0
     for token in [*tokens(content), Token("symbol", b";", len(content) + 1)]:
         if token.kind == "weight":
             continue
         if token.text != b";":
+            if not statement:
+                line, at = line + content.count(b"\n", at, token.place), token.place
             statement.append(token)
         elif statement:
             number += 1
-            found += _statement(
-                statement, kinds, f"statement {number}, line {place_of(content, statement[0].place).line}"
-            )
+            found += statement_remarks(statement, kinds, f"statement {number}, line {line}")
             statement = []
     return found if number else [Warning("workload", "it holds no statement: every total is 0")]
 
 
-def _kinds(document: dict[str, Any]) -> dict[str, set[str]]:
+def kinds_of(document: dict[str, Any]) -> dict[str, set[str]]:
     """The kinds of all columns of a name."""
     found: dict[str, set[str]] = {}
     for table in elements_of(document, "table"):
@@ -139,7 +139,7 @@ def _kinds(document: dict[str, Any]) -> dict[str, set[str]]:
     return found
 
 
-def _statement(listed: list[Token], kinds: dict[str, set[str]], place: str) -> Iterator[Remark]:
+def statement_remarks(listed: list[Token], kinds: dict[str, set[str]], place: str) -> Iterator[Remark]:
     """What is said of a statement: of each kind of note once, with the columns that it is of."""
     columns: dict[str, list[str]] = {}
     for at, token in enumerate(listed):

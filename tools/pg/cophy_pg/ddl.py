@@ -5,7 +5,7 @@ import re
 from dataclasses import dataclass
 
 from cophy_text import files
-from cophy_text.answers import Advice, Candidate, read_advice
+from cophy_text.answers import Advice, Candidate, NoAnswer, read_advice, read_retuned
 from cophy_pg.schema import Schema, Table
 
 LONGEST = 63
@@ -64,9 +64,15 @@ class Made:
         return [it.statement() for it in self.indexes]
 
 
-def advice_of(file: str) -> Advice:
-    """The advice of a file, or of the standard input."""
-    return read_advice(files.read(file).decode(errors="replace"))
+def advice_of(file: str, may_be_retuned: bool = False) -> Advice:
+    """The advice of a file, or of the standard input; of what `retune` printed the last one, where only the picks' tables and
+    columns count, since it numbers the candidates of the edited statements."""
+    text = files.read(file).decode(errors="replace")
+    if not text.startswith("advice 1\n"):
+        return read_advice(text)
+    if not may_be_retuned:
+        raise NoAnswer("retune numbers the candidates of the edited statements: give what cophy advise prints on these")
+    return read_retuned(text)[-1]
 
 
 def table_of(schema: Schema, pick: Candidate) -> Table:

@@ -14,6 +14,7 @@ from cophy_pg.changes import add_changes
 from cophy_pg.curve import add_curve
 from cophy_pg.daily import add_daily
 from cophy_pg.ddl import NoIndex
+from cophy_pg.edits import add_edits
 from cophy_pg.export import add_export, add_rewrite
 from cophy_text.files import ENDS, NoFile
 from cophy_pg.health import add_health
@@ -42,6 +43,7 @@ def main() -> int:
         add_health,
         add_daily,
         add_changes,
+        add_edits,
         add_snapshot,
         add_export,
         add_rewrite,

@@ -35,7 +35,11 @@ def add_ddl(commands: argparse._SubParsersAction[argparse.ArgumentParser]) -> No
         "the reason.",
     )
     parser.add_argument("catalogue", metavar="CATALOGUE", help="the catalogue that the advice is of")
-    parser.add_argument("advice", metavar="ADVICE", help="what cophy advise printed; - for the standard input")
+    parser.add_argument(
+        "advice",
+        metavar="ADVICE",
+        help="what cophy advise printed, or cophy retune, whose last advice counts; - for the standard input",
+    )
     parser.add_argument(
         "--script",
         action="store_true",
@@ -67,7 +71,7 @@ def rate(text: str) -> int:
 
 def ddl(words: argparse.Namespace) -> int:
     """Prints the statements."""
-    schema, advice = read_schema(files.read(words.catalogue)), advice_of(words.advice)
+    schema, advice = read_schema(files.read(words.catalogue)), advice_of(words.advice, may_be_retuned=True)
     searched = searched_columns(files.read(words.include)) if words.include else None
     is_newer = _is_newer(words.catalogue, words.advice)
     if is_newer:

@@ -13,11 +13,14 @@ from collections.abc import Iterator
 from typing import Any
 
 from cophy_text import keys
-from cophy_text.tokens import Token, has_statement, place_of, tokens
-from cophy_wrapper.forms import byte_hint, text_hint, token_hint
+from cophy_text.edits import ADVISE, edits_in, read_edit
+from cophy_text.shown import printable
+from cophy_text.tokens import has_statement, place_of
+from cophy_wrapper.edits import edit_hint
 from cophy_wrapper.outputs import unwritten
 from cophy_wrapper.progress import say
 from cophy_wrapper.rules import rules_hint
+from cophy_wrapper.sql import sql_hint
 from cophy_wrapper.words import files_read
 
 ROLES = ("catalogue", "workload", "third file", "fourth file")
@@ -31,6 +34,7 @@ FORMS = {
     "ruled": "cophy ruled CAT LOAD BUDGET RULES [--nodes N] [--cert FILE]",
     "check-ruled": "cophy check-ruled CAT LOAD RULES CERT",
     "sweep": "cophy sweep CAT LOAD FIRST STEP COUNT [--nodes N] [--cert PREFIX]",
+    "retune": "cophy retune CAT LOAD EDITS BUDGET [--nodes N]",
     "fold": "cophy fold CAT LOAD OUT",
     "bench": "cophy bench SEED TABLES STATEMENTS BUDGET",
 }
@@ -40,9 +44,11 @@ NUMBERS = {
     "ruled": "BUDGET is pages from 0 to 10^12, and --nodes from 1 to 10^6",
     "sweep": "FIRST is pages from 0 to 10^12, STEP from 1 to 10^12 and COUNT from 1 to 16, the last budget is at most 10^12 "
     "pages, and --nodes from 1 to 10^6",
+    "retune": "BUDGET is pages from 0 to 10^12, and --nodes from 1 to 10^6",
     "bench": "SEED is below 2^64, TABLES from 2 to 20, STATEMENTS from 1 to 500, BUDGET up to 10^12",
 }
 _PLACED = re.compile(r"refused: (.+) at (\d+)\Z")
+_EDIT = re.compile(r"refused: edit line (\d{1,18}): (.+)\Z")
 _PATH = re.compile(r"refused: (missing|wrong kind|out of range|name twice|unknown name) ([a-z_.\[\]0-9]+)\Z")
 _OPENS_SQL = re.compile(
     rb"\s*(--[^\n]*\n\s*|/\*.*?\*/\s*)*(select|insert|update|delete|with)\b", re.IGNORECASE | re.DOTALL
@@ -74,13 +80,15 @@ class Call:
 
 def hints(call: Call) -> Iterator[str]:
     """The hints for an answer, a line each."""
-    placed, path = _PLACED.match(call.text), _PATH.match(call.text)
+    edit, placed, path = (it.match(call.text) for it in (_EDIT, _PLACED, _PATH))
     if call.status == 0:
         yield from _done(call)
     elif call.text.startswith("usage: "):
         yield from _usage(call)
     elif call.text.startswith("read fault: "):
         yield from _read_fault(call, call.text.removeprefix("read fault: "))
+    elif edit is not None:
+        yield from edit_hint(int(edit[1]), edit[2], call.files[2], call.content(2), call.catalogue(), call.files[0])
     elif placed is not None:
         yield from _placed(call, placed[1], int(placed[2]))
     elif path is not None:
@@ -90,7 +98,10 @@ def hints(call: Call) -> Iterator[str]:
 
 
 def _done(call: Call) -> Iterator[str]:
-    if len(call.files) > 1 and not has_statement(call.content(1)):
+    if call.words[0] == "retune":
+        if not any(it == ADVISE for _, _, it in edits_in(call.content(2))):
+            yield f"{call.files[2]} asks for no advice, so nothing was printed: advise in a line of its own does"
+    elif len(call.files) > 1 and not has_statement(call.content(1)):
         yield f"{call.files[1]} holds no statement, so nothing was priced"
     for path, hint in keys.unknown_keys(call.catalogue()):
         yield f"{call.files[0]}: the key {path} means nothing and was passed over{': ' + hint if hint else ''}"
@@ -133,51 +144,12 @@ def _placed(call: Call, fault: str, at: int) -> Iterator[str]:
     if call.files[1:] and not _OPENS_SQL.match(text) and _is_catalogue(text):
         yield f"{call.files[1]} looks like a catalogue: the catalogue comes first, then the workload"
         return
+    if read_edit(text.split(b"\n", 1)[0]) is not None:
+        yield f"{call.files[1]} looks like edits: cophy retune takes them behind the workload"
+        return
     place = place_of(text, at)
     yield f"{call.files[1]}, line {place.line}, column {place.column}, statement {place.statement}"
-    yield f"  {place.shown}"
-    yield f"  {place.mark}"
-    here = list(tokens(text))
-    index = next((it for it, token in enumerate(here) if token.place >= at), len(here))
-    token = here[index] if index < len(here) and here[index].place == at else None
-    if fault in ("bad byte", "open text"):
-        hint = (
-            byte_hint(text, at)
-            if fault == "bad byte"
-            else "what opens here is never closed: a ' within a text is written ''"
-        )
-    elif fault in ("syntax", "unsupported"):
-        hint = token_hint(here, index, token)
-    else:
-        hint = _name_hint(call, fault, token, here[:index])
-    if hint:
-        yield hint
-
-
-def _name_hint(call: Call, fault: str, token: Token | None, before: list[Token]) -> str | None:
-    name = token.text.decode(errors="replace").strip('"') if token is not None else ""
-    tables = [it for it in call.catalogue().get("table", []) if isinstance(it, dict)]
-    if fault == "no table":
-        near = keys.nearest(name, [str(it.get("name")) for it in tables])
-        return f"{name} is no table of {call.files[0]}" + (f"; did you mean {near}?" if near else "")
-    if fault == "no column":
-        written = text_hint(before, token)
-        if written:
-            return written
-        columns = {str(it.get("name")) for table in tables for it in table.get("column", []) if isinstance(it, dict)}
-        near = keys.nearest(name, sorted(columns))
-        if near and near.lower() == name.lower():
-            return f"{name} is a column of no table that the statement names there"
-        return f"{name} is no column" + (f"; did you mean {near}?" if near else "")
-    return {
-        "ambiguous": f"several of the statement's tables have a column {name}: write TABLE.{name}",
-        "alias twice": f"{name} stands twice: give each source another alias",
-        "more than 8 slots": "a statement has at most 8 tables: leave out a small one, or split the statement",
-        "unjoined": "no equality of two columns connects all tables of this statement: there are no cross products",
-        "bad weight": "a weight is a whole number from 1 to 1000000",
-        "more than 1000 statements": "keep the 1000 statements that cost most",
-        "more than 2000 slots": "all statements together have at most 2000 tables: keep those that cost most",
-    }.get(fault)
+    yield from (f"  {place.shown}", f"  {place.mark}", *sql_hint(text, fault, at, call.catalogue(), call.files[0]))
 
 
 def _path(call: Call, fault: str, path: str) -> Iterator[str]:
@@ -210,7 +182,7 @@ def _refused(call: Call, text: str) -> Iterator[str]:
     if text == "not toml":
         yield from _not_toml(call)
     elif text.startswith("too long "):
-        yield "a catalogue, a workload, a configuration and a file of rules have at most 16777216 bytes each"
+        yield "a catalogue, a workload, a configuration, rules and edits have at most 16777216 bytes each"
     elif text.startswith("folded workload too long "):
         yield "a workload has at most 16777216 bytes: fold its statements in two files"
     elif text.startswith("rules "):
@@ -257,7 +229,7 @@ def main(words: list[str]) -> int:
     """Takes the status of the call, the program, and its words. The status is always 0."""
     try:
         for line in _lines(int(words[0]), words[1], words[2:]):
-            say(line)
+            say(printable(line))
     except (OSError, LookupError, TypeError, ValueError):
         pass
     return 0

@@ -5,6 +5,7 @@ _PLACES = {
     "explain": (1, 2, 3),
     "whatif": (1, 2, 3),
     "check": (1, 2, 3),
+    "retune": (1, 2, 3),
     "ruled": (1, 2, 4),
     "check-ruled": (1, 2, 3, 4),
     "bench": (),
