@@ -2,7 +2,7 @@
 """`cophy` where memory is refused: a command is run again and again, and each time one more allocation succeeds before one is
 refused, until a run asks for no more. Each run has to end with status 7, write nothing and put no file, or with the answer and
 the certificate of a run in which none is refused. The commands: `explain` of a join of a chain of four tables, whose least plan
-is bushy; `cost` on the shop of the examples; `advise --cert` where one of two indexes fits; `check` of such a certificate.
+is bushy; `cost` on the shop of the examples; `advise --cert` where one of two indexes fits; `check` of such a certificate; `retune` by an edit of each kind.
 
 A shared library that is loaded first stands in for the C library's `malloc`, `calloc`, `realloc` and the aligned ones, and
 refuses the call of a number, or all from it on (`--all`). It is written in C to a temporary folder and compiled by `cc`, so this
@@ -90,6 +90,7 @@ CERTIFICATE = "\n".join(
         "",
     ]
 )
+EDITS = "remove 2\nadd 11 SELECT d, e FROM v ORDER BY d, e\nweigh 1 1\nadvise\n"
 MEMORY = 7
 MOST = 1_000_000
 
@@ -135,6 +136,7 @@ def cases() -> list[Case]:
             "advise CAT LOAD 4 --cert PROOF", knapsack, b"budget 4\ncandidates 2 left over 0\npick 2 v(d, e) 4 pages\n"
         ),
         Case("check CAT LOAD CERT", {**knapsack, "CERT": CERTIFICATE}, b"proved cost 954000 bound 954000 budget 4\n"),
+        Case("retune CAT LOAD EDITS 4", {**knapsack, "EDITS": EDITS}, b"advice 1\nbudget 4\ncandidates 2 left over 0\n"),
     ]
 
 

@@ -1,0 +1,105 @@
+#!/usr/bin/env -S python3 -IB
+"""`cophy retune` on workloads of the generator, of 100 to 1000 statements: what one more edit takes of the processor's
+time, by its kind, beside making the programme from scratch; and a second advice, after one edit, beside the first. It
+prints Markdown."""
+import os
+import re
+import sys
+from tempfile import TemporaryDirectory
+
+sys.path.insert(0, os.path.dirname(os.path.realpath(__file__)))
+from measure import Run, arguments, need_answer, need_program, run_once  # noqa: E402
+from workloads import Workload, budget_of, candidate_pages, put  # noqa: E402
+
+SEED = 2
+TABLES = 20
+STATEMENTS = (100, 300, 1000)
+# How many edits of a kind are measured together.
+WEIGHED = 900
+MOVED = 20
+# The budget, in hundredths of the pages of all candidates.
+SHARE = 20
+HEADS = (
+    "statements",
+    "candidates",
+    "from scratch ms",
+    "`weigh` us",
+    "`add` ms",
+    "`remove` ms",
+    "first advice ms",
+    "second ms",
+    "second over first",
+    "nodes of both",
+)
+
+
+def edits(statements: list[tuple[str, str]]) -> dict[str, str]:
+    """The edits that are run, by a name. Those of `add` take statements away too, and add these again."""
+    removed = "remove 1\n" * MOVED
+    return {
+        "none": "",
+        "weigh": "".join(f"weigh {it % len(statements) + 1} {it % 99 + 1}\n" for it in range(WEIGHED)),
+        "remove": removed,
+        "add": removed + "".join(f"add {weight} {text}\n" for weight, text in statements[:MOVED]),
+        "advice": "advise\n",
+        "second": f"advise\nweigh 1 {2 * int(statements[0][0])}\nadvise\n",
+    }
+
+
+def runs_of(program: str, workload: Workload, folder: str, repeat: int) -> dict[str, Run]:
+    """The run of `candidates`, and that of each of the edits: the lightest of those made in turn."""
+    files = put(workload, folder)
+    budget = budget_of(SHARE, candidate_pages(program, workload, folder))
+    commands = {"candidates": [program, "candidates", *files]}
+    with open(files[1]) as file:
+        statements = re.findall(r"^-- weight (\d+)\n(.*)$", file.read(), re.M)
+    for name, text in edits(statements).items():
+        path = os.path.join(folder, f"{name}.edits")
+        with open(path, "w") as file:
+            file.write(text)
+        commands[name] = [program, "retune", *files, path, str(budget)]
+    rounds: list[dict[str, Run]] = [{name: run_once(words) for name, words in commands.items()} for _ in range(repeat)]
+    runs = {name: min((it[name] for it in rounds), key=lambda run: run.processor) for name in commands}
+    for name, run in runs.items():
+        need_answer(run, f"{name} of {workload}")
+    return runs
+
+
+def row_of(workload: Workload, runs: dict[str, Run]) -> tuple[object, ...]:
+    def spent(name: str, before: str, count: int = 1) -> float:
+        """The milliseconds of one of so many edits that a run has beyond another one's."""
+        return 1000 * (runs[name].processor - runs[before].processor) / count
+
+    first, second = spent("advice", "none"), spent("second", "advice")
+    return (
+        workload.statements,
+        runs["candidates"].output.count(b" pages\n"),
+        f"{spent('none', 'candidates'):.2f}",
+        f"{1000 * spent('weigh', 'none', WEIGHED):.1f}",
+        f"{spent('add', 'remove', MOVED):.2f}",
+        f"{spent('remove', 'none', MOVED):.2f}",
+        f"{first:.1f}",
+        f"{second:.1f}",
+        f"{second / first:.2f}",
+        ", ".join(re.findall(r"^nodes (\d+) ", runs["second"].output.decode(), re.M)),
+    )
+
+
+def print_line(cells: tuple[object, ...]) -> None:
+    print("|", " | ".join(map(str, cells)), "|", flush=True)
+
+
+def main() -> None:
+    parser = arguments("edits of workloads of 100 to 1000 statements")
+    parser.add_argument("--quick", action="store_true", help="100 and 300 statements alone")
+    options = parser.parse_args()
+    need_program(options.program)
+    print_line(HEADS)
+    print("|---" * len(HEADS) + "|")
+    with TemporaryDirectory() as folder:
+        for count in STATEMENTS[:2] if options.quick else STATEMENTS:
+            workload = Workload(SEED, TABLES, count)
+            print_line(row_of(workload, runs_of(options.program, workload, folder, options.repeat)))
+
+
+main()
