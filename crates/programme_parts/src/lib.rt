@@ -22,6 +22,6 @@ mod slots;
 mod whole;
 
 pub use caches::block_cache;
-pub use laws::{blocks_have_one_count, programmes_are_one};
+pub use laws::blocks_have_one_count;
 pub use parts::{part, push_part};
 pub use whole::programme_with_parts;
