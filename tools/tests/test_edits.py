@@ -442,6 +442,14 @@ class OfTheProgram(InFolder):
         self.assertEqual((status, [it.cost for it in found]), (0, [954000, 130000, 234000]))
         self.assertEqual([[pick.number for pick in it.picks] for it in found], [[2], [1], [2]])
 
+    def test_one_gap_gives_the_status(self) -> None:
+        catalogue, workload, edits = (str(ROOT / "examples" / f"two.{it}") for it in ("toml", "sql", "edits"))
+        status, text = called("retune", catalogue, workload, edits, "4", "--nodes", "1")
+        self.assertEqual((status, [it.is_finished for it in read_retuned(text)]), (1, [False, True, False]))
+        self.lay(edits=b"remove 2\nadvise\n")
+        status, text = called("retune", catalogue, workload, *self.in_folder("edits"), "4", "--nodes", "1")
+        self.assertEqual((status, [it.is_finished for it in read_retuned(text)]), (0, [True]))
+
     def test_edits_lead_to_the_advice_on_the_later_workload(self) -> None:
         draw = random.Random(4)
         files = self.in_folder("old", "new", "edits")

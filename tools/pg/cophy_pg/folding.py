@@ -8,6 +8,7 @@ from pathlib import Path
 
 from cophy_text.answers import NoAnswer, counted, read_folded
 from cophy_text.tokens import tokens
+from cophy_text.workloads import NoWorkload, read_statements
 from cophy_pg.program import NoCommand, Program, ProgramFault
 from cophy_pg.ranking import ready
 from cophy_pg.workload import text_of
@@ -108,7 +109,11 @@ class Batches:
         by_tokens: dict[bytes, str] = {}
         for it, _ in listed:
             by_tokens.setdefault(joined(it), it)
-        found = {by_tokens[it]: weight for it, weight in _groups(self.out.read_bytes()) if it in by_tokens}
+        try:
+            groups = read_statements(self.out.read_bytes())
+        except NoWorkload as fault:
+            raise NoAnswer(f"fold writes what is no workload: {fault}") from None
+        found = {by_tokens[it.text]: it.weight for it in groups if it.text in by_tokens}
         if len(found) != count:
             raise NoAnswer("fold writes other statements than those that it was given")
         return found
@@ -125,19 +130,6 @@ def form(text: str) -> bytes:
     """A statement without its literals; of two of one form, one most often stands for the other."""
     listed = (it for it in tokens(text.encode(errors="replace")) if it.kind != "weight")
     return b" ".join(b"?" if it.kind in LITERALS else it.text for it in listed)
-
-
-def _groups(content: bytes) -> Iterator[tuple[bytes, int]]:
-    """The tokens and the weight of each statement of a folded workload."""
-    weight, listed = 1, list[bytes]()
-    for it in tokens(content):
-        if it.kind == "weight":
-            weight = int(it.text)
-        elif it.text == b";":
-            yield b" ".join(listed), weight
-            listed.clear()
-        else:
-            listed.append(it.text)
 
 
 def _chunks(texts: dict[str, int], most: tuple[int, int, int] = CHUNK) -> Iterator[list[str]]:

@@ -9,6 +9,7 @@ from typing import TYPE_CHECKING
 from pglast import ast
 from pglast.parser import ParseError
 
+from cophy_text.workloads import MOST_BYTES, MOST_STATEMENTS, MOST_WEIGHT
 from cophy_pg.inputs import Input
 from cophy_pg.rewrite import Rewriter, Rewritten
 from cophy_pg.rewrite.expressions import nodes_of
@@ -19,7 +20,7 @@ if TYPE_CHECKING:
 
 FROM, TIMES = "from", "*"
 _NUMBER = re.compile(r"[0-9]{1,20}(\.[0-9]{1,20})?(e[-+]?[0-9]{1,2})?")
-MOST_STATEMENTS, MOST_SLOTS, MOST_WEIGHT, MOST_BYTES = 1000, 2000, 10**6, 16777216
+MOST_SLOTS = 2000
 
 
 @dataclass

@@ -13,7 +13,7 @@ from collections.abc import Iterator
 from typing import Any
 
 from cophy_text import keys
-from cophy_text.edits import ADVISE, edits_in, read_edit
+from cophy_text.edits import ADVISE, read_edit
 from cophy_text.shown import printable
 from cophy_text.tokens import has_statement, place_of
 from cophy_wrapper.edits import edit_hint
@@ -99,7 +99,7 @@ def hints(call: Call) -> Iterator[str]:
 
 def _done(call: Call) -> Iterator[str]:
     if call.words[0] == "retune":
-        if not any(it == ADVISE for _, _, it in edits_in(call.content(2))):
+        if ADVISE.line() not in call.content(2).split(b"\n"):
             yield f"{call.files[2]} asks for no advice, so nothing was printed: advise in a line of its own does"
     elif len(call.files) > 1 and not has_statement(call.content(1)):
         yield f"{call.files[1]} holds no statement, so nothing was priced"
