@@ -1,5 +1,6 @@
 //! The search for the cheapest configuration: best bound first, over linear relaxations, with fixings and roundings.
 
+use crate::clashing::settle;
 use crate::configuration::{Chosen, Incumbent};
 use crate::rounding::{Rounding, Shared, view_node};
 use crate::tree::{MOST_NODES, Tree};
@@ -187,7 +188,7 @@ impl Finder {
                 return;
             }
             let count = self.fix(visit);
-            visit.is_closed = pages(matrix, &visit.fix) > budget;
+            visit.is_closed = !settle(matrix, &mut visit.fix) || pages(matrix, &visit.fix) > budget;
             if visit.is_closed {
                 return;
             }
@@ -229,14 +230,20 @@ impl Finder {
     }
 
     /// Branches at a node; the side to which the share of the branch's candidate rounds, if it is open.
-    fn branch(&mut self, place: usize, visit: &Visit, number: usize) -> Option<usize> {
+    fn branch(
+        &mut self,
+        matrix: &Matrix,
+        place: usize,
+        visit: &Visit,
+        number: usize,
+    ) -> Option<usize> {
         let candidate = at(self.view.candidates.as_slice(), number, 0);
         let rises = self.losses.best_rises(&self.view, &self.lagrangian, number);
         let inside = self.side_bound(visit, rises.inside);
         let outside = self.side_bound(visit, rises.outside);
-        let first = self
-            .tree
-            .branch(place, &visit.fix, candidate, [inside, outside]);
+        let fixes = sides(matrix, &visit.fix, candidate);
+        let bounds = [inside, outside];
+        let first = self.tree.branch(place, candidate, &fixes, bounds);
         if self.shares[candidate as usize] >= 0.5 {
             self.open_side(first, inside)
         } else {
@@ -277,7 +284,7 @@ impl Finder {
         if is_closed {
             None
         } else {
-            self.branch(place, &visit, number)
+            self.branch(matrix, place, &visit, number)
         }
     }
 
@@ -325,6 +332,15 @@ impl Finder {
             root_bound: self.root_bound,
         }
     }
+}
+
+/// The sides of a branch, where a candidate is in and what clashes with it out, and where it is out.
+fn sides(matrix: &Matrix, fix: &Fix, candidate: u8) -> [Fix; 2] {
+    let mut sides = [*fix; 2];
+    sides[0].state[candidate as usize] = State::In;
+    let _ = settle(matrix, &mut sides[0]);
+    sides[1].state[candidate as usize] = State::Out;
+    sides
 }
 
 /// The pages of what is in at a node.

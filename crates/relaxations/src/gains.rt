@@ -81,8 +81,21 @@ impl Gains {
         20.0 * outside.min(inside) + 3.0 * outside.max(inside) + 120.0 * doubt
     }
 
-    /// The open candidate whose branch promises most, under a set with which so much is needed; those first that are fixed
-    /// at a node of the tree.
+    /// The open candidate with a clash that gains most where it is left out, if one gains.
+    pub(crate) fn best_clash(&self, path: &Path) -> Option<usize> {
+        let mut best = None;
+        let mut most = 0;
+        for a in 0..256 {
+            if self.outside[a] > most && path.is_open(a) && path.is_clash(a) {
+                most = self.outside[a];
+                best = Some(a);
+            }
+        }
+        best
+    }
+
+    /// The open candidate without a clash whose branch promises most, under a set with which so much is needed; those first
+    /// that are fixed at a node of the tree.
     pub(crate) fn choice(
         &self,
         path: &Path,
@@ -93,7 +106,7 @@ impl Gains {
         let mut best = None;
         let mut most = f64::NEG_INFINITY;
         for a in 0..256 {
-            if !path.is_open(a) {
+            if !path.is_choice(a) {
                 continue;
             }
             let mut promise = self.promise(a, need, ledger.shares[a]);

@@ -52,7 +52,7 @@ impl Planner {
 
     /// Takes a fixing of the tree where a set closes its other side; whether one does.
     fn take_known(&mut self, task: &Task<'_>, candidate: usize, is_inside: bool) -> bool {
-        if !self.path.is_open(candidate) || self.is_full(task, usize::MAX) {
+        if !self.path.is_choice(candidate) || self.is_full(task, usize::MAX) {
             return false;
         }
         let depth = self.path.depth();
@@ -95,12 +95,12 @@ impl Planner {
         is_any
     }
 
-    /// The node of the tree for the present one: below those whose branch isn't on an open candidate here.
+    /// The node of the tree for the present one: below those whose branch isn't on a candidate that may come in here.
     fn descend(&self, tree: &Tree, from: TreeNode) -> TreeNode {
         let mut node = from;
         for _level in 0..257 {
             let candidate = branch_of(&node);
-            if !is_inner(&node) || self.path.is_open(candidate) {
+            if !is_inner(&node) || self.path.is_choice(candidate) {
                 break;
             }
             let side = if self.path.is_in(candidate) { 0 } else { 1 };
@@ -182,9 +182,9 @@ impl Planner {
         }
     }
 
-    /// The sides of a node of the tree whose branch is on an open candidate.
+    /// The sides of a node of the tree whose branch is on a candidate that may come in.
     fn sides(&self, tree: &Tree, node: &TreeNode) -> Option<(TreeNode, TreeNode)> {
-        if !is_inner(node) || !self.path.is_open(node.branch as usize) {
+        if !is_inner(node) || !self.path.is_choice(node.branch as usize) {
             return None;
         }
         let inside = node_of(tree, node.sides[0] as usize)?;
