@@ -1,7 +1,8 @@
 //! Bounds that are worked out by hand, and those of small programmes at all nodes against a plain program.
-ghost use Rattle.std.specs.Prelude.{◌≡◌, ◌<◌, ◌≤◌, length};
+ghost use Rattle.std.specs.Prelude.{◌≡◌, ℕ, ◌<◌, ◌≤◌, length};
 ghost use Rattle.adv_base.specs.declared.limits.TheConstants.{MOST_ROWS};
-ghost use Rattle.bip_model.specs.Views.{AreMultipliers};
+ghost use Rattle.bip_model.specs.declared.fix.State.TheVariants.{Free};
+ghost use Rattle.bip_model.specs.Views.{AreMultipliers, state_at};
 ghost use Rattle.lagrange_bound.specs.Ledgers as ledgers;
 
 use crate::made::{knapsack, mixed};
@@ -15,7 +16,9 @@ use std::alloc::Global;
 use std::process::Abort;
 
 /// The node that says so much of the first four candidates; the others are free.
-fn node(states: [State; 4]) -> Fix {
+fn node(states: [State; 4]) -> Fix
+    ensures { (i : ℕ) → 4 ≤ i → state_at result i ≡ Free }
+{
     let mut fix = Fix {
         state: [State::Free; 256],
     };
@@ -48,7 +51,9 @@ fn state(number: u32, place: u32) -> State
 }
 
 /// The node of a number below 81, which has in base 3 a digit for each of the first four candidates.
-pub(crate) fn numbered_node(number: u32) -> Fix {
+pub(crate) fn numbered_node(number: u32) -> Fix
+    ensures { (i : ℕ) → 4 ≤ i → state_at result i ≡ Free }
+{
     node([
         state(number, 1),
         state(number, 3),
