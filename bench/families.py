@@ -56,7 +56,7 @@ def print_sums(rows: list[Row]) -> None:
 def searched(options: argparse.Namespace, advice: Advice, name: str, seed: int, folder: str) -> list[Row]:
     """The searches of one workload."""
     paths = [os.path.join(folder, f"workload.{end}") for end in ("toml", "sql")]
-    for path, text in zip(paths, texts(name, seed)):
+    for path, text in zip(paths, texts(name, seed, options.may_cluster)):
         with open(path, "w") as file:
             file.write(text)
     printed = advice.printed([["print-files", *paths]])[0]
@@ -84,6 +84,7 @@ def main() -> None:
     add_options(parser)
     parser.add_argument("--shapes", help=f"with blanks between (default: {' '.join(SHAPES)})")
     parser.add_argument("--seeds", default="2 4", help="with blanks between (default: 2 4)")
+    parser.add_argument("--may-cluster", action="store_true", help="each table may get one clustered index")
     parser.add_argument("--nodes", type=int, default=20000, help="nodes of a search (default: 20000)")
     parser.add_argument("--most", type=float, default=MOST_SECONDS, help="seconds that a solver may take (default: 60)")
     parser.add_argument("--no-solvers", action="store_true", help="leave the solvers out")
