@@ -45,3 +45,44 @@ pub(crate) fn settle(matrix: &Matrix, fix: &mut Fix) -> bool {
     }
     is_apart
 }
+
+/// What a relaxation takes of each group in all, and what the value rises by where all of it is left out, one by one.
+#[derive(Clone, Copy)]
+pub(crate) struct Crowds {
+    shares: [f64; 256],
+    losses: [f64; 256],
+}
+
+impl Crowds {
+    pub(crate) const BLANK: Crowds = Crowds {
+        shares: [0.0; 256],
+        losses: [0.0; 256],
+    };
+
+    /// Adds a candidate, with what the value rises by where it is left out.
+    pub(crate) fn add(&mut self, group: u8, share: f64, outside: f64) {
+        if group != 0 {
+            self.shares[group as usize] += share;
+            self.losses[group as usize] += outside.max(0.0);
+        }
+    }
+
+    /// How much of a candidate's share is too much, as its group has more than one.
+    pub(crate) fn excess(&self, group: u8, share: f64) -> f64 {
+        if group == 0 {
+            0.0
+        } else {
+            share.min(self.shares[group as usize] - 1.0).max(0.0)
+        }
+    }
+
+    /// What the value rises by on the side where a candidate comes in and what clashes with it is left out, if it rises by so
+    /// much on either side without that.
+    pub(crate) fn inside(&self, group: u8, inside: f64, outside: f64) -> f64 {
+        if group == 0 {
+            inside
+        } else {
+            inside + self.losses[group as usize] - outside.max(0.0)
+        }
+    }
+}

@@ -1,5 +1,6 @@
 //! The way from a root to a node, one candidate after the other.
 
+use crate::ledger::Each;
 use adv_base::NoMemory;
 use bip_model::{Fix, State};
 use interior_point::{Matrix, NO_PLACES, Places, at};
@@ -84,9 +85,14 @@ impl Path {
         candidate < 256 && self.fix.state[candidate] == State::Free
     }
 
+    /// The group of a candidate.
+    pub(crate) fn group(&self, candidate: usize) -> u8 {
+        at(&self.groups, candidate, 0)
+    }
+
     /// Whether a candidate that isn't in clashes with one that is.
     pub(crate) fn is_clash(&self, candidate: usize) -> bool {
-        let group = at(&self.groups, candidate, 0);
+        let group = self.group(candidate);
         group != 0 && self.members[group as usize] > 0
     }
 
@@ -106,9 +112,20 @@ impl Path {
         fix
     }
 
+    /// What open candidates that clash take off a value, where each costs so much.
+    pub(crate) fn lost(&self, terms: &Each) -> i128 {
+        let mut lost = 0i128;
+        for a in 0..256 {
+            if self.is_clash(a) && self.is_open(a) {
+                lost = lost.wrapping_sub(terms[a].min(0));
+            }
+        }
+        lost
+    }
+
     /// Counts a candidate that comes in.
     fn enter(&mut self, candidate: usize) {
-        let group = at(&self.groups, candidate, 0);
+        let group = self.group(candidate);
         if group != 0 {
             let count = self.members[group as usize];
             self.members[group as usize] = count.saturating_add(1);
@@ -120,7 +137,7 @@ impl Path {
 
     /// Counts a candidate that comes in no more.
     fn leave(&mut self, candidate: usize) {
-        let group = at(&self.groups, candidate, 0);
+        let group = self.group(candidate);
         if group != 0 {
             let count = self.members[group as usize].saturating_sub(1);
             self.members[group as usize] = count;

@@ -88,6 +88,8 @@ pub(crate) struct Planner {
     pub lifting: Lifting,
     is_heavy: bool,
     values: [i128; MOST_SETS],
+    /// The values where what clashes is left out.
+    promised: [i128; MOST_SETS],
     most_nodes: usize,
 }
 
@@ -113,6 +115,7 @@ impl Planner {
             lifting: Lifting::new(alloc, matrix)?,
             is_heavy: false,
             values: [0; MOST_SETS],
+            promised: [0; MOST_SETS],
             most_nodes: nodes,
         })
     }
@@ -200,6 +203,8 @@ impl Planner {
         self.asked = self.asked.wrapping_add(1);
         let value = self.ledgers[set].value(task.matrix, &self.path);
         put(&mut self.values, set, value);
+        let lost = self.path.lost(&self.ledgers[set].terms);
+        put(&mut self.promised, set, value.wrapping_add(lost));
         value
     }
 
@@ -312,14 +317,16 @@ impl Planner {
         is_any
     }
 
-    /// The best set that isn't among the first of some.
+    /// The set that promises most and isn't among some.
     fn next_best(&self, tried: &[usize]) -> Best {
         let mut best = Best {
             set: usize::MAX,
             value: i128::MIN,
         };
+        let mut most = i128::MIN;
         for set in 0..self.count.min(MOST_SETS) {
-            if self.values[set] > best.value && !tried.contains(&set) {
+            if self.promised[set] > most && !tried.contains(&set) {
+                most = self.promised[set];
                 best = Best {
                     set,
                     value: self.values[set],

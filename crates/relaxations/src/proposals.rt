@@ -126,13 +126,18 @@ impl Proposals {
         self.write_steps(&numbers);
     }
 
-    /// Keeps the sets that leaves name, and answers the number of each.
+    /// Keeps the sets that leaves name, and answers the number of each. Where there are groups the root's is the first: that is
+    /// compared with others at the root, so none that serves elsewhere is to stand in its place.
     fn keep_sets(&mut self) -> [u8; MOST_SETS] {
         let mut numbers = [0; MOST_SETS];
+        let is_grouped = self.matrix.groups.iter().any(|group| *group != 0);
         self.kept.clear();
         for set in 1..MOST_SETS {
             for own in self.splitter.nodes.iter() {
                 if own.node.candidate == 0 && own.node.set as usize == set {
+                    if is_grouped && set > 1 && self.kept.is_empty() {
+                        let _ = self.kept.push(1);
+                    }
                     let _ = self.kept.push(set);
                     numbers[set] = (self.kept.len() & 255) as u8;
                     break;
