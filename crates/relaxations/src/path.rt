@@ -85,11 +85,6 @@ impl Path {
         candidate < 256 && self.fix.state[candidate] == State::Free
     }
 
-    /// Whether there are groups.
-    pub(crate) fn is_grouped(&self) -> bool {
-        self.groups.iter().any(|group| *group != 0)
-    }
-
     /// The group of a candidate.
     pub(crate) fn group(&self, candidate: usize) -> u8 {
         at(&self.groups, candidate, 0)

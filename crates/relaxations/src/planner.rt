@@ -12,8 +12,6 @@ use std::alloc::Global;
 
 /// The most sets that are kept, zeros among them.
 pub(crate) const MOST_SETS: usize = 17;
-/// So many sets may stand wherever in the tree.
-const FIRST_SETS: usize = 4;
 /// In place of a set at a leaf where two clash that are in.
 pub(crate) const OVERFULL: u8 = u8::MAX;
 
@@ -88,9 +86,6 @@ pub(crate) struct Planner {
     pub turns: Vec<(usize, usize)>,
     pub spans: Vec<(usize, usize)>,
     pub lifting: Lifting,
-    /// How many leaves the tree has, where sets are shared out by these, and how many to the end of the present node.
-    pub leaves: usize,
-    pub reached: usize,
     is_heavy: bool,
     values: [i128; MOST_SETS],
     /// The values where what clashes is left out.
@@ -118,8 +113,6 @@ impl Planner {
             turns: Vec::with_capacity(alloc, 257)?,
             spans: Vec::with_capacity(alloc, 512)?,
             lifting: Lifting::new(alloc, matrix)?,
-            leaves: 0,
-            reached: 0,
             is_heavy: false,
             values: [0; MOST_SETS],
             promised: [0; MOST_SETS],
@@ -133,7 +126,6 @@ impl Planner {
         self.path.begin(task.matrix, root, task.budget);
         self.count = 0;
         self.asked = 0;
-        self.leaves = 0;
         self.is_heavy = false;
         self.add(task, 0);
         self.begin_anew();
@@ -168,20 +160,9 @@ impl Planner {
         }
     }
 
-    /// How many sets there may be so far: but for the first few as great a part as of the leaves of the tree, where these are
-    /// counted.
-    pub(crate) fn most_sets(&self, task: &Task<'_>) -> usize {
-        let most = task.most_sets.min(self.ledgers.len());
-        if self.leaves == 0 || most < FIRST_SETS {
-            return most;
-        }
-        let others = (most - FIRST_SETS).saturating_mul(self.reached) / self.leaves;
-        others.saturating_add(FIRST_SETS).min(most)
-    }
-
     /// Whether one more set may be made.
     pub(crate) fn has_room(&self, task: &Task<'_>) -> bool {
-        self.count < self.most_sets(task) && !self.is_heavy
+        self.count < task.most_sets.min(self.ledgers.len()) && !self.is_heavy
     }
 
     /// How many nodes the plan has, with those that are to come.

@@ -41,7 +41,7 @@ impl Planner {
     fn is_far(&self, task: &Task<'_>, node: &TreeNode, best: Best) -> bool {
         if !is_inner(node)
             || node.parent == NO_NODE
-            || self.count.saturating_add(KEPT_FOR_LEAVES) >= self.most_sets(task)
+            || self.count.saturating_add(KEPT_FOR_LEAVES) >= task.most_sets
         {
             return false;
         }
@@ -177,7 +177,6 @@ impl Planner {
     ) {
         let start = self.start();
         let mut node = from;
-        self.reached = from.leaves as usize;
         match self.settle_along(task, finder, &mut node) {
             Settled::Closed => self.finish(task, start),
             Settled::Full => self.leave_open(task, start),
@@ -249,11 +248,7 @@ impl Planner {
         nodes: usize,
     ) -> bool {
         self.begin_anew();
-        if self.path.is_grouped() {
-            finder.tree.count_leaves();
-        }
         if let Some(root) = node_of(&finder.tree, 0) {
-            self.leaves = root.leaves as usize;
             self.plan_node(task, finder, root, nodes, MOST_LEVELS);
         }
         self.plan.iter().all(|node| !node.is_open)

@@ -42,8 +42,8 @@ fn marks_of(fix: &Fix, state: State) -> Marks {
 }
 
 /// A node: what is in and out there, as found when it was made and, once it was visited, after its fixings; the candidate of
-/// its branch, counted from 0, with the sides where this is in and out; its bound, whether nothing cheaper is below it; the
-/// node above; and how many leaves there are in preorder to the end of its subtree, once they are counted.
+/// its branch, counted from 0, with the sides where this is in and out; its bound, whether nothing cheaper is below it; and the
+/// node above.
 #[derive(Clone, Copy)]
 pub(crate) struct TreeNode {
     pub inside: Marks,
@@ -53,7 +53,6 @@ pub(crate) struct TreeNode {
     pub bound: f64,
     pub is_closed: bool,
     pub parent: u32,
-    pub leaves: u32,
 }
 
 impl TreeNode {
@@ -67,7 +66,6 @@ impl TreeNode {
             bound,
             is_closed: false,
             parent,
-            leaves: 0,
         }
     }
 
@@ -160,34 +158,6 @@ impl Tree {
             self.nodes[at].sides = [inside, outside];
         }
         inside as usize
-    }
-
-    /// Counts leaves in preorder.
-    pub(crate) fn count_leaves(&mut self) {
-        let mut place = 0usize;
-        let mut leaves = 0u32;
-        let mut is_back = false;
-        for _step in 0..4 * MOST_NODES {
-            if place >= self.nodes.len() {
-                break;
-            }
-            let node = &mut self.nodes[place];
-            if !is_back && node.branch != NO_BRANCH {
-                place = node.sides[0] as usize;
-                continue;
-            }
-            if !is_back {
-                leaves = leaves.saturating_add(1);
-            }
-            node.leaves = leaves;
-            let number = number_of(place);
-            place = node.parent as usize;
-            is_back = true;
-            if place < self.nodes.len() && self.nodes[place].sides[0] == number {
-                place = self.nodes[place].sides[1] as usize;
-                is_back = false;
-            }
-        }
     }
 
     /// Closes the open nodes whose bound reaches a target; whether no node is open any more.
