@@ -4,9 +4,8 @@ ghost use Rattle.adv_base.specs.declared.limits.TheConstants.{MOST_CANDIDATES};
 ghost use Rattle.branch_bound.specs.inner.Climbs as climbs;
 
 use crate::fixing::is_free;
-use crate::task::Task;
 use adv_base::Config;
-use bip_model::value;
+use bip_model::{Fix, Programme, value};
 
 /// A configuration with its cost, in thousandths of a page read.
 #[derive(Clone, Copy)]
@@ -26,12 +25,12 @@ pub(crate) fn changed(config: &Config, index: usize, flag: bool) -> Config
 }
 
 /// The configuration without a candidate, where that costs as little.
-fn removed(task: &Task<'_>, from: &Costed, index: usize) -> Option<Costed>
+fn removed(programme: &Programme, from: &Costed, index: usize) -> Option<Costed>
     requires { index < MOST_CANDIDATES }
-    ensures { climbs.IsRemoved task.now.programme.now from.now index result }
+    ensures { climbs.IsRemoved programme.now from.now index result }
 {
     let config = changed(&from.config, index, false);
-    let cost = value(task.programme, &config);
+    let cost = value(programme, &config);
     if cost <= from.cost {
         Some(Costed { config, cost })
     } else {
@@ -40,15 +39,15 @@ fn removed(task: &Task<'_>, from: &Costed, index: usize) -> Option<Costed>
 }
 
 /// The configuration with a candidate more, where that fits and costs less.
-fn added(task: &Task<'_>, from: &Costed, index: usize) -> Option<Costed>
+fn added(programme: &Programme, budget: u64, from: &Costed, index: usize) -> Option<Costed>
     requires { index < MOST_CANDIDATES }
-    ensures { climbs.IsAdded task.now.programme.now task.now.shapes.now task.now.budget from.now index result }
+    ensures { climbs.IsAdded programme.now budget from.now index result }
 {
     let config = changed(&from.config, index, true);
-    if !task.fits(&config) {
+    if !programme.space(budget).fits(&config) {
         return None;
     }
-    let cost = value(task.programme, &config);
+    let cost = value(programme, &config);
     if cost < from.cost {
         Some(Costed { config, cost })
     } else {
@@ -57,28 +56,34 @@ fn added(task: &Task<'_>, from: &Costed, index: usize) -> Option<Costed>
 }
 
 /// The configuration with one flag changed, where the root leaves the candidate free and that gains something.
-fn tried(task: &Task<'_>, from: &Costed, index: usize) -> Option<Costed>
-    requires within { index < length task.now.programme.now.sizes }
-    requires sound { climbs.IsSoundHere task.now.programme.now task.now.shapes.now task.now.budget task.now.root.now from.now }
-    ensures { climbs.IsTrial task.now.programme.now task.now.shapes.now task.now.budget task.now.root.now from.now index result }
+pub(crate) fn tried(
+    programme: &Programme,
+    budget: u64,
+    root: &Fix,
+    from: &Costed,
+    index: usize,
+) -> Option<Costed>
+    requires within { index < length programme.now.sizes }
+    requires sound { climbs.IsSoundHere programme.now budget root.now from.now }
+    ensures { climbs.IsTrial programme.now budget root.now from.now index result }
 {
-    if !is_free(task.root.state[index]) {
+    if !is_free(root.state[index]) {
         return None;
     }
     if from.config.on[index] {
-        removed(task, from, index)
+        removed(programme, from, index)
     } else {
-        added(task, from, index)
+        added(programme, budget, from, index)
     }
 }
 
 /// A configuration that a single addition or removal makes cheaper, or no larger in cost and smaller in number.
-fn lower(task: &Task<'_>, from: &Costed) -> Option<Costed>
-    requires { climbs.IsSoundHere task.now.programme.now task.now.shapes.now task.now.budget task.now.root.now from.now }
-    ensures { climbs.AreTrials task.now.programme.now task.now.shapes.now task.now.budget task.now.root.now from.now (length task.now.programme.now.sizes) result }
+fn lower(programme: &Programme, budget: u64, root: &Fix, from: &Costed) -> Option<Costed>
+    requires { climbs.IsSoundHere programme.now budget root.now from.now }
+    ensures { climbs.AreTrials programme.now budget root.now from.now (length programme.now.sizes) result }
 {
-    for index in 0..task.programme.sizes.len() {
-        if let Some(to) = tried(task, from, index) {
+    for index in 0..programme.sizes.len() {
+        if let Some(to) = tried(programme, budget, root, from, index) {
             return Some(to);
         }
     }
@@ -87,14 +92,14 @@ fn lower(task: &Task<'_>, from: &Costed) -> Option<Costed>
 
 /// From a configuration to one that no single addition or removal of a candidate that the root leaves free makes
 /// cheaper, and no removal leaves as cheap.
-pub(crate) fn climb(task: &Task<'_>, from: Costed) -> Costed
-    requires { climbs.IsSoundHere task.now.programme.now task.now.shapes.now task.now.budget task.now.root.now from }
-    ensures sound { climbs.IsSoundHere task.now.programme.now task.now.shapes.now task.now.budget task.now.root.now result }
+pub(crate) fn climb(programme: &Programme, budget: u64, root: &Fix, from: Costed) -> Costed
+    requires { climbs.IsSoundHere programme.now budget root.now from }
+    ensures sound { climbs.IsSoundHere programme.now budget root.now result }
     ensures cheaper { result.cost ≤ from.cost }
-    ensures top { climbs.IsTop task.now.programme.now task.now.shapes.now task.now.budget task.now.root.now result.config result.cost }
+    ensures top { climbs.IsTop programme.now budget root.now result.config result.cost }
 {
     let mut best = from;
-    while let Some(to) = lower(task, &best) {
+    while let Some(to) = lower(programme, budget, root, &best) {
         best = to;
     }
     best

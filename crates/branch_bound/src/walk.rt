@@ -63,7 +63,6 @@ fn explored(
 {
     let frame = Frame {
         programme: task.programme,
-        shapes: task.shapes,
         budget: task.budget,
         nodes,
         zeros: guidance.zeros,

@@ -1,3 +1,4 @@
 pub mod Points
 pub mod CurveLaws
 pub mod Passing
+pub mod Roots

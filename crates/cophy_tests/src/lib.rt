@@ -7,8 +7,6 @@
 #![tactic(auto)]
 
 mod catalogues;
-#[cfg(test)]
-mod clustered;
 mod files;
 #[cfg(test)]
 mod histograms;

@@ -1,3 +1,3 @@
 pub mod Programmes
+pub mod Roots
 pub mod Ledgers
-pub mod Nodes

@@ -1,9 +1,7 @@
 //! Bounds that are worked out by hand, and those of small programmes at all nodes against a plain program.
-ghost use Rattle.std.specs.Prelude.{◌≡◌, ℕ, ◌<◌, ◌≤◌, length, replicate};
+ghost use Rattle.std.specs.Prelude.{◌≡◌, ◌<◌, ◌≤◌, length};
 ghost use Rattle.adv_base.specs.declared.limits.TheConstants.{MOST_ROWS};
-ghost use Rattle.bip_model.specs.declared.fix.State.TheVariants.{Free};
-ghost use Rattle.bip_model.specs.Views.{AreMultipliers, state_at};
-ghost use Rattle.branch_bound.specs.Sides as sides;
+ghost use Rattle.bip_model.specs.Views.{AreMultipliers};
 ghost use Rattle.lagrange_bound.specs.Ledgers as ledgers;
 
 use crate::made::{knapsack, mixed};
@@ -16,34 +14,21 @@ use lagrange_bound::{
 use std::alloc::Global;
 use std::process::Abort;
 
-/// The node at which each candidate is free.
-pub(crate) fn free() -> Fix
-    ensures { result.state ≡ replicate 256 Free }
-{
-    Fix {
-        state: [State::Free; 256],
-    }
-}
-
-/// A node with one candidate fixed, by its index from 0.
-fn fixed(fix: &Fix, index: usize, state: State) -> Fix
-    requires { index < 256 }
-    ensures { result ≡ sides.fixed fix.now index state }
-{
-    let mut next = *fix;
-    next.state[index] = state;
-    next
-}
-
 /// The node that says so much of the first four candidates; the others are free.
-fn node(states: [State; 4]) -> Fix
-    ensures { (i : ℕ) → 4 ≤ i → state_at result i ≡ Free }
-{
-    let root = free();
-    let one = fixed(&root, 0, states[0]);
-    let two = fixed(&one, 1, states[1]);
-    let three = fixed(&two, 2, states[2]);
-    fixed(&three, 3, states[3])
+fn node(states: [State; 4]) -> Fix {
+    let mut fix = Fix {
+        state: [State::Free; 256],
+    };
+    fix.state[0] = states[0];
+    fix.state[1] = states[1];
+    fix.state[2] = states[2];
+    fix.state[3] = states[3];
+    fix
+}
+
+/// The node at which each candidate is free.
+pub(crate) fn free() -> Fix {
+    node([State::Free; 4])
 }
 
 /// The node at which the first candidate is in.
@@ -63,9 +48,7 @@ fn state(number: u32, place: u32) -> State
 }
 
 /// The node of a number below 81, which has in base 3 a digit for each of the first four candidates.
-pub(crate) fn numbered_node(number: u32) -> Fix
-    ensures { (i : ℕ) → 4 ≤ i → state_at result i ≡ Free }
-{
+pub(crate) fn numbered_node(number: u32) -> Fix {
     node([
         state(number, 1),
         state(number, 3),
