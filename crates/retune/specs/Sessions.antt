@@ -23,7 +23,7 @@ abbrev pub setting_of : TheSession → TheSetting
 setting_of session = record { cat = session.cat; statements = session.statements; shapes = session.candidates.list }
 
 -- the candidates are those that the statements propose, and the programme stands for both, with the templates that are kept
--- of each block: it is the one that would be built from scratch
+-- of each block
 pub record IsTuned (session : TheSession) : Type 0 where
   pub limits : KeepsLimits (setting_of session)
   pub candidates : AreCandidates session.cat session.statements session.candidates.list session.candidates.left_over

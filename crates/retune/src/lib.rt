@@ -2,9 +2,9 @@
 //!
 //! In go a catalogue and statements, then statements that are added, and numbers of statements that are removed or get
 //! another weight. After each step the session has the statements as they are, the candidates that they propose, and
-//! CoPhy's programme that stands for both: what would be built from scratch. It keeps the cache of plans of each statement,
-//! so only an added one is planned; prices are found anew where a step may change the candidates, which another weight
-//! can't. A step that is refused changes nothing. Searching the programme is left to others.
+//! CoPhy's programme that stands for both, with the templates that are kept of each block. It keeps the cache of plans of
+//! each statement, so only an added one is planned; prices are found anew where a step may change the candidates, which
+//! another weight can't. A step that is refused changes nothing. Searching the programme is left to others.
 //!
 //! ```rust
 //! let mut session = Session::new(alloc, &cat, statements)?;
