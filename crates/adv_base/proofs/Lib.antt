@@ -8,6 +8,7 @@ pub mod RowBounds
 pub mod ItemLaws
 pub mod Begins
 pub mod ConfigLaws
+pub mod Clashing
 pub mod OfferLaws
 pub mod IndexOrders
 pub mod OfferBounds

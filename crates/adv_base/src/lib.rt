@@ -22,6 +22,7 @@
 #![tactic(auto)]
 
 mod catalogue;
+mod clashes;
 mod days;
 mod decimal;
 mod items;
@@ -41,6 +42,7 @@ pub use catalogue::column::{Column, Kind};
 pub use catalogue::index::{Index, IndexShape};
 pub use catalogue::rates::Rates;
 pub use catalogue::table::Table;
+pub use clashes::{first_clash, is_apart};
 pub use days::day_of;
 pub use decimal::{push_decimal, read_number};
 pub use items::is_own_list;

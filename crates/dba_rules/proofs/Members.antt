@@ -1,4 +1,4 @@
--- Members of configurations that clash, or break rules.
+-- Members of configurations that break rules.
 use Rattle.std.proofs.Common.{◌≡◌, ℕ, zero, suc, ◌+◌, ◌-◌, ◌<◌, ◌≤◌, Bool, true, false, not, ◌&&◌, ◌||◌, List, [], ◌∷◌, length, Option, Some, None, slice_get, get_or, inl, inr, refl, sym, ap, ◌∙◌, ne_eqb, arith}
 use Rattle.std.specs.Option.{option_map_or}
 use Rattle.std.proofs.lemmas.Bool.{cases_lt}
@@ -6,63 +6,7 @@ use Rattle.adv_base.specs.declared.catalogue.index.IndexShape.{IndexShape}
 use Rattle.adv_base.specs.declared.setting.Config.{Config}
 use Rattle.adv_base.specs.Configs.{has_candidate}
 use Rattle.adv_base.specs.Nodes as nodes
-use Rattle.dba_rules.specs.Settled.{are_clashing, is_clash, clashes, Clashes, IsApart, IsFirstClash, is_broken, IsFirstBroken}
-
-both : (a b : Bool) → (a && b) ≡ true → (a ≡ true) × (b ≡ true)
-both true b e = (refl, e)
-both false b e = absurd cc
-
--- ## Clashes
-
--- a test of what is found holds only where something is
-some-passes : {X : Type 0} (passes : X → Bool) (found : Option X) → option_map_or passes found false ≡ true → (x : X) × (found ≡ Some x) × (passes x ≡ true)
-some-passes passes None e = absurd cc
-some-passes passes (Some x) e = (x, refl, e)
-
-get-within : {X : Type 0} (xs : List X) (i : ℕ) (x : X) → slice_get xs i ≡ Some x → i < length xs
-get-within [] i x e = absurd cc
-get-within (y ∷ ys) zero x e = omega arith
-get-within (y ∷ ys) (suc i) x e = let more = get-within ys i x e in omega arith
-
--- what clashes is a candidate
-clash-within : (shapes : List IndexShape) (config : Config) (a b : ℕ) → clashes shapes config a b ≡ true → b ≤ length shapes
-clash-within shapes config a b e =
-    let pair = both (has_candidate config a && has_candidate config b) (is_clash shapes a b) e in
-    let one = some-passes (λ (one : IndexShape). option_map_or (are_clashing one) (slice_get shapes (b - 1)) false) (slice_get shapes (a - 1)) pair.1 in
-    let other = some-passes (are_clashing one.0) (slice_get shapes (b - 1)) one.2 in
-    let within = get-within shapes (b - 1) other.0 other.1 in
-    omega (arith, within)
-
--- a candidate that clashes with no lesser number clashes with no lesser member
-pub no_lesser : (shapes : List IndexShape) (config : Config) (b : ℕ) → ((k : ℕ) → 1 ≤ k → k < b → clashes shapes config k b ≡ false) → (a : ℕ) → Clashes shapes config a b → ⊥
-no_lesser shapes config b none zero h = let no : false ≡ true = h.clash in absurd cc
-no_lesser shapes config b none (suc a) h =
-    let no = none (suc a) (omega arith) h.ordered in
-    let yes = h.clash in
-    absurd cc
-
-abbrev NoneBefore : List IndexShape → Config → ℕ → Type 0
-NoneBefore shapes config n = (a b : ℕ) → b < n → Clashes shapes config a b → ⊥
-
--- the first that clashes with a lesser one
-pub first_clash : (shapes : List IndexShape) (config : Config) (a b : ℕ) → NoneBefore shapes config b → Clashes shapes config a b → IsFirstClash shapes config a b
-first_clash shapes config a b none h =
-    record { is = h; least = λ c d other. elim (cases_lt d b) [ inl less ↦ absurd (none c d less other) | inr more ↦ more ] }
-
-pub none_more : (shapes : List IndexShape) (config : Config) (n : ℕ) → NoneBefore shapes config n → ((a : ℕ) → Clashes shapes config a n → ⊥) → NoneBefore shapes config (n + 1)
-none_more shapes config n none here a b less h = elim (cases_lt b n) [
-  | inl before ↦ none a b before h
-  | inr after ↦
-      let same : b ≡ n = omega arith in
-      here a (record { ordered = omega (arith, h.ordered); clash = sym (ap (λ (k : ℕ). clashes shapes config a k) same) ∙ h.clash })
-]
-
-pub none_at_all : (shapes : List IndexShape) (config : Config) (n : ℕ) → length shapes < n → NoneBefore shapes config n → IsApart shapes config
-none_at_all shapes config n past none a b h = let within = clash-within shapes config a b h.clash in none a b (omega arith) h
-
--- no member is 0
-pub none_before_one : (shapes : List IndexShape) (config : Config) → NoneBefore shapes config 1
-none_before_one shapes config a b less h = omega (arith, h.ordered)
+use Rattle.dba_rules.specs.Settled.{is_broken, IsFirstBroken}
 
 -- ## Rules that are broken
 

@@ -7,7 +7,7 @@ pub fn lines_are_rules()
     ensures bad { laws.OthersAreBad }
 {}
 
-/// There is one fault at most of what has to be, and none where that fits a budget and no two of it clash; and one candidate
+/// There is one fault at most of what has to be, and none where that fits a budget; and one candidate
 /// at most at which a configuration is told not to be below a node, and none where it is.
 pub fn one_answer()
     ensures faults { laws.OneFault }

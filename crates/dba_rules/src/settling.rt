@@ -1,5 +1,5 @@
 //! Whether what has to be fits, and what obeys rules.
-ghost use Rattle.std.specs.Prelude.{◌≡◌, ◌≤◌, ℕ, length, count_by, OnOk, IfErr, MatchOption};
+ghost use Rattle.std.specs.Prelude.{◌≡◌, length, count_by, OnOk, IfErr, MatchOption};
 ghost use Rattle.adv_base.specs.Configs as configs;
 ghost use Rattle.adv_base.specs.Nodes as nodes;
 ghost use Rattle.adv_base.specs.Settings.{the_setting};
@@ -9,66 +9,15 @@ ghost use Rattle.dba_rules.specs.Settled as settled;
 
 use crate::fault::RuleFault;
 use adv_base::limits::MOST_CANDIDATES;
-use adv_base::{Config, IndexShape, Setting};
+use adv_base::{Config, Setting, first_clash};
 use bip_model::{Fix, State};
 use hypo_indexes::config_pages;
-
-/// Whether the candidates of two numbers are clustered on one table.
-fn is_clash(shapes: &[IndexShape], first: u16, second: u16) -> bool
-    requires first { 1 ≤ first }
-    requires second { 1 ≤ second }
-    ensures { result ≡ settled.is_clash shapes.now first second }
-{
-    let Some(one) = shapes.get(first as usize - 1) else {
-        return false;
-    };
-    let Some(other) = shapes.get(second as usize - 1) else {
-        return false;
-    };
-    one.clustered && other.clustered && one.table == other.table
-}
-
-/// Whether two members clash.
-fn clashes(shapes: &[IndexShape], inside: &Config, first: u16, second: u16) -> bool
-    requires first { 1 ≤ first }
-    requires second { 1 ≤ second }
-    ensures { result ≡ settled.clashes shapes.now inside.now first second }
-{
-    inside.has(first) && inside.has(second) && is_clash(shapes, first, second)
-}
-
-/// A lesser member with which the candidate of a number clashes.
-fn lesser_clash(shapes: &[IndexShape], inside: &Config, second: u16) -> Option<u16>
-    requires { 1 ≤ second }
-    ensures { MatchOption result ((a : ℕ) → ¬ (settled.Clashes shapes.now inside.now a second)) (λ first. settled.Clashes shapes.now inside.now first second) }
-{
-    for first in 1..second {
-        if clashes(shapes, inside, first, second) {
-            return Some(first);
-        }
-    }
-    None
-}
-
-/// The first two members that are clustered on one table.
-fn first_clash(shapes: &[IndexShape], inside: &Config) -> Option<(u16, u16)>
-    requires { length shapes.now ≤ MOST_CANDIDATES }
-    ensures { MatchOption result (settled.IsApart shapes.now inside.now) (λ r. settled.IsFirstClash shapes.now inside.now r.0 r.1) }
-{
-    for second in 1..shapes.len() as u16 + 1 {
-        if let Some(first) = lesser_clash(shapes, inside, second) {
-            return Some((first, second));
-        }
-    }
-    None
-}
 
 /// Judges whether the candidates that rules make in fit a budget of pages, no two of them clustered on one table. Else
 /// `TooLarge` has their pages and the budget, exactly where they exceed it, and `Clash` else: the second is the least that
 /// clashes with a lesser one, which is the first. Takes no memory.
 pub fn settle(setting: &Setting<'_>, root: &Fix, budget: u64) -> Result<(), RuleFault>
     ensures fits { OnOk result (configs.Fits setting.now.cat.now setting.now.shapes.now (views.node_of root.now).inside budget) }
-    ensures apart { OnOk result (settled.IsApart setting.now.shapes.now (views.node_of root.now).inside) }
     ensures fault { IfErr result (settled.IsFault (the_setting setting.now) (views.node_of root.now).inside budget) }
 {
     let inside = root.inside();

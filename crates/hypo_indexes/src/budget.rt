@@ -1,13 +1,13 @@
 //! Which configurations fit a space budget.
-ghost use Rattle.std.specs.Prelude.{◌≡◌, ◌*◌, ◌≤◌, ◌↔◌, IsTrue, All, if◌then◌else◌};
+ghost use Rattle.std.specs.Prelude.{◌≡◌, ◌*◌, ◌≤◌, ◌↔◌, IsTrue, All, if◌then◌else◌, length};
 ghost use Rattle.adv_base.specs.Configs as configs;
 ghost use Rattle.adv_base.specs.Named.{NamesShape};
 ghost use Rattle.adv_base.specs.Sizes as size;
-ghost use Rattle.adv_base.specs.declared.limits.TheConstants.{MOST_INDEX_PAGES};
+ghost use Rattle.adv_base.specs.declared.limits.TheConstants.{MOST_CANDIDATES, MOST_INDEX_PAGES};
 
 use crate::size::pages;
 use adv_base::limits::MOST_CANDIDATES;
-use adv_base::{Catalogue, Config, IndexShape};
+use adv_base::{Catalogue, Config, IndexShape, is_apart};
 
 /// The pages of a configuration's candidates, of which there are at most 256. It takes no memory.
 pub fn config_pages(cat: &Catalogue, shapes: &[IndexShape], config: &Config) -> u64
@@ -34,11 +34,11 @@ fn pages_if(cat: &Catalogue, shape: &IndexShape, chosen: bool) -> u64
     if chosen { pages(cat, shape) } else { 0 }
 }
 
-/// Whether the candidates of a configuration together take at most a budget of pages: the room that an administrator
-/// gives, in CoPhy's budget row.
+/// Whether the candidates of a configuration together take at most a budget of pages, the room that an administrator gives
+/// (CoPhy's budget row), and no two of them are clustered on one table.
 pub fn fits(cat: &Catalogue, shapes: &[IndexShape], config: &Config, budget: u64) -> bool
     requires { All (NamesShape cat.now) shapes.now }
     ensures { IsTrue result ↔ configs.Fits cat.now shapes.now config.now budget }
 {
-    config_pages(cat, shapes, config) <= budget
+    config_pages(cat, shapes, config) <= budget && is_apart(shapes, config)
 }

@@ -201,7 +201,7 @@ opens setting budget node config i fits is below on lacks =
     passing-one_more (has_candidate node.inside) (has_candidate config) (λ k shape. shape_pages setting.cat shape) 1 i found.0 setting.shapes below.holds found.1
     (ap (has_candidate node.inside) (sym next) ∙ lacks) (ap (has_candidate config) (sym next) ∙ on) in
     let room : config_pages setting.cat setting.shapes node.inside + candidate_pages setting.cat setting.shapes (suc i) ≤ budget =
-    omega (arith, more, pages, pages-passing setting.cat setting.shapes node.inside, pages-passing setting.cat setting.shapes config, fits) in
+    omega (arith, more, pages, pages-passing setting.cat setting.shapes node.inside, pages-passing setting.cat setting.shapes config, fits.pages) in
     and_from (is_free node (suc i)) (nat_le (config_pages setting.cat setting.shapes node.inside + candidate_pages setting.cat setting.shapes (suc i)) budget) free
     (le-leb (config_pages setting.cat setting.shapes node.inside + candidate_pages setting.cat setting.shapes (suc i)) budget room)
 
@@ -259,7 +259,7 @@ costs-passing setting multipliers budget config fits =
     passing-add has (λ k shape. 65536 * weighted_upkeep setting shape) (λ k shape. multipliers.page * shape_pages setting.cat shape) 1 setting.shapes in
     let first : passing has (λ k shape. 65536 * weighted_upkeep setting shape) 1 setting.shapes ≡ 65536 * upkeeps = passing-scale has 65536 (λ k shape. weighted_upkeep setting shape) 1 setting.shapes in
     let second : passing has (λ k shape. multipliers.page * shape_pages setting.cat shape) 1 setting.shapes ≡ multipliers.page * pages = passing-scale has multipliers.page (λ k shape. shape_pages setting.cat shape) 1 setting.shapes in
-    let few : pages ≤ budget = omega (arith, pages-passing setting.cat setting.shapes config, fits) in
+    let few : pages ≤ budget = omega (arith, pages-passing setting.cat setting.shapes config, fits.pages) in
     let self : multipliers.page ≤ multipliers.page = omega arith in
     let most : multipliers.page * pages ≤ multipliers.page * budget = mul-le-mul self few in
     let same : upkeeps ≡ total (λ (s : Statement). s.weight * config_upkeep setting.cat setting.shapes config s.work) setting.statements = upkeep-passing setting config in

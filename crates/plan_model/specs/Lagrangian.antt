@@ -1,6 +1,6 @@
 -- The Lagrangian value of a node of a search for a configuration, after CoPhy. A plan may use a candidate that isn't
 -- chosen, at a rent; and pages of the budget have a price. Both are multipliers.
-use Rattle.std.specs.Prelude.{◌↔◌, ◌≡◌, true, ℕ, suc, ◌+◌, ◌-◌, ◌*◌, ◌<◌, ◌≤◌, ◌==◌, if◌then◌else◌, List, [], ◌∷◌, length, slice_get, sum_by, ℤ, pos, negsuc}
+use Rattle.std.specs.Prelude.{◌↔◌, ◌≡◌, true, ℕ, suc, ◌+◌, ◌-◌, ◌*◌, ◌<◌, ◌≤◌, ◌==◌, if◌then◌else◌, List, [], ◌∷◌, length, slice_get, ℤ, pos, negsuc}
 use Rattle.std.specs.Option.{option_map_or}
 use Rattle.adv_base.specs.declared.catalogue.index.IndexShape.{IndexShape}
 use Rattle.adv_base.specs.declared.limits.TheConstants.{MOST_CANDIDATES}
