@@ -9,7 +9,7 @@ use Rattle.std.proofs.lemmas.Int.{ints}
 use Rattle.std.proofs.lemmas.List.{length-append, length-set}
 use Rattle.adv_base.specs.declared.limits.TheConstants.{MOST_CANDIDATES}
 use Rattle.adv_base.specs.declared.setting.Config.{Config}
-use Rattle.adv_base.specs.Configs.{has_candidate, config_pages, candidate_pages, IsConfigOf, Fits}
+use Rattle.adv_base.specs.Configs.{has_candidate, config_pages, candidate_pages, IsConfigOf}
 use Rattle.adv_base.specs.Nodes as nodes
 use Rattle.adv_base.specs.Nodes.{is_free}
 use Rattle.adv_base.specs.Settings.{TheSetting, KeepsLimits}
@@ -20,9 +20,9 @@ use Rattle.plan_model.proofs.Sums.{total, sum-total, passing, passing-more, pass
 use Rattle.plan_model.proofs.Duality.{flag-found}
 use Rattle.bip_model.specs.Best.{Subproblem, subproblems, AreWorthwhile, NoneCostsLess, HasTotal, IsTight}
 use Rattle.bip_model.specs.Laws.{NoneUseful}
-use Rattle.bip_model.specs.SearchLaws.{IsWhole}
+use Rattle.bip_model.specs.SearchLaws.{IsWhole, NodesFit}
 use Rattle.bip_model.specs.Trees.{Tree, Branches, Leaf, Full, with_candidate, in_side, out_side, zeros}
-use Rattle.bip_model.proofs.Descending.{AtBranches, IsUsefulBranch, useful-branches, fits-below, config-below}
+use Rattle.bip_model.proofs.Descending.{AtBranches, IsUsefulBranch, useful-branches, config-below}
 use Rattle.bip_model.proofs.Lists.{either-of, set-there}
 use Rattle.bip_model.proofs.Showing.{with_candidate-keeps}
 use Rattle.bip_model.proofs.Sides.{free-parts, parts-free}
@@ -238,7 +238,7 @@ free-most node flags count is = let most = counted-most (is_free node) flags in 
 
 -- So a tree with a tight leaf below the cost is smaller than a whole one over the useful candidates, by two nodes at least.
 pub tight-smaller : (setting : TheSetting) (budget useful : ℕ) (root : nodes.Node) (tree : Tree) (sets : List TheMultipliers) (bound : ℤ) (cost : ℕ) → KeepsLimits setting → AreUseful setting budget useful → IsWhole root →
-    IsConfigOf setting.shapes root.inside → Fits setting.cat setting.shapes root.inside budget → AreWorthwhile setting budget (subproblems root tree) → NoneCostsLess setting budget (subproblems root tree) cost →
+    IsConfigOf setting.shapes root.inside → NodesFit setting budget (subproblems root tree) → AreWorthwhile setting budget (subproblems root tree) → NoneCostsLess setting budget (subproblems root tree) cost →
     IsTight setting budget bound sets (subproblems root tree) → bound <ℤ pos cost → length (subproblems root tree) + 3 ≤ 2 ^ (useful + 1)
 tight-smaller setting budget useful root tree sets bound cost limits are_useful whole is fits worthwhile costs tight below =
     let at' = useful-branches setting budget root tree worthwhile in
@@ -246,10 +246,13 @@ tight-smaller setting budget useful root tree sets bound cost limits are_useful 
     let are : AreFlagsOf setting budget flags = record { each = λ a u. (are_useful.each a u.some).1 u } in
     let leaf : Subproblem = tight.leaf in
     let leaf_is = config-below setting budget root tree at' is tight.number leaf tight.leaf_found in
-    let leaf_fits = fits-below setting budget root tree at' fits tight.number leaf tight.leaf_found in
+    let leaf_fits = fits tight.number leaf tight.leaf_found (λ full. leaf-or-full tight.set (sym tight.leaf_is ∙ full)) in
     let zero_set = tight.highest 0 zeros refl in
     let some = some-free setting budget flags leaf.node zero_set.value bound cost limits are leaf_is zero_set.value_is zero_set.holds below (costs tight.number leaf tight.leaf_found leaf_fits) in
     let size = tree-smaller setting budget flags root tree limits.shapes_most are whole at' tight.number leaf tight.set tight.leaf_found tight.leaf_is some in
     let most : free_count root flags ≤ useful = free-most root flags useful are_useful.counted in
     let up : 2 ^ (free_count root flags + 1) ≤ 2 ^ (useful + 1) = pow_mono (omega (arith, most)) in
     omega (arith, size, up)
+  where
+    leaf-or-full : (k : ℕ) → Leaf k ≡ Full → ⊥
+    leaf-or-full k same = absurd (cc)

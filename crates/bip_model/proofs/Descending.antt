@@ -8,7 +8,7 @@ use Rattle.std.proofs.lemmas.Option.{slice_get_within}
 use Rattle.adv_base.specs.declared.catalogue.Catalogue.{Catalogue}
 use Rattle.adv_base.specs.declared.catalogue.index.IndexShape.{IndexShape}
 use Rattle.adv_base.specs.declared.setting.Config.{Config}
-use Rattle.adv_base.specs.Configs.{has_candidate, config_pages, candidate_pages, candidates_in, chosen, IsConfigOf, Fits}
+use Rattle.adv_base.specs.Configs.{has_candidate, config_pages, candidate_pages, candidates_in, chosen, IsConfigOf}
 use Rattle.adv_base.specs.Laws.{IsRent}
 use Rattle.adv_base.specs.Nodes as nodes
 use Rattle.adv_base.specs.Nodes.{is_free, is_open}
@@ -121,7 +121,7 @@ pub value-below : (setting : TheSetting) (budget : ℕ) (root : nodes.Node) (tre
 value-below setting budget root tree multipliers above value limits at' i s found at_root here =
     narrower-value setting budget root s.node multipliers above value limits (narrower-below setting budget root tree at' i s found) at_root here
 
--- ## What is in fits, and is of the candidates
+-- ## What is in has space, and is of the candidates
 
 chosen-more : {X : Type 0} (f : X → ℕ) (flags : List Bool) (xs : List X) (i : ℕ) → total f (chosen (slice_set flags i true) xs) ≤ total f (chosen flags xs) + option_map_or f (slice_get xs i) 0
 chosen-more f [] xs i = omega arith
@@ -140,18 +140,18 @@ pages-with cat shapes config a =
     let more = chosen-more (shape_pages cat) config.on shapes (a - 1) in
     omega (arith, before, after, own, more)
 
-pub open-fits : (setting : TheSetting) (budget : ℕ) (node : nodes.Node) (a : ℕ) → nodes.is_open setting.cat setting.shapes budget node a ≡ true → Fits setting.cat setting.shapes (with_candidate node.inside a) budget
-open-fits setting budget node a open' =
+pub open-space : (setting : TheSetting) (budget : ℕ) (node : nodes.Node) (a : ℕ) → nodes.is_open setting.cat setting.shapes budget node a ≡ true → config_pages setting.cat setting.shapes (with_candidate node.inside a) ≤ budget
+open-space setting budget node a open' =
     let pages : ℕ = config_pages setting.cat setting.shapes node.inside + candidate_pages setting.cat setting.shapes a in
     let parts = and_parts (is_free node a) (nat_le pages budget) open' in
     let room : pages ≤ budget = leb-true pages budget parts.1 in
     omega (arith, room, pages-with setting.cat setting.shapes node.inside a)
 
-pub fits-below : (setting : TheSetting) (budget : ℕ) (root : nodes.Node) (tree : Tree) → AtBranches (IsUsefulBranch setting budget) root tree → Fits setting.cat setting.shapes root.inside budget →
-    (i : ℕ) (s : Subproblem) → slice_get (subproblems root tree) i ≡ Some s → Fits setting.cat setting.shapes s.node.inside budget
-fits-below setting budget root tree at' fits i s found =
-    each-node (λ n. Fits setting.cat setting.shapes n.inside budget) (IsUsefulBranch setting budget)
-    (λ n a p before. open-fits setting budget n a p.is_open) (λ n a p before. before) root tree at' fits i s found
+pub space-below : (setting : TheSetting) (budget : ℕ) (root : nodes.Node) (tree : Tree) → AtBranches (IsUsefulBranch setting budget) root tree → config_pages setting.cat setting.shapes root.inside ≤ budget →
+    (i : ℕ) (s : Subproblem) → slice_get (subproblems root tree) i ≡ Some s → config_pages setting.cat setting.shapes s.node.inside ≤ budget
+space-below setting budget root tree at' space i s found =
+    each-node (λ n. config_pages setting.cat setting.shapes n.inside ≤ budget) (IsUsefulBranch setting budget)
+    (λ n a p before. open-space setting budget n a p.is_open) (λ n a p before. before) root tree at' space i s found
 
 pub with-config : (shapes : List IndexShape) (config : Config) (a : ℕ) → 1 ≤ a → a ≤ length shapes → IsConfigOf shapes config → IsConfigOf shapes (with_candidate config a)
 with-config shapes config a some within is i on =

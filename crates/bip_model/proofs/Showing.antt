@@ -9,6 +9,7 @@ use Rattle.adv_base.specs.declared.limits.TheConstants.{MOST_CANDIDATES}
 use Rattle.adv_base.specs.declared.setting.Config.{Config}
 use Rattle.adv_base.specs.declared.workload.Statement.{Statement}
 use Rattle.adv_base.specs.Configs.{has_candidate, config_pages, IsConfigOf, Fits}
+use Rattle.adv_base.proofs.Clashing.{fewer-apart}
 use Rattle.adv_base.specs.Nodes as nodes
 use Rattle.adv_base.specs.Nodes.{flags_from, config_of, IsBelow}
 use Rattle.adv_base.specs.Settings.{TheSetting, KeepsLimits}
@@ -20,7 +21,7 @@ use Rattle.plan_model.proofs.Duality.{weak-duality, pages-passing}
 use Rattle.plan_model.proofs.Renting.{flag-of}
 use Rattle.plan_model.proofs.Sums.{passing-more}
 use Rattle.bip_model.specs.declared.answer.Node.{Node}
-use Rattle.bip_model.specs.Trees.{Tree, Branches, Leaf, Full, with_candidate, in_side, out_side, Shows}
+use Rattle.bip_model.specs.Trees.{Tree, Branches, Leaf, Full, Rule, ByPages, ByFit, IsOverfull, with_candidate, in_side, out_side, Shows}
 use Rattle.bip_model.specs.Proves.{free_node, Proves}
 
 -- ## Sides of branches
@@ -105,6 +106,18 @@ pub pages-more : (cat : Catalogue) (shapes : List IndexShape) (few many : Config
 pages-more cat shapes few many more =
     omega (arith, pages-passing cat shapes few, pages-passing cat shapes many, passing-more (has_candidate few) (has_candidate many) (λ k shape. shape_pages cat shape) 1 shapes more)
 
+-- what has fewer candidates than a configuration that fits does too
+pub fits-less : (cat : Catalogue) (shapes : List IndexShape) (few many : Config) (budget : ℕ) → ((a : ℕ) → has_candidate few a ≡ true → has_candidate many a ≡ true) → Fits cat shapes many budget → Fits cat shapes few budget
+fits-less cat shapes few many budget more fits =
+    record { pages = omega (arith, fits.pages, pages-more cat shapes few many more); apart = fewer-apart shapes few many more fits.apart }
+
+-- no configuration below an overfull node fits
+pub overfull-none : (rule : Rule) (setting : TheSetting) (budget : ℕ) (node : nodes.Node) (config : Config) → IsOverfull rule setting budget node → IsBelow node config → Fits setting.cat setting.shapes config budget → ⊥
+overfull-none ByPages setting budget node config over below fits =
+    omega (arith, over, fits.pages, pages-more setting.cat setting.shapes node.inside config below.holds)
+overfull-none ByFit setting budget node config over below fits =
+    over (fits-less setting.cat setting.shapes node.inside config budget below.holds fits)
+
 -- ## Trees
 
 at_most-trans : (bound value : ℤ) (sum_of : ℕ) → bound ≤ℤ value → IsAtMost value sum_of → IsAtMost bound sum_of
@@ -115,19 +128,19 @@ at_most-trans (negsuc b) value sum_of less most = tt
 all-limits : (setting : TheSetting) (config : Config) (statements : List Statement) → OffersKeepLimits setting.cat setting.shapes config statements
 all-limits setting config statements = λ k d within block is. offers-limits setting.cat block setting.shapes config
 
-pub shown : (setting : TheSetting) (budget : ℕ) (bound : ℤ) (sets : List TheMultipliers) (node : nodes.Node) (tree : Tree) (config : Config) (sum_of : ℕ) → KeepsLimits setting →
-    Shows setting budget bound sets node tree → IsConfigOf setting.shapes config → Fits setting.cat setting.shapes config budget → IsBelow node config →
+pub shown : (rule : Rule) (setting : TheSetting) (budget : ℕ) (bound : ℤ) (sets : List TheMultipliers) (node : nodes.Node) (tree : Tree) (config : Config) (sum_of : ℕ) → KeepsLimits setting →
+    Shows rule setting budget bound sets node tree → IsConfigOf setting.shapes config → Fits setting.cat setting.shapes config budget → IsBelow node config →
     IsTotal setting.cat setting.shapes config setting.statements sum_of → IsAtMost bound sum_of
-shown setting budget bound sets node (Branches a inside outside) config sum_of limits shows is fits below cost =
+shown rule setting budget bound sets node (Branches a inside outside) config sum_of limits shows is fits below cost =
     elim (cases_Bool (has_candidate config a)) [
-      | inl on ↦ shown setting budget bound sets (in_side node a) inside config sum_of limits shows.1 is fits (below-in node config a shows.0.some below on) cost
-      | inr off ↦ shown setting budget bound sets (out_side node a) outside config sum_of limits shows.2 is fits (below-out node config a shows.0.some below off) cost
+      | inl on ↦ shown rule setting budget bound sets (in_side node a) inside config sum_of limits shows.1 is fits (below-in node config a shows.0.some below on) cost
+      | inr off ↦ shown rule setting budget bound sets (out_side node a) outside config sum_of limits shows.2 is fits (below-out node config a shows.0.some below off) cost
     ]
-shown setting budget bound sets node (Leaf k) config sum_of limits shows is fits below cost =
+shown rule setting budget bound sets node (Leaf k) config sum_of limits shows is fits below cost =
     at_most-trans bound shows.value sum_of shows.at_least
     (weak-duality setting budget node shows.multipliers shows.value config sum_of (all-limits setting config setting.statements) fits is limits.shapes_most below shows.value_is cost)
-shown setting budget bound sets node Full config sum_of limits shows is fits below cost =
-    absurd (omega (arith, shows, fits, pages-more setting.cat setting.shapes node.inside config below.holds))
+shown rule setting budget bound sets node Full config sum_of limits shows is fits below cost =
+    absurd (overfull-none rule setting budget node config shows below fits)
 
 -- ## Proofs of answers
 
@@ -143,8 +156,8 @@ none-off (suc i) = flag-of no_candidates i ∙ replicate-off MOST_CANDIDATES i
 pub below-free : (config : Config) → IsBelow free_node config
 below-free config = record { holds = λ a on. absurd (false≢true (sym (none-off a) ∙ on)); lacks = λ a on. absurd (false≢true (sym (none-off a) ∙ on)) }
 
-pub proved-bound : (setting : TheSetting) (budget : ℕ) (root : nodes.Node) (config : Config) (cost : ℕ) (bound : ℤ) (sets : List TheMultipliers) (list : List Node) (other : Config) (sum_of : ℕ) → KeepsLimits setting →
-    Proves setting budget root config cost bound sets list → IsConfigOf setting.shapes other → Fits setting.cat setting.shapes other budget → IsBelow root other →
+pub proved-bound : (rule : Rule) (setting : TheSetting) (budget : ℕ) (root : nodes.Node) (config : Config) (cost : ℕ) (bound : ℤ) (sets : List TheMultipliers) (list : List Node) (other : Config) (sum_of : ℕ) → KeepsLimits setting →
+    Proves rule setting budget root config cost bound sets list → IsConfigOf setting.shapes other → Fits setting.cat setting.shapes other budget → IsBelow root other →
     IsTotal setting.cat setting.shapes other setting.statements sum_of → IsAtMost bound sum_of
-proved-bound setting budget root config cost bound sets list other sum_of limits proves is fits below total_is =
-    shown setting budget bound sets root proves.shown.tree other sum_of limits proves.shown.shows is fits below total_is
+proved-bound rule setting budget root config cost bound sets list other sum_of limits proves is fits below total_is =
+    shown rule setting budget bound sets root proves.shown.tree other sum_of limits proves.shown.shows is fits below total_is

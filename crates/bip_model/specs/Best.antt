@@ -12,7 +12,7 @@ use Rattle.plan_model.specs.Useful.{IsUseful, AreUseful}
 use Rattle.bip_model.specs.declared.answer.Answer.{Answer}
 use Rattle.bip_model.specs.declared.multipliers.Multipliers.{Multipliers}
 use Rattle.bip_model.specs.Proves.{Proves}
-use Rattle.bip_model.specs.Trees.{Tree, Branches, Leaf, Full, with_candidate, in_side, out_side, zeros, set_at}
+use Rattle.bip_model.specs.Trees.{Tree, Branches, Leaf, Full, ByFit, with_candidate, in_side, out_side, zeros, set_at}
 use Rattle.bip_model.specs.Uses.{multipliers_in, AreMultipliersIn, rent_multipliers}
 
 -- ## Subproblems
@@ -129,7 +129,7 @@ pub record AreSets (setting : TheSetting) (sets : List Multipliers) : Type 0 whe
 -- An answer of a search from a root with a space budget, in pages, and a budget of nodes is best.
 pub record IsBest (setting : TheSetting) (budget node_budget : ℕ) (root : nodes.Node) (answer : Answer) : Type 0 where
   -- it is proved, its configuration obeys the root, and its bound is at most its cost
-  pub proves : Proves setting budget root answer.config answer.cost answer.bound (sets_in setting answer) answer.tree
+  pub proves : Proves ByFit setting budget root answer.config answer.cost answer.bound (sets_in setting answer) answer.tree
   pub obeys : nodes.IsBelow root answer.config
   pub bound_most : answer.bound ≤ℤ pos answer.cost
   -- no node is wasted, and there are no more than the budget

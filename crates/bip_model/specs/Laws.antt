@@ -14,7 +14,7 @@ use Rattle.bip_model.specs.declared.programme.Programme.{Programme}
 use Rattle.bip_model.specs.Values.{part_cost, value}
 use Rattle.bip_model.specs.declared.answer.Node.{Node}
 use Rattle.bip_model.specs.StandsFor.{Blocked, IsPart, StandsFor}
-use Rattle.bip_model.specs.Trees.{Tree, zeros, in_side, out_side, IsBranch, Shows}
+use Rattle.bip_model.specs.Trees.{Tree, Rule, zeros, in_side, out_side, IsBranch, Shows}
 use Rattle.bip_model.specs.Proves.{free_node, Proves}
 
 -- the value of a programme is the total of its setting, for every configuration
@@ -45,16 +45,16 @@ IsBlockCostInEach part config cost =
 -- Lagrangian values of its bounded leaves.
 abbrev pub TreesBound : Type 0
 TreesBound =
-    (setting : TheSetting) (budget : ℕ) (bound : ℤ) (sets : List TheMultipliers) (node : nodes.Node) (tree : Tree) (config : Config) (total : ℕ) →
-    KeepsLimits setting → Shows setting budget bound sets node tree → IsConfigOf setting.shapes config →
+    (rule : Rule) (setting : TheSetting) (budget : ℕ) (bound : ℤ) (sets : List TheMultipliers) (node : nodes.Node) (tree : Tree) (config : Config) (total : ℕ) →
+    KeepsLimits setting → Shows rule setting budget bound sets node tree → IsConfigOf setting.shapes config →
     Fits setting.cat setting.shapes config budget → nodes.IsBelow node config →
     IsTotal setting.cat setting.shapes config setting.statements total → IsAtMost bound total
 
 -- what is proved bounds the total of every fitting configuration below the root
 abbrev pub ProofsBound : Type 0
 ProofsBound =
-    (setting : TheSetting) (budget : ℕ) (root : nodes.Node) (config : Config) (cost : ℕ) (bound : ℤ) (sets : List TheMultipliers) (list : List Node) (other : Config) (total : ℕ) →
-    KeepsLimits setting → Proves setting budget root config cost bound sets list → IsConfigOf setting.shapes other →
+    (rule : Rule) (setting : TheSetting) (budget : ℕ) (root : nodes.Node) (config : Config) (cost : ℕ) (bound : ℤ) (sets : List TheMultipliers) (list : List Node) (other : Config) (total : ℕ) →
+    KeepsLimits setting → Proves rule setting budget root config cost bound sets list → IsConfigOf setting.shapes other →
     Fits setting.cat setting.shapes other budget → nodes.IsBelow root other →
     IsTotal setting.cat setting.shapes other setting.statements total → IsAtMost bound total
 
@@ -67,8 +67,8 @@ pub record BoundsAll (setting : TheSetting) (budget cost : ℕ) (bound : ℤ) : 
 -- where the root leaves every candidate free, that is every fitting configuration, the proved one among them
 abbrev pub FreeProofsBound : Type 0
 FreeProofsBound =
-    (setting : TheSetting) (budget : ℕ) (config : Config) (cost : ℕ) (bound : ℤ) (sets : List TheMultipliers) (list : List Node) →
-    KeepsLimits setting → Proves setting budget free_node config cost bound sets list → BoundsAll setting budget cost bound
+    (rule : Rule) (setting : TheSetting) (budget : ℕ) (config : Config) (cost : ℕ) (bound : ℤ) (sets : List TheMultipliers) (list : List Node) →
+    KeepsLimits setting → Proves rule setting budget free_node config cost bound sets list → BoundsAll setting budget cost bound
 
 -- each rent is within its limit
 abbrev pub RentsWithin : TheMultipliers → Type 0

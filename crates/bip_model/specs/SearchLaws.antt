@@ -1,7 +1,7 @@
 -- Theorems that a search over a programme stands on.
-use Rattle.std.specs.Prelude.{◌≡◌, ◌↔◌, ℕ, ◌+◌, ◌^◌, ◌≤◌, true, List, length, Some, slice_get, ℤ, pos, ◌≤ℤ◌, ◌<ℤ◌}
+use Rattle.std.specs.Prelude.{◌≡◌, ◌≢◌, ◌↔◌, ℕ, ◌+◌, ◌^◌, ◌≤◌, true, List, length, Some, slice_get, ℤ, pos, ◌≤ℤ◌, ◌<ℤ◌}
 use Rattle.adv_base.specs.declared.limits.TheConstants.{MOST_CANDIDATES}
-use Rattle.adv_base.specs.Configs.{space_of, IsConfigOf, Fits}
+use Rattle.adv_base.specs.Configs.{space_of, config_pages, IsConfigOf, Fits}
 use Rattle.adv_base.specs.Nodes as nodes
 use Rattle.adv_base.specs.Settings.{TheSetting, KeepsLimits}
 use Rattle.plan_model.specs.Lagrangian.{TheMultipliers, IsLagrangian}
@@ -12,7 +12,7 @@ use Rattle.bip_model.specs.Best.{Subproblem, subproblems, AreWorthwhile, NoneCos
 use Rattle.bip_model.specs.Candidates as candidates
 use Rattle.bip_model.specs.Laws.{RentsWithin}
 use Rattle.bip_model.specs.StandsFor.{StandsFor}
-use Rattle.bip_model.specs.Trees.{Tree}
+use Rattle.bip_model.specs.Trees.{Tree, Full}
 use Rattle.bip_model.specs.Uses.{multipliers_in, AreMultipliersIn}
 use Rattle.bip_model.specs.Views.{space_in, multipliers_of, AreMultipliers}
 
@@ -55,24 +55,29 @@ ValuesNeverFall =
     RentsWithin multipliers → AreWorthwhile setting budget (subproblems root tree) → slice_get (subproblems root tree) i ≡ Some s →
     IsLagrangian setting budget root multipliers above → IsLagrangian setting budget s.node multipliers value → above ≤ℤ value
 
--- what is in fits at every node, where it does at the root
-abbrev pub NodesFit : Type 0
-NodesFit =
+-- the pages of what is in are within the budget at every node, where they are at the root
+abbrev pub NodesHaveSpace : Type 0
+NodesHaveSpace =
     (setting : TheSetting) (budget : ℕ) (root : nodes.Node) (tree : Tree) (i : ℕ) (s : Subproblem) →
-    AreWorthwhile setting budget (subproblems root tree) → Fits setting.cat setting.shapes root.inside budget →
-    slice_get (subproblems root tree) i ≡ Some s → Fits setting.cat setting.shapes s.node.inside budget
+    AreWorthwhile setting budget (subproblems root tree) → config_pages setting.cat setting.shapes root.inside ≤ budget →
+    slice_get (subproblems root tree) i ≡ Some s → config_pages setting.cat setting.shapes s.node.inside ≤ budget
+
+-- what is in fits at each node that isn't called overfull
+abbrev pub NodesFit : TheSetting → ℕ → List Subproblem → Type 0
+NodesFit setting budget list =
+    (i : ℕ) (s : Subproblem) → slice_get list i ≡ Some s → (s.tree ≢ Full) → Fits setting.cat setting.shapes s.node.inside budget
 
 -- a node has a flag for each candidate that there may be
 pub record IsWhole (node : nodes.Node) : Type 0 where
   pub inside : length node.inside.on ≡ MOST_CANDIDATES
   pub outside : length node.outside.on ≡ MOST_CANDIDATES
 
--- A tree with a tight leaf below the cost has at least two nodes fewer than a whole tree over the useful candidates, which
--- has 2^(useful + 1) - 1.
+-- A tree with a tight leaf below the cost, at whose nodes but the overfull ones what is in fits, has at least two nodes fewer
+-- than a whole tree over the useful candidates, which has 2^(useful + 1) - 1.
 abbrev pub TreesStaySmall : Type 0
 TreesStaySmall =
     (setting : TheSetting) (budget useful : ℕ) (root : nodes.Node) (tree : Tree) (sets : List TheMultipliers) (bound : ℤ) (cost : ℕ) →
     KeepsLimits setting → AreUseful setting budget useful → IsWhole root → IsConfigOf setting.shapes root.inside →
-    Fits setting.cat setting.shapes root.inside budget → AreWorthwhile setting budget (subproblems root tree) →
+    NodesFit setting budget (subproblems root tree) → AreWorthwhile setting budget (subproblems root tree) →
     NoneCostsLess setting budget (subproblems root tree) cost → IsTight setting budget bound sets (subproblems root tree) →
     bound <ℤ pos cost → length (subproblems root tree) + 3 ≤ 2 ^ (useful + 1)

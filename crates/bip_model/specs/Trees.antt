@@ -1,7 +1,7 @@
 -- Trees of a search for a configuration, and what a tree shows.
 use Rattle.std.specs.Prelude.{◌≡◌, ℕ, zero, suc, ◌-◌, ◌<◌, ◌≤◌, true, List, [], ◌∷◌, ◌++◌, length, Option, Some, slice_get, slice_set, ℤ, ◌≤ℤ◌}
 use Rattle.adv_base.specs.declared.setting.Config.{Config}
-use Rattle.adv_base.specs.Configs.{config_pages}
+use Rattle.adv_base.specs.Configs.{config_pages, Fits}
 use Rattle.adv_base.specs.Nodes as nodes
 use Rattle.adv_base.specs.Settings.{TheSetting}
 use Rattle.plan_model.specs.Lagrangian.{TheMultipliers, IsLagrangian}
@@ -55,10 +55,20 @@ pub record IsBranch (setting : TheSetting) (node : nodes.Node) (a : ℕ) : Type 
   pub within : a ≤ length setting.shapes
   pub free : nodes.is_free node a ≡ true
 
+-- by what a leaf may be called overfull: by the pages of what is in there alone, or as that doesn't fit
+pub data Rule : Type 0 where
+  ByPages : Rule
+  ByFit : Rule
+
+-- what is in at a node is too much: its pages exceed the budget, or it doesn't fit, as two of it may clash, too
+abbrev pub IsOverfull : Rule → TheSetting → ℕ → nodes.Node → Type 0
+IsOverfull ByPages setting budget node = budget < config_pages setting.cat setting.shapes node.inside
+IsOverfull ByFit setting budget node = ¬ (Fits setting.cat setting.shapes node.inside budget)
+
 -- A tree shows a bound below a node: each branch names a candidate that is free there, each leaf is bounded, and each that
--- is called overfull is so.
-abbrev pub Shows : TheSetting → ℕ → ℤ → List TheMultipliers → nodes.Node → Tree → Type 0
-Shows setting budget bound sets node (Branches a inside outside) =
-    IsBranch setting node a × Shows setting budget bound sets (in_side node a) inside × Shows setting budget bound sets (out_side node a) outside
-Shows setting budget bound sets node (Leaf k) = IsBounded setting budget bound sets node k
-Shows setting budget bound sets node Full = budget < config_pages setting.cat setting.shapes node.inside
+-- is called overfull is so, by a rule.
+abbrev pub Shows : Rule → TheSetting → ℕ → ℤ → List TheMultipliers → nodes.Node → Tree → Type 0
+Shows rule setting budget bound sets node (Branches a inside outside) =
+    IsBranch setting node a × Shows rule setting budget bound sets (in_side node a) inside × Shows rule setting budget bound sets (out_side node a) outside
+Shows rule setting budget bound sets node (Leaf k) = IsBounded setting budget bound sets node k
+Shows rule setting budget bound sets node Full = IsOverfull rule setting budget node

@@ -1,7 +1,7 @@
 //! Laws of programmes and of trees, each proved of all settings: that a programme tells what each configuration costs, and
 //! that a tree with its multipliers bounds what every fitting configuration costs; and what a search may rely on.
 ghost use Rattle.bip_model.specs.Laws.{ValueIsTotal, PartCostIsLeast, TreesBound, ProofsBound, FreeProofsBound, OutNeverLowers, InNeverLowers, NoneUsefulIsTotal};
-ghost use Rattle.bip_model.specs.SearchLaws.{SpaceIsDecided, UsefulIsDecided, UsefulAreCounted, GrantsAreUses, LimitsAreThose, ValuesNeverFall, NodesFit, TreesStaySmall};
+ghost use Rattle.bip_model.specs.SearchLaws.{SpaceIsDecided, UsefulIsDecided, UsefulAreCounted, GrantsAreUses, LimitsAreThose, ValuesNeverFall, NodesHaveSpace, TreesStaySmall};
 
 /// Of a programme that stands for a setting, `value` is the total of the workload under every configuration, and
 /// `part_cost` the cost of a least plan of the part's block.
@@ -41,14 +41,15 @@ pub fn programme_decides()
     ensures limits { LimitsAreThose }
 {}
 
-/// In a tree whose branches are on open and useful candidates, no Lagrangian value falls below that of the root, and what is
-/// in fits at every node where it does at the root.
+/// In a tree whose branches are on open and useful candidates, no Lagrangian value falls below that of the root, and the
+/// pages of what is in are within the budget at every node where they are at the root.
 pub fn values_never_fall()
     ensures value { ValuesNeverFall }
-    ensures fits { NodesFit }
+    ensures space { NodesHaveSpace }
 {}
 
-/// Such a tree is smaller than a whole tree over the useful candidates where it leaves a bound below the cost.
+/// Such a tree is smaller than a whole tree over the useful candidates where it leaves a bound below the cost, and what is in
+/// fits at each node that isn't called overfull.
 pub fn trees_stay_small()
     ensures { TreesStaySmall }
 {}

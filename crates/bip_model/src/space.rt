@@ -1,4 +1,4 @@
-//! The space that a configuration has to fit, and which candidates it leaves open at a node of a search.
+//! The space that a configuration takes, and which candidates it leaves open at a node of a search.
 ghost use Rattle.bip_model.specs.Limits.Spaces.{SpaceLimits};
 
 use crate::fix::Fix;
@@ -6,7 +6,7 @@ use crate::programme::Programme;
 use adv_base::Config;
 use adv_base::limits::MOST_CANDIDATES;
 
-/// What a configuration has to fit: the pages of each candidate, of which there are at most 256, and a budget of pages.
+/// The space of candidates: the pages of each, of which there are at most 256, and a budget of pages.
 /// Candidates are numbered from 1.
 #[derive(Clone, Copy)]
 pub struct Space<'a> {
@@ -71,9 +71,9 @@ impl Space<'_> {
         }
     }
 
-    /// Whether a configuration fits.
-    pub fn fits(&self, config: &Config) -> bool
-        ensures { IsTrue result ↔ configs.FitsIn (views.the_space self.now) config.now }
+    /// Whether the pages of a configuration are within the budget.
+    pub fn has_space(&self, config: &Config) -> bool
+        ensures { IsTrue result ↔ configs.HasSpace (views.the_space self.now) config.now }
     {
         self.pages(config) <= self.budget
     }
