@@ -28,7 +28,7 @@ use Rattle.bip_model.specs.declared.multipliers.Multipliers.{Multipliers}
 use Rattle.bip_model.specs.declared.programme.Programme.{Programme}
 use Rattle.bip_model.specs.Best.{IsBest, sets_in}
 use Rattle.bip_model.specs.StandsFor.{StandsFor}
-use Rattle.bip_model.specs.Trees.{Tree, Branches, Leaf, Full, preorder, in_side, out_side, set_at, Shows}
+use Rattle.bip_model.specs.Trees.{Tree, Branches, Leaf, Full, Rule, ByFit, preorder, in_side, out_side, set_at, Shows}
 use Rattle.bip_model.specs.Uses.{uses, multipliers_in, AreMultipliersIn, share, rent_multipliers}
 use Rattle.bip_model.specs.Views.{Place, is_place, rent_at, AreMultipliers}
 use Rattle.bip_model.proofs.Using.{places-used, places-counted}
@@ -137,16 +137,16 @@ set-within : (sets : List TheMultipliers) (k : ℕ) (multipliers : TheMultiplier
 set-within sets zero multipliers found = omega arith
 set-within sets (suc k) multipliers found = let within = slice_get_within sets k multipliers found in omega (arith, within)
 
-shown-limits : (setting : TheSetting) (budget : ℕ) (bound : ℤ) (sets : List TheMultipliers) (node : nodes.Node) (tree : Tree) → KeepsLimits setting → Shows setting budget bound sets node tree →
+shown-limits : (rule : Rule) (setting : TheSetting) (budget : ℕ) (bound : ℤ) (sets : List TheMultipliers) (node : nodes.Node) (tree : Tree) → KeepsLimits setting → Shows rule setting budget bound sets node tree →
     All (NodeLimits (length sets)) (preorder tree)
-shown-limits setting budget bound sets node (Branches a inside outside) limits shows =
+shown-limits rule setting budget bound sets node (Branches a inside outside) limits shows =
     All-cons (NodeLimits (length sets)) (Branch a) (preorder inside ++ preorder outside) (shows.0.some, omega (arith, shows.0.within, limits.shapes_most))
     (All-append (NodeLimits (length sets)) (preorder inside) (preorder outside)
-    (shown-limits setting budget bound sets (in_side node a) inside limits shows.1)
-    (shown-limits setting budget bound sets (out_side node a) outside limits shows.2))
-shown-limits setting budget bound sets node (Leaf k) limits shows =
+    (shown-limits rule setting budget bound sets (in_side node a) inside limits shows.1)
+    (shown-limits rule setting budget bound sets (out_side node a) outside limits shows.2))
+shown-limits rule setting budget bound sets node (Leaf k) limits shows =
     All-cons (NodeLimits (length sets)) (Bounded k) [] (set-within sets k shows.multipliers shows.found) (All-nil (NodeLimits (length sets)))
-shown-limits setting budget bound sets node Full limits shows =
+shown-limits rule setting budget bound sets node Full limits shows =
     All-cons (NodeLimits (length sets)) Overfull [] tt (All-nil (NodeLimits (length sets)))
 
 -- ## The law
@@ -157,7 +157,7 @@ best-keeps setting programme budget node_budget root answer limits stands few_pa
     let shown = best.proves.shown in
     let count : length (sets_in setting answer) ≡ length answer.sets = length-map answer.sets (multipliers_in setting) in
     let of_tree : All (NodeLimits (length answer.sets)) (preorder shown.tree) =
-    subst (λ (n : ℕ). All (NodeLimits n) (preorder shown.tree)) count (shown-limits setting budget answer.bound (sets_in setting answer) root shown.tree limits shown.shows) in
+    subst (λ (n : ℕ). All (NodeLimits n) (preorder shown.tree)) count (shown-limits ByFit setting budget answer.bound (sets_in setting answer) root shown.tree limits shown.shows) in
     record {
       budget_most = few_pages;
       cost_small = omega (arith, cost-small setting answer limits best.proves.cost_is);

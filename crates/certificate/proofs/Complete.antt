@@ -214,7 +214,7 @@ pub complete : (cert : Cert) → CertLimits cert → (e : Draft) × Run start (c
 unfolding start
 complete cert h =
     let d0 : Draft = start in
-    let d1 : Draft = record d0 { stage = stages.Budget } in
+    let d1 : Draft = record d0 { version = cert.version; stage = stages.Budget } in
     let d2 : Draft = record d1 { budget = cert.budget; stage = stages.Config } in
     let d3 : Draft = record d2 { config = cert.config; stage = stages.Cost } in
     let d4 : Draft = record d3 { cost = cert.cost; stage = stages.Bound } in
@@ -227,6 +227,6 @@ complete cert h =
     (subst (λ (k : ℕ). AllByRecursion (NodeLimits k) cert.tree) (sym count) h.nodes) in
     let body = run-append (sets_lines cert.sets) (tree_lines cert.tree ++ end_line ∷ []) d6 sets.0 tree.0 moved.run tree.1 in (
       tree.0,
-      (d1, (refl, refl), (d2, (cert.budget, h.budget, refl, refl), (d3, (cert.config, h.config, refl, refl), (d4, (cert.cost, h.cost, refl, refl), (d5, (cert.bound, h.bound, refl, refl), (d6, (length cert.sets, h.few_sets, refl, refl), body)))))),
+      (d1, (cert.version, h.version_least, h.version_most, refl, refl), (d2, (cert.budget, h.budget, refl, refl), (d3, (cert.config, h.config, refl, refl), (d4, (cert.cost, h.cost, refl, refl), (d5, (cert.bound, h.bound, refl, refl), (d6, (length cert.sets, h.few_sets, refl, refl), body)))))),
       tree.2,
     )

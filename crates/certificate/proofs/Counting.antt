@@ -41,7 +41,7 @@ body-ahead zero zero d e line at none h =
 pub step-ahead : (s : Stage) (d e : Draft) (line : List ℕ) → d.stage ≡ s → DraftFits d → StepAt s d line e → is_front s ≡ true → IsAhead e
 step-ahead stages.Title d e line at fits h front =
     let fresh : IsFresh d = subst (λ (s : Stage). StageFits s d) at fits.stage in
-    subst IsAhead (sym h.1) (record { all = refl; none = ap length fresh.tree })
+    subst IsAhead (sym h.4) (record { all = refl; none = ap length fresh.tree })
 step-ahead stages.Budget d e line at fits h front =
     let fresh : IsFresh d = subst (λ (s : Stage). StageFits s d) at fits.stage in
     subst IsAhead (sym h.3) (record { all = refl; none = ap length fresh.tree })

@@ -10,7 +10,7 @@ use Rattle.certificate.specs.inner.Steps.{trees_after, with_set, with_entry, Ste
 use Rattle.certificate.specs.inner.Drafts.{DraftFits}
 use Rattle.certificate.specs.inner.Runs.{Run}
 use Rattle.certificate.proofs.Keeps.{fits-step}
-use Rattle.certificate.proofs.Taken.{one-budget, one-config, one-cost, one-bound, one-sets, one-tree, one-set, one-entry, one-node}
+use Rattle.certificate.proofs.Taken.{one-title, one-budget, one-config, one-cost, one-bound, one-sets, one-tree, one-set, one-entry, one-node}
 
 body-one : (m k : ℕ) (d e f : Draft) (line : List ℕ) → d.spare < 2 ^ 128 → BodyStep m k d line e → BodyStep m k d line f → e ≡ f
 body-one (suc m) k d e f line small h g =
@@ -27,7 +27,7 @@ node-one (suc m) d e f line small h g =
 node-one zero d e f line small h g = h.1 ∙ sym g.1
 
 step-one : (s : Stage) (d e f : Draft) (line : List ℕ) → DraftFits d → StepAt s d line e → StepAt s d line f → e ≡ f
-step-one stages.Title d e f line fits h g = h.1 ∙ sym g.1
+step-one stages.Title d e f line fits h g = h.4 ∙ ap (λ (n : ℕ). record d { version = n; stage = stages.Budget }) (one-title h.0 g.0 h.2 g.2 (sym h.3 ∙ g.3)) ∙ sym g.4
 step-one stages.Budget d e f line fits h g = h.3 ∙ ap (λ (n : ℕ). record d { budget = n; stage = stages.Config }) (one-budget h.0 g.0 h.1 g.1 (sym h.2 ∙ g.2)) ∙ sym g.3
 step-one stages.Config d e f line fits h g = h.3 ∙ ap (λ (ns : List ℕ). record d { config = ns; stage = stages.Cost }) (one-config h.0 g.0 h.1 g.1 (sym h.2 ∙ g.2)) ∙ sym g.3
 step-one stages.Cost d e f line fits h g = h.3 ∙ ap (λ (n : ℕ). record d { cost = n; stage = stages.Bound }) (one-cost h.0 g.0 h.1 g.1 (sym h.2 ∙ g.2)) ∙ sym g.3

@@ -1,9 +1,9 @@
 -- The head of a certificate.
-use Rattle.std.proofs.Common.{◌≡◌, ◌∙◌, ℕ, ◌+◌, ◌<◌, ◌≤◌, List, [], ◌∷◌, ◌++◌, length, map, drop, sym, ap, subst, refl, arith}
+use Rattle.std.proofs.Common.{◌≡◌, ◌∙◌, ℕ, ◌+◌, ◌≤◌, List, [], ◌∷◌, ◌++◌, length, map, drop, sym, ap, subst, refl, arith}
 use Rattle.std.proofs.lemmas.List.{append_assoc}
 use Rattle.adv_base.specs.declared.limits.TheConstants.{MOST_CERTIFICATE_BYTES}
 use Rattle.certificate.specs.Certificates.{IsCertificate}
-use Rattle.certificate.specs.Heads.{lines_before, head_of, tree_text, IsHeadOf, HeadLimits, HeadsKeepLimits}
+use Rattle.certificate.specs.Heads.{lines_before, tree_text, IsHeadOf, HeadLimits, HeadsKeepLimits}
 use Rattle.certificate.specs.Texts.{text_of, tree_line, node_line, end_line, head_lines, sets_lines, cert_lines, cert_text}
 use Rattle.certificate.specs.declared.cert.Cert.{Cert}
 use Rattle.certificate.specs.declared.head.Head.{Head}
@@ -15,7 +15,7 @@ use Rattle.certificate.proofs.Sizes.{lines-both, texts-fit}
 -- the lines of a certificate begin with those before the nodes
 front-lines : (c : Cert) → cert_lines c ≡ lines_before c ++ (map node_line c.tree ++ end_line ∷ [])
 front-lines c =
-    let head : List (List ℕ) = head_lines c.budget c.config c.cost c.bound (length c.sets) in
+    let head : List (List ℕ) = head_lines c.version c.budget c.config c.cost c.bound (length c.sets) in
     let tree : List (List ℕ) = tree_line (length c.tree) ∷ [] in
     let nodes : List (List ℕ) = map node_line c.tree ++ end_line ∷ [] in
     sym (append_assoc head (sets_lines c.sets ++ tree) nodes ∙ ap (λ (ls : List (List ℕ)). head ++ ls) (append_assoc (sets_lines c.sets) tree nodes))
@@ -33,6 +33,8 @@ heads-keep-limits = λ bytes head is.
     let size = front-size bytes is.cert is.certificate in
     subst HeadLimits (sym is.same)
     (record {
+      version_least = limits.version_least;
+      version_most = limits.version_most;
       budget = limits.budget;
       config = limits.config;
       cost = limits.cost;

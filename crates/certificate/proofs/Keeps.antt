@@ -23,7 +23,7 @@ no-nodes : (k : ℕ) (nodes : List Node) → nodes ≡ [] → AllByRecursion (No
 no-nodes k [] none = tt
 no-nodes k (n ∷ ns) none = absurd (omega (arith, ap length none))
 
-closed-keeps : (n : ℕ) (d : Draft) → d.stage ≡ stages.Body → HeadFits d.budget d.config d.cost d.bound → BodyFits (closed_by n d) → (k : ℕ) → TreeFits k d.tree d.nodes_left d.trees_left → d.tree ≡ [] → d.trees_left ≡ 1 → DraftFits (closed_by n d)
+closed-keeps : (n : ℕ) (d : Draft) → d.stage ≡ stages.Body → HeadFits d.version d.budget d.config d.cost d.bound → BodyFits (closed_by n d) → (k : ℕ) → TreeFits k d.tree d.nodes_left d.trees_left → d.tree ≡ [] → d.trees_left ≡ 1 → DraftFits (closed_by n d)
 closed-keeps zero d at head body k nodes none one = record {
   head = head;
   body = body;
@@ -105,23 +105,24 @@ node-fits zero d e line at left fits h =
 pub fits-step : (s : Stage) (d e : Draft) (line : List ℕ) → d.stage ≡ s → DraftFits d → StepAt s d line e → DraftFits e
 fits-step stages.Title d e line at fits h =
     let fresh : IsFresh d = subst (λ (s : Stage). StageFits s d) at fits.stage in
-    subst DraftFits (sym h.1) (record { head = fits.head; body = fits.body; nodes = fits.nodes; stage = same-fresh d _ fresh refl refl refl refl refl })
+    let head = fits.head in
+    subst DraftFits (sym h.4) (record { head = record { version_least = h.1; version_most = h.2; budget_most = head.budget_most; config_rises = head.config_rises; cost_small = head.cost_small; bound_small = head.bound_small }; body = fits.body; nodes = fits.nodes; stage = same-fresh d _ fresh refl refl refl refl refl })
 fits-step stages.Budget d e line at fits h =
     let fresh : IsFresh d = subst (λ (s : Stage). StageFits s d) at fits.stage in
     let head = fits.head in
-    subst DraftFits (sym h.3) (record { head = record { budget_most = h.1; config_rises = head.config_rises; cost_small = head.cost_small; bound_small = head.bound_small }; body = fits.body; nodes = fits.nodes; stage = same-fresh d _ fresh refl refl refl refl refl })
+    subst DraftFits (sym h.3) (record { head = record { version_least = head.version_least; version_most = head.version_most; budget_most = h.1; config_rises = head.config_rises; cost_small = head.cost_small; bound_small = head.bound_small }; body = fits.body; nodes = fits.nodes; stage = same-fresh d _ fresh refl refl refl refl refl })
 fits-step stages.Config d e line at fits h =
     let fresh : IsFresh d = subst (λ (s : Stage). StageFits s d) at fits.stage in
     let head = fits.head in
-    subst DraftFits (sym h.3) (record { head = record { budget_most = head.budget_most; config_rises = h.1; cost_small = head.cost_small; bound_small = head.bound_small }; body = fits.body; nodes = fits.nodes; stage = same-fresh d _ fresh refl refl refl refl refl })
+    subst DraftFits (sym h.3) (record { head = record { version_least = head.version_least; version_most = head.version_most; budget_most = head.budget_most; config_rises = h.1; cost_small = head.cost_small; bound_small = head.bound_small }; body = fits.body; nodes = fits.nodes; stage = same-fresh d _ fresh refl refl refl refl refl })
 fits-step stages.Cost d e line at fits h =
     let fresh : IsFresh d = subst (λ (s : Stage). StageFits s d) at fits.stage in
     let head = fits.head in
-    subst DraftFits (sym h.3) (record { head = record { budget_most = head.budget_most; config_rises = head.config_rises; cost_small = h.1; bound_small = head.bound_small }; body = fits.body; nodes = fits.nodes; stage = same-fresh d _ fresh refl refl refl refl refl })
+    subst DraftFits (sym h.3) (record { head = record { version_least = head.version_least; version_most = head.version_most; budget_most = head.budget_most; config_rises = head.config_rises; cost_small = h.1; bound_small = head.bound_small }; body = fits.body; nodes = fits.nodes; stage = same-fresh d _ fresh refl refl refl refl refl })
 fits-step stages.Bound d e line at fits h =
     let fresh : IsFresh d = subst (λ (s : Stage). StageFits s d) at fits.stage in
     let head = fits.head in
-    subst DraftFits (sym h.3) (record { head = record { budget_most = head.budget_most; config_rises = head.config_rises; cost_small = head.cost_small; bound_small = h.1 }; body = fits.body; nodes = fits.nodes; stage = same-fresh d _ fresh refl refl refl refl refl })
+    subst DraftFits (sym h.3) (record { head = record { version_least = head.version_least; version_most = head.version_most; budget_most = head.budget_most; config_rises = head.config_rises; cost_small = head.cost_small; bound_small = h.1 }; body = fits.body; nodes = fits.nodes; stage = same-fresh d _ fresh refl refl refl refl refl })
 fits-step stages.Sets d e line at fits h =
     let fresh : IsFresh d = subst (λ (s : Stage). StageFits s d) at fits.stage in
     let b = fits.body in
@@ -168,6 +169,8 @@ done-cert d at fits =
     let nodes : length d.tree + d.nodes_left ≡ length d.tree = omega (arith, done.1) in
     let none : d.trees_left ≡ 0 = omega (arith, fits.nodes.enough, done.1) in (
       record {
+        version_least = fits.head.version_least;
+        version_most = fits.head.version_most;
         budget = fits.head.budget_most;
         config = fits.head.config_rises;
         cost = fits.head.cost_small;
@@ -180,5 +183,5 @@ done-cert d at fits =
         tree = trees-whole 1 d.tree (subst (λ (k : ℕ). Leave 1 d.tree k) none fits.nodes.leaves);
       },
       ap (λ (s : Stage). lines_at s d) at
-          ∙ (λ i. head_lines d.budget d.config d.cost d.bound (sets i) ++ (sets_lines d.sets ++ ((tree_line (nodes i) ∷ map node_line d.tree) ++ end_line ∷ []))),
+          ∙ (λ i. head_lines d.version d.budget d.config d.cost d.bound (sets i) ++ (sets_lines d.sets ++ ((tree_line (nodes i) ∷ map node_line d.tree) ++ end_line ∷ []))),
     )

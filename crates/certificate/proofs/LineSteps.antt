@@ -35,7 +35,7 @@ closed-lines zero d none some =
     let lines : sets_lines (d.sets ++ set ∷ []) ++ begun_lines d.entries_left e ≡ sets_lines d.sets ++ (set_line d.mu (length d.entries + 0) ∷ map entry_line d.entries) =
     ap (λ (xs : List (List ℕ)). sets_lines (d.sets ++ set ∷ []) ++ xs) nothing ∙ append-nil (sets_lines (d.sets ++ set ∷ [])) ∙ sets_lines-more d.sets set
     ∙ ap (λ (n : ℕ). sets_lines d.sets ++ (set_line d.mu n ∷ map entry_line d.entries)) size in
-    λ i. head_lines d.budget d.config d.cost d.bound (count i) ++ lines i
+    λ i. head_lines d.version d.budget d.config d.cost d.bound (count i) ++ lines i
 closed-lines (suc n) d more some = ap (λ (k : ℕ). head_of d ++ (sets_lines d.sets ++ begun_lines k d)) more
 
 -- what closing leaves as it was
@@ -100,7 +100,7 @@ no-sets (s ∷ ss) m d none left = absurd (omega (arith, ap length none))
 
 -- a step puts its line behind those before
 pub line-step : (s : Stage) (d e : Draft) (line : List ℕ) → d.stage ≡ s → DraftFits d → StepAt s d line e → lines_at e.stage e ≡ lines_at s d ++ line ∷ []
-line-step stages.Title d e line at fits h = ap (λ (x : Draft). lines_at x.stage x) h.1 ∙ ap (λ (l : List ℕ). l ∷ []) (sym h.0)
+line-step stages.Title d e line at fits h = ap (λ (x : Draft). lines_at x.stage x) h.4 ∙ ap (λ (l : List ℕ). l ∷ []) (sym h.3)
 line-step stages.Budget d e line at fits h = ap (λ (x : Draft). lines_at x.stage x) h.3 ∙ ap (λ (l : List ℕ). lines_at stages.Budget d ++ l ∷ []) (sym h.2)
 line-step stages.Config d e line at fits h = ap (λ (x : Draft). lines_at x.stage x) h.3 ∙ ap (λ (l : List ℕ). lines_at stages.Config d ++ l ∷ []) (sym h.2)
 line-step stages.Cost d e line at fits h = ap (λ (x : Draft). lines_at x.stage x) h.3 ∙ ap (λ (l : List ℕ). lines_at stages.Cost d ++ l ∷ []) (sym h.2)

@@ -12,7 +12,7 @@ use Rattle.certificate.specs.Texts.{text_of, set_line, entry_line, node_line, en
 use Rattle.certificate.specs.declared.cert.Cert.{Cert}
 use Rattle.certificate.specs.declared.cert.Entry.{Entry}
 use Rattle.certificate.specs.declared.cert.SparseSet.{SparseSet}
-use Rattle.certificate.proofs.Taken.{one-budget, one-config, one-cost, one-bound, one-sets, one-tree, one-set, one-entry, one-node}
+use Rattle.certificate.proofs.Taken.{one-title, one-budget, one-config, one-cost, one-bound, one-sets, one-tree, one-set, one-entry, one-node}
 use Rattle.certificate.proofs.Splits.{cert-plain}
 
 -- a text has its lines alone
@@ -64,6 +64,7 @@ nodes-once sets (n ∷ ns) (m ∷ ms) xs ys small size h g is =
 pub one-cert : (c d : Cert) → CertLimits c → CertLimits d → cert_text c ≡ cert_text d → c ≡ d
 one-cert c d h g e =
     let lines : cert_lines c ≡ cert_lines d = lines-once (cert_lines c) (cert_lines d) (cert-plain c h) (cert-plain d g) e in
+    let version = one-title c.version d.version h.version_most g.version_most (ap (λ (ls : List (List ℕ)). get_or ls 0 []) lines) in
     let budget = one-budget c.budget d.budget h.budget g.budget (ap (λ (ls : List (List ℕ)). get_or ls 1 []) lines) in
     let config = one-config c.config d.config h.config g.config (ap (λ (ls : List (List ℕ)). get_or ls 2 []) lines) in
     let cost = one-cost c.cost d.cost h.cost g.cost (ap (λ (ls : List (List ℕ)). get_or ls 3 []) lines) in
@@ -72,7 +73,7 @@ one-cert c d h g e =
     let sets = sets-once c.sets d.sets (tree_lines c.tree ++ end_line ∷ []) (tree_lines d.tree ++ end_line ∷ []) count h.sets g.sets h.few_entries g.few_entries (ap (drop 6) lines) in
     let size = one-tree (length c.tree) (length d.tree) h.few_nodes g.few_nodes (ap (λ (ls : List (List ℕ)). get_or ls 0 []) sets.1) in
     let tree = nodes-once (length c.sets) c.tree d.tree (end_line ∷ []) (end_line ∷ []) (omega (arith, h.few_sets)) size h.nodes (subst (λ (k : ℕ). AllByRecursion (NodeLimits k) d.tree) (sym count) g.nodes) (ap (drop 1) sets.1) in
-    λ i. record { budget = budget i; config = config i; cost = cost i; bound = bound i; sets = sets.0 i; tree = tree i }
+    λ i. record { version = version i; budget = budget i; config = config i; cost = cost i; bound = bound i; sets = sets.0 i; tree = tree i }
 
 pub one-certificate : OneCertificate
 one-certificate = λ bytes c d h g. one-cert c d h.limits g.limits (sym h.text ∙ g.text)

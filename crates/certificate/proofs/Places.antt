@@ -130,11 +130,13 @@ numbers-rise n (false ∷ flags) few = rise-low (suc n) n (numbers_from (suc n) 
     rise-low m l [] h low = tt
     rise-low m l (k ∷ ks) h low = (omega (arith, h.0), h.1, h.2)
 
-pub answer-keeps : (programme : Programme) (budget : ℕ) (answer : Answer) → length answer.config.on ≡ MOST_CANDIDATES → InOrder programme → AnswerLimits programme budget answer → CertLimits (answer_cert programme budget answer)
-answer-keeps programme budget answer flags order h =
+pub answer-keeps : (programme : Programme) (version budget : ℕ) (answer : Answer) → 1 ≤ version → version ≤ 2 → length answer.config.on ≡ MOST_CANDIDATES → InOrder programme → AnswerLimits programme budget answer → CertLimits (answer_cert programme version budget answer)
+answer-keeps programme version budget answer some most flags order h =
     let sets = all-of (AreMultipliers programme) answer.sets h.multipliers in
     let count : length (map (sparse_set programme) answer.sets) ≡ length answer.sets = length-map answer.sets (sparse_set programme) in
     record {
+      version_least = some;
+      version_most = most;
       budget = h.budget_most;
       config = numbers-rise 1 answer.config.on (omega (arith, flags));
       cost = h.cost_small;

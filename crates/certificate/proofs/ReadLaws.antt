@@ -19,7 +19,7 @@ use Rattle.certificate.proofs.Complete.{run-append}
 pub start-fits : DraftFits start
 unfolding start
 start-fits = record {
-  head = record { budget_most = omega arith; config_rises = tt; cost_small = omega arith; bound_small = omega arith };
+  head = record { version_least = omega arith; version_most = omega arith; budget_most = omega arith; config_rises = tt; cost_small = omega arith; bound_small = omega arith };
   body = record {
     few = omega arith;
     whole = tt;

@@ -1,5 +1,5 @@
 -- What is read of a text with one more piece.
-use Rattle.std.proofs.Common.{◌≡◌, ◌∙◌, ℕ, suc, ◌+◌, ◌<◌, ◌≤◌, Bool, true, false, List, [], ◌∷◌, ◌++◌, length, sym, ap, subst, refl, arith, length-append}
+use Rattle.std.proofs.Common.{◌≡◌, ◌∙◌, ℕ, ◌+◌, ◌<◌, ◌≤◌, Bool, true, false, List, [], ◌∷◌, ◌++◌, length, sym, ap, subst, refl, arith}
 use Rattle.std.specs.Coded.{le_prop}
 use Rattle.std.proofs.Math.Logic.{∥∥₁_elim, ∥∥₁_map}
 use Rattle.std.proofs.lemmas.Bool.{false≢true}
@@ -12,17 +12,15 @@ use Rattle.certificate.specs.Certificates.{IsLine, BreaksAt}
 use Rattle.certificate.specs.Heads.{IsHeadOf, lines_before}
 use Rattle.certificate.specs.Texts.{text_of, tree_line, head_lines, sets_lines}
 use Rattle.certificate.specs.declared.counts.Counts.{Counts}
-use Rattle.certificate.specs.declared.head.Head.{Head}
 use Rattle.certificate.specs.declared.outline.Outline.{Outline}
 use Rattle.certificate.specs.declared.stage.Stage.{Stage}
 use Rattle.certificate.specs.declared.stage.Stage.TheVariants as stages
 use Rattle.certificate.specs.declared.stage.Taken.{Taken}
 use Rattle.certificate.specs.declared.stage.Taken.TheVariants as takes
 use Rattle.certificate.specs.declared.reading.Reading.{Reading}
-use Rattle.certificate.specs.inner.Drafts.{StageFits, DraftFits, OutlineFits, cert_of}
+use Rattle.certificate.specs.inner.Drafts.{StageFits, OutlineFits, cert_of}
 use Rattle.certificate.specs.inner.Outlines.{Draft, with_tree}
-use Rattle.certificate.specs.inner.Readings.{counts_of, with_line, front_at, Reaches, IsReached, IsRead, Breaks, ReadsOn, Extends, counted, TakesLine, head_read}
-use Rattle.certificate.specs.inner.Runs.{Run}
+use Rattle.certificate.specs.inner.Readings.{counts_of, front_at, Reaches, IsReached, IsRead, Breaks, ReadsOn, Extends, counted, TakesLine, head_read}
 use Rattle.certificate.specs.inner.Steps.{start, is_front, StepAt, Takes, TakesAt}
 use Rattle.certificate.proofs.Breaks.{breaks-behind}
 use Rattle.certificate.proofs.Counting.{reaches-ahead, reaches-behind}
@@ -228,13 +226,13 @@ read-head r text is none at =
     let sets : length o.sets + o.sets_left ≡ length o.sets = omega (arith, done.0.sets_left) in
     let nodes : length is.tree + o.nodes_left ≡ length is.tree = omega (arith, done.1) in
     let front : front_at o.stage d ≡ lines_before (cert_of d) =
-    ap (λ (s : Stage). front_at s d) at ∙ (λ i. head_lines o.budget o.config o.cost o.bound (sets i) ++ (sets_lines o.sets ++ tree_line (nodes i) ∷ [])) in
+    ap (λ (s : Stage). front_at s d) at ∙ (λ i. head_lines o.version o.budget o.config o.cost o.bound (sets i) ++ (sets_lines o.sets ++ tree_line (nodes i) ∷ [])) in
     let counts : r.front ≡ counts_of (lines_before (cert_of d)) = is.reaches.front_is ∙ ap counts_of front in
     let count : r.nodes ≡ length is.tree = is.reaches.nodes_is ∙ nodes in
     record {
       cert = cert_of d;
       certificate = cert-is text r.partial is.lines d is.parts none is.reaches.run at;
-      same = λ i. record { budget = o.budget; config = o.config; cost = o.cost; bound = o.bound; sets = o.sets; nodes = count i; tree_at = (counts i).bytes; lines = (counts i).lines };
+      same = λ i. record { version = o.version; budget = o.budget; config = o.config; cost = o.cost; bound = o.bound; sets = o.sets; nodes = count i; tree_at = (counts i).bytes; lines = (counts i).lines };
     }
 
 -- ## A piece

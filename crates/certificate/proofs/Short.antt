@@ -1,9 +1,9 @@
 -- No line of a certificate is longer than that of a configuration of all candidates.
-use Rattle.std.proofs.Common.{ℕ, ◌+◌, ◌<◌, ◌≤◌, List, [], ◌∷◌, ◌++◌, length, map, arith}
+use Rattle.std.proofs.Common.{ℕ, ◌+◌, ◌≤◌, List, [], ◌∷◌, ◌++◌, length, map, arith}
 use Rattle.std.specs.List.{AllByRecursion}
 use Rattle.bip_model.specs.declared.answer.Node.{Node}
 use Rattle.certificate.specs.Limits.{EntriesFrom, entry_place, SetLimits, NodeLimits, entry_count, CertLimits}
-use Rattle.certificate.specs.Texts.{title_line, budget_line, entry_line, tree_line, node_line, end_line, set_lines, sets_lines, tree_lines, cert_lines}
+use Rattle.certificate.specs.Texts.{entry_line, node_line, end_line, set_lines, sets_lines, tree_lines, cert_lines}
 use Rattle.certificate.specs.declared.cert.Cert.{Cert}
 use Rattle.certificate.specs.declared.cert.Entry.{Entry}
 use Rattle.certificate.specs.declared.cert.SparseSet.{SparseSet}
@@ -32,7 +32,7 @@ pub cert-short : (cert : Cert) → CertLimits cert → AllByRecursion IsShort (c
 cert-short cert limits =
     let tree : AllByRecursion IsShort (tree_lines cert.tree) =
     (omega (arith, tree-size (length cert.tree) limits.few_nodes), nodes-short (length cert.sets) cert.tree limits.few_sets limits.nodes) in (
-      omega (arith, title-size),
+      omega (arith, title-size cert.version limits.version_most),
       (
         omega (arith, budget-size cert.budget limits.budget),
         (

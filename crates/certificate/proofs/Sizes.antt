@@ -25,9 +25,9 @@ lines-both xs ys = ap (λ (t : List ℕ). length t) (text-append xs ys) ∙ leng
 
 -- ## The lines before those of the sets
 
-pub title-size : length title_line ≡ 19
+pub title-size : (version : ℕ) → version ≤ 2 → length (title_line version) ≤ 19
 unfolding title_line
-title-size = refl
+title-size version most = let digits = length-decimal-le_wide 1 version (omega arith) (omega (arith, most)) (omega (arith, most)) in omega (arith, digits)
 
 pub budget-size : (pages : ℕ) → pages ≤ 1000000000000 → length (budget_line pages) ≤ 20
 unfolding budget_line
@@ -64,16 +64,16 @@ pub sets-size : (count : ℕ) → count ≤ 16 → length (sets_line count) ≤ 
 unfolding sets_line
 sets-size count few = let digits = length-decimal-le_wide 2 count (omega arith) (omega (arith, few)) (omega (arith, few)) in omega (arith, digits)
 
-head-size : (budget : ℕ) (config : List ℕ) (cost : ℕ) (bound : ℤ) (count : ℕ) → budget ≤ 1000000000000 → Rise 1 config → cost < 2 ^ 127 → IsSmall bound → count ≤ 16 →
-    length (text_of (head_lines budget config cost bound count)) ≤ 1172
-head-size budget config cost bound count pages rise small within few =
+head-size : (version budget : ℕ) (config : List ℕ) (cost : ℕ) (bound : ℤ) (count : ℕ) → version ≤ 2 → budget ≤ 1000000000000 → Rise 1 config → cost < 2 ^ 127 → IsSmall bound → count ≤ 16 →
+    length (text_of (head_lines version budget config cost bound count)) ≤ 1172
+head-size version budget config cost bound count most pages rise small within few =
     let sets = line-front (sets_line count) [] in
     let bounds = line-front (bound_line bound) (sets_line count ∷ []) in
     let costs = line-front (cost_line cost) (bound_line bound ∷ sets_line count ∷ []) in
     let configs = line-front (config_line config) (cost_line cost ∷ bound_line bound ∷ sets_line count ∷ []) in
     let budgets = line-front (budget_line budget) (config_line config ∷ cost_line cost ∷ bound_line bound ∷ sets_line count ∷ []) in
-    let titles = line-front title_line (budget_line budget ∷ config_line config ∷ cost_line cost ∷ bound_line bound ∷ sets_line count ∷ []) in
-    omega (arith, sets, bounds, costs, configs, budgets, titles, title-size, budget-size budget pages, config-size config rise, cost-size cost small, bound-size bound within, sets-size count few)
+    let titles = line-front (title_line version) (budget_line budget ∷ config_line config ∷ cost_line cost ∷ bound_line bound ∷ sets_line count ∷ []) in
+    omega (arith, sets, bounds, costs, configs, budgets, titles, title-size version most, budget-size budget pages, config-size config rise, cost-size cost small, bound-size bound within, sets-size count few)
 
 -- ## Those of the sets
 
@@ -143,13 +143,13 @@ end-size = refl
 
 cert-size : (cert : Cert) → CertLimits cert → length (cert_text cert) ≤ 67108864
 cert-size cert limits =
-    let head = head-size cert.budget cert.config cert.cost cert.bound (length cert.sets) limits.budget limits.config limits.cost limits.bound limits.few_sets in
+    let head = head-size cert.version cert.budget cert.config cert.cost cert.bound (length cert.sets) limits.version_most limits.budget limits.config limits.cost limits.bound limits.few_sets in
     let sets = all-sets-size cert.sets limits.sets limits.few_entries in
     let tree = tree-size (length cert.tree) limits.few_nodes in
     let nodes = nodes-size (length cert.sets) cert.tree limits.few_sets limits.nodes in
     let ends = line-front end_line [] in
     let trees = line-front (tree_line (length cert.tree)) (map node_line cert.tree) in
-    let first = lines-both (head_lines cert.budget cert.config cert.cost cert.bound (length cert.sets)) (sets_lines cert.sets ++ (tree_lines cert.tree ++ end_line ∷ [])) in
+    let first = lines-both (head_lines cert.version cert.budget cert.config cert.cost cert.bound (length cert.sets)) (sets_lines cert.sets ++ (tree_lines cert.tree ++ end_line ∷ [])) in
     let second = lines-both (sets_lines cert.sets) (tree_lines cert.tree ++ end_line ∷ []) in
     let third = lines-both (tree_lines cert.tree) (end_line ∷ []) in
     omega (arith, head, sets, tree, nodes, ends, trees, first, second, third, end-size, limits.few_sets, limits.few_entries, limits.few_nodes)

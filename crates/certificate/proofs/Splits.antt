@@ -111,7 +111,7 @@ cert-plain c h =
     let sets = sets-plain c.sets h.sets h.few_entries in
     let nodes = nodes-plain (length c.sets) c.tree h.few_sets h.nodes in
     let tree : AllByRecursion IsLine (tree_lines c.tree) = (number-plain (codes "tree") (length c.tree) refl (omega (arith, h.few_nodes)), nodes) in (
-      line-of (codes "cophy certificate 1") (plain-codes (codes "cophy certificate 1") refl),
+      number-plain (codes "cophy certificate") c.version refl (omega (arith, h.version_most)),
       (
         number-plain (codes "budget") c.budget refl (omega (arith, h.budget)),
         (

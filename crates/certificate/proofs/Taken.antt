@@ -7,7 +7,7 @@ use Rattle.adv_base.specs.declared.limits.TheConstants.{MOST_CANDIDATES, MOST_ST
 use Rattle.bip_model.specs.declared.answer.Node.{Node}
 use Rattle.bip_model.specs.declared.answer.Node.TheVariants.{Branch, Bounded, Overfull}
 use Rattle.certificate.specs.Limits.{Rise, IsSmall, EntryLimits, NodeLimits, entry_place}
-use Rattle.certificate.specs.Texts.{word, words, budget_line, config_line, cost_line, bound_line, sets_line, set_line, entry_line, tree_line, node_line}
+use Rattle.certificate.specs.Texts.{word, words, title_line, budget_line, config_line, cost_line, bound_line, sets_line, set_line, entry_line, tree_line, node_line}
 use Rattle.certificate.specs.declared.cert.Entry.{Entry}
 use Rattle.certificate.specs.declared.cert.SparseSet.{SparseSet}
 use Rattle.certificate.specs.inner.Outlines.{Draft}
@@ -21,6 +21,10 @@ use Rattle.certificate.proofs.FormLaws.{words-end, entry-statement, entry-slot, 
 -- a line has one number behind a word
 pub one-word : (front : List ℕ) (n p : ℕ) → n < 2 ^ 128 → p < 2 ^ 128 → front ++ 32 ∷ decimal n ≡ front ++ 32 ∷ decimal p → n ≡ p
 one-word front n p small few e = wide-injective n p small few (ap (drop 1) (append_cancel_left front (32 ∷ decimal n) (32 ∷ decimal p) e))
+
+pub one-title : (n p : ℕ) → n ≤ 2 → p ≤ 2 → title_line n ≡ title_line p → n ≡ p
+unfolding title_line
+one-title n p small few e = one-word (codes "cophy certificate") n p (omega arith) (omega arith) e
 
 pub one-budget : (n p : ℕ) → n ≤ MOST_ROWS → p ≤ MOST_ROWS → budget_line n ≡ budget_line p → n ≡ p
 unfolding budget_line

@@ -165,9 +165,10 @@ from-budget d at fits =
 
 from-title : (d : Draft) → d.stage ≡ stages.Title → DraftFits d → Ends d
 from-title d at fits =
-    let f : Draft = record d { stage = stages.Budget } in
-    let there : StepAt d.stage d title_line f = at-stage stages.Title d f title_line at (refl, refl) in
-    steps-on d f title_line there (from-budget f refl (fits-step d.stage d f title_line refl fits there))
+    let line : List ℕ = title_line 1 in
+    let f : Draft = record d { version = 1; stage = stages.Budget } in
+    let there : StepAt d.stage d line f = at-stage stages.Title d f line at (1, omega arith, omega arith, refl, refl) in
+    steps-on d f line there (from-budget f refl (fits-step d.stage d f line refl fits there))
 
 pub ends-at : (s : Stage) (d : Draft) → d.stage ≡ s → DraftFits d → Ends d
 ends-at stages.Title d at fits = from-title d at fits

@@ -192,24 +192,24 @@ lines-then : (before between after : List ℕ) (xs ys : List (List ℕ)) → bet
 lines-then before between after xs ys h g =
     g ∙ ap (λ (t : List ℕ). t ++ text_of ys) h ∙ append_assoc before (text_of xs) (text_of ys) ∙ ap (λ (t : List ℕ). before ++ t) (sym (text-append xs ys))
 
-pub head-written : (budget : ℕ) (numbers : List ℕ) (cost : ℕ) (bound : ℤ) (count : ℕ) (o p q r s t u : List ℕ) → p ≡ o ++ codes "cophy certificate 1\n" → q ≡ p ++ ((codes "budget" ++ word budget) ++ 10 ∷ []) → r ≡ q ++ (config_line numbers ++ 10 ∷ []) →
-    s ≡ r ++ ((codes "cost" ++ word cost) ++ 10 ∷ []) → t ≡ s ++ (bound_line bound ++ 10 ∷ []) → u ≡ t ++ ((codes "sets" ++ word count) ++ 10 ∷ []) → u ≡ o ++ text_of (head_lines budget numbers cost bound count)
+pub head-written : (version budget : ℕ) (numbers : List ℕ) (cost : ℕ) (bound : ℤ) (count : ℕ) (o p q r s t u : List ℕ) → p ≡ o ++ ((codes "cophy certificate" ++ word version) ++ 10 ∷ []) → q ≡ p ++ ((codes "budget" ++ word budget) ++ 10 ∷ []) → r ≡ q ++ (config_line numbers ++ 10 ∷ []) →
+    s ≡ r ++ ((codes "cost" ++ word cost) ++ 10 ∷ []) → t ≡ s ++ (bound_line bound ++ 10 ∷ []) → u ≡ t ++ ((codes "sets" ++ word count) ++ 10 ∷ []) → u ≡ o ++ text_of (head_lines version budget numbers cost bound count)
 unfolding title_line budget_line cost_line sets_line
-head-written budget numbers cost bound count o p q r s t u a b c d e f =
-    let one = lines-then o p q (title_line ∷ []) (budget_line budget ∷ []) a b in
-    let two = lines-then o q r (title_line ∷ budget_line budget ∷ []) (config_line numbers ∷ []) one c in
-    let three = lines-then o r s (title_line ∷ budget_line budget ∷ config_line numbers ∷ []) (cost_line cost ∷ []) two d in
-    let four = lines-then o s t (title_line ∷ budget_line budget ∷ config_line numbers ∷ cost_line cost ∷ []) (bound_line bound ∷ []) three e in
-    lines-then o t u (title_line ∷ budget_line budget ∷ config_line numbers ∷ cost_line cost ∷ bound_line bound ∷ []) (sets_line count ∷ []) four f
+head-written version budget numbers cost bound count o p q r s t u a b c d e f =
+    let one = lines-then o p q (title_line version ∷ []) (budget_line budget ∷ []) a b in
+    let two = lines-then o q r (title_line version ∷ budget_line budget ∷ []) (config_line numbers ∷ []) one c in
+    let three = lines-then o r s (title_line version ∷ budget_line budget ∷ config_line numbers ∷ []) (cost_line cost ∷ []) two d in
+    let four = lines-then o s t (title_line version ∷ budget_line budget ∷ config_line numbers ∷ cost_line cost ∷ []) (bound_line bound ∷ []) three e in
+    lines-then o t u (title_line version ∷ budget_line budget ∷ config_line numbers ∷ cost_line cost ∷ bound_line bound ∷ []) (sets_line count ∷ []) four f
 
 grouped : (head sets tree nodes end : List (List ℕ)) → (((head ++ sets) ++ tree) ++ nodes) ++ end ≡ head ++ (sets ++ ((tree ++ nodes) ++ end))
 grouped head sets tree nodes end = simp append_assoc
 
-pub cert-written : (programme : Programme) (budget : ℕ) (answer : Answer) (o p q r s : List ℕ) → o ≡ [] ++ text_of (head_lines budget (numbers_from 1 answer.config.on) answer.cost answer.bound (length answer.sets)) →
-    p ≡ o ++ sets_text programme answer.sets → q ≡ p ++ ((codes "tree" ++ word (length answer.tree)) ++ 10 ∷ []) → r ≡ q ++ nodes_text answer.tree → s ≡ r ++ codes "end\n" → s ≡ cert_text (answer_cert programme budget answer)
+pub cert-written : (programme : Programme) (version budget : ℕ) (answer : Answer) (o p q r s : List ℕ) → o ≡ [] ++ text_of (head_lines version budget (numbers_from 1 answer.config.on) answer.cost answer.bound (length answer.sets)) →
+    p ≡ o ++ sets_text programme answer.sets → q ≡ p ++ ((codes "tree" ++ word (length answer.tree)) ++ 10 ∷ []) → r ≡ q ++ nodes_text answer.tree → s ≡ r ++ codes "end\n" → s ≡ cert_text (answer_cert programme version budget answer)
 unfolding sets_text nodes_text tree_line end_line
-cert-written programme budget answer o p q r s a b c d e =
-    let head : List (List ℕ) = head_lines budget (numbers_from 1 answer.config.on) answer.cost answer.bound (length answer.sets) in
+cert-written programme version budget answer o p q r s a b c d e =
+    let head : List (List ℕ) = head_lines version budget (numbers_from 1 answer.config.on) answer.cost answer.bound (length answer.sets) in
     let sets : List (List ℕ) = sets_lines (map (sparse_set programme) answer.sets) in
     let tree : List (List ℕ) = tree_line (length answer.tree) ∷ [] in
     let nodes : List (List ℕ) = map node_line answer.tree in
@@ -220,4 +220,4 @@ cert-written programme budget answer o p q r s a b c d e =
     let four = lines-then [] r s (((head ++ sets) ++ tree) ++ nodes) end three e in
     let count : length answer.sets ≡ length (map (sparse_set programme) answer.sets) = sym (length-map answer.sets (sparse_set programme)) in
     four ∙ ap text_of (grouped head sets tree nodes end)
-    ∙ ap (λ (n : ℕ). text_of (head_lines budget (numbers_from 1 answer.config.on) answer.cost answer.bound n ++ (sets ++ ((tree ++ nodes) ++ end)))) count
+    ∙ ap (λ (n : ℕ). text_of (head_lines version budget (numbers_from 1 answer.config.on) answer.cost answer.bound n ++ (sets ++ ((tree ++ nodes) ++ end)))) count

@@ -1,6 +1,7 @@
 -- The certificate of an answer, and which answers have one.
-use Rattle.std.specs.Prelude.{ℕ, zero, suc, ◌<◌, ◌≤◌, ◌^◌, not, ◌==◌, Bool, true, false, List, [], ◌∷◌, ◌++◌, length, map, All, sum_by, count_by}
-use Rattle.std.specs.List.{AllByRecursion}
+use Rattle.std.specs.Prelude.{ℕ, zero, suc, ◌<◌, ◌≤◌, ◌^◌, if◌then◌else◌, not, ◌==◌, Bool, true, false, List, [], ◌∷◌, ◌++◌, length, map, All, sum_by, count_by}
+use Rattle.std.specs.List.{AllByRecursion, list_any}
+use Rattle.adv_base.specs.declared.catalogue.index.IndexShape.{IndexShape}
 use Rattle.adv_base.specs.declared.limits.TheConstants.{MOST_ROWS, MOST_SETS, MOST_ENTRIES, MOST_NODES}
 use Rattle.adv_base.specs.Nodes as nodes
 use Rattle.adv_base.specs.Settings.{TheSetting, KeepsLimits}
@@ -39,9 +40,10 @@ numbers_from number [] = []
 numbers_from number (true ∷ flags) = number ∷ numbers_from (suc number) flags
 numbers_from number (false ∷ flags) = numbers_from (suc number) flags
 
--- the certificate of an answer
-abbrev pub answer_cert : Programme → ℕ → Answer → Cert
-answer_cert programme budget answer = record {
+-- the certificate of an answer, of a version and a budget
+abbrev pub answer_cert : Programme → ℕ → ℕ → Answer → Cert
+answer_cert programme version budget answer = record {
+  version = version;
   budget = budget;
   config = numbers_from 1 answer.config.on;
   cost = answer.cost;
@@ -49,6 +51,10 @@ answer_cert programme budget answer = record {
   sets = map (sparse_set programme) answer.sets;
   tree = answer.tree;
 }
+
+-- the version of the certificates of a setting with these candidates, 2 where one is clustered
+abbrev pub version_of : List IndexShape → ℕ
+version_of shapes = if list_any (λ shape. shape.clustered) shapes then 2 else 1
 
 -- how many rents aren't 0
 abbrev pub rent_count : List ℕ → ℕ

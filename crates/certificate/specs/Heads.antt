@@ -12,7 +12,7 @@ use Rattle.certificate.specs.declared.head.Head.{Head}
 -- the lines before those of the nodes
 abbrev pub lines_before : Cert → List (List ℕ)
 lines_before cert =
-    head_lines cert.budget cert.config cert.cost cert.bound (length cert.sets)
+    head_lines cert.version cert.budget cert.config cert.cost cert.bound (length cert.sets)
     ++ (sets_lines cert.sets ++ tree_line (length cert.tree) ∷ [])
 
 -- the text behind them
@@ -21,6 +21,7 @@ tree_text tree = text_of (map node_line tree ++ end_line ∷ [])
 
 abbrev pub head_of : Cert → Head
 head_of cert = record {
+  version = cert.version;
   budget = cert.budget;
   config = cert.config;
   cost = cert.cost;
@@ -39,6 +40,8 @@ pub record IsHeadOf (bytes : List ℕ) (head : Head) : Type 0 where
 
 -- what the head of a certificate keeps
 pub record HeadLimits (head : Head) : Type 0 where
+  pub version_least : 1 ≤ head.version
+  pub version_most : head.version ≤ 2
   pub budget : head.budget ≤ MOST_ROWS
   pub config : Rise 1 head.config
   pub cost : head.cost < 2 ^ 127

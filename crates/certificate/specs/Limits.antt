@@ -64,6 +64,8 @@ abbrev pub entry_count : List SparseSet → ℕ
 entry_count sets = sum_by (λ set. length set.entries) sets
 
 pub record CertLimits (cert : Cert) : Type 0 where
+  pub version_least : 1 ≤ cert.version
+  pub version_most : cert.version ≤ 2
   pub budget : cert.budget ≤ MOST_ROWS
   pub config : Rise 1 cert.config
   pub cost : cert.cost < 2 ^ 127

@@ -20,8 +20,8 @@ abbrev pub words : List ℕ → List ℕ
 words [] = []
 words (n ∷ ns) = word n ++ words ns
 
-unfoldable pub title_line : List ℕ
-title_line = codes "cophy certificate 1"
+unfoldable pub title_line : ℕ → List ℕ
+title_line version = codes "cophy certificate" ++ word version
 
 unfoldable pub budget_line : ℕ → List ℕ
 budget_line pages = codes "budget" ++ word pages
@@ -64,16 +64,16 @@ sets_lines [] = []
 sets_lines (set ∷ sets) = set_lines set ++ sets_lines sets
 
 -- the lines before those of the sets
-abbrev pub head_lines : ℕ → List ℕ → ℕ → ℤ → ℕ → List (List ℕ)
-head_lines budget config cost bound count =
-    title_line ∷ budget_line budget ∷ config_line config ∷ cost_line cost ∷ bound_line bound ∷ sets_line count ∷ []
+abbrev pub head_lines : ℕ → ℕ → List ℕ → ℕ → ℤ → ℕ → List (List ℕ)
+head_lines version budget config cost bound count =
+    title_line version ∷ budget_line budget ∷ config_line config ∷ cost_line cost ∷ bound_line bound ∷ sets_line count ∷ []
 
 abbrev pub tree_lines : List Node → List (List ℕ)
 tree_lines tree = tree_line (length tree) ∷ map node_line tree
 
 abbrev pub cert_lines : Cert → List (List ℕ)
 cert_lines cert =
-    head_lines cert.budget cert.config cert.cost cert.bound (length cert.sets)
+    head_lines cert.version cert.budget cert.config cert.cost cert.bound (length cert.sets)
     ++ (sets_lines cert.sets ++ (tree_lines cert.tree ++ end_line ∷ []))
 
 abbrev pub cert_text : Cert → List ℕ

@@ -24,11 +24,13 @@ pub struct SparseSet {
     pub entries: List<Entry>,
 }
 
-/// A certificate: the space budget in pages, the numbers of the chosen candidates, what the workload costs under them and
-/// a bound on that of all fitting configurations, in thousandths of a page read, at most 16 sets of multipliers, and a
-/// search tree in preorder, whose leaves name one of the sets.
+/// A certificate: the version of its format, the space budget in pages, the numbers of the chosen candidates, what the
+/// workload costs under them and a bound on that of all fitting configurations, in thousandths of a page read, at most 16
+/// sets of multipliers, and a search tree in preorder, whose leaves name one of the sets.
 #[derive(Debug, Drop)]
 pub struct Cert {
+    /// The version of the format, 1 or 2.
+    pub version: u8,
     pub budget: u64,
     pub config: List<u16>,
     pub cost: u128,

@@ -7,6 +7,8 @@ use adv_base::List;
 /// before the line of the first, and how many lines.
 #[derive(Debug, Drop)]
 pub struct Head {
+    /// The version of the format, 1 or 2.
+    pub version: u8,
     pub budget: u64,
     pub config: List<u16>,
     pub cost: u128,

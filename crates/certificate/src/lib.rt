@@ -1,8 +1,10 @@
 //! Certificates of advice, as values and as text.
 //!
 //! A certificate has what a search answered: the space budget, the chosen candidates, what the workload costs under them,
-//! a bound that no fitting configuration undercuts, and the multipliers and the tree that show it. `read_cert` gives the
-//! certificate of a text, or the first line at which no certificate goes on; `write_cert` gives the text of an answer's.
+//! a bound that no fitting configuration undercuts, and the multipliers and the tree that show it. The first line of its text
+//! has the version of the format, 1 or 2; all else of the text is the same in both, and only what a leaf `X` claims differs:
+//! in version 1 that the pages of its in-candidates exceed the budget, in version 2 that these don't fit. `read_cert` gives
+//! the certificate of a text, or the first line at which no certificate goes on; `write_cert` gives the text of an answer's.
 //! `specs/Texts.antt` has the text, `specs/Limits.antt` what a certificate keeps, `specs/Certificates.antt` which bytes are
 //! a certificate's and at which line others break, `specs/Answers.antt` the certificate of an answer. Whether a certificate
 //! proves its bound is left to others.
@@ -37,6 +39,7 @@ mod scanner;
 mod sets;
 mod stage;
 mod state;
+mod version;
 mod words;
 mod write;
 
@@ -50,4 +53,5 @@ pub use laws::{
 };
 pub use read::read_cert;
 pub use scanner::Scanner;
+pub use version::version_of;
 pub use write::write_cert;

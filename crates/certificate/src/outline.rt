@@ -25,6 +25,7 @@ const LAST_PLACE: u32 = 2050304;
 #[derive(Debug, Drop)]
 pub(crate) struct Outline {
     pub(crate) stage: Stage,
+    pub(crate) version: u8,
     pub(crate) budget: u64,
     pub(crate) config: List<u16>,
     pub(crate) cost: u128,
@@ -117,6 +118,7 @@ impl Outline {
     {
         Outline {
             stage: Stage::Title,
+            version: 1,
             budget: 0,
             config: List::new(alloc),
             cost: 0,
@@ -136,11 +138,14 @@ impl Outline {
     fn take_title(&mut self, line: &[u8]) -> Taken
         ensures { steps.TakesAt stages.Title result self.old line.now self.new }
     {
-        if !is_word(line, b"cophy certificate 1") {
-            return Taken::Refused;
+        match number_line(line, b"cophy certificate", 1, 2) {
+            None => Taken::Refused,
+            Some(version) => {
+                self.version = version as u8;
+                self.stage = Stage::Budget;
+                Taken::Line
+            }
         }
-        self.stage = Stage::Budget;
-        Taken::Line
     }
 
     fn take_budget(&mut self, line: &[u8]) -> Taken

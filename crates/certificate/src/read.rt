@@ -44,6 +44,7 @@ fn into_cert(outline: Outline, tree: List<Node>) -> Cert
     ensures { result ≡ drafts.cert_of (outlines.with_tree outline tree) }
 {
     Cert {
+        version: outline.version,
         budget: outline.budget,
         config: outline.config,
         cost: outline.cost,

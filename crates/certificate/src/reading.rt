@@ -170,6 +170,7 @@ impl Reading {
         let front = self.front;
         let outline = self.outline;
         Head {
+            version: outline.version,
             budget: outline.budget,
             config: outline.config,
             cost: outline.cost,

@@ -16,7 +16,7 @@ use Rattle.certificate.specs.inner.Steps.{trees_after}
 
 -- the certificate whose lines were all taken
 abbrev pub cert_of : Draft → Cert
-cert_of d = record { budget = d.budget; config = d.config; cost = d.cost; bound = d.bound; sets = d.sets; tree = d.tree }
+cert_of d = record { version = d.version; budget = d.budget; config = d.config; cost = d.cost; bound = d.bound; sets = d.sets; tree = d.tree }
 
 -- the first place behind entries
 abbrev pub next_place : ℕ → List Entry → ℕ
@@ -29,7 +29,9 @@ Leave trees [] left = trees ≡ left
 Leave zero (node ∷ nodes) left = ⊥
 Leave (suc more) (node ∷ nodes) left = Leave (trees_after (suc more) node) nodes left
 
-pub record HeadFits (budget : ℕ) (config : List ℕ) (cost : ℕ) (bound : ℤ) : Type 0 where
+pub record HeadFits (version budget : ℕ) (config : List ℕ) (cost : ℕ) (bound : ℤ) : Type 0 where
+  pub version_least : 1 ≤ version
+  pub version_most : version ≤ 2
   pub budget_most : budget ≤ MOST_ROWS
   pub config_rises : Rise 1 config
   pub cost_small : cost < 2 ^ 127
@@ -100,7 +102,7 @@ StageFits stages.Nodes d = IsTree d
 StageFits stages.Done d = IsTree d × (d.nodes_left ≡ 0)
 
 pub record DraftFits (d : Draft) : Type 0 where
-  pub head : HeadFits d.budget d.config d.cost d.bound
+  pub head : HeadFits d.version d.budget d.config d.cost d.bound
   pub body : BodyFits d
   pub nodes : TreeFits (length d.sets) d.tree d.nodes_left d.trees_left
   pub stage : StageFits d.stage d

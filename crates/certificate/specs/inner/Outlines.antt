@@ -9,6 +9,7 @@ use Rattle.certificate.specs.declared.stage.Stage.{Stage}
 -- all that the lines so far say, and what they leave to come
 pub record Draft : Type 0 where
   pub stage : Stage
+  pub version : ℕ
   pub budget : ℕ
   pub config : List ℕ
   pub cost : ℕ
@@ -28,6 +29,7 @@ pub record Draft : Type 0 where
 abbrev pub with_tree : Outline → List Node → Draft
 with_tree outline tree = record {
   stage = outline.stage;
+  version = outline.version;
   budget = outline.budget;
   config = outline.config;
   cost = outline.cost;

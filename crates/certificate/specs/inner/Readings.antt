@@ -83,6 +83,7 @@ TakesLine false lines tree old new =
 -- what was read of the lines before the nodes
 abbrev pub head_read : Reading → Head
 head_read reading = record {
+  version = reading.outline.version;
   budget = reading.outline.budget;
   config = reading.outline.config;
   cost = reading.outline.cost;

@@ -12,19 +12,19 @@ begun_lines zero d = []
 begun_lines (suc left) d = set_line d.mu (length d.entries + suc left) ∷ map entry_line d.entries
 
 abbrev pub head_of : Draft → List (List ℕ)
-head_of d = head_lines d.budget d.config d.cost d.bound (length d.sets + d.sets_left)
+head_of d = head_lines d.version d.budget d.config d.cost d.bound (length d.sets + d.sets_left)
 
 abbrev pub tree_of : Draft → List (List ℕ)
 tree_of d = tree_line (length d.tree + d.nodes_left) ∷ map node_line d.tree
 
 abbrev pub lines_at : Stage → Draft → List (List ℕ)
 lines_at stages.Title d = []
-lines_at stages.Budget d = title_line ∷ []
-lines_at stages.Config d = title_line ∷ budget_line d.budget ∷ []
-lines_at stages.Cost d = title_line ∷ budget_line d.budget ∷ config_line d.config ∷ []
-lines_at stages.Bound d = title_line ∷ budget_line d.budget ∷ config_line d.config ∷ cost_line d.cost ∷ []
+lines_at stages.Budget d = title_line d.version ∷ []
+lines_at stages.Config d = title_line d.version ∷ budget_line d.budget ∷ []
+lines_at stages.Cost d = title_line d.version ∷ budget_line d.budget ∷ config_line d.config ∷ []
+lines_at stages.Bound d = title_line d.version ∷ budget_line d.budget ∷ config_line d.config ∷ cost_line d.cost ∷ []
 lines_at stages.Sets d =
-    title_line ∷ budget_line d.budget ∷ config_line d.config ∷ cost_line d.cost ∷ bound_line d.bound ∷ []
+    title_line d.version ∷ budget_line d.budget ∷ config_line d.config ∷ cost_line d.cost ∷ bound_line d.bound ∷ []
 lines_at stages.Body d = head_of d ++ (sets_lines d.sets ++ begun_lines d.entries_left d)
 lines_at stages.Nodes d = head_of d ++ (sets_lines d.sets ++ tree_of d)
 lines_at stages.Done d = head_of d ++ (sets_lines d.sets ++ (tree_of d ++ end_line ∷ []))

@@ -19,6 +19,7 @@ use Rattle.certificate.specs.inner.Words.{IsSetLine}
 unfoldable pub start : Draft
 start = record {
   stage = stages.Title;
+  version = 1;
   budget = 0;
   config = [];
   cost = 0;
@@ -78,7 +79,8 @@ NodeStep zero d line e = (line ≡ end_line) × (e ≡ record d { stage = stages
 
 -- the line that may come at a stage, and what stands behind it
 abbrev pub StepAt : Stage → Draft → List ℕ → Draft → Type 0
-StepAt stages.Title d line e = (line ≡ title_line) × (e ≡ record d { stage = stages.Budget })
+StepAt stages.Title d line e =
+    (n : ℕ) × (1 ≤ n) × (n ≤ 2) × (line ≡ title_line n) × (e ≡ record d { version = n; stage = stages.Budget })
 StepAt stages.Budget d line e =
     (n : ℕ) × (n ≤ MOST_ROWS) × (line ≡ budget_line n) × (e ≡ record d { budget = n; stage = stages.Config })
 StepAt stages.Config d line e =

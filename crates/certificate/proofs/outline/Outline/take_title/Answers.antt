@@ -1,12 +1,11 @@
-use Rattle.std.proofs.Common.{◌∙◌, sym, refl}
-use Rattle.std.proofs.lemmas.Bool.{false≢true}
+use Rattle.std.proofs.Common.{refl, arith}
 use Rattle.certificate.specs.Texts.{title_line}
 use Rattle.certificate.proofs.outline.Outline.take_title.Goals as goal
 
-pub returns-then-not-is_word : goal.returns-then-not-is_word
+pub returns-in-None : goal.returns-in-None
 unfolding title_line
-returns-then-not-is_word c = λ tree f h. false≢true (sym c.if-not-is_word.true ∙ c.is_word.ensures.1 h.0)
+returns-in-None c = λ tree f h. c.in-None.ensures h.0 (record { parts = h.3; low = omega (arith, h.1); high = omega (arith, h.2) })
 
-pub returns : goal.returns
+pub returns-in-Some : goal.returns-in-Some
 unfolding title_line
-returns c = λ tree. (c.is_word.ensures.0 c.if-not-is_word.false, refl)
+returns-in-Some c = λ tree. (c.in-Some.version, omega (arith, c.in-Some.ensures.low), omega (arith, c.in-Some.ensures.high), c.in-Some.ensures.parts, refl)

@@ -1,4 +1,4 @@
-use Rattle.std.proofs.Common.{◌≡◌, Bool, true, false, [], ◌∷◌, sym, subst, refl}
+use Rattle.std.proofs.Common.{Bool, true, false, [], ◌∷◌, subst}
 use Rattle.std.proofs.lemmas.Result.{IfOk-weaker}
 use Rattle.certificate.specs.inner.Readings.{Extends}
 use Rattle.certificate.proofs.Readings.{extends-reached, ends-line, long-ends-read}
