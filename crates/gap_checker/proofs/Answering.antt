@@ -16,15 +16,16 @@ use Rattle.bip_model.specs.declared.programme.Programme.{Programme}
 use Rattle.bip_model.specs.Best.{IsBest}
 use Rattle.bip_model.specs.Proves.{Proves}
 use Rattle.bip_model.specs.StandsFor.{StandsFor}
-use Rattle.bip_model.specs.Trees.{with_candidate}
+use Rattle.bip_model.specs.Trees.{Rule, with_candidate}
 use Rattle.bip_model.specs.Uses.{uses, multipliers_in, AreMultipliersIn}
 use Rattle.bip_model.specs.Views.{Place, places, is_place, rent_at}
 use Rattle.bip_model.proofs.Using.{places-used}
-use Rattle.certificate.specs.Answers.{entries_of, sparse_set, numbers_from, answer_cert}
+use Rattle.certificate.specs.Answers.{entries_of, sparse_set, numbers_from, answer_cert, version_of}
 use Rattle.certificate.proofs.InOrder.{standing-in-order}
 use Rattle.certificate.proofs.Places.{number_of, PlacesFrom, entries-from, parts-from, all-of}
-use Rattle.gap_checker.specs.Views.{config_with, is_entry_of, rent_in, multipliers_of, IsProof}
+use Rattle.gap_checker.specs.Views.{config_with, is_entry_of, rent_in, multipliers_of, rule_of, IsProof}
 use Rattle.gap_checker.proofs.Entries.{use_place, rent-behind}
+use Rattle.gap_checker.proofs.Overfull.{in-version}
 
 -- ## The configuration
 
@@ -124,9 +125,11 @@ sets-same setting programme (set ∷ sets) stands are =
 -- ## The law
 
 pub best-proved : (setting : TheSetting) (programme : Programme) (budget node_budget : ℕ) (root : nodes.Node) (answer : Answer) → StandsFor setting programme → length answer.config.on ≡ MOST_CANDIDATES →
-    IsBest setting budget node_budget root answer → IsProof setting root (answer_cert programme budget answer)
+    IsBest setting budget node_budget root answer → IsProof setting root (answer_cert programme (version_of setting.shapes) budget answer)
 best-proved setting programme budget node_budget root answer stands count best =
-    subst (λ (config : Config). Proves setting budget root config answer.cost answer.bound (map multipliers_of (map (sparse_set programme) answer.sets)) answer.tree)
+    let rule : Rule = rule_of (version_of setting.shapes) in
+    subst (λ (config : Config). Proves rule setting budget root config answer.cost answer.bound (map multipliers_of (map (sparse_set programme) answer.sets)) answer.tree)
     (sym (config-same answer.config count))
-    (subst (λ (sets : List TheMultipliers). Proves setting budget root answer.config answer.cost answer.bound sets answer.tree)
-    (sym (sets-same setting programme answer.sets stands best.limits.each)) best.proves)
+    (subst (λ (sets : List TheMultipliers). Proves rule setting budget root answer.config answer.cost answer.bound sets answer.tree)
+    (sym (sets-same setting programme answer.sets stands best.limits.each))
+    (in-version setting budget root answer.config answer.cost answer.bound (map (multipliers_in setting) answer.sets) answer.tree best.proves))

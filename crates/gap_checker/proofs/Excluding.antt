@@ -1,11 +1,12 @@
 -- A fault and a proof exclude each other.
-use Rattle.std.proofs.Common.{◌≡◌, ◌∙◌, ℕ, zero, suc, ◌-◌, ℤ, true, List, [], ◌∷◌, ◌++◌, get_or, refl, sym, ap, subst, arith}
+use Rattle.std.proofs.Common.{◌≡◌, ◌∙◌, ℕ, zero, suc, ◌-◌, ◌≤◌, ℤ, true, List, [], ◌∷◌, ◌++◌, get_or, refl, sym, ap, subst, arith}
 use Rattle.std.specs.Prelude.{All, Some, None, slice_get, option_map, ◌≤ℤ◌, ◌<ℤ◌}
 use Rattle.std.specs.List.{AllByRecursion}
 use Rattle.std.proofs.lemmas.Option.{slice_get-map, get_or_from_slice_get, slice_get_within, same_Some}
 use Rattle.std.proofs.lemmas.Int.{ints}
 use Rattle.std.proofs.lemmas.List.Elements.{All-head}
-use Rattle.adv_base.specs.Configs.{IsConfigOf, Fits, has_candidate}
+use Rattle.adv_base.specs.Configs.{IsConfigOf, Fits, config_pages, has_candidate}
+use Rattle.adv_base.proofs.Clashing.{clash-or-apart}
 use Rattle.adv_base.specs.Nodes as nodes
 use Rattle.adv_base.specs.Settings.{TheSetting, KeepsLimits}
 use Rattle.plan_model.proofs.Unique.{one-total, one-lagrangian}
@@ -22,11 +23,12 @@ use Rattle.plan_model.specs.Lagrangian.{TheMultipliers, IsLagrangian}
 use Rattle.plan_model.specs.Totals.{IsTotal}
 use Rattle.gap_checker.specs.declared.fault.CheckFault.{CheckFault}
 use Rattle.gap_checker.specs.declared.fault.CheckFault.TheVariants as faults
-use Rattle.gap_checker.specs.Faults.{IsFault, IsNodeAt, IsBadConfig, IsOverBudget, IsOtherCost, IsBadPair, IsLeafBelow, IsNotOverfull}
-use Rattle.gap_checker.specs.Views.{config_of, sets_of, multipliers_of, IsProof}
+use Rattle.gap_checker.specs.Faults.{IsFault, IsNodeAt, IsBadConfig, IsOverBudget, IsClashing, IsOtherCost, IsBadPair, IsLeafBelow, IsNotOverfull}
+use Rattle.gap_checker.specs.Views.{config_of, sets_of, multipliers_of, rule_of, IsProof}
 use Rattle.gap_checker.specs.Visits.{Visit, visits, IsRight, IsRightAt}
 use Rattle.gap_checker.proofs.Naming.{entry-rent}
 use Rattle.gap_checker.proofs.Numbers.{has-flag, number-has, config-count}
+use Rattle.gap_checker.proofs.Overfull.{full-or-fits}
 use Rattle.gap_checker.proofs.Visiting.{shown-right}
 
 -- ## Nodes
@@ -40,10 +42,10 @@ some-there P [] x rest all = All-head P x rest all
 some-there P (y ∷ before) x rest all = some-there P before x rest (λ k d within. all (suc k) d (omega (arith, within)))
 
 -- each node of a proof's tree is right
-right-there : (setting : TheSetting) (root : nodes.Node) (cert : Cert) (number : ℕ) (at : nodes.Node) (node : Node) → IsProof setting root cert → IsNodeAt setting root cert number at node → IsRightAt setting cert.budget cert.bound (sets_of cert) at node
+right-there : (setting : TheSetting) (root : nodes.Node) (cert : Cert) (number : ℕ) (at : nodes.Node) (node : Node) → IsProof setting root cert → IsNodeAt setting root cert number at node → IsRightAt (rule_of cert.version) setting cert.budget cert.bound (sets_of cert) at node
 right-there setting root cert number at node proof is =
-    let P : Visit → Type 0 = IsRight setting cert.budget cert.bound (sets_of cert) in
-    let all = shown-right setting cert.budget cert.bound (sets_of cert) root [] proof.shown.tree [] proof.shown.shows (λ k d within. absurd (omega (arith, within))) in
+    let P : Visit → Type 0 = IsRight (rule_of cert.version) setting cert.budget cert.bound (sets_of cert) in
+    let all = shown-right (rule_of cert.version) setting cert.budget cert.bound (sets_of cert) root [] proof.shown.tree [] proof.shown.shows (λ k d within. absurd (omega (arith, within))) in
     let moved : All P (visits (root ∷ []) cert.tree) = subst (λ (list : List Node). All P (visits (root ∷ []) list)) (sym (behind-nothing (preorder proof.shown.tree)) ∙ sym proof.shown.list_is) all in
     some-there P is.before (record { at = at; node = node }) is.rest (subst (All P) is.parts moved)
 
@@ -51,20 +53,23 @@ not-below : (bound value : ℤ) → bound ≤ℤ value → value <ℤ bound → 
 not-below bound value least below = omega (arith, ints, least, below)
 
 -- a leaf below the bound isn't right
-pub leaf-wrong : (setting : TheSetting) (root : nodes.Node) (cert : Cert) (n : ℕ) (computed claimed : ℤ) (is : IsLeafBelow setting root cert n computed claimed) → IsRightAt setting cert.budget cert.bound (sets_of cert) is.at (Bounded is.set) → ⊥
+pub leaf-wrong : (setting : TheSetting) (root : nodes.Node) (cert : Cert) (n : ℕ) (computed claimed : ℤ) (is : IsLeafBelow setting root cert n computed claimed) → IsRightAt (rule_of cert.version) setting cert.budget cert.bound (sets_of cert) is.at (Bounded is.set) → ⊥
 leaf-wrong setting root cert n computed claimed is right =
     let same : right.multipliers ≡ is.multipliers = same_Some right.multipliers is.multipliers (sym right.found ∙ is.found) in
     let value : right.value ≡ computed = one-lagrangian setting cert.budget is.at is.multipliers right.value computed (subst (λ (m : TheMultipliers). IsLagrangian setting cert.budget is.at m right.value) same right.value_is) is.value_is in
     not-below claimed computed (subst (λ (v : ℤ). claimed ≤ℤ v) value (subst (λ (b : ℤ). b ≤ℤ right.value) (sym is.claimed_is) right.at_least)) is.below
 
 -- nor is one that is called overfull where what is in fits
-pub full-wrong : (setting : TheSetting) (root : nodes.Node) (cert : Cert) (n size : ℕ) (is : IsNotOverfull setting root cert n size) → IsRightAt setting cert.budget cert.bound (sets_of cert) is.at Overfull → ⊥
-full-wrong setting root cert n size is right = omega (arith, right, is.size_is, is.fits)
+pub full-wrong : (setting : TheSetting) (root : nodes.Node) (cert : Cert) (n size : ℕ) (is : IsNotOverfull setting root cert n size) → IsRightAt (rule_of cert.version) setting cert.budget cert.bound (sets_of cert) is.at Overfull → ⊥
+full-wrong setting root cert n size is right = full-or-fits (rule_of cert.version) setting cert.budget is.at right is.fits
 
 -- ## Configurations and pairs
 
-pub not-over : (setting : TheSetting) (cert : Cert) (size budget : ℕ) → Fits setting.cat setting.shapes (config_of cert) cert.budget → IsOverBudget setting cert size budget → ⊥
-not-over setting cert size budget fits is = omega (arith, is.over, is.size_is, fits)
+pub not-over : (setting : TheSetting) (cert : Cert) (size budget : ℕ) → config_pages setting.cat setting.shapes (config_of cert) ≤ cert.budget → IsOverBudget setting cert size budget → ⊥
+not-over setting cert size budget pages is = omega (arith, is.over, is.size_is, pages)
+
+pub not-clashing : (setting : TheSetting) (cert : Cert) (first second : ℕ) → Fits setting.cat setting.shapes (config_of cert) cert.budget → IsClashing setting cert first second → ⊥
+not-clashing setting cert first second fits is = clash-or-apart setting.shapes (config_of cert) first second is.clash fits.apart
 
 pub not-other : (setting : TheSetting) (cert : Cert) (claimed computed : ℕ) → IsTotal setting.cat setting.shapes (config_of cert) setting.statements cert.cost → IsOtherCost setting cert claimed computed → ⊥
 not-other setting cert claimed computed total is =
@@ -93,7 +98,8 @@ pub excluded : (setting : TheSetting) (root : nodes.Node) (cert : Cert) (fault :
     IsProof setting root cert → IsFault setting root cert fault → fault ≡ faults.Memory
 excluded setting root cert faults.Memory limits rise proof is = refl
 excluded setting root cert (faults.BadConfig n) limits rise proof is = absurd (bad-number setting cert n limits proof.members is)
-excluded setting root cert (faults.OverBudget size budget) limits rise proof is = absurd (not-over setting cert size budget proof.fits is)
+excluded setting root cert (faults.OverBudget size budget) limits rise proof is = absurd (not-over setting cert size budget proof.fits.pages is)
+excluded setting root cert (faults.Clash first second) limits rise proof is = absurd (not-clashing setting cert first second proof.fits is)
 excluded setting root cert (faults.CostDiffers claimed computed) limits rise proof is = absurd (not-other setting cert claimed computed proof.cost_is is)
 excluded setting root cert (faults.BadPair set entry) limits rise proof is = absurd (bad-pair setting cert set entry rise proof.rents is)
 excluded setting root cert (faults.BadBranch n) limits rise proof is = absurd (is.wrong (right-there setting root cert n is.at (Branch is.candidate) proof is.node_is))
@@ -115,6 +121,6 @@ sets-rise (first ∷ sets) limits (suc j) set there = sets-rise sets limits.1 j 
 pub bounds-all : (setting : TheSetting) (cert : Cert) → KeepsLimits setting → IsProof setting free_node cert → BoundsAll setting cert.budget cert.cost cert.bound
 bounds-all setting cert limits proof =
     record {
-      all = λ other sum is fits sum_is. proved-bound setting cert.budget free_node (config_of cert) cert.cost cert.bound (sets_of cert) cert.tree other sum limits proof is fits (below-free other) sum_is;
-      own = proved-bound setting cert.budget free_node (config_of cert) cert.cost cert.bound (sets_of cert) cert.tree (config_of cert) cert.cost limits proof proof.members proof.fits (below-free (config_of cert)) proof.cost_is;
+      all = λ other sum is fits sum_is. proved-bound (rule_of cert.version) setting cert.budget free_node (config_of cert) cert.cost cert.bound (sets_of cert) cert.tree other sum limits proof is fits (below-free other) sum_is;
+      own = proved-bound (rule_of cert.version) setting cert.budget free_node (config_of cert) cert.cost cert.bound (sets_of cert) cert.tree (config_of cert) cert.cost limits proof proof.members proof.fits (below-free (config_of cert)) proof.cost_is;
     }

@@ -5,6 +5,7 @@ pub mod Naming
 pub mod Shows
 pub mod Adding
 pub mod Valuing
+pub mod Overfull
 pub mod Visiting
 pub mod Walking
 pub mod Excluding

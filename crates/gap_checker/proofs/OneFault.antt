@@ -7,6 +7,7 @@ use Rattle.std.proofs.lemmas.List.Elements.{All-head}
 use Rattle.adv_base.specs.Configs.{config_pages}
 use Rattle.adv_base.specs.Nodes as nodes
 use Rattle.adv_base.specs.Settings.{TheSetting}
+use Rattle.adv_base.proofs.Clashing.{same-first, same-second}
 use Rattle.adv_base.proofs.Firsts.{one-first}
 use Rattle.plan_model.proofs.Unique.{one-total, one-lagrangian}
 use Rattle.plan_model.specs.Lagrangian.{TheMultipliers, IsLagrangian}
@@ -20,11 +21,11 @@ use Rattle.certificate.specs.Limits.{CertLimits, EntriesFrom}
 use Rattle.gap_checker.specs.declared.fault.Checked.{Checked}
 use Rattle.gap_checker.specs.declared.fault.CheckFault.{CheckFault}
 use Rattle.gap_checker.specs.declared.fault.CheckFault.TheVariants as faults
-use Rattle.gap_checker.specs.Faults.{IsChecked, IsFault, NamesPair, IsNodeAt, IsBadConfig, IsOverBudget, IsOtherCost, IsBadPair, IsBadBranch, IsLeafBelow, IsNotOverfull}
+use Rattle.gap_checker.specs.Faults.{IsChecked, IsFault, NamesPair, IsNodeAt, IsBadConfig, IsOverBudget, IsClashing, IsOtherCost, IsBadPair, IsBadBranch, IsLeafBelow, IsNotOverfull}
 use Rattle.gap_checker.specs.Laws.{IsAnswer}
-use Rattle.gap_checker.specs.Views.{config_of, sets_of}
+use Rattle.gap_checker.specs.Views.{config_of, sets_of, rule_of}
 use Rattle.gap_checker.specs.Visits.{Visit, IsRight, IsRightAt}
-use Rattle.gap_checker.proofs.Excluding.{excluded, sets-rise, bad-number, bad-pair, not-over, not-other, leaf-wrong, full-wrong}
+use Rattle.gap_checker.proofs.Excluding.{excluded, sets-rise, bad-number, bad-pair, not-over, not-clashing, not-other, leaf-wrong, full-wrong}
 
 -- ## Parts before the tree
 
@@ -32,6 +33,12 @@ over-same : (setting : TheSetting) (cert : Cert) (size budget other more : ℕ) 
 over-same setting cert size budget other more p q =
     let a : size ≡ other = p.size_is ∙ sym q.size_is in
     let b : budget ≡ more = p.budget_is ∙ sym q.budget_is in
+    cc
+
+clash-same : (setting : TheSetting) (cert : Cert) (first second other more : ℕ) → IsClashing setting cert first second → IsClashing setting cert other more → faults.Clash first second ≡ faults.Clash other more
+clash-same setting cert first second other more p q =
+    let a : first ≡ other = same-first setting.shapes (config_of cert) first second other more p.clash q.clash in
+    let b : second ≡ more = same-second setting.shapes (config_of cert) first second other more p.clash q.clash in
     cc
 
 other-same : (setting : TheSetting) (cert : Cert) (claimed computed other more : ℕ) → IsOtherCost setting cert claimed computed → IsOtherCost setting cert other more → faults.CostDiffers claimed computed ≡ faults.CostDiffers other more
@@ -103,11 +110,11 @@ pub record IsOneNode (m n : ℕ) (at other : nodes.Node) (node another : Node) :
   pub same : node ≡ another
 
 one-node : (setting : TheSetting) (root : nodes.Node) (cert : Cert) (m n : ℕ) (at other : nodes.Node) (node another : Node) → IsNodeAt setting root cert m at node → IsNodeAt setting root cert n other another →
-    (IsRightAt setting cert.budget cert.bound (sets_of cert) at node → ⊥) → (IsRightAt setting cert.budget cert.bound (sets_of cert) other another → ⊥) → IsOneNode m n at other node another
+    (IsRightAt (rule_of cert.version) setting cert.budget cert.bound (sets_of cert) at node → ⊥) → (IsRightAt (rule_of cert.version) setting cert.budget cert.bound (sets_of cert) other another → ⊥) → IsOneNode m n at other node another
 one-node setting root cert m n at other node another p q wrong bad =
     let x : Visit = record { at = at; node = node } in
     let y : Visit = record { at = other; node = another } in
-    let one = first-one (IsRight setting cert.budget cert.bound (sets_of cert)) p.before q.before x y p.rest q.rest (sym p.parts ∙ q.parts) p.right q.right wrong bad in
+    let one = first-one (IsRight (rule_of cert.version) setting cert.budget cert.bound (sets_of cert)) p.before q.before x y p.rest q.rest (sym p.parts ∙ q.parts) p.right q.right wrong bad in
     record {
       number = p.number_is ∙ ap (λ (xs : List Visit). suc (length xs)) one.0 ∙ sym q.number_is;
       place = ap (λ (v : Visit). v.at) one.1;
@@ -159,28 +166,37 @@ abbrev rank : CheckFault → ℕ
 rank faults.Memory = 0
 rank (faults.BadConfig k) = 1
 rank (faults.OverBudget k l) = 2
-rank (faults.CostDiffers k l) = 3
-rank (faults.BadPair k l) = 4
-rank (faults.BadBranch k) = 5
-rank (faults.LeafBelow k l m) = 6
-rank (faults.NotInfeasible k l) = 7
+rank (faults.Clash k l) = 3
+rank (faults.CostDiffers k l) = 4
+rank (faults.BadPair k l) = 5
+rank (faults.BadBranch k) = 6
+rank (faults.LeafBelow k l m) = 7
+rank (faults.NotInfeasible k l) = 8
 
 -- no two faults of different ranks stand together
 apart : (setting : TheSetting) (root : nodes.Node) (cert : Cert) (one two : CheckFault) → CertLimits cert → Rising cert → one ≢ faults.Memory → rank one < rank two → IsFault setting root cert one → IsFault setting root cert two → ⊥
 apart setting root cert faults.Memory two limits rise some less p q = some refl
 apart setting root cert (faults.BadConfig k) (faults.OverBudget n o) limits rise some less p q = bad-number setting cert k limits q.members p
+apart setting root cert (faults.BadConfig k) (faults.Clash n o) limits rise some less p q = bad-number setting cert k limits q.members p
 apart setting root cert (faults.BadConfig k) (faults.CostDiffers n o) limits rise some less p q = bad-number setting cert k limits q.members p
 apart setting root cert (faults.BadConfig k) (faults.BadPair n o) limits rise some less p q = bad-number setting cert k limits q.members p
 apart setting root cert (faults.BadConfig k) (faults.BadBranch n) limits rise some less p q = bad-number setting cert k limits q.sound.members p
 apart setting root cert (faults.BadConfig k) (faults.LeafBelow n o r) limits rise some less p q = bad-number setting cert k limits q.sound.members p
 apart setting root cert (faults.BadConfig k) (faults.NotInfeasible n o) limits rise some less p q = bad-number setting cert k limits q.sound.members p
 apart setting root cert (faults.BadConfig k) two limits rise some less p q = omega (arith, less)
-apart setting root cert (faults.OverBudget k l) (faults.CostDiffers n o) limits rise some less p q = not-over setting cert k l q.fits p
-apart setting root cert (faults.OverBudget k l) (faults.BadPair n o) limits rise some less p q = not-over setting cert k l q.fits p
-apart setting root cert (faults.OverBudget k l) (faults.BadBranch n) limits rise some less p q = not-over setting cert k l q.sound.fits p
-apart setting root cert (faults.OverBudget k l) (faults.LeafBelow n o r) limits rise some less p q = not-over setting cert k l q.sound.fits p
-apart setting root cert (faults.OverBudget k l) (faults.NotInfeasible n o) limits rise some less p q = not-over setting cert k l q.sound.fits p
+apart setting root cert (faults.OverBudget k l) (faults.Clash n o) limits rise some less p q = not-over setting cert k l q.pages p
+apart setting root cert (faults.OverBudget k l) (faults.CostDiffers n o) limits rise some less p q = not-over setting cert k l q.fits.pages p
+apart setting root cert (faults.OverBudget k l) (faults.BadPair n o) limits rise some less p q = not-over setting cert k l q.fits.pages p
+apart setting root cert (faults.OverBudget k l) (faults.BadBranch n) limits rise some less p q = not-over setting cert k l q.sound.fits.pages p
+apart setting root cert (faults.OverBudget k l) (faults.LeafBelow n o r) limits rise some less p q = not-over setting cert k l q.sound.fits.pages p
+apart setting root cert (faults.OverBudget k l) (faults.NotInfeasible n o) limits rise some less p q = not-over setting cert k l q.sound.fits.pages p
 apart setting root cert (faults.OverBudget k l) two limits rise some less p q = omega (arith, less)
+apart setting root cert (faults.Clash k l) (faults.CostDiffers n o) limits rise some less p q = not-clashing setting cert k l q.fits p
+apart setting root cert (faults.Clash k l) (faults.BadPair n o) limits rise some less p q = not-clashing setting cert k l q.fits p
+apart setting root cert (faults.Clash k l) (faults.BadBranch n) limits rise some less p q = not-clashing setting cert k l q.sound.fits p
+apart setting root cert (faults.Clash k l) (faults.LeafBelow n o r) limits rise some less p q = not-clashing setting cert k l q.sound.fits p
+apart setting root cert (faults.Clash k l) (faults.NotInfeasible n o) limits rise some less p q = not-clashing setting cert k l q.sound.fits p
+apart setting root cert (faults.Clash k l) two limits rise some less p q = omega (arith, less)
 apart setting root cert (faults.CostDiffers k l) (faults.BadPair n o) limits rise some less p q = not-other setting cert k l q.cost_is p
 apart setting root cert (faults.CostDiffers k l) (faults.BadBranch n) limits rise some less p q = not-other setting cert k l q.sound.cost_is p
 apart setting root cert (faults.CostDiffers k l) (faults.LeafBelow n o r) limits rise some less p q = not-other setting cert k l q.sound.cost_is p
@@ -205,6 +221,8 @@ alike setting root cert (faults.BadConfig k) (faults.BadConfig n) some same p q 
 alike setting root cert (faults.BadConfig k) two some same p q = absurd (omega (arith, same))
 alike setting root cert (faults.OverBudget k l) (faults.OverBudget n o) some same p q = over-same setting cert k l n o p q
 alike setting root cert (faults.OverBudget k l) two some same p q = absurd (omega (arith, same))
+alike setting root cert (faults.Clash k l) (faults.Clash n o) some same p q = clash-same setting cert k l n o p q
+alike setting root cert (faults.Clash k l) two some same p q = absurd (omega (arith, same))
 alike setting root cert (faults.CostDiffers k l) (faults.CostDiffers n o) some same p q = other-same setting cert k l n o p q
 alike setting root cert (faults.CostDiffers k l) two some same p q = absurd (omega (arith, same))
 alike setting root cert (faults.BadPair k l) (faults.BadPair n o) some same p q = same-pair setting cert k l n o p q

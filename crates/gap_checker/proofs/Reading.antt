@@ -25,10 +25,10 @@ use Rattle.gap_checker.specs.declared.judge.Judge.{Judge}
 use Rattle.gap_checker.specs.declared.tree_reader.TreeReader.{TreeReader}
 use Rattle.gap_checker.specs.At.{IsSomeHead, cert_at, BeginsWith, BreaksAt, IsMalformed, IsFaultAt}
 use Rattle.gap_checker.specs.Faults.{IsFault, IsSound}
-use Rattle.gap_checker.specs.Views.{sets_of, IsProof}
+use Rattle.gap_checker.specs.Views.{sets_of, rule_of, IsProof}
 use Rattle.gap_checker.specs.Visits.{visits, IsRight}
 use Rattle.gap_checker.specs.inner.AtFaults.{at_fault}
-use Rattle.gap_checker.specs.inner.Judges.{setting_of, root_of, cert_of, IsWalk, GoesOn, IsNextFault}
+use Rattle.gap_checker.specs.inner.Judges.{setting_of, root_of, rule_in, cert_of, IsWalk, GoesOn, IsNextFault}
 use Rattle.gap_checker.specs.inner.Nodes.{starts_of}
 use Rattle.gap_checker.specs.inner.Readings.{IsJudgeFor, end_count, lines_of, line_number, ReaderFits, HasTaken, Extends, TakesOn, IsTreeFault, IsFaultIn, IsWhole}
 use Rattle.gap_checker.specs.inner.Walks.{trees_after, TreesFit}
@@ -101,11 +101,11 @@ cert-same : (judge : Judge) (head : Head) → IsJudgeFor judge head → (P : Cer
 cert-same judge head is P tree h = subst P (is.cert_is tree) h
 
 read-right : (judge : Judge) (head : Head) (read : List Node) (starts : List _) → IsJudgeFor judge head → (walk : IsWalk judge read starts) →
-    All (IsRight (setting_of judge) head.budget head.bound (sets_of (cert_at head []))) (visits (root_of judge ∷ []) read)
+    All (IsRight (rule_of head.version) (setting_of judge) head.budget head.bound (sets_of (cert_at head []))) (visits (root_of judge ∷ []) read)
 read-right judge head read starts is walk =
-    let Q : Cert → Type 0 = λ (c : Cert). All (IsRight (setting_of judge) c.budget c.bound (sets_of c)) (visits (root_of judge ∷ []) read) in
+    let Q : Cert → Type 0 = λ (c : Cert). All (IsRight (rule_of c.version) (setting_of judge) c.budget c.bound (sets_of c)) (visits (root_of judge ∷ []) read) in
     let whole : visits (root_of judge ∷ []) read ≡ walk.before = ap (visits (root_of judge ∷ [])) (sym (append-nil read)) ∙ walk.parts [] ∙ append-nil walk.before in
-    let own : Q (cert_of judge []) = subst (All (IsRight (setting_of judge) judge.claims.budget judge.claims.bound (sets_of (cert_of judge [])))) (sym whole) walk.right in
+    let own : Q (cert_of judge []) = subst (All (IsRight (rule_in judge) (setting_of judge) judge.claims.budget judge.claims.bound (sets_of (cert_of judge [])))) (sym whole) walk.right in
     cert-same judge head is Q [] own
 
 -- ## Where the text breaks
@@ -200,6 +200,7 @@ pub fault-told : (judge : Judge) (head : Head) (text : List ℕ) (fault : CheckF
 fault-told judge head text faults.Memory is = tt
 fault-told judge head text (faults.BadConfig n) is = (λ e. cc, is)
 fault-told judge head text (faults.OverBudget n b) is = (λ e. cc, is)
+fault-told judge head text (faults.Clash n b) is = (λ e. cc, is)
 fault-told judge head text (faults.CostDiffers n b) is = (λ e. cc, is)
 fault-told judge head text (faults.BadPair n b) is = (λ e. cc, is)
 fault-told judge head text (faults.BadBranch n) is = (λ e. cc, is)

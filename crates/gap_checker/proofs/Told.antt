@@ -14,7 +14,7 @@ use Rattle.gap_checker.specs.declared.fault.AtFault.TheVariants as at_faults
 use Rattle.gap_checker.specs.declared.fault.CheckFault.{CheckFault}
 use Rattle.gap_checker.specs.declared.judge.Judge.{Judge}
 use Rattle.gap_checker.specs.Faults.{IsFault}
-use Rattle.gap_checker.specs.Views.{config_of, sets_of, IsProof}
+use Rattle.gap_checker.specs.Views.{config_of, sets_of, rule_of, IsProof}
 use Rattle.gap_checker.specs.inner.AtFaults.{at_fault}
 use Rattle.gap_checker.specs.inner.Judges.{setting_of, root_of, cert_of, IsJudge, AreSound, IsFaultFor}
 use Rattle.gap_checker.specs.inner.Readings.{IsJudgeFor, IsTreeFault, IsWhole}
@@ -77,4 +77,4 @@ whole-proof judge setting root head text is w = moved (λ (s : TheSetting) (r : 
 
 pub bounds-below : (setting : TheSetting) (root : nodes.Node) (cert : Cert) → KeepsLimits setting → IsProof setting root cert → BoundsBelow setting root cert.budget cert.bound
 bounds-below setting root cert limits proof = λ other total is fits below sum.
-    proved-bound setting cert.budget root (config_of cert) cert.cost cert.bound (sets_of cert) cert.tree other total limits proof is fits below sum
+    proved-bound (rule_of cert.version) setting cert.budget root (config_of cert) cert.cost cert.bound (sets_of cert) cert.tree other total limits proof is fits below sum

@@ -17,7 +17,7 @@ use Rattle.gap_checker.specs.Faults.{IsNodeAt}
 use Rattle.gap_checker.specs.Views.{IsProof}
 use Rattle.gap_checker.specs.Visits.{Visit, visits, IsRight}
 use Rattle.gap_checker.specs.inner.Claims.{sets_in}
-use Rattle.gap_checker.specs.inner.Judges.{setting_of, root_of, cert_of, AreSound, IsRightFor, IsWrong, IsWalk, GoesOn, IsNextFault}
+use Rattle.gap_checker.specs.inner.Judges.{setting_of, root_of, rule_in, cert_of, AreSound, IsRightFor, IsWrong, IsWalk, GoesOn, IsNextFault}
 use Rattle.gap_checker.specs.inner.Nodes.{starts_of}
 use Rattle.gap_checker.specs.inner.Walks.{sides, trees_after}
 use Rattle.gap_checker.proofs.Lists.{length-front}
@@ -62,7 +62,7 @@ walk-parts judge read at starts node rest walk = walk.parts (node ∷ rest) ∙ 
 
 pub walk-step : (judge : Judge) (at : nodes.Node) (starts : List nodes.Node) (node : Node) → IsRightFor judge at node → GoesOn judge (at ∷ starts) node (sides at node starts)
 walk-step judge at starts node right = λ read walk.
-    let P : Visit → Type 0 = IsRight (setting_of judge) judge.claims.budget judge.claims.bound (sets_in judge.claims) in
+    let P : Visit → Type 0 = IsRight (rule_in judge) (setting_of judge) judge.claims.budget judge.claims.bound (sets_in judge.claims) in
     let visit : Visit = record { at = at; node = node } in
     record {
       before = walk.before ++ visit ∷ [];
@@ -94,6 +94,7 @@ pub wrong-fault : (judge : Judge) (at : nodes.Node) (starts : List nodes.Node) (
 wrong-fault judge at starts number node faults.Memory wrong = λ read rest sound walk is. tt
 wrong-fault judge at starts number node (faults.BadConfig n) wrong = absurd wrong
 wrong-fault judge at starts number node (faults.OverBudget n b) wrong = absurd wrong
+wrong-fault judge at starts number node (faults.Clash n b) wrong = absurd wrong
 wrong-fault judge at starts number node (faults.CostDiffers n b) wrong = absurd wrong
 wrong-fault judge at starts number node (faults.BadPair n b) wrong = absurd wrong
 wrong-fault judge at starts number node (faults.BadBranch n) wrong = λ read rest sound walk is.
@@ -133,7 +134,7 @@ walk-start judge =
       before = [];
       count_is = refl;
       parts = λ rest. refl;
-      right = All-nil (IsRight (setting_of judge) judge.claims.budget judge.claims.bound (sets_in judge.claims));
+      right = All-nil (IsRight (rule_in judge) (setting_of judge) judge.claims.budget judge.claims.bound (sets_in judge.claims));
       trees = λ rest. (λ are. are, λ are. are);
     }
 
@@ -144,7 +145,7 @@ behind-nothing (x ∷ xs) = ap (λ (ys : List Node). x ∷ ys) (behind-nothing x
 -- where a whole tree was read, it is a proof
 pub walk-end : (judge : Judge) (tree : List Node) (starts : List nodes.Node) → AreSound judge → AreTrees 1 tree → IsWalk judge tree starts → IsProof (setting_of judge) (root_of judge) (cert_of judge tree)
 walk-end judge list starts sound are walk =
-    let P : Visit → Type 0 = IsRight (setting_of judge) judge.claims.budget judge.claims.bound (sets_in judge.claims) in
+    let P : Visit → Type 0 = IsRight (rule_in judge) (setting_of judge) judge.claims.budget judge.claims.bound (sets_in judge.claims) in
     let whole : visits (root_of judge ∷ []) (list ++ []) ≡ walk.before = walk.parts [] ∙ append-nil walk.before in
     let tree = tree-of list are in
     let all : All P (visits (root_of judge ∷ []) (list ++ [])) = subst (All P) (sym whole) walk.right in
@@ -155,7 +156,7 @@ walk-end judge list starts sound are walk =
       fits = is.fits;
       cost_is = is.cost_is;
       rents = is.rents;
-      shown = record { tree = tree.tree; list_is = tree.list_is; shows = (right-shown (setting_of judge) judge.claims.budget judge.claims.bound (sets_in judge.claims) (root_of judge) [] tree.tree [] moved).0 };
+      shown = record { tree = tree.tree; list_is = tree.list_is; shows = (right-shown (rule_in judge) (setting_of judge) judge.claims.budget judge.claims.bound (sets_in judge.claims) (root_of judge) [] tree.tree [] moved).0 };
     }
 
 -- ## A tree's list, node by node

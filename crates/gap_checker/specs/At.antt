@@ -22,7 +22,7 @@ use Rattle.gap_checker.specs.declared.fault.CheckFault.{CheckFault}
 use Rattle.gap_checker.specs.declared.fault.CheckFault.TheVariants as faults
 use Rattle.gap_checker.specs.declared.fault.Checked.{Checked}
 use Rattle.gap_checker.specs.Faults.{IsChecked, IsFault, IsSound}
-use Rattle.gap_checker.specs.Views.{multipliers_of}
+use Rattle.gap_checker.specs.Views.{multipliers_of, rule_of}
 use Rattle.gap_checker.specs.Visits.{visits, IsRight}
 
 -- the head of some certificate
@@ -33,7 +33,7 @@ pub record IsSomeHead (head : Head) : Type 0 where
 -- its certificate with a tree
 abbrev pub cert_at : Head → List Node → Cert
 cert_at head tree =
-    record { budget = head.budget; config = head.config; cost = head.cost; bound = head.bound; sets = head.sets; tree = tree }
+    record { version = head.version; budget = head.budget; config = head.config; cost = head.cost; bound = head.bound; sets = head.sets; tree = tree }
 
 -- where the shelf tells its files, what the file of a name has from a place on; nothing where there is no such file
 abbrev pub IsBehind : Option Files → List ℕ → ℕ → List ℕ → Type 0
@@ -93,7 +93,7 @@ pub record IsMalformed (setting : TheSetting) (root : nodes.Node) (head : Head) 
   pub read : List Node
   pub begins : BeginsWith text (map node_line read)
   pub read_are : (suc (length read) ≡ line) ⊎ (length read ≡ head.nodes)
-  pub right : All (IsRight setting head.budget head.bound (map multipliers_of head.sets)) (visits (root ∷ []) read)
+  pub right : All (IsRight (rule_of head.version) setting head.budget head.bound (map multipliers_of head.sets)) (visits (root ∷ []) read)
 
 -- the text begins with nodes of a tree, and whatever comes behind them, the certificate has a fault up to there
 pub record IsFaultAt (setting : TheSetting) (root : nodes.Node) (head : Head) (text : List ℕ) (fault : CheckFault) : Type 0 where

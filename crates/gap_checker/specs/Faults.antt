@@ -1,19 +1,19 @@
 -- What the checker answers: what a certificate proves below a root, or where it first fails to. Numbers of sets, entries
 -- and nodes count from 1.
 use Rattle.std.specs.Prelude.{◌≡◌, ◌≢◌, ℕ, suc, ◌-◌, ◌<◌, ◌≤◌, ℤ, ◌<ℤ◌, List, [], ◌∷◌, ◌++◌, length, All, Some, slice_get}
-use Rattle.adv_base.specs.Configs.{IsConfigOf, Fits, config_pages}
+use Rattle.adv_base.specs.Configs.{IsConfigOf, Fits, IsFirstClash, config_pages}
 use Rattle.adv_base.specs.Nodes as nodes
 use Rattle.adv_base.specs.Settings.{TheSetting}
 use Rattle.plan_model.specs.Lagrangian.{TheMultipliers, IsLagrangian}
 use Rattle.plan_model.specs.Totals.{IsTotal}
 use Rattle.bip_model.specs.declared.answer.Node.{Node}
 use Rattle.bip_model.specs.declared.answer.Node.TheVariants.{Branch, Bounded, Overfull}
-use Rattle.bip_model.specs.Trees.{IsBranch, set_at}
+use Rattle.bip_model.specs.Trees.{Rule, ByPages, ByFit, IsBranch, set_at}
 use Rattle.bip_model.specs.Proves.{NamesUse, RentsUses}
 use Rattle.certificate.specs.declared.cert.Cert.{Cert}
 use Rattle.certificate.specs.declared.cert.Entry.{Entry}
 use Rattle.certificate.specs.declared.cert.SparseSet.{SparseSet}
-use Rattle.gap_checker.specs.Views.{config_of, sets_of, IsProof}
+use Rattle.gap_checker.specs.Views.{config_of, sets_of, rule_of, IsProof}
 use Rattle.gap_checker.specs.Visits.{Visit, visits, IsRight}
 use Rattle.gap_checker.specs.declared.fault.Checked.{Checked}
 use Rattle.gap_checker.specs.declared.fault.CheckFault.{CheckFault}
@@ -41,6 +41,12 @@ pub record IsOverBudget (setting : TheSetting) (cert : Cert) (size budget : ℕ)
   pub size_is : size ≡ config_pages setting.cat setting.shapes (config_of cert)
   pub budget_is : budget ≡ cert.budget
   pub over : cert.budget < size
+
+-- they are within it, and two of its candidates are clustered on one table
+pub record IsClashing (setting : TheSetting) (cert : Cert) (first second : ℕ) : Type 0 where
+  pub members : IsConfigOf setting.shapes (config_of cert)
+  pub pages : config_pages setting.cat setting.shapes (config_of cert) ≤ cert.budget
+  pub clash : IsFirstClash setting.shapes (config_of cert) first second
 
 -- it costs another number
 pub record IsOtherCost (setting : TheSetting) (cert : Cert) (claimed computed : ℕ) : Type 0 where
@@ -86,7 +92,7 @@ pub record IsNodeAt (setting : TheSetting) (root : nodes.Node) (cert : Cert) (nu
   pub rest : List Visit
   pub parts : visits (root ∷ []) cert.tree ≡ before ++ record { at = at; node = node } ∷ rest
   pub number_is : number ≡ suc (length before)
-  pub right : All (IsRight setting cert.budget cert.bound (sets_of cert)) before
+  pub right : All (IsRight (rule_of cert.version) setting cert.budget cert.bound (sets_of cert)) before
 
 -- the first node that isn't right is a branch on what is no candidate, or isn't free there
 pub record IsBadBranch (setting : TheSetting) (root : nodes.Node) (cert : Cert) (number : ℕ) : Type 0 where
@@ -108,13 +114,18 @@ pub record IsLeafBelow (setting : TheSetting) (root : nodes.Node) (cert : Cert) 
   pub claimed_is : claimed ≡ cert.bound
   pub below : computed <ℤ claimed
 
--- it is called overfull, and what is in fits
+-- what is in at a node isn't too much, by a rule
+abbrev pub FitsBy : Rule → TheSetting → ℕ → nodes.Node → Type 0
+FitsBy ByPages setting budget at = config_pages setting.cat setting.shapes at.inside ≤ budget
+FitsBy ByFit setting budget at = Fits setting.cat setting.shapes at.inside budget
+
+-- it is called overfull, and isn't, by the rule of the certificate's version
 pub record IsNotOverfull (setting : TheSetting) (root : nodes.Node) (cert : Cert) (number size : ℕ) : Type 0 where
   pub sound : IsSound setting cert
   pub at : nodes.Node
   pub node_is : IsNodeAt setting root cert number at Overfull
   pub size_is : size ≡ config_pages setting.cat setting.shapes at.inside
-  pub fits : size ≤ cert.budget
+  pub fits : FitsBy (rule_of cert.version) setting cert.budget at
 
 -- ## The first fault
 
@@ -123,6 +134,7 @@ abbrev pub IsFault : TheSetting → nodes.Node → Cert → CheckFault → Type 
 IsFault setting root cert faults.Memory = Unit {0}
 IsFault setting root cert (faults.BadConfig number) = IsBadConfig setting cert number
 IsFault setting root cert (faults.OverBudget size budget) = IsOverBudget setting cert size budget
+IsFault setting root cert (faults.Clash first second) = IsClashing setting cert first second
 IsFault setting root cert (faults.CostDiffers claimed computed) = IsOtherCost setting cert claimed computed
 IsFault setting root cert (faults.BadPair set entry) = IsBadPair setting cert set entry
 IsFault setting root cert (faults.BadBranch number) = IsBadBranch setting root cert number

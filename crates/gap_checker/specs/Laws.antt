@@ -7,7 +7,7 @@ use Rattle.bip_model.specs.declared.answer.Answer.{Answer}
 use Rattle.bip_model.specs.declared.programme.Programme.{Programme}
 use Rattle.bip_model.specs.Best.{IsBest}
 use Rattle.bip_model.specs.StandsFor.{StandsFor}
-use Rattle.certificate.specs.Answers.{answer_cert}
+use Rattle.certificate.specs.Answers.{answer_cert, version_of}
 use Rattle.certificate.specs.declared.cert.Cert.{Cert}
 use Rattle.certificate.specs.declared.head.Head.{Head}
 use Rattle.certificate.specs.Heads.{IsHeadOf}
@@ -38,12 +38,12 @@ AnswersAreOne =
     IsAnswer setting root cert answer → IsAnswer setting root cert other → answer ≡ other
 
 -- The certificate of the best answer of a search from a root, over a programme that stands for the setting, proves its bound
--- below it. A configuration has a flag for each candidate that there may be.
+-- below it, in the version of its candidates. A configuration has a flag for each candidate that there may be.
 abbrev pub BestAreProved : Type 0
 BestAreProved =
     (setting : TheSetting) (programme : Programme) (budget node_budget : ℕ) (root : nodes.Node) (answer : Answer) → StandsFor setting programme →
     length answer.config.on ≡ MOST_CANDIDATES → IsBest setting budget node_budget root answer →
-    IsProof setting root (answer_cert programme budget answer)
+    IsProof setting root (answer_cert programme (version_of setting.shapes) budget answer)
 
 -- ## Certificates whose tree is read
 

@@ -5,7 +5,7 @@ use Rattle.adv_base.specs.Nodes as nodes
 use Rattle.adv_base.specs.Settings.{TheSetting}
 use Rattle.plan_model.specs.Lagrangian.{TheMultipliers}
 use Rattle.plan_model.specs.Totals.{no_candidates}
-use Rattle.bip_model.specs.Trees.{with_candidate}
+use Rattle.bip_model.specs.Trees.{Rule, ByPages, ByFit, with_candidate}
 use Rattle.bip_model.specs.Proves.{Proves}
 use Rattle.certificate.specs.declared.cert.Cert.{Cert}
 use Rattle.certificate.specs.declared.cert.Entry.{Entry}
@@ -34,6 +34,10 @@ sets_of cert = map multipliers_of cert.sets
 abbrev pub config_of : Cert → Config
 config_of cert = config_with cert.config
 
+-- by what a certificate of a version calls a leaf overfull: a certificate of version 1 tells what is overfull by pages alone
+abbrev pub rule_of : ℕ → Rule
+rule_of version = if version == 1 then ByPages else ByFit
+
 -- The certificate proves its bound below a root, and what its configuration costs, for a setting.
 abbrev pub IsProof : TheSetting → nodes.Node → Cert → Type 0
-IsProof setting root cert = Proves setting cert.budget root (config_of cert) cert.cost cert.bound (sets_of cert) cert.tree
+IsProof setting root cert = Proves (rule_of cert.version) setting cert.budget root (config_of cert) cert.cost cert.bound (sets_of cert) cert.tree

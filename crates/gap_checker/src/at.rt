@@ -60,11 +60,11 @@ fn read_tree<S: Shelf>(
     }
 }
 
-/// Judges a certificate whose tree stands in a file, for a setting and from a root, by its head. It judges as `check` does, and
-/// reads the tree meanwhile: it keeps the sets, a node for each open branch and one line. `Failed` comes only where a read
-/// failed. Where the shelf tells its files, `Malformed` comes only where the file has no tree behind the head, and then its line
-/// is the first at which none goes on. `Fault` has the first fault, and that isn't want of memory. After Ok each fitting
-/// configuration below the root costs at least the bound.
+/// Judges a certificate whose tree stands in a file, for a setting and from a root, by its head. It judges as `check` does, by
+/// the rule of the head's version, and reads the tree meanwhile: it keeps the sets, a node for each open branch and one line.
+/// `Failed` comes only where a read failed. Where the shelf tells its files, `Malformed` comes only where the file has no tree
+/// behind the head, and then its line is the first at which none goes on. `Fault` has the first fault, and that isn't want of
+/// memory. After Ok each fitting configuration below the root costs at least the bound.
 pub fn check_at<S: Shelf>(
     alloc: Global,
     setting: &Setting<'_>,

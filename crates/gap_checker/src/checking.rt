@@ -21,8 +21,9 @@ use std::alloc::Global;
 /// Judges a certificate for a setting, through the planner alone. Ok comes exactly where the certificate is a proof: its
 /// configuration has candidates alone, fits the budget and costs what is claimed; its rents are those of uses of candidates;
 /// and its tree, from a root that leaves each candidate free, shows the bound (weak duality, at each leaf). Then no fitting
-/// configuration costs less than the bound. Else the first fault comes: of the configuration, the cost, the rents, and then
-/// node by node. `Memory` is want of memory.
+/// configuration costs less than the bound. What is overfull in the tree is told as the certificate's version has it. Else
+/// the first fault comes: of the configuration, where a number past the candidates comes before too many pages, and these
+/// before two candidates that clash; of the cost, the rents, and then node by node. `Memory` is want of memory.
 pub fn check(alloc: Global, setting: &Setting<'_>, cert: &Cert) -> Result<Checked, CheckFault>
     requires { CertLimits cert.now }
     ensures checked { IfOk result (faults.IsChecked (the_setting setting.now) free_node cert.now) }

@@ -8,10 +8,11 @@ ghost use Rattle.gap_checker.specs.inner.Claims as claims;
 
 use certificate::{Cert, Head, SparseSet};
 
-/// What a certificate claims: the budget in pages, the numbers of the chosen candidates, what the workload costs under them,
-/// the bound, and the sets of multipliers that the leaves of its tree name.
+/// What a certificate claims: its version, the budget in pages, the numbers of the chosen candidates, what the workload
+/// costs under them, the bound, and the sets of multipliers that the leaves of its tree name.
 #[derive(Clone, Copy)]
 pub(crate) struct Claims<'a> {
+    pub version: u8,
     pub budget: u64,
     pub config: &'a [u16],
     pub cost: u128,
@@ -27,6 +28,7 @@ impl<'a> Claims<'a> {
         ensures same { claims.cert_with result cert.now.tree ≡ cert.now }
     {
         Claims {
+            version: cert.version,
             budget: cert.budget,
             config: cert.config.as_slice(),
             cost: cert.cost,
@@ -42,6 +44,7 @@ impl<'a> Claims<'a> {
         ensures same { (tree : List nodes.Node) → claims.cert_with result tree ≡ cert_at head.now tree }
     {
         Claims {
+            version: head.version,
             budget: head.budget,
             config: head.config.as_slice(),
             cost: head.cost,

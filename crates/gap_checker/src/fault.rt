@@ -34,8 +34,10 @@ pub enum CheckFault {
     BadBranch(u32),
     /// This leaf has a Lagrangian value, the first number, below the bound that is claimed, the second.
     LeafBelow(u32, i128, i128),
-    /// This leaf is called overfull, and its candidates have so many pages, which fit.
+    /// This leaf is called overfull, and isn't in the certificate's version; its candidates have so many pages, which fit.
     NotInfeasible(u32, u128),
+    /// Two candidates of the configuration are clustered on one table, the lesser number first.
+    Clash(u16, u16),
 }
 
 impl From<NoMemory> for CheckFault {

@@ -15,7 +15,7 @@ use crate::lagrangian::lagrangian_value;
 use crate::memo::Memo;
 use crate::multipliers::{Multipliers, multipliers_of};
 use crate::rents::Rents;
-use adv_base::{NoMemory, Setting};
+use adv_base::{NoMemory, Setting, is_apart};
 use bip_model::{Fix, Node, Space};
 use certificate::SparseSet;
 use hypo_indexes::Figures;
@@ -178,13 +178,18 @@ impl<'a> Judge<'a> {
         Ok(())
     }
 
-    /// Judges a leaf that is called overfull: what is in doesn't fit.
+    /// Judges a leaf that is called overfull: the pages of what is in exceed the budget, or else, but in version 1, two of
+    /// its candidates are clustered on one table.
     fn judge_overfull(&self, number: u32, at: &Fix) -> Result<(), CheckFault>
         ensures right { OnOk result (judges.IsRightFor self.now (node_of at.now) Overfull) }
         ensures wrong { IfErr result (judges.IsWrong self.now number (node_of at.now) Overfull) }
     {
-        let size = self.space.pages(&at.inside());
-        if size <= self.claims.budget {
+        let inside = at.inside();
+        let size = self.space.pages(&inside);
+        if size > self.claims.budget {
+            return Ok(());
+        }
+        if self.claims.version == 1 || is_apart(self.setting.shapes, &inside) {
             return Err(CheckFault::NotInfeasible(number, size as u128));
         }
         Ok(())

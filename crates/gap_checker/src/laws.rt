@@ -12,9 +12,10 @@ pub fn answers_are_one()
     ensures { AnswersAreOne }
 {}
 
-/// The certificate of the best answer of a search from a root proves its bound below that root, for the setting for which the
-/// programme stands: the rents that it lists are those of the answer, and its numbers are those of the answer's
-/// configuration. From the root that leaves each candidate free `check` accepts it.
+/// The certificate of the best answer of a search from a root, in the version that the setting's candidates ask for, proves
+/// its bound below that root, for the setting for which the programme stands: the rents that it lists are those of the
+/// answer, and its numbers are those of the answer's configuration. From the root that leaves each candidate free `check`
+/// accepts it.
 pub fn best_answers_are_proved()
     ensures { BestAreProved }
 {}

@@ -4,8 +4,12 @@
 //! Costs come from searches of least plans: of each statement under the configuration, and at each leaf of the tree over
 //! what is available there, with the rents of the leaf's set of multipliers added. The search of a statement is made once,
 //! its offers are priced once, and what it cost at a set's last leaf stays where none of its tables has other candidates
-//! available. No cache of plans and no programme is read. `specs/Views` has the certificate as the definitions of
-//! `bip_model` see it, `specs/Faults` what each answer says.
+//! available. No cache of plans and no programme is read.
+//!
+//! A configuration may have no two candidates that are clustered on one table. A leaf of a certificate of version 2 is
+//! overfull where what is in there has two such or too many pages, a leaf of one of version 1 by its pages alone.
+//!
+//! `specs/Views` has the certificate as the definitions of `bip_model` see it, `specs/Faults` what each answer says.
 //!
 //! `check` answers a `Checked`, or a `CheckFault`.
 //!

@@ -23,7 +23,7 @@ use crate::memo::{Memo, statement_at};
 use crate::planning::plan_cost;
 use crate::rents::{Rents, Terms};
 use crate::uses::judge_pairs;
-use adv_base::{Config, NoMemory, Setting, Statement};
+use adv_base::{Config, NoMemory, Setting, Statement, first_clash};
 use hypo_indexes::{config_upkeep, kept_upkeep};
 use std::alloc::Global;
 
@@ -128,6 +128,9 @@ impl Judge<'_> {
         let size = self.space.pages(&config);
         if size > self.claims.budget {
             return Err(CheckFault::OverBudget(size as u128, self.claims.budget));
+        }
+        if let Some((first, second)) = first_clash(self.setting.shapes, &config) {
+            return Err(CheckFault::Clash(first, second));
         }
         Ok(config)
     }

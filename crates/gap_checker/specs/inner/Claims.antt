@@ -20,7 +20,7 @@ pub record KeepsLimits (claims : Claims) : Type 0 where
 -- the certificate with these claims and a tree
 abbrev pub cert_with : Claims → List Node → Cert
 cert_with claims tree =
-    record { budget = claims.budget; config = claims.config.now; cost = claims.cost; bound = claims.bound; sets = claims.sets.now; tree = tree }
+    record { version = claims.version; budget = claims.budget; config = claims.config.now; cost = claims.cost; bound = claims.bound; sets = claims.sets.now; tree = tree }
 
 -- the multipliers of its sets
 abbrev pub sets_in : Claims → List TheMultipliers

@@ -1,12 +1,12 @@
 -- What a judge of nodes holds, and what it says of one.
-use Rattle.std.specs.Prelude.{◌≡◌, ℕ, suc, ◌≤◌, ℤ, ◌<ℤ◌, ◌↔◌, List, [], ◌∷◌, ◌++◌, length, All, Some}
+use Rattle.std.specs.Prelude.{◌≡◌, ℕ, suc, ℤ, ◌<ℤ◌, ◌↔◌, List, [], ◌∷◌, ◌++◌, length, All, Some}
 use Rattle.adv_base.specs.Configs.{config_pages}
 use Rattle.adv_base.specs.Nodes as nodes
 use Rattle.adv_base.specs.Settings.{TheSetting, the_setting}
 use Rattle.bip_model.specs.declared.answer.Node.{Node}
 use Rattle.bip_model.specs.declared.answer.Node.TheVariants.{Branch, Bounded, Overfull}
 use Rattle.bip_model.specs.StandsFor.{AreEach}
-use Rattle.bip_model.specs.Trees.{IsBranch, set_at}
+use Rattle.bip_model.specs.Trees.{Rule, IsBranch, set_at}
 use Rattle.bip_model.specs.Views.{node_of}
 use Rattle.certificate.specs.declared.cert.Cert.{Cert}
 use Rattle.certificate.specs.Limits.{AreTrees}
@@ -15,7 +15,8 @@ use Rattle.gap_checker.specs.declared.claims.Claims.{Claims}
 use Rattle.gap_checker.specs.declared.fault.CheckFault.{CheckFault}
 use Rattle.gap_checker.specs.declared.fault.CheckFault.TheVariants as faults
 use Rattle.gap_checker.specs.declared.judge.Judge.{Judge}
-use Rattle.gap_checker.specs.Faults.{IsFault, IsSound}
+use Rattle.gap_checker.specs.Faults.{IsFault, IsSound, FitsBy}
+use Rattle.gap_checker.specs.Views.{rule_of}
 use Rattle.gap_checker.specs.Visits.{Visit, visits, IsRight, IsRightAt}
 use Rattle.gap_checker.specs.inner.Claims.{KeepsLimits, cert_with, sets_in}
 use Rattle.gap_checker.specs.inner.Kept.{IsKept, all_sets}
@@ -30,6 +31,10 @@ root_of judge = node_of judge.root.now
 pub record IsJudge (judge : Judge) : Type 0 where
   pub limits : KeepsLimits judge.claims
   pub sets_are : AreEach (IsKept (setting_of judge)) (all_sets judge.claims.sets.now) judge.sets.items
+
+-- what it calls overfull
+abbrev pub rule_in : Judge → Rule
+rule_in judge = rule_of judge.claims.version
 
 -- the certificate that it judges, with a tree
 abbrev pub cert_of : Judge → List Node → Cert
@@ -46,7 +51,7 @@ AreSound judge = (tree : List Node) → IsSound (setting_of judge) (cert_of judg
 -- ## What is right with a node, and what may be wrong
 
 abbrev pub IsRightFor : Judge → nodes.Node → Node → Type 0
-IsRightFor judge at node = IsRightAt (setting_of judge) judge.claims.budget judge.claims.bound (sets_in judge.claims) at node
+IsRightFor judge at node = IsRightAt (rule_in judge) (setting_of judge) judge.claims.budget judge.claims.bound (sets_in judge.claims) at node
 
 pub record IsWrongBranch (setting : TheSetting) (node : Node) (at : nodes.Node) : Type 0 where
   pub candidate : ℕ
@@ -65,7 +70,7 @@ pub record IsWeakLeaf (setting : TheSetting) (claims : Claims) (node : Node) (at
 pub record IsFitting (setting : TheSetting) (claims : Claims) (node : Node) (at : nodes.Node) (size : ℕ) : Type 0 where
   pub node_is : node ≡ Overfull
   pub size_is : size ≡ config_pages setting.cat setting.shapes at.inside
-  pub fits : size ≤ claims.budget
+  pub fits : FitsBy (rule_of claims.version) setting claims.budget at
 
 abbrev pub IsWrong : Judge → ℕ → nodes.Node → Node → CheckFault → Type 0
 IsWrong judge number at node faults.Memory = Unit {0}
@@ -81,7 +86,7 @@ pub record IsWalk (judge : Judge) (read : List Node) (starts : List nodes.Node) 
   pub before : List Visit
   pub count_is : length read ≡ length before
   pub parts : (rest : List Node) → visits (root_of judge ∷ []) (read ++ rest) ≡ before ++ visits starts rest
-  pub right : All (IsRight (setting_of judge) judge.claims.budget judge.claims.bound (sets_in judge.claims)) before
+  pub right : All (IsRight (rule_in judge) (setting_of judge) judge.claims.budget judge.claims.bound (sets_in judge.claims)) before
   pub trees : (rest : List Node) → AreTrees 1 (read ++ rest) ↔ AreTrees (length starts) rest
 
 -- a node more of a tree, whatever was read before it

@@ -20,6 +20,6 @@ returns-clause-limits c =
 pub returns-clause-same : goal.returns-clause-same
 returns-clause-same c =
     let cert = c.args.cert.now in
-    let made : List ℕ → List SparseSet → Cert = λ config sets. record { budget = cert.budget; config = config; cost = cert.cost; bound = cert.bound; sets = sets; tree = cert.tree } in
+    let made : List ℕ → List SparseSet → Cert = λ config sets. record { version = cert.version; budget = cert.budget; config = config; cost = cert.cost; bound = cert.bound; sets = sets; tree = cert.tree } in
     rw (to_z-of_z w128 cert.bound (search rules))
     (ap (λ (config : List ℕ). made config c.as_slice-2.result.now) c.as_slice.ensures ∙ ap (λ (sets : List SparseSet). made cert.config sets) c.as_slice-2.ensures)

@@ -20,6 +20,6 @@ returns-clause-limits c =
 pub returns-clause-same : goal.returns-clause-same
 returns-clause-same c = λ tree.
     let head = c.args.head.now in
-    let made : List ℕ → List SparseSet → Cert = λ config sets. record { budget = head.budget; config = config; cost = head.cost; bound = head.bound; sets = sets; tree = tree } in
+    let made : List ℕ → List SparseSet → Cert = λ config sets. record { version = head.version; budget = head.budget; config = config; cost = head.cost; bound = head.bound; sets = sets; tree = tree } in
     rw (to_z-of_z w128 head.bound (search rules))
     (ap (λ (config : List ℕ). made config c.as_slice-2.result.now) c.as_slice.ensures ∙ ap (λ (sets : List SparseSet). made head.config sets) c.as_slice-2.ensures)

@@ -1,5 +1,6 @@
-use Rattle.std.proofs.Common.{◌∙◌, refl, ap, arith}
-use Rattle.adv_base.specs.Configs.{config_pages}
+use Rattle.std.proofs.Common.{◌∙◌, refl, ap, subst, arith}
+use Rattle.adv_base.specs.declared.setting.Config.{Config}
+use Rattle.adv_base.specs.Configs.{config_pages, IsApart, IsFirstClash}
 use Rattle.gap_checker.specs.inner.Judges.{setting_of, cert_of}
 use Rattle.gap_checker.proofs.Numbers.{config-members, past-bad}
 use Rattle.gap_checker.proofs.Valuing.{pages-here}
@@ -26,9 +27,23 @@ returns-clause-members c =
     let judge = c.args.self.now in
     config-members judge.setting.now.shapes.now judge.claims.config.now c.requires.limits.config_rises (c.first_past.ensures.none c.in_default.is)
 
+pub returns-in-Some-first_clash-clause-fault : goal.returns-in-Some-first_clash-clause-fault
+returns-in-Some-first_clash-clause-fault c = λ tree.
+    let judge = c.args.self.now in
+    let setting = judge.setting.now in
+    let size = pages-here judge c.config_with-config.result c.pages-size.result c.pages-size.ensures.exact ∙ ap (config_pages setting.cat.now setting.shapes.now) c.config_with-config.ensures in
+    record {
+      members = config-members setting.shapes.now judge.claims.config.now c.requires.limits.config_rises (c.first_past.ensures.none c.in_default.is);
+      pages = omega (arith, size, c.if-size-self.false);
+      clash = subst (λ (config : Config). IsFirstClash setting.shapes.now config c.in-Some-first_clash.first c.in-Some-first_clash.second) c.config_with-config.ensures c.in-Some-first_clash.ensures;
+    }
+
 pub returns-clause-fits : goal.returns-clause-fits
 returns-clause-fits c =
     let judge = c.args.self.now in
     let setting = judge.setting.now in
     let size = pages-here judge c.config_with-config.result c.pages-size.result c.pages-size.ensures.exact ∙ ap (config_pages setting.cat.now setting.shapes.now) c.config_with-config.ensures in
-    omega (arith, size, c.if-size-self.false)
+    record {
+      pages = omega (arith, size, c.if-size-self.false);
+      apart = subst (λ (config : Config). IsApart setting.shapes.now config) c.config_with-config.ensures c.in_default-first_clash.ensures;
+    }
