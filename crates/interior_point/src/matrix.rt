@@ -66,6 +66,8 @@ pub struct Matrix {
     pub touches: [Places; 256],
     pub sizes: [i64; 256],
     pub upkeep: [i128; 256],
+    /// The group of each candidate, of which at most one may be in; 0 where it is in none.
+    pub groups: [u8; 256],
     pub kept: i128,
     /// How many candidates there are.
     pub count: usize,
@@ -134,6 +136,12 @@ impl Matrix {
         } else {
             self.cost_by_many(part, on)
         }
+    }
+
+    /// Whether at most one of two candidates may be in.
+    pub fn clash(&self, one: usize, other: usize) -> bool {
+        let group = at(&self.groups, one, 0);
+        group != 0 && one != other && group == at(&self.groups, other, 0)
     }
 
     /// What a configuration costs in all.

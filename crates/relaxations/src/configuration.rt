@@ -37,14 +37,16 @@ fn weighted(matrix: &Matrix, part: usize, cost: i64) -> i128 {
     }
 }
 
-/// A configuration: what it has, what it costs and which pages it leaves; of what it has, what has to stay. `costs` has what
-/// each part costs, and `changes` by what the whole would change if a candidate came or went, where that is known.
+/// A configuration: what it has, what it costs and which pages it leaves; of what it has, what has to stay, and how many are of
+/// each group. `costs` has what each part costs, and `changes` by what the whole would change if a candidate came or went,
+/// where that is known.
 #[derive(Drop)]
 pub(crate) struct Configuration {
     pub on: Chosen,
     pub cost: i128,
     pub left: i64,
     stays: Chosen,
+    members: [u16; 256],
     costs: Vec<i64>,
     changes: [Option<f64>; 256],
 }
@@ -57,6 +59,7 @@ impl Configuration {
             cost: 0,
             left: 0,
             stays: [false; 256],
+            members: [0; 256],
             costs: vec![in alloc; 0; matrix.parts.len()]?,
             changes: [None; 256],
         })
@@ -77,10 +80,12 @@ impl Configuration {
         self.cost = matrix.kept;
         self.left = budget;
         self.changes = [None; 256];
+        self.members = [0; 256];
         for a in 0..256 {
             if on[a] {
                 self.cost = self.cost.wrapping_add(matrix.upkeep[a]);
                 self.left = self.left.wrapping_sub(matrix.sizes[a]);
+                self.count(matrix.groups[a], true);
             }
         }
         for part in 0..matrix.parts.len() {
@@ -96,10 +101,27 @@ impl Configuration {
         self.cost = from.cost;
         self.left = from.left;
         self.stays = from.stays;
+        self.members = from.members;
         self.changes = from.changes;
         for (own, other) in self.costs.iter_mut().zip(from.costs.iter()) {
             *own = *other;
         }
+    }
+
+    /// Counts a member of a group that came or went.
+    fn count(&mut self, group: u8, is_on: bool) {
+        let count = self.members[group as usize];
+        self.members[group as usize] = if is_on {
+            count.wrapping_add(1)
+        } else {
+            count.wrapping_sub(1)
+        };
+    }
+
+    /// Whether a candidate clashes with one that the configuration has.
+    fn clashes(&self, matrix: &Matrix, candidate: usize) -> bool {
+        let group = at(&matrix.groups, candidate, 0);
+        group != 0 && self.members[group as usize] > 0
     }
 
     /// By how much the cost would change if a candidate came or went.
@@ -149,6 +171,7 @@ impl Configuration {
             self.cost = self.cost.wrapping_sub(upkeep);
             self.left = self.left.wrapping_add(size);
         }
+        self.count(matrix.groups[a], self.on[a]);
         self.changes[a] = None;
         for place in matrix.touches[a].of(matrix.touched.as_slice()) {
             let part = *place as usize;
@@ -160,13 +183,13 @@ impl Configuration {
         }
     }
 
-    /// The allowed candidate that fits and saves most for each page.
+    /// The allowed candidate that fits, clashes with none and saves most for each page.
     fn best_addition(&mut self, matrix: &Matrix, allowed: &Chosen) -> Option<u8> {
         let mut best = None;
         let mut least = 0.0;
         for a in 0..matrix.count.min(256) {
             let size = matrix.sizes[a];
-            if allowed[a] && !self.on[a] && size <= self.left {
+            if allowed[a] && !self.on[a] && size <= self.left && !self.clashes(matrix, a) {
                 let change = self.change(matrix, a as u8);
                 let rate = change / (nearest_i64_to_f64(size) + 1.0);
                 if rate < least {
@@ -235,9 +258,23 @@ impl Configuration {
         }
     }
 
+    /// Drops what clashes with a candidate that comes in.
+    fn give_way(&mut self, matrix: &Matrix, candidate: usize) {
+        if self.clashes(matrix, candidate) {
+            for a in 0..256 {
+                if self.on[a] && matrix.clash(a, candidate) {
+                    self.flip(matrix, a as u8);
+                }
+            }
+        }
+    }
+
     /// Forces a candidate in or out, and goes on from there with the allowed ones.
     fn force(&mut self, matrix: &Matrix, candidate: u8, allowed: &Chosen) {
         let was = self.on[candidate as usize];
+        if !was {
+            self.give_way(matrix, candidate as usize);
+        }
         self.flip(matrix, candidate);
         let mut others = *allowed;
         if was {

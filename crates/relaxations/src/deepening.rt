@@ -20,7 +20,7 @@ impl Planner {
         let mut found = None;
         let mut most = 0.0;
         for a in 0..256 {
-            if self.path.is_open(a) {
+            if self.path.is_choice(a) {
                 let share = self.ledgers[best.set].shares[a];
                 let pages = nearest_i64_to_f64(task.matrix.sizes[a]) + 1.0;
                 let doubt = share.min(1.0 - share).max(1e-9) * pages;

@@ -1,5 +1,6 @@
 //! The search for the cheapest configuration: best bound first, over linear relaxations, with fixings and roundings.
 
+use crate::clashing::{Crowds, settle};
 use crate::configuration::{Chosen, Incumbent};
 use crate::rounding::{Rounding, Shared, view_node};
 use crate::tree::{MOST_NODES, Tree};
@@ -16,6 +17,8 @@ const MOST_PASSES: u32 = 4;
 const MANY_FIXED: usize = 3;
 /// A candidate whose share is nearer to a whole number than this is branched on last.
 const LEAST_PART: f64 = 1e-4;
+/// The least price of a page by which what rises is told in pages.
+const LEAST_PAGE: f64 = 1e-12;
 /// So often at first, and then once in so many times, the search goes on to a side of the branch that it made.
 const FIRST_DIVES: u32 = 3;
 
@@ -187,7 +190,7 @@ impl Finder {
                 return;
             }
             let count = self.fix(visit);
-            visit.is_closed = pages(matrix, &visit.fix) > budget;
+            visit.is_closed = !settle(matrix, &mut visit.fix) || pages(matrix, &visit.fix) > budget;
             if visit.is_closed {
                 return;
             }
@@ -198,18 +201,51 @@ impl Finder {
         self.open(matrix, budget, visit);
     }
 
+    /// What the groups of the view have.
+    fn crowds(&self, matrix: &Matrix) -> Crowds {
+        let mut crowds = Crowds::BLANK;
+        for (number, candidate) in self.view.candidates.iter().enumerate() {
+            let group = matrix.groups[*candidate as usize];
+            if group != 0 {
+                let rises = self.losses.best_rises(&self.view, &self.lagrangian, number);
+                crowds.add(group, self.shares[*candidate as usize], rises.outside);
+            }
+        }
+        crowds
+    }
+
+    /// What a branch on a candidate of a group promises, of which a relaxation takes more than one: so many pages are worth
+    /// what the value rises by on both sides.
+    fn promise(&self, crowds: &Crowds, group: u8, number: usize) -> f64 {
+        let rises = self.losses.best_rises(&self.view, &self.lagrangian, number);
+        let inside = crowds.inside(group, rises.inside.max(0.0), rises.outside);
+        let missing = (self.target() - self.lagrangian.value).max(1.0);
+        let rise = inside.min(rises.outside).min(missing);
+        rise.max(0.0) / self.lagrangian.page.max(LEAST_PAGE)
+    }
+
     /// The candidate of the view, by its number there, on which to branch: the one with the most pages in doubt.
-    fn choice(&self) -> usize {
+    fn choice(&self, matrix: &Matrix) -> usize {
+        let crowds = self.crowds(matrix);
         let mut best = 0;
         let mut most = f64::NEG_INFINITY;
         for (number, candidate) in self.view.candidates.iter().enumerate() {
             let share = self.shares[*candidate as usize];
-            let part = share.min(1.0 - share);
-            let doubt = if part < LEAST_PART {
+            let group = matrix.groups[*candidate as usize];
+            let excess = crowds.excess(group, share);
+            let part = if excess > LEAST_PART {
+                excess.max(share.min(1.0 - share))
+            } else {
+                share.min(1.0 - share)
+            };
+            let mut doubt = if part < LEAST_PART {
                 part - 1.0
             } else {
                 part * at(self.view.sizes.as_slice(), number, 0.0)
             };
+            if excess > LEAST_PART {
+                doubt = doubt.max(self.promise(&crowds, group, number));
+            }
             if doubt > most {
                 most = doubt;
                 best = number;
@@ -229,14 +265,20 @@ impl Finder {
     }
 
     /// Branches at a node; the side to which the share of the branch's candidate rounds, if it is open.
-    fn branch(&mut self, place: usize, visit: &Visit, number: usize) -> Option<usize> {
+    fn branch(
+        &mut self,
+        matrix: &Matrix,
+        place: usize,
+        visit: &Visit,
+        number: usize,
+    ) -> Option<usize> {
         let candidate = at(self.view.candidates.as_slice(), number, 0);
         let rises = self.losses.best_rises(&self.view, &self.lagrangian, number);
         let inside = self.side_bound(visit, rises.inside);
         let outside = self.side_bound(visit, rises.outside);
-        let first = self
-            .tree
-            .branch(place, &visit.fix, candidate, [inside, outside]);
+        let fixes = sides(matrix, &visit.fix, candidate);
+        let bounds = [inside, outside];
+        let first = self.tree.branch(place, candidate, &fixes, bounds);
         if self.shares[candidate as usize] >= 0.5 {
             self.open_side(first, inside)
         } else {
@@ -268,7 +310,7 @@ impl Finder {
         }
         let number = match visit.forced {
             Some(candidate) => self.view.local[candidate as usize] as usize,
-            None => self.choice(),
+            None => self.choice(matrix),
         };
         let is_closed = visit.is_closed
             || visit.bound >= self.target()
@@ -277,7 +319,7 @@ impl Finder {
         if is_closed {
             None
         } else {
-            self.branch(place, &visit, number)
+            self.branch(matrix, place, &visit, number)
         }
     }
 
@@ -325,6 +367,15 @@ impl Finder {
             root_bound: self.root_bound,
         }
     }
+}
+
+/// The sides of a branch, where a candidate is in and what clashes with it out, and where it is out.
+fn sides(matrix: &Matrix, fix: &Fix, candidate: u8) -> [Fix; 2] {
+    let mut sides = [*fix; 2];
+    sides[0].state[candidate as usize] = State::In;
+    let _ = settle(matrix, &mut sides[0]);
+    sides[1].state[candidate as usize] = State::Out;
+    sides
 }
 
 /// The pages of what is in at a node.

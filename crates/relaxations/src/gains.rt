@@ -1,5 +1,6 @@
 //! By how much a Lagrangian value rises at least on either side of a branch, and which branch promises most.
 
+use crate::clashing::Crowds;
 use crate::ledger::{Each, Ledger};
 use crate::path::Path;
 use crate::tree::{TreeNode, is_marked};
@@ -73,16 +74,44 @@ impl Gains {
         }
     }
 
-    /// What a branch on a candidate promises, where so much is needed and a relaxation takes so much of the candidate.
-    fn promise(&self, a: usize, need: i128, share: f64) -> f64 {
+    /// What the groups of the candidates have that may come in, where so much is needed.
+    fn crowds(&self, path: &Path, ledger: &Ledger, need: i128) -> Crowds {
+        let mut crowds = Crowds::BLANK;
+        for a in 0..256 {
+            if path.group(a) != 0 && path.is_choice(a) {
+                let outside = part_of(self.outside[a], need);
+                crowds.add(path.group(a), ledger.shares[a], outside);
+            }
+        }
+        crowds
+    }
+
+    /// What a branch on a candidate of a group promises, where so much is needed and a relaxation takes so much of the
+    /// candidate.
+    fn promise(&self, a: usize, need: i128, share: f64, group: u8, crowds: &Crowds) -> f64 {
         let outside = part_of(at(&self.outside, a, 0), need);
         let inside = part_of(at(&self.inside, a, 0), need);
-        let doubt = share.min(1.0 - share).max(0.0);
+        let inside = crowds.inside(group, inside, outside).min(1.0);
+        let excess = crowds.excess(group, share);
+        let doubt = share.min(1.0 - share).max(excess);
         20.0 * outside.min(inside) + 3.0 * outside.max(inside) + 120.0 * doubt
     }
 
-    /// The open candidate whose branch promises most, under a set with which so much is needed; those first that are fixed
-    /// at a node of the tree.
+    /// The open candidate with a clash that gains most where it is left out, if one gains.
+    pub(crate) fn best_clash(&self, path: &Path) -> Option<usize> {
+        let mut best = None;
+        let mut most = 0;
+        for a in 0..256 {
+            if self.outside[a] > most && path.is_open(a) && path.is_clash(a) {
+                most = self.outside[a];
+                best = Some(a);
+            }
+        }
+        best
+    }
+
+    /// The open candidate without a clash whose branch promises most, under a set with which so much is needed; those first
+    /// that are fixed at a node of the tree.
     pub(crate) fn choice(
         &self,
         path: &Path,
@@ -90,13 +119,14 @@ impl Gains {
         need: i128,
         wanted: Option<&TreeNode>,
     ) -> Option<usize> {
+        let crowds = self.crowds(path, ledger, need);
         let mut best = None;
         let mut most = f64::NEG_INFINITY;
         for a in 0..256 {
-            if !path.is_open(a) {
+            if !path.is_choice(a) {
                 continue;
             }
-            let mut promise = self.promise(a, need, ledger.shares[a]);
+            let mut promise = self.promise(a, need, ledger.shares[a], path.group(a), &crowds);
             if let Some(node) = wanted {
                 if is_marked(&node.inside, a) {
                     promise = 1e7 + part_of(self.outside[a], need);

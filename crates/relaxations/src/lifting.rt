@@ -2,9 +2,8 @@
 //! and what is out there may be used. The bound at the node itself stays.
 
 use crate::least_plans::{NO_CANDIDATE, NO_LINK, NO_ROW, RowPrice, Usable};
-use crate::path::Path;
 use adv_base::NoMemory;
-use bip_model::State;
+use bip_model::{Fix, State};
 use interior_point::{LARGEST, Matrix, MatrixPart, NO_PLACES, NO_PRICE, Places, at, put};
 use std::alloc::Global;
 
@@ -82,13 +81,13 @@ impl Lifting {
     fn raise_inside(
         &mut self,
         usable: &Usable<'_>,
-        path: &Path,
+        fix: &Fix,
         part: &MatrixPart,
         rents: &mut [i64],
     ) {
         for _raise in 0..MOST_RAISES {
             let open = Usable { rents, ..*usable };
-            match self.raise_of(&open, path, part) {
+            match self.raise_of(&open, fix, part) {
                 Some((link, rent)) => put(rents, link, rent),
                 None => return,
             }
@@ -99,7 +98,7 @@ impl Lifting {
     fn raise_of(
         &mut self,
         usable: &Usable<'_>,
-        path: &Path,
+        fix: &Fix,
         part: &MatrixPart,
     ) -> Option<(usize, i64)> {
         usable.write_least(part, NO_LINK, self.rows.as_mut_slice());
@@ -108,7 +107,7 @@ impl Lifting {
         for (link, need) in links.iter_mut().zip(needs) {
             let row = (*need as usize).wrapping_sub(part.rows.from);
             let price = at(self.rows.as_slice(), row, NO_ROW);
-            if price.by != NO_CANDIDATE && path.is_in(price.by as usize) {
+            if price.by != NO_CANDIDATE && fix.state[(price.by & 255) as usize] == State::In {
                 *link = price.link;
             }
         }
@@ -200,10 +199,10 @@ impl Lifting {
     }
 
     /// Lifts rents by link that stand at a node, where what isn't open has none.
-    pub(crate) fn lift(&mut self, matrix: &Matrix, path: &Path, rents: &mut [i64]) {
+    pub(crate) fn lift(&mut self, matrix: &Matrix, fix: &Fix, rents: &mut [i64]) {
         let mut on = [false; 256];
         for a in 0..256 {
-            on[a] = path.fix.state[a] != State::Out;
+            on[a] = fix.state[a] != State::Out;
         }
         let usable = Usable {
             matrix,
@@ -211,7 +210,7 @@ impl Lifting {
             rents: &[],
         };
         for part in matrix.parts.iter() {
-            self.raise_inside(&usable, path, part, rents);
+            self.raise_inside(&usable, fix, part, rents);
             self.raise_outside(&usable, part, rents);
         }
         for rent in rents.iter_mut() {

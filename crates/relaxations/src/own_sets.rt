@@ -18,7 +18,8 @@ impl Planner {
             return 0;
         }
         let cost = float_of(task.cost);
-        let node = view_node(&self.path.fix, task.budget);
+        let fix = self.path.settled();
+        let node = view_node(&fix, task.budget);
         finder.view.open(task.matrix, &node, cost);
         let ledger = &mut self.ledgers[set];
         for rent in ledger.rents.iter_mut() {
@@ -37,7 +38,7 @@ impl Planner {
             page = whole(finder.relaxation.page * 65536.0) as i128;
         }
         let rents = ledger.rents.as_mut_slice();
-        self.lifting.lift(task.matrix, &self.path, rents);
+        self.lifting.lift(task.matrix, &fix, rents);
         self.add(task, page);
         self.hint = set.min(self.count.saturating_sub(1));
         self.hint

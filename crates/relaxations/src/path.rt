@@ -1,8 +1,9 @@
 //! The way from a root to a node, one candidate after the other.
 
+use crate::ledger::Each;
 use adv_base::NoMemory;
 use bip_model::{Fix, State};
-use interior_point::{Matrix, NO_PLACES, Places};
+use interior_point::{Matrix, NO_PLACES, Places, at};
 use std::alloc::Global;
 
 /// The most steps: each takes a candidate that is open.
@@ -24,12 +25,16 @@ const NO_STEP: PathStep = PathStep {
 };
 
 /// A node: what is in there, and what is free and fits into the pages that are left; all else is out. `root` is the node where
-/// the way began, and `gone` has the candidates that ceased to be open.
+/// the way began, and `gone` has the candidates that ceased to be open. `members` has how many of each group are in, and
+/// `clashes` how many of these too many.
 #[derive(Drop)]
 pub(crate) struct Path {
     pub fix: Fix,
     pub room: i64,
     pub root: Fix,
+    pub clashes: usize,
+    groups: [u8; 256],
+    members: [u16; 256],
     steps: Vec<PathStep>,
     gone: Vec<u8>,
 }
@@ -41,6 +46,9 @@ impl Path {
             fix: Fix::free(),
             room: 0,
             root: Fix::free(),
+            clashes: 0,
+            groups: [0; 256],
+            members: [0; 256],
             steps: Vec::with_capacity(alloc, MOST_STEPS)?,
             gone: Vec::with_capacity(alloc, MOST_STEPS)?,
         })
@@ -52,9 +60,15 @@ impl Path {
         self.gone.clear();
         self.fix = *root;
         self.room = budget;
+        self.clashes = 0;
+        self.groups = matrix.groups;
+        self.members = [0; 256];
         for a in 0..256 {
             match root.state[a] {
-                State::In => self.room = self.room.saturating_sub(matrix.sizes[a]),
+                State::In => {
+                    self.room = self.room.saturating_sub(matrix.sizes[a]);
+                    self.enter(a);
+                }
                 State::Free | State::Out => {}
             }
         }
@@ -69,6 +83,68 @@ impl Path {
     /// Whether a candidate is open.
     pub(crate) fn is_open(&self, candidate: usize) -> bool {
         candidate < 256 && self.fix.state[candidate] == State::Free
+    }
+
+    /// The group of a candidate.
+    pub(crate) fn group(&self, candidate: usize) -> u8 {
+        at(&self.groups, candidate, 0)
+    }
+
+    /// Whether a candidate that isn't in clashes with one that is.
+    pub(crate) fn is_clash(&self, candidate: usize) -> bool {
+        let group = self.group(candidate);
+        group != 0 && self.members[group as usize] > 0
+    }
+
+    /// Whether a candidate may come in.
+    pub(crate) fn is_choice(&self, candidate: usize) -> bool {
+        self.is_open(candidate) && !self.is_clash(candidate)
+    }
+
+    /// The node without what clashes with what is in.
+    pub(crate) fn settled(&self) -> Fix {
+        let mut fix = self.fix;
+        for a in 0..256 {
+            if fix.state[a] == State::Free && self.is_clash(a) {
+                fix.state[a] = State::Out;
+            }
+        }
+        fix
+    }
+
+    /// What open candidates that clash take off a value, where each costs so much.
+    pub(crate) fn lost(&self, terms: &Each) -> i128 {
+        let mut lost = 0i128;
+        for a in 0..256 {
+            if self.is_clash(a) && self.is_open(a) {
+                lost = lost.wrapping_sub(terms[a].min(0));
+            }
+        }
+        lost
+    }
+
+    /// Counts a candidate that comes in.
+    fn enter(&mut self, candidate: usize) {
+        let group = self.group(candidate);
+        if group != 0 {
+            let count = self.members[group as usize];
+            self.members[group as usize] = count.saturating_add(1);
+            if count > 0 {
+                self.clashes = self.clashes.saturating_add(1);
+            }
+        }
+    }
+
+    /// Counts a candidate that comes in no more.
+    fn leave(&mut self, candidate: usize) {
+        let group = self.group(candidate);
+        if group != 0 {
+            let count = self.members[group as usize].saturating_sub(1);
+            self.members[group as usize] = count;
+            if count > 0 {
+                self.clashes = self.clashes.saturating_sub(1);
+            }
+        }
     }
 
     /// Whether a candidate is in.
@@ -111,6 +187,7 @@ impl Path {
         } else if candidate < 256 {
             self.fix.state[candidate] = State::In;
             self.room = self.room.saturating_sub(matrix.sizes[candidate]);
+            self.enter(candidate);
             for a in 0..matrix.count.min(256) {
                 if matrix.sizes[a] > self.room && self.is_open(a) {
                     self.drop_out(a);
@@ -136,6 +213,7 @@ impl Path {
                 let candidate = step.candidate as usize;
                 self.fix.state[candidate] = State::Free;
                 self.room = self.room.saturating_add(matrix.sizes[candidate]);
+                self.leave(candidate);
             }
         }
     }

@@ -12,6 +12,8 @@ use std::alloc::Global;
 
 /// The most sets that are kept, zeros among them.
 pub(crate) const MOST_SETS: usize = 17;
+/// In place of a set at a leaf where two clash that are in.
+pub(crate) const OVERFULL: u8 = u8::MAX;
 
 /// A node of the plan: the candidate of its branch, from 1, or 0 at a leaf; there the set that closes it, or the best one
 /// where none does and it is open.
@@ -86,6 +88,8 @@ pub(crate) struct Planner {
     pub lifting: Lifting,
     is_heavy: bool,
     values: [i128; MOST_SETS],
+    /// The values where what clashes is left out.
+    promised: [i128; MOST_SETS],
     most_nodes: usize,
 }
 
@@ -111,6 +115,7 @@ impl Planner {
             lifting: Lifting::new(alloc, matrix)?,
             is_heavy: false,
             values: [0; MOST_SETS],
+            promised: [0; MOST_SETS],
             most_nodes: nodes,
         })
     }
@@ -198,6 +203,8 @@ impl Planner {
         self.asked = self.asked.wrapping_add(1);
         let value = self.ledgers[set].value(task.matrix, &self.path);
         put(&mut self.values, set, value);
+        let lost = self.path.lost(&self.ledgers[set].terms);
+        put(&mut self.promised, set, value.wrapping_add(lost));
         value
     }
 
@@ -262,6 +269,21 @@ impl Planner {
         self.path.go(task.matrix, candidate, fixing.is_inside);
     }
 
+    /// What closes the other side of a branch on a candidate, if anything does, under a set with which so much is needed. What
+    /// clashes is left out where that gains.
+    fn closing(&self, a: usize, is_inside: bool, set: u8, need: i128) -> Option<u8> {
+        let outside = at(&self.gains.outside, a, 0);
+        let is_out = outside < need;
+        if self.path.is_clash(a) {
+            if !is_inside && outside > 0 {
+                return Some(OVERFULL);
+            }
+        } else if is_inside != is_out && (is_inside || at(&self.gains.inside, a, 0) >= need) {
+            return Some(set);
+        }
+        None
+    }
+
     /// Takes all fixings under a set, within so many nodes: first what is left out, which may not be open after what comes in.
     /// Whether there are any.
     pub(crate) fn fix(&mut self, task: &Task<'_>, best: Best, nodes: usize) -> bool {
@@ -274,14 +296,10 @@ impl Planner {
         let mut is_any = false;
         for is_inside in [false, true] {
             for a in 0..256 {
-                let is_out = self.gains.outside[a] < need;
-                let closes = if is_inside {
-                    !is_out
-                } else {
-                    is_out && self.gains.inside[a] >= need
-                };
-                if closes && self.path.is_open(a) && !self.is_full(task, nodes) {
-                    let set = (best.set & 255) as u8;
+                if !self.path.is_open(a) || self.is_full(task, nodes) {
+                    continue;
+                }
+                if let Some(set) = self.closing(a, is_inside, (best.set & 255) as u8, need) {
                     let candidate = (a & 255) as u8;
                     self.take_fixing(
                         task,
@@ -299,14 +317,16 @@ impl Planner {
         is_any
     }
 
-    /// The best set that isn't among the first of some.
+    /// The set that promises most and isn't among some.
     fn next_best(&self, tried: &[usize]) -> Best {
         let mut best = Best {
             set: usize::MAX,
             value: i128::MIN,
         };
+        let mut most = i128::MIN;
         for set in 0..self.count.min(MOST_SETS) {
-            if self.values[set] > best.value && !tried.contains(&set) {
+            if self.promised[set] > most && !tried.contains(&set) {
+                most = self.promised[set];
                 best = Best {
                     set,
                     value: self.values[set],

@@ -52,7 +52,7 @@ impl Planner {
 
     /// Takes a fixing of the tree where a set closes its other side; whether one does.
     fn take_known(&mut self, task: &Task<'_>, candidate: usize, is_inside: bool) -> bool {
-        if !self.path.is_open(candidate) || self.is_full(task, usize::MAX) {
+        if !self.path.is_choice(candidate) || self.is_full(task, usize::MAX) {
             return false;
         }
         let depth = self.path.depth();
@@ -95,12 +95,12 @@ impl Planner {
         is_any
     }
 
-    /// The node of the tree for the present one: below those whose branch isn't on an open candidate here.
+    /// The node of the tree for the present one: below those whose branch isn't on a candidate that may come in here.
     fn descend(&self, tree: &Tree, from: TreeNode) -> TreeNode {
         let mut node = from;
         for _level in 0..257 {
             let candidate = branch_of(&node);
-            if !is_inner(&node) || self.path.is_open(candidate) {
+            if !is_inner(&node) || self.path.is_choice(candidate) {
                 break;
             }
             let side = if self.path.is_in(candidate) { 0 } else { 1 };
@@ -112,19 +112,25 @@ impl Planner {
         node
     }
 
-    /// Plans below a leaf of the tree: by a trial, by another with a set of its own, or deeper.
-    fn plan_leaf(&mut self, task: &Task<'_>, finder: &mut Finder, node: &TreeNode, nodes: usize) {
+    /// Plans below a leaf of the tree, or a node that the tree hasn't: by a trial, by another with a set of its own, or deeper.
+    fn plan_leaf(
+        &mut self,
+        task: &Task<'_>,
+        finder: &mut Finder,
+        wanted: Option<&TreeNode>,
+        nodes: usize,
+    ) {
         if self.is_spent(task) {
             let best = self.best(task);
             self.put_leaf(best, true);
             return;
         }
-        if self.close(task, nodes, Some(node)) {
+        if self.close(task, nodes, wanted) {
             return;
         }
         if self.has_room(task) {
             let _ = self.add_own(task, finder);
-            if self.close(task, nodes.saturating_mul(8), Some(node)) {
+            if self.close(task, nodes.saturating_mul(8), wanted) {
                 return;
             }
         }
@@ -182,9 +188,9 @@ impl Planner {
         }
     }
 
-    /// The sides of a node of the tree whose branch is on an open candidate.
+    /// The sides of a node of the tree whose branch is on a candidate that may come in.
     fn sides(&self, tree: &Tree, node: &TreeNode) -> Option<(TreeNode, TreeNode)> {
-        if !is_inner(node) || !self.path.is_open(node.branch as usize) {
+        if !is_inner(node) || !self.path.is_choice(node.branch as usize) {
             return None;
         }
         let inside = node_of(tree, node.sides[0] as usize)?;
@@ -192,7 +198,17 @@ impl Planner {
         Some((inside, outside))
     }
 
-    /// Plans both sides of a node's branch, or below a leaf of the tree.
+    /// A candidate of a group that the tree has in at a node, and that may come in.
+    fn known_member(&self, node: &TreeNode) -> Option<usize> {
+        for a in 0..256 {
+            if is_marked(&node.inside, a) && self.path.group(a) != 0 && self.path.is_choice(a) {
+                return Some(a);
+            }
+        }
+        None
+    }
+
+    /// Plans both sides of a node's branch, or below a leaf of the tree. What the tree has in of groups comes in before.
     #[cycle(planning)]
     fn plan_sides(
         &mut self,
@@ -202,9 +218,17 @@ impl Planner {
         nodes: usize,
         levels: usize,
     ) {
+        let depth = self.path.depth();
         match self.sides(&finder.tree, node) {
             Some((inside, outside)) if levels > 0 => {
-                let depth = self.path.depth();
+                if let Some(member) = self.known_member(node) {
+                    self.branch(task, member);
+                    self.plan_node(task, finder, *node, nodes, levels - 1);
+                    self.go_outside(task, member, depth);
+                    self.plan_leaf(task, finder, None, nodes);
+                    self.go_back(task, depth);
+                    return;
+                }
                 let candidate = node.branch as usize;
                 self.branch(task, candidate);
                 self.plan_node(task, finder, inside, nodes, levels - 1);
@@ -212,7 +236,7 @@ impl Planner {
                 self.plan_node(task, finder, outside, nodes, levels - 1);
                 self.go_back(task, depth);
             }
-            _ => self.plan_leaf(task, finder, node, nodes),
+            _ => self.plan_leaf(task, finder, Some(node), nodes),
         }
     }
 

@@ -3,12 +3,13 @@ ghost use Rattle.std.specs.Prelude.{◌≡◌, ◌≤◌, All, length};
 ghost use Rattle.adv_base.specs.declared.limits.TheConstants.{MOST_RENT};
 ghost use Rattle.bip_model.specs.Views.{AreMultipliers};
 
+use crate::clashing::{groups_of, settle};
 use crate::entering::matrix_of;
 use crate::finding::Finder;
-use crate::planner::{MOST_SETS, PlanNode, Planner, Task};
+use crate::planner::{MOST_SETS, OVERFULL, PlanNode, Planner, Task};
 use crate::splitting::Splitter;
 use adv_base::limits::{MOST_PAGE_PRICE, MOST_RENT};
-use adv_base::{Config, NoMemory};
+use adv_base::{Config, IndexShape, NoMemory};
 use bip_model::{Fix, Multipliers, Programme, State};
 use interior_point::{Matrix, at};
 use std::alloc::Global;
@@ -21,7 +22,8 @@ const MOST_ASKED: u64 = 1_500_000;
 const MOST_COST: u128 = 1_267_650_600_228_229_401_496_703_205_376;
 
 /// A node of a plan, in preorder: the candidate of its branch, from 1, or 0 at a leaf; there the set that closes it, or the
-/// best one: 0 for zeros, k for the k-th. The inner side of a branch stands behind it, the other one at `outside`.
+/// best one: 0 for zeros, k for the k-th. The inner side of a branch stands behind it, the other one at `outside`; an inner
+/// side at which two clash has no step.
 #[derive(Clone, Copy)]
 pub struct Step {
     pub candidate: u16,
@@ -68,8 +70,16 @@ impl Proposals {
         })
     }
 
-    /// The cheapest configuration that is found below a root for a space budget in pages, of candidates that may be useful.
-    pub fn find(&mut self, root: &Fix, useful: &[bool; 256], budget: u64) -> Config {
+    /// The cheapest configuration that is found below a root for a space budget in pages, of candidates of these shapes that may
+    /// be useful.
+    pub fn find(
+        &mut self,
+        shapes: &[IndexShape],
+        root: &Fix,
+        useful: &[bool; 256],
+        budget: u64,
+    ) -> Config {
+        self.matrix.groups = groups_of(shapes);
         self.root = *root;
         self.budget = budget.min(i64::MAX as u64) as i64;
         for a in 0..256 {
@@ -77,7 +87,9 @@ impl Proposals {
                 self.root.state[a] = State::Out;
             }
         }
-        let found = self.finder.find(&self.matrix, &self.root, self.budget);
+        let mut settled = self.root;
+        let _ = settle(&self.matrix, &mut settled);
+        let found = self.finder.find(&self.matrix, &settled, self.budget);
         let on = found.on;
         Config { on }
     }
@@ -114,13 +126,18 @@ impl Proposals {
         self.write_steps(&numbers);
     }
 
-    /// Keeps the sets that leaves name, and answers the number of each.
+    /// Keeps the sets that leaves name, and answers the number of each. Where there are groups the root's is the first: that is
+    /// compared with others at the root, so none that serves elsewhere is to stand in its place.
     fn keep_sets(&mut self) -> [u8; MOST_SETS] {
         let mut numbers = [0; MOST_SETS];
+        let is_grouped = self.matrix.groups.iter().any(|group| *group != 0);
         self.kept.clear();
         for set in 1..MOST_SETS {
             for own in self.splitter.nodes.iter() {
                 if own.node.candidate == 0 && own.node.set as usize == set {
+                    if is_grouped && set > 1 && self.kept.is_empty() {
+                        let _ = self.kept.push(1);
+                    }
                     let _ = self.kept.push(set);
                     numbers[set] = (self.kept.len() & 255) as u8;
                     break;
@@ -141,7 +158,9 @@ impl Proposals {
             }
             let own = self.splitter.nodes[place];
             let number = self.steps.len();
-            let _ = self.steps.push(step_of(&own.node, numbers));
+            if own.node.set != OVERFULL {
+                let _ = self.steps.push(step_of(&own.node, numbers));
+            }
             if own.node.candidate > 0 {
                 let _ = self.waiting.push((number, own.sides[1]));
                 place = own.sides[0];

@@ -1,6 +1,6 @@
 //! Splitting: what a plan leaves open is branched on, least bound first, while there are nodes.
 
-use crate::planner::{PlanNode, Planner, Task};
+use crate::planner::{OVERFULL, PlanNode, Planner, Task};
 use adv_base::NoMemory;
 use interior_point::{at, put};
 use std::alloc::Global;
@@ -229,23 +229,31 @@ impl Splitter {
             return;
         }
         let best = planner.best(task);
-        let Some(candidate) = planner.weighed_choice(task, best) else {
+        let Some(choice) = planner.split_choice(task, best) else {
             return;
         };
         if place >= self.nodes.len() {
             return;
         }
         let own = &mut self.nodes[place].node;
-        own.candidate = (candidate & 255) as u16 + 1;
+        own.candidate = (choice & 255) as u16 + 1;
         own.is_open = false;
-        let leaf = PlanNode {
-            candidate: 0,
-            set: (best.set & 255) as u8,
-            is_open: true,
-        };
+        let is_overfull = planner.path.is_clash(choice);
         for is_inside in [true, false] {
+            let is_closed = is_overfull && is_inside;
+            let leaf = PlanNode {
+                candidate: 0,
+                set: if is_closed {
+                    OVERFULL
+                } else {
+                    (best.set & 255) as u8
+                },
+                is_open: !is_closed,
+            };
             let below = self.add(leaf, place, is_inside);
-            self.look(task, planner, below);
+            if !is_closed {
+                self.look(task, planner, below);
+            }
         }
     }
 

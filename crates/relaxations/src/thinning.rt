@@ -1,6 +1,6 @@
 //! Thinning: fixings that nothing needed are taken out above a subtree that is closed.
 
-use crate::planner::{Fixing, PlanNode, Planner, Start, Task};
+use crate::planner::{Fixing, OVERFULL, PlanNode, Planner, Start, Task};
 use interior_point::{at, put};
 
 /// The most nodes of a subtree whose fixings are thinned.
@@ -23,8 +23,11 @@ const NO_NODE: PlanNode = PlanNode {
 };
 
 impl Planner {
-    /// Whether a set closes the node.
+    /// Whether a set closes the node, or two that are in clash where this is said in its place.
     fn closes(&mut self, task: &Task<'_>, set: u8) -> bool {
+        if set == OVERFULL {
+            return self.path.clashes > 0;
+        }
         let asked = self.asked;
         let value = self.ask(task, set as usize);
         self.asked = asked;

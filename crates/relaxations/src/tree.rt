@@ -142,19 +142,17 @@ impl Tree {
         place
     }
 
-    /// Branches on a candidate, with bounds for the sides where it is in and out; the place of the first, before the other.
+    /// Branches on a candidate, with states and bounds of the sides where it is in and out; the place of the first, before the
+    /// other.
     pub(crate) fn branch(
         &mut self,
         at: usize,
-        fix: &Fix,
         candidate: u8,
+        fixes: &[Fix; 2],
         bounds: [f64; 2],
     ) -> usize {
-        let mut side = *fix;
-        side.state[candidate as usize] = State::In;
-        let inside = self.append_side(at, &side, bounds[0]);
-        side.state[candidate as usize] = State::Out;
-        let outside = self.append_side(at, &side, bounds[1]);
+        let inside = self.append_side(at, &fixes[0], bounds[0]);
+        let outside = self.append_side(at, &fixes[1], bounds[1]);
         if at < self.nodes.len() {
             self.nodes[at].branch = candidate as u16;
             self.nodes[at].sides = [inside, outside];

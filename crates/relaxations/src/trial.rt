@@ -61,6 +61,13 @@ impl Planner {
         self.choice(task, best, None)
     }
 
+    /// The candidate to branch on where a leaf is split under a set: one that clashes and gains, or the one that promises most.
+    pub(crate) fn split_choice(&mut self, task: &Task<'_>, best: Best) -> Option<usize> {
+        let choice = self.weighed_choice(task, best);
+        let clash = self.gains.best_clash(&self.path);
+        if clash.is_some() { clash } else { choice }
+    }
+
     /// Closes the subtree of the node; whether this was done. Else some of it may stand in the plan.
     #[cycle(trying)]
     fn try_both(&mut self, task: &Task<'_>, best: Best, trial: Trial<'_>, levels: usize) -> bool {
