@@ -7,8 +7,11 @@ use Rattle.std.proofs.lemmas.Bool.{cases_lt, false≢true, not-true, and_parts}
 use Rattle.std.proofs.lemmas.Bool.Decides.{nat_tests}
 use Rattle.std.proofs.lemmas.List.{length-take, get_or_past}
 use Rattle.std.proofs.lemmas.List.Sums.{count_by-le-length, sum_by-cons}
+use Rattle.adv_base.specs.declared.catalogue.index.IndexShape.{IndexShape}
 use Rattle.adv_base.specs.declared.setting.Config.{Config}
-use Rattle.adv_base.specs.Configs.{chosen}
+use Rattle.adv_base.specs.Configs.{has_candidate, chosen}
+use Rattle.adv_base.proofs.Clashing.{fewer-apart}
+use Rattle.plan_model.proofs.Renting.{flag-of}
 use Rattle.bip_model.specs.declared.fix.Fix.{Fix}
 use Rattle.bip_model.specs.declared.fix.State.{State}
 use Rattle.bip_model.specs.declared.fix.State.TheVariants.{Free, In, Out}
@@ -16,8 +19,8 @@ use Rattle.bip_model.specs.declared.programme.Programme.{Programme}
 use Rattle.bip_model.specs.Values.{value}
 use Rattle.bip_model.specs.Views.{state_at}
 use Rattle.branch_bound.specs.declared.climb.Costed.{Costed}
-use Rattle.branch_bound.specs.Sides.{is_free_state, pages}
-use Rattle.branch_bound.specs.inner.Climbs.{flag_at, changed, agrees, ObeysBelow, IsSound, IsSoundHere, GainsNothing, IsTopBelow, height, IsLower, IsTrial, IsRemoved, IsAdded}
+use Rattle.branch_bound.specs.Sides.{is_free_state}
+use Rattle.branch_bound.specs.inner.Climbs.{flag_at, changed, agrees, ObeysBelow, IsFitting, IsSound, IsSoundHere, GainsNothing, IsTopBelow, height, IsLower, IsTrial, IsRemoved, IsAdded}
 
 pub free-is : (state : State) → is_free_state state ≡ true → state ≡ Free
 free-is Free free = refl
@@ -45,6 +48,25 @@ pages-off (true ∷ flags) (x ∷ xs) (suc i) =
     both (sum (x ∷ chosen (set flags i false) xs)) (sum (x ∷ chosen flags xs)) x (sum (chosen (set flags i false) xs)) (sum (chosen flags xs)) (sum-more x (chosen (set flags i false) xs))
     (sum-more x (chosen flags xs)) (pages-off flags xs i)
 pages-off (false ∷ flags) (x ∷ xs) (suc i) = pages-off flags xs i
+
+was-on : (flags : List Bool) (i j : ℕ) → get_or (set flags i false) j false ≡ true → get_or flags j false ≡ true
+was-on [] i j on = on
+was-on (flag ∷ flags) zero zero on = absurd (false≢true on)
+was-on (flag ∷ flags) zero (suc j) on = on
+was-on (flag ∷ flags) (suc i) zero on = on
+was-on (flag ∷ flags) (suc i) (suc j) on = was-on flags i j on
+
+-- what fits does without a candidate
+fits-off : (programme : Programme) (shapes : List IndexShape) (budget : ℕ) (config : Config) (i : ℕ) → IsFitting programme shapes budget config → IsFitting programme shapes budget (changed config i false)
+fits-off programme shapes budget config i fits =
+    record {
+      space = let fewer = pages-off config.on programme.sizes i in omega (arith, fewer, fits.space);
+      apart = fewer-apart shapes (changed config i false) config had fits.apart;
+    }
+  where
+    had : (a : ℕ) → has_candidate (changed config i false) a ≡ true → has_candidate config a ≡ true
+    had zero on = absurd (false≢true on)
+    had (suc j) on = flag-of config j ∙ was-on config.on i j (sym (flag-of (changed config i false) j) ∙ on)
 
 -- and one flag on
 pub pages-on : (flags : List Bool) (xs : List ℕ) (i : ℕ) → sum (chosen (set flags i true) xs) ≤ sum (chosen flags xs) + get_or xs i 0
@@ -108,12 +130,12 @@ known-of Out on known is not_known = not-true on is
 known-of Free true known is not_known = absurd (false≢true (sym not_known ∙ is))
 known-of Free false known is not_known = refl
 
-pub sound-tested : (programme : Programme) (budget : ℕ) (root : Fix) (config : Config) (cost : ℕ) → length root.state ≡ 256 → length config.on ≡ 256 →
-    ObeysBelow root.state config.on (length programme.sizes) 256 → pages programme config ≤ budget → cost ≡ value programme config → IsSound programme budget root config cost
-sound-tested programme budget root config cost long wide obeys room cost_is =
+pub sound-tested : (programme : Programme) (shapes : List IndexShape) (budget : ℕ) (root : Fix) (config : Config) (cost : ℕ) → length root.state ≡ 256 → length config.on ≡ 256 →
+    ObeysBelow root.state config.on (length programme.sizes) 256 → IsFitting programme shapes budget config → cost ≡ value programme config → IsSound programme shapes budget root config cost
+sound-tested programme shapes budget root config cost long wide obeys fits cost_is =
     record {
       cost_is = cost_is;
-      fits = room;
+      fits = fits;
       holds = λ i at. elim (cases_lt i 256) [
         | inl less ↦ (and_parts (flag_at config i) (nat_lt i (length programme.sizes)) (sym (ap (λ (state : State). agrees state (flag_at config i) (nat_lt i (length programme.sizes))) at) ∙ obeys i less)).0
         | inr more ↦ let beyond : Free ≡ In = sym (get_or_past root.state i Free (omega (arith, long, more))) ∙ at in cc
@@ -130,57 +152,56 @@ sound-tested programme budget root config cost long wide obeys room cost_is =
 
 -- ## What stays sound
 
-sound-change : (programme : Programme) (budget : ℕ) (root : Fix) (config : Config) (cost i : ℕ) (flag : Bool) (new : ℕ) → IsSound programme budget root config cost →
-    state_at root i ≡ Free → i < length programme.sizes → new ≡ value programme (changed config i flag) → pages programme (changed config i flag) ≤ budget →
-    IsSound programme budget root (changed config i flag) new
-sound-change programme budget root config cost i flag new sound free within new_is room =
+sound-change : (programme : Programme) (shapes : List IndexShape) (budget : ℕ) (root : Fix) (config : Config) (cost i : ℕ) (flag : Bool) (new : ℕ) → IsSound programme shapes budget root config cost →
+    state_at root i ≡ Free → i < length programme.sizes → new ≡ value programme (changed config i flag) → IsFitting programme shapes budget (changed config i flag) →
+    IsSound programme shapes budget root (changed config i flag) new
+sound-change programme shapes budget root config cost i flag new sound free within new_is fits =
     record {
       cost_is = new_is;
-      fits = room;
+      fits = fits;
       holds = λ j is. let other : j ≢ i = (λ same. let clash : In ≡ Free = sym is ∙ ap (state_at root) same ∙ free in cc) in get_or-set_other config.on i j flag false other ∙ sound.holds j is;
       lacks = λ j is. let other : j ≢ i = (λ same. let clash : Out ≡ Free = sym is ∙ ap (state_at root) same ∙ free in cc) in get_or-set_other config.on i j flag false other ∙ sound.lacks j is;
       past = λ j past. let other : j ≢ i = (λ same. omega (arith, same, past, within)) in get_or-set_other config.on i j flag false other ∙ sound.past j past;
     }
 
-lower-of : (programme : Programme) (budget : ℕ) (root : Fix) (from to : Costed) (i : ℕ) (flag : Bool) → IsSoundHere programme budget root from → state_at root i ≡ Free →
-    i < length programme.sizes → to.config ≡ changed from.config i flag → to.cost ≡ value programme (changed from.config i flag) → pages programme (changed from.config i flag) ≤ budget →
-    to.cost ≤ from.cost → height programme to < height programme from → IsLower programme budget root from to
-lower-of programme budget root from to i flag sound free within config_is cost_is room cheaper falls =
+lower-of : (programme : Programme) (shapes : List IndexShape) (budget : ℕ) (root : Fix) (from to : Costed) (i : ℕ) (flag : Bool) → IsSoundHere programme shapes budget root from → state_at root i ≡ Free →
+    i < length programme.sizes → to.config ≡ changed from.config i flag → to.cost ≡ value programme (changed from.config i flag) → IsFitting programme shapes budget (changed from.config i flag) →
+    to.cost ≤ from.cost → height programme to < height programme from → IsLower programme shapes budget root from to
+lower-of programme shapes budget root from to i flag sound free within config_is cost_is fits cheaper falls =
     record {
       sound =
-          subst (λ (config : Config). IsSound programme budget root config to.cost) (sym config_is)
-          (sound-change programme budget root from.config from.cost i flag to.cost sound free within cost_is room);
+          subst (λ (config : Config). IsSound programme shapes budget root config to.cost) (sym config_is)
+          (sound-change programme shapes budget root from.config from.cost i flag to.cost sound free within cost_is fits);
       cheaper = cheaper;
       falls = falls;
     }
 
-pub removed-trial : (programme : Programme) (budget : ℕ) (root : Fix) (from : Costed) (i : ℕ) (result : Option Costed) → IsSoundHere programme budget root from → state_at root i ≡ Free →
-    i < length programme.sizes → flag_at from.config i ≡ true → IsRemoved programme from i result → IsTrial programme budget root from i result
-removed-trial programme budget root from i None sound free within on removed =
+pub removed-trial : (programme : Programme) (shapes : List IndexShape) (budget : ℕ) (root : Fix) (from : Costed) (i : ℕ) (result : Option Costed) → IsSoundHere programme shapes budget root from → state_at root i ≡ Free →
+    i < length programme.sizes → flag_at from.config i ≡ true → IsRemoved programme from i result → IsTrial programme shapes budget root from i result
+removed-trial programme shapes budget root from i None sound free within on removed =
     record { more = λ free' off room. absurd (false≢true (sym off ∙ on)); less = λ free' on'. removed }
-removed-trial programme budget root from i (Some to) sound free within on removed =
+removed-trial programme shapes budget root from i (Some to) sound free within on removed =
     let fewer = front-off from.config.on (length programme.sizes) i within on in
     let counted : count_on (take (length programme.sizes) to.config.on) + 1 ≡ count_on (take (length programme.sizes) from.config.on) =
     ap (λ (config : Config). count_on (take (length programme.sizes) config.on) + 1) removed.0 ∙ fewer in
-    let room = pages-off from.config.on programme.sizes i in
-    lower-of programme budget root from to i false sound free within removed.0 removed.1 (omega (arith, room, sound.fits)) removed.2 (omega (arith, counted, removed.2))
+    lower-of programme shapes budget root from to i false sound free within removed.0 removed.1 (fits-off programme shapes budget from.config i sound.fits) removed.2 (omega (arith, counted, removed.2))
 
-pub added-trial : (programme : Programme) (budget : ℕ) (root : Fix) (from : Costed) (i : ℕ) (result : Option Costed) → length programme.sizes ≤ 256 → IsSoundHere programme budget root from →
-    state_at root i ≡ Free → i < length programme.sizes → flag_at from.config i ≡ false → IsAdded programme budget from i result → IsTrial programme budget root from i result
-added-trial programme budget root from i None few sound free within off added =
-    record { more = λ free' off' room. added room; less = λ free' on. absurd (false≢true (sym off ∙ on)) }
-added-trial programme budget root from i (Some to) few sound free within off added =
+pub added-trial : (programme : Programme) (shapes : List IndexShape) (budget : ℕ) (root : Fix) (from : Costed) (i : ℕ) (result : Option Costed) → length programme.sizes ≤ 256 → IsSoundHere programme shapes budget root from →
+    state_at root i ≡ Free → i < length programme.sizes → flag_at from.config i ≡ false → IsAdded programme shapes budget from i result → IsTrial programme shapes budget root from i result
+added-trial programme shapes budget root from i None few sound free within off added =
+    record { more = λ free' off' fits. added fits; less = λ free' on. absurd (false≢true (sym off ∙ on)) }
+added-trial programme shapes budget root from i (Some to) few sound free within off added =
     let most = front-most to.config.on (length programme.sizes) in
     let less : to.cost < from.cost = added.3 in
     let cheaper : to.cost ≤ from.cost = omega (arith, less) in
-    lower-of programme budget root from to i true sound free within added.0 added.1 added.2 cheaper (omega (arith, most, less, few))
+    lower-of programme shapes budget root from to i true sound free within added.0 added.1 added.2 cheaper (omega (arith, most, less, few))
 
 -- one more tried
-pub top-more : (programme : Programme) (budget : ℕ) (root : Fix) (from : Costed) (n : ℕ) (result : Option Costed) → result ≡ None → IsTopBelow programme budget root from n →
-    IsTrial programme budget root from n result → IsTopBelow programme budget root from (n + 1)
-top-more programme budget root from n None is below here i within = step (cases_lt i n)
+pub top-more : (programme : Programme) (shapes : List IndexShape) (budget : ℕ) (root : Fix) (from : Costed) (n : ℕ) (result : Option Costed) → result ≡ None → IsTopBelow programme shapes budget root from n →
+    IsTrial programme shapes budget root from n result → IsTopBelow programme shapes budget root from (n + 1)
+top-more programme shapes budget root from n None is below here i within = step (cases_lt i n)
   where
-    step : ((i < n) ⊎ (n ≤ i)) → GainsNothing programme budget root from.config from.cost i
+    step : ((i < n) ⊎ (n ≤ i)) → GainsNothing programme shapes budget root from.config from.cost i
     step (inl less) = below i less
-    step (inr more) = let same : n ≡ i = omega (arith, more, within) in subst (λ k. GainsNothing programme budget root from.config from.cost k) same here
-top-more programme budget root from n (Some to) is below here i within = absurd (cc)
+    step (inr more) = let same : n ≡ i = omega (arith, more, within) in subst (λ k. GainsNothing programme shapes budget root from.config from.cost k) same here
+top-more programme shapes budget root from n (Some to) is below here i within = absurd (cc)

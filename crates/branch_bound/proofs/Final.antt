@@ -29,13 +29,12 @@ use Rattle.bip_model.specs.Best.{Subproblem, subproblems, NoneCostsLess, entry_c
 use Rattle.bip_model.specs.Candidates.{useful_below}
 use Rattle.bip_model.specs.Proves.{RentsUses}
 use Rattle.bip_model.specs.SearchLaws.{IsWhole}
-use Rattle.bip_model.specs.Trees.{Tree, Leaf, preorder, with_candidate, Shows}
+use Rattle.bip_model.specs.Trees.{Tree, Leaf, ByFit, preorder, with_candidate, Shows}
 use Rattle.bip_model.specs.Uses.{multipliers_in, AreMultipliersIn, rent_multipliers}
 use Rattle.bip_model.specs.StandsFor.{StandsFor}
 use Rattle.bip_model.specs.Values.{value, grant_count}
 use Rattle.bip_model.specs.Views.{Place, is_place, rent_at, places, is_in, is_out, node_of, multipliers_of, AreMultipliers, state_at}
 use Rattle.bip_model.proofs.Counting.{tight-smaller}
-use Rattle.bip_model.proofs.Deciding.{pages-same}
 use Rattle.bip_model.proofs.Descending.{useful-branches, value-below, subproblems-length}
 use Rattle.bip_model.proofs.Exploring.{AreExplored, explored-worthwhile}
 use Rattle.bip_model.proofs.Places.{rents-use, entries-most}
@@ -52,6 +51,7 @@ use Rattle.branch_bound.specs.Sides.{inside, total, IsRoot}
 use Rattle.branch_bound.specs.inner.Climbs.{flag_at, IsSound, IsTop}
 use Rattle.branch_bound.specs.inner.Runs.{Rules, lag, MOST_LOW, reaches, started, Runs, least_bound}
 use Rattle.branch_bound.proofs.Climbing.{free-is}
+use Rattle.branch_bound.proofs.Fitting.{fits-in, fitting-of, runs-fit}
 use Rattle.branch_bound.proofs.Running.{AreRulesFor, own_sets, first_set, first-fits, first-value, first-found, reach-is, runs-explored, runs-shows, not-less-of}
 use Rattle.branch_bound.proofs.Sound.{under-root, sound-inside}
 use Rattle.branch_bound.proofs.Choices.{free-of}
@@ -88,7 +88,7 @@ bound-cases cost (negsuc n) = inr refl
 sizes-shapes : (setting : TheSetting) (rules : Rules) → AreRulesFor setting rules → length rules.programme.sizes ≡ length setting.shapes
 sizes-shapes setting rules are = ap length are.stands.sizes_are ∙ length-map setting.shapes (shape_pages setting.cat)
 
-pub sound-config : (setting : TheSetting) (rules : Rules) (root : Fix) (config : Config) (cost : ℕ) → AreRulesFor setting rules → IsSound rules.programme rules.budget root config cost → IsConfigOf setting.shapes config
+pub sound-config : (setting : TheSetting) (rules : Rules) (root : Fix) (config : Config) (cost : ℕ) → AreRulesFor setting rules → IsSound rules.programme rules.shapes rules.budget root config cost → IsConfigOf setting.shapes config
 sound-config setting rules root config cost are sound a found =
     elim (cases_lt a (length setting.shapes)) [
       | inl within ↦ within
@@ -106,7 +106,7 @@ out-state Free on = absurd (false≢true on)
 out-state In on = absurd (false≢true on)
 out-state Out on = refl
 
-pub sound-below : (rules : Rules) (root : Fix) (config : Config) (cost : ℕ) → IsSound rules.programme rules.budget root config cost → IsBelow (node_of root) config
+pub sound-below : (rules : Rules) (root : Fix) (config : Config) (cost : ℕ) → IsSound rules.programme rules.shapes rules.budget root config cost → IsBelow (node_of root) config
 sound-below rules root config cost sound = record { holds = holds; lacks = lacks }
   where
     holds : (a : ℕ) → has_candidate (node_of root).inside a ≡ true → has_candidate config a ≡ true
@@ -117,22 +117,21 @@ sound-below rules root config cost sound = record { holds = holds; lacks = lacks
     lacks zero on = absurd (false≢true on)
     lacks (suc i) on = flag-of config i ∙ sound.lacks i (out-state (state_at root i) (sym (get_or-map is_out root.state i Free) ∙ sym (flag-of (node_of root).outside i) ∙ on))
 
-one-more : (setting : TheSetting) (rules : Rules) (root : Fix) (config : Config) (cost : ℕ) → AreRulesFor setting rules → IsTop rules.programme rules.budget root config cost →
+one-more : (setting : TheSetting) (rules : Rules) (root : Fix) (config : Config) (cost : ℕ) → AreRulesFor setting rules → IsTop rules.programme rules.shapes rules.budget root config cost →
     (a : ℕ) → 1 ≤ a → a ≤ length setting.shapes → is_free (node_of root) a ≡ true → has_candidate config a ≡ false → Fits setting.cat setting.shapes (with_candidate config a) rules.budget →
     HasTotal setting (with_candidate config a) (λ sum. cost ≤ sum)
 one-more setting rules root config cost are top zero some within free off fits = absurd (omega (arith, some))
 one-more setting rules root config cost are top (suc i) some within free off fits =
     let place : suc i - 1 ≡ i = omega arith in
     let gains = top (suc i - 1) (omega (arith, within, sizes-shapes setting rules are)) in
-    let same = pages-same setting rules.programme (with_candidate config (suc i)) are.stands in
     record {
       total = value rules.programme (with_candidate config (suc i));
       total_is = value-total setting rules.programme (with_candidate config (suc i)) are.limits are.stands;
       holds =
-          gains.more (ap (state_at root) place ∙ free-is (state_at root i) (free-of root i free)) (ap (flag_at config) place ∙ sym (flag-of config i) ∙ off) (omega (arith, same, fits));
+          gains.more (ap (state_at root) place ∙ free-is (state_at root i) (free-of root i free)) (ap (flag_at config) place ∙ sym (flag-of config i) ∙ off) (fitting-of setting rules (with_candidate config (suc i)) are fits);
     }
 
-one-less : (setting : TheSetting) (rules : Rules) (root : Fix) (config : Config) (cost : ℕ) → AreRulesFor setting rules → IsSound rules.programme rules.budget root config cost → IsTop rules.programme rules.budget root config cost →
+one-less : (setting : TheSetting) (rules : Rules) (root : Fix) (config : Config) (cost : ℕ) → AreRulesFor setting rules → IsSound rules.programme rules.shapes rules.budget root config cost → IsTop rules.programme rules.shapes rules.budget root config cost →
     (a : ℕ) → is_free (node_of root) a ≡ true → has_candidate config a ≡ true → HasTotal setting (without_candidate config a) (λ sum. cost < sum)
 one-less setting rules root config cost are sound top zero free on = absurd (false≢true on)
 one-less setting rules root config cost are sound top (suc i) free on =
@@ -213,12 +212,12 @@ pub rents-limited : (programme : Programme) (multipliers : Multipliers) → AreM
 rents-limited programme multipliers are q s a = rent-most (places programme) multipliers.lambda (each-most multipliers.lambda are.rents_most) q s a
 
 -- the root's value under the rents is at most the cost, and at most the bound
-root-cost : (setting : TheSetting) (rules : Rules) (root : Fix) (config : Config) (cost : ℕ) → AreRulesFor setting rules → IsSound rules.programme rules.budget root config cost → lag rules root 1 ≤ℤ pos cost
+root-cost : (setting : TheSetting) (rules : Rules) (root : Fix) (config : Config) (cost : ℕ) → AreRulesFor setting rules → IsSound rules.programme rules.shapes rules.budget root config cost → lag rules root 1 ≤ℤ pos cost
 root-cost setting rules root config cost are sound =
     at-most (lag rules root 1) cost
-    (shown setting rules.budget (lag rules root 1) (own_sets rules) (node_of root) (Leaf 1) config cost are.limits
+    (shown ByFit setting rules.budget (lag rules root 1) (own_sets rules) (node_of root) (Leaf 1) config cost are.limits
     (record { multipliers = multipliers_of rules.programme (first_set rules); found = first-found setting rules are; value = lag rules root 1; value_is = first-value setting rules root are; at_least = omega (arith, ints) })
-    (sound-config setting rules root config cost are sound) (omega (arith, pages-same setting rules.programme config are.stands, sound.fits)) (sound-below rules root config cost sound)
+    (sound-config setting rules root config cost are sound) (fits-in setting rules config are sound.fits) (sound-below rules root config cost sound)
     (subst (λ (n : ℕ). IsTotal setting.cat setting.shapes config setting.statements n) (sym sound.cost_is) (value-total setting rules.programme config are.limits are.stands)))
   where
     at-most : (v : ℤ) (n : ℕ) → IsAtMost v n → v ≤ℤ pos n
@@ -226,7 +225,7 @@ root-cost setting rules root config cost are sound =
     at-most (negsuc m) n less = omega (arith, ints)
 
 root-bound : (setting : TheSetting) (rules : Rules) (root : Fix) (known : Costed) (tree : Tree) (after : Found) (config : Config) (cost : ℕ) → AreRulesFor setting rules → IsConfigOf setting.shapes (inside root) →
-    IsSound rules.programme rules.budget root config cost → AreExplored setting rules.budget (subproblems (node_of root) tree) (started known).cost after.cost →
+    IsSound rules.programme rules.shapes rules.budget root config cost → AreExplored setting rules.budget (subproblems (node_of root) tree) (started known).cost after.cost →
     Runs rules root (started known) tree after → lag rules root 1 ≤ℤ least_bound cost after.low
 root-bound setting rules root known tree after config cost are config_is sound explored run =
     let most = root-cost setting rules root config cost are sound in
@@ -315,17 +314,16 @@ smaller : (nodes made list useful : ℕ) → nodes ≤ made + 1 → made ≡ lis
 smaller nodes made list useful one two three = omega (arith, one, two, three)
 
 pub best-answer : (setting : TheSetting) (rules : Rules) (root : Fix) (known : Costed) (tree : Tree) (after : Found) (config : Config) (cost : ℕ) (sets : List Multipliers) (list : List Node) (useful : ℕ) →
-    AreRulesFor setting rules → IsRoot rules.programme rules.budget root → length root.state ≡ MOST_CANDIDATES → Runs rules root (started known) tree after → list ≡ preorder tree →
+    AreRulesFor setting rules → IsRoot rules.programme rules.shapes rules.budget root → length root.state ≡ MOST_CANDIDATES → Runs rules root (started known) tree after → list ≡ preorder tree →
     length list ≡ after.made → after.made ≤ rules.nodes → (rules.stops ≡ true → (reaches after.low after.cost ≡ true) ⊎ (rules.nodes ≤ after.made + 1)) → sets ≡ rules.sets → useful ≡ useful_below rules.programme rules.budget (length rules.programme.sizes) →
-    IsSound rules.programme rules.budget root config cost → cost ≤ after.cost → IsTop rules.programme rules.budget root config cost →
+    IsSound rules.programme rules.shapes rules.budget root config cost → cost ≤ after.cost → IsTop rules.programme rules.shapes rules.budget root config cost →
     AtMostRents setting rules root 0 → ((j : ℕ) → j < 40 → AtMostRents setting rules root (2 ^ j)) →
     IsBest setting rules.budget rules.nodes (node_of root) (record { config = config; cost = cost; bound = least_bound cost after.low; sets = sets; tree = list; useful = useful })
 unfolding AtMostRents
 best-answer setting rules root known tree after config cost sets list useful are is_root long run list_is made most done sets_are useful_is sound cheaper top none powers =
     let bound : ℤ = least_bound cost after.low in
     let nodes_of : List Subproblem = subproblems (node_of root) tree in
-    let root_config = sound-config setting rules root (inside root) (total rules.programme root) are (sound-inside rules.programme rules.budget root root (under-root rules.programme rules.budget root is_root)) in
-    let root_fits : Fits setting.cat setting.shapes (inside root) rules.budget = omega (arith, pages-same setting rules.programme (inside root) are.stands, is_root.fits) in
+    let root_config = sound-config setting rules root (inside root) (total rules.programme root) are (sound-inside rules.programme rules.shapes rules.budget root root (under-root rules.programme rules.shapes rules.budget root is_root) is_root.apart) in
     let explored = runs-explored setting rules root (started known) tree after are run in
     let worthwhile = explored-worthwhile setting rules.budget nodes_of (started known).cost after.cost explored in
     let own : map (multipliers_in setting) sets ≡ own_sets rules = ap (map (multipliers_in setting)) sets_are ∙ sets-used setting rules.programme rules.sets are.stands in
@@ -336,7 +334,7 @@ best-answer setting rules root known tree after config cost sets list useful are
       proves =
           record {
             members = sound-config setting rules root config cost are sound;
-            fits = omega (arith, pages-same setting rules.programme config are.stands, sound.fits);
+            fits = fits-in setting rules config are sound.fits;
             cost_is = subst (λ (n : ℕ). IsTotal setting.cat setting.shapes config setting.statements n) (sym sound.cost_is) (value-total setting rules.programme config are.limits are.stands);
             rents = uses-all setting sets;
             shown =
@@ -344,7 +342,7 @@ best-answer setting rules root known tree after config cost sets list useful are
                   tree = tree;
                   list_is = list_is;
                   shows =
-                      subst (λ (ms : List TheMultipliers). Shows setting rules.budget bound ms (node_of root) tree) (sym own)
+                      subst (λ (ms : List TheMultipliers). Shows ByFit setting rules.budget bound ms (node_of root) tree) (sym own)
                       (runs-shows setting rules root (started known) tree after bound are run (below-both bound cost after.cost (bound-cost cost after.low) cheaper) (bound-low cost after.low));
                 };
           };
@@ -356,7 +354,8 @@ best-answer setting rules root known tree after config cost sets list useful are
           let lowest = given-up setting rules root known tree after cost are root_config (cost-below setting rules config cost are sound.cost_is) run below in
           let spent = all-spent rules after cost done cheaper below lowest.spent in
           let same = subproblems-length (node_of root) tree ∙ ap length (sym list_is) in
-          let small = tight-smaller setting rules.budget useful (node_of root) tree (own_sets rules) bound cost are.limits counted (whole-node root long) root_config root_fits worthwhile in_tree lowest.tight below in
+          let fit = runs-fit setting rules root (started known) tree after are is_root.fits worthwhile run in
+          let small = tight-smaller setting rules.budget useful (node_of root) tree (own_sets rules) bound cost are.limits counted (whole-node root long) root_config fit worthwhile in_tree lowest.tight below in
           record {
             spent = omega (arith, spent, made);
             fewer = smaller rules.nodes after.made (length nodes_of) useful spent (sym made ∙ sym same) small;

@@ -5,8 +5,10 @@ pub mod Running
 pub mod Sound
 pub mod Tight
 pub mod Finding
+pub mod Fitting
 pub mod Final
 pub mod Linking
+pub mod Roots
 pub mod OpenLedgers
 pub mod KeptSets
 pub mod Choices

@@ -1,5 +1,5 @@
 -- What the search's code shows, as the best answer of each setting.
-use Rattle.std.proofs.Common.{◌≡◌, ◌∙◌, ◌⊎◌, inl, inr, ℕ, zero, suc, ◌+◌, ◌*◌, ◌^◌, ◌<◌, ◌≤◌, Bool, true, cond, false, List, [], ◌∷◌, ◌++◌, length, take, min, replicate, All, refl, sym, ap, subst, arith}
+use Rattle.std.proofs.Common.{◌≡◌, ◌∙◌, ◌⊎◌, inl, inr, ℕ, zero, suc, ◌+◌, ◌*◌, ◌<◌, ◌≤◌, Bool, true, cond, false, List, [], ◌∷◌, length, take, min, replicate, All, refl, sym, ap, subst, arith}
 use Rattle.std.specs.Prelude.{slice_index_or, ◌≤ℤ◌}
 use Rattle.std.proofs.Math.Path.{fun_ext}
 use Rattle.std.proofs.Math.Nat.{mul-le-mul}
@@ -11,7 +11,7 @@ use Rattle.bip_model.specs.declared.fix.Fix.{Fix}
 use Rattle.bip_model.specs.declared.multipliers.Multipliers.{Multipliers}
 use Rattle.bip_model.specs.declared.programme.Programme.{Programme}
 use Rattle.bip_model.specs.Candidates.{is_useful, useful_below}
-use Rattle.bip_model.specs.Trees.{preorder, zeros}
+use Rattle.bip_model.specs.Trees.{zeros}
 use Rattle.bip_model.specs.Values.{grant_count}
 use Rattle.bip_model.specs.Views.{Place, is_place, rent_at, places, multipliers_of, AreMultipliers}
 use Rattle.lagrange_bound.specs.Bounds.{lagrangian}
@@ -78,16 +78,17 @@ kept-entries rules first count kept =
 pub search-best : (rules : Rules) (root : Fix) (known : Costed) (after : Found) (tree_list : List Node) (config : Config) (cost : ℕ) (first : Multipliers) (count useful : ℕ) →
     AreMultipliers rules.programme rules.zeros → AreKept rules first count → rules.zeros.mu ≡ 0 → rules.zeros.lambda ≡ replicate (grant_count rules.programme) 0 →
     ((i : ℕ) → i < length rules.programme.sizes → slice_index_or rules.useful i false ≡ is_useful rules.programme rules.budget (i + 1)) →
-    IsRoot rules.programme rules.budget root → length root.state ≡ MOST_CANDIDATES → IsExplored rules root (started known) [] after tree_list →
+    IsRoot rules.programme rules.shapes rules.budget root → length root.state ≡ MOST_CANDIDATES → IsExplored rules root (started known) [] after tree_list →
     after.made ≤ rules.nodes → (rules.stops ≡ true → (reaches after.low after.cost ≡ true) ⊎ (rules.nodes ≤ after.made + 1)) → useful ≡ useful_below rules.programme rules.budget (length rules.programme.sizes) →
-    IsSound rules.programme rules.budget root config cost → cost ≤ after.cost → IsTop rules.programme rules.budget root config cost →
+    IsSound rules.programme rules.shapes rules.budget root config cost → cost ≤ after.cost → IsTop rules.programme rules.shapes rules.budget root config cost →
     ((i : ℕ) → i < min 41 41 → lagrangian rules.programme rules.budget root (rent_multipliers rules.programme (tried_price i)) ≤ℤ lagrangian rules.programme rules.budget root first) →
-    IsBestForEach rules.programme rules.budget rules.nodes root (record { config = config; cost = cost; bound = least_bound cost after.low; sets = rules.sets; tree = tree_list; useful = useful })
-search-best rules root known after tree_list config cost first count useful zeros_fit kept page lambda useful_are is_root long explored most done useful_is sound cheaper top tried setting limits stands =
+    IsBestForEach rules.programme rules.shapes rules.budget rules.nodes root (record { config = config; cost = cost; bound = least_bound cost after.low; sets = rules.sets; tree = tree_list; useful = useful })
+search-best rules root known after tree_list config cost first count useful zeros_fit kept page lambda useful_are is_root long explored most done useful_is sound cheaper top tried setting limits stands shapes_are =
     let are : AreRulesFor setting rules =
     record {
       limits = limits;
       stands = stands;
+      shapes_are = shapes_are;
       zeros_fit = zeros_fit;
       sets_fit = kept.fit;
       some = kept.some;

@@ -9,7 +9,8 @@ use Rattle.std.proofs.lemmas.Int.{ints, int_min_is}
 use Rattle.std.proofs.lemmas.List.{length-append, length-map}
 use Rattle.std.proofs.lemmas.Option.{slice_get_within}
 use Rattle.adv_base.specs.declared.limits.TheConstants.{MOST_ENTRIES, MOST_SETS}
-use Rattle.adv_base.specs.Configs.{Space, has_candidate}
+use Rattle.adv_base.specs.declared.catalogue.index.IndexShape.{IndexShape}
+use Rattle.adv_base.specs.Configs.{Space, has_candidate, IsApart}
 use Rattle.adv_base.specs.Nodes as nodes
 use Rattle.adv_base.specs.Nodes.{is_free}
 use Rattle.adv_base.specs.Settings.{TheSetting, KeepsLimits}
@@ -23,7 +24,7 @@ use Rattle.bip_model.specs.declared.multipliers.Multipliers.{Multipliers}
 use Rattle.bip_model.specs.Best.{subproblems, HasTotal}
 use Rattle.bip_model.specs.Candidates.{is_useful}
 use Rattle.bip_model.specs.StandsFor.{StandsFor}
-use Rattle.bip_model.specs.Trees.{Tree, Branches, Leaf, Full, preorder, in_side, out_side, zeros, set_at, Shows}
+use Rattle.bip_model.specs.Trees.{Tree, Branches, Leaf, Full, ByFit, preorder, in_side, out_side, zeros, set_at, Shows}
 use Rattle.bip_model.specs.Values.{value, grant_count}
 use Rattle.bip_model.specs.Views.{space_in, is_in, is_out, node_of, multipliers_of, AreMultipliers, state_at}
 use Rattle.bip_model.proofs.Deciding.{space-same}
@@ -42,6 +43,7 @@ use Rattle.branch_bound.proofs.Choices.{open-choice}
 pub record AreRulesFor (setting : TheSetting) (rules : Rules) : Type 0 where
   pub limits : KeepsLimits setting
   pub stands : StandsFor setting rules.programme
+  pub shapes_are : setting.shapes ≡ rules.shapes
   pub zeros_fit : AreMultipliers rules.programme rules.zeros
   pub sets_fit : All (AreMultipliers rules.programme) rules.sets
   pub some : 1 ≤ length rules.sets
@@ -103,6 +105,10 @@ leaf-set setting rules fix (suc k) are few =
 inside-total : (setting : TheSetting) (rules : Rules) (fix : Fix) (level : ℕ) → AreRulesFor setting rules → level ≤ total rules.programme fix → HasTotal setting (node_of fix).inside (λ sum. level ≤ sum)
 inside-total setting rules fix level are less =
     record { total = total rules.programme fix; total_is = value-total setting rules.programme (inside fix) are.limits are.stands; holds = less }
+
+-- what clashes under the rules does in the setting
+pub clash-in : (setting : TheSetting) (rules : Rules) (fix : Fix) → AreRulesFor setting rules → ¬ (IsApart rules.shapes (inside fix)) → ¬ (IsApart setting.shapes (inside fix))
+clash-in setting rules fix are clash apart = clash (subst (λ (shapes : List IndexShape). IsApart shapes (inside fix)) are.shapes_are apart)
 
 -- ## Visits
 
@@ -207,7 +213,9 @@ runs-explored setting rules fix before (Branches a inside_tree outside_tree) aft
     (λ fits. inside-total setting rules fix here.cost are v.most) in
     both-explored setting rules.budget (record { node = node_of fix; tree = Branches a inside_tree outside_tree } ∷ [])
     (subproblems (in_side (node_of fix) a) inside_tree ++ subproblems (out_side (node_of fix) a) outside_tree) before.cost here.cost after.cost own below
-runs-explored setting rules fix before Full after are run = absurd run
+runs-explored setting rules fix before Full after are run =
+    leaf-explored setting rules.budget (record { node = node_of fix; tree = Full }) before.cost after.cost (omega (arith, ap (λ (f : Found). f.cost) run.after_is)) (λ a inside' outside' wrong. cc)
+    (λ fits. absurd (clash-in setting rules fix are run.clash fits.apart))
 
 -- ## What falls and what rises
 
@@ -254,7 +262,11 @@ runs-later rules fix before (Branches a inside_tree outside_tree) after run =
       low = omega (arith, ints, v.low, first.low, second.low);
       made = omega (arith, v.made, first.made, second.made);
     }
-runs-later rules fix before Full after run = absurd run
+runs-later rules fix before Full after run =
+    let cost = ap (λ (f : Found). f.cost) run.after_is in
+    let low = ap (λ (f : Found). f.low) run.after_is in
+    let made = ap (λ (f : Found). f.made) run.after_is in
+    record { cost = omega (arith, cost); low = omega (arith, ints, low); made = omega (arith, made) }
 
 -- ## What the tree shows
 
@@ -265,7 +277,7 @@ at-most-cost : (bound value : ℤ) (cost after : ℕ) → after ≡ cost → pos
 at-most-cost bound value cost after is reached less = omega (arith, ints, is, reached, less)
 
 pub runs-shows : (setting : TheSetting) (rules : Rules) (fix : Fix) (before : Found) (tree : Tree) (after : Found) (bound : ℤ) → AreRulesFor setting rules → Runs rules fix before tree after →
-    bound ≤ℤ pos after.cost → bound ≤ℤ after.low → Shows setting rules.budget bound (own_sets rules) (node_of fix) tree
+    bound ≤ℤ pos after.cost → bound ≤ℤ after.low → Shows ByFit setting rules.budget bound (own_sets rules) (node_of fix) tree
 runs-shows setting rules fix before (Leaf k) after bound are run most low =
     elim run [
       | inl closed ↦
@@ -297,12 +309,12 @@ runs-shows setting rules fix before (Branches a inside_tree outside_tree) after 
         within = omega (arith, run.numbered, run.branch.choice.within, ap length are.stands.sizes_are, length-map setting.shapes (shape_pages setting.cat));
         free = ap (is_free (node_of fix)) run.numbered ∙ free-node fix i good.free;
       },
-      subst (λ (n : nodes.Node). Shows setting rules.budget bound (own_sets rules) n inside_tree) (in-is fix a i run.numbered good.free)
+      subst (λ (n : nodes.Node). Shows ByFit setting rules.budget bound (own_sets rules) n inside_tree) (in-is fix a i run.numbered good.free)
           (runs-shows setting rules (fixed fix i In) (branched (visited rules fix before)) inside_tree run.middle bound are run.inside_run (omega (arith, ints, most, later.cost)) (omega (arith, ints, low, later.low))),
-      subst (λ (n : nodes.Node). Shows setting rules.budget bound (own_sets rules) n outside_tree) (out-is fix a i run.numbered good.free)
+      subst (λ (n : nodes.Node). Shows ByFit setting rules.budget bound (own_sets rules) n outside_tree) (out-is fix a i run.numbered good.free)
           (runs-shows setting rules (fixed fix i Out) run.middle outside_tree after bound are run.outside_run most low),
     )
-runs-shows setting rules fix before Full after bound are run most low = absurd run
+runs-shows setting rules fix before Full after bound are run most low = λ fits. clash-in setting rules fix are run.clash fits.apart
 
 -- ## How many nodes the tree has
 
@@ -319,4 +331,4 @@ runs-count rules fix before (Branches a inside_tree outside_tree) after run =
     let second = runs-count rules (fixed fix run.index Out) run.middle outside_tree after run.outside_run in
     let split = length-append (preorder inside_tree) (preorder outside_tree) in
     omega (arith, v.made, first, second, split)
-runs-count rules fix before Full after run = absurd run
+runs-count rules fix before Full after run = let made = ap (λ (f : Found). f.made) run.after_is in omega (arith, made)

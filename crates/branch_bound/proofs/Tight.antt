@@ -163,4 +163,4 @@ runs-lowest setting rules fix before (Branches a inside_tree outside_tree) after
                 })
           ]
     ]
-runs-lowest setting rules fix before Full after are config run = absurd run
+runs-lowest setting rules fix before Full after are config run = inl (ap (λ (f : Found). f.low) run.after_is)

@@ -1,7 +1,8 @@
 -- Nodes of a search and configurations, as a programme sees them.
-use Rattle.std.specs.Prelude.{◌≡◌, ℕ, ◌≤◌, Bool, true, false, length, slice_set}
+use Rattle.std.specs.Prelude.{◌≡◌, ℕ, ◌≤◌, Bool, true, false, List, length, slice_set}
+use Rattle.adv_base.specs.declared.catalogue.index.IndexShape.{IndexShape}
 use Rattle.adv_base.specs.declared.setting.Config.{Config}
-use Rattle.adv_base.specs.Configs.{pages_in}
+use Rattle.adv_base.specs.Configs.{pages_in, IsApart}
 use Rattle.bip_model.specs.declared.fix.Fix.{Fix}
 use Rattle.bip_model.specs.declared.fix.State.{State}
 use Rattle.bip_model.specs.declared.fix.State.TheVariants.{Free}
@@ -30,6 +31,7 @@ abbrev pub total : Programme → Fix → ℕ
 total programme fix = value programme (inside fix)
 
 -- from a root a search can start: its in-candidates fit, and it leaves free all flags past the candidates
-pub record IsRoot (programme : Programme) (budget : ℕ) (root : Fix) : Type 0 where
+pub record IsRoot (programme : Programme) (shapes : List IndexShape) (budget : ℕ) (root : Fix) : Type 0 where
   pub fits : pages programme (inside root) ≤ budget
+  pub apart : IsApart shapes (inside root)
   pub past : (i : ℕ) → length programme.sizes ≤ i → state_at root i ≡ Free

@@ -16,7 +16,7 @@ use crate::room::{Room, set_limit};
 use crate::task::Task;
 use crate::useful::useful_of;
 use crate::walk::{Guidance, walked};
-use adv_base::List;
+use adv_base::{IndexShape, List};
 use bip_model::{Answer, Fix, Multipliers, Node, Programme, value};
 
 /// What nothing that fits costs less than: the cost, or the least value of the leaves at which the search gave up.
@@ -31,9 +31,9 @@ fn least_bound(cost: u128, low: i128) -> i128
 }
 
 /// The configuration of what a root has in, with its cost.
-fn bare(programme: &Programme, budget: u64, root: &Fix) -> Costed
-    requires { sides.IsRoot programme.now budget root.now }
-    ensures sound { climbs.IsSoundHere programme.now budget root.now result }
+fn bare(programme: &Programme, shapes: &[IndexShape], budget: u64, root: &Fix) -> Costed
+    requires { sides.IsRoot programme.now shapes.now budget root.now }
+    ensures sound { climbs.IsSoundHere programme.now shapes.now budget root.now result }
     ensures inside { result.config ≡ sides.inside root.now }
     ensures long { length root.now.state ≡ MOST_CANDIDATES }
 {
@@ -44,17 +44,17 @@ fn bare(programme: &Programme, budget: u64, root: &Fix) -> Costed
 }
 
 /// Climbs from the cheapest configuration in the tree.
-fn climbed(programme: &Programme, budget: u64, root: &Fix, found: &Found) -> Costed
-    requires { climbs.IsSound programme.now budget root.now found.now.config found.now.cost }
-    ensures sound { climbs.IsSoundHere programme.now budget root.now result }
+fn climbed(task: &Task<'_>, found: &Found) -> Costed
+    requires { climbs.IsSound task.now.programme.now task.now.shapes.now task.now.budget task.now.root.now found.now.config found.now.cost }
+    ensures sound { climbs.IsSoundHere task.now.programme.now task.now.shapes.now task.now.budget task.now.root.now result }
     ensures cheaper { result.cost ≤ found.now.cost }
-    ensures top { climbs.IsTop programme.now budget root.now result.config result.cost }
+    ensures top { climbs.IsTop task.now.programme.now task.now.shapes.now task.now.budget task.now.root.now result.config result.cost }
 {
     let from = Costed {
         config: found.config,
         cost: found.cost,
     };
-    climb(programme, budget, root, from)
+    climb(task, from)
 }
 
 /// What a search answers with the cheapest configuration that it found.
@@ -71,17 +71,25 @@ fn answer(best: Costed, low: i128, sets: Vec<Multipliers>, tree: Vec<Node>, usef
     }
 }
 
-/// Branch and bound: a configuration of the programme below a root that fits a budget of pages, by depth-first search
-/// over CoPhy's programme with Lagrangian bounds, of at most so many nodes. The answer holds the tree that shows that
-/// none costs less than the bound; where the nodes sufficed, the bound is the cost, and the configuration a best one.
-/// Costs are in thousandths of a page read. All memory is the room's.
-pub fn search(programme: &Programme, root: &Fix, budget: u64, nodes: u32, room: Room) -> Answer
+/// Branch and bound: a configuration of the programme below a root that fits a budget of pages and has no two candidates
+/// that are clustered on one table, by depth-first search over CoPhy's programme with Lagrangian bounds, of at most so
+/// many nodes. The programme stands for a setting whose candidates are the shapes. The answer holds the tree that shows
+/// that none costs less than the bound; where the nodes sufficed, the bound is the cost, and the configuration a best
+/// one. Costs are in thousandths of a page read. All memory is the room's.
+pub fn search(
+    programme: &Programme,
+    shapes: &[IndexShape],
+    root: &Fix,
+    budget: u64,
+    nodes: u32,
+    room: Room,
+) -> Answer
     requires budget { budget ≤ MOST_ROWS }
     requires some_node { 1 ≤ nodes }
     requires nodes { nodes ≤ MOST_NODES }
-    requires root { sides.IsRoot programme.now budget root.now }
+    requires root { sides.IsRoot programme.now shapes.now budget root.now }
     requires room { IsRoomFor programme.now nodes room }
-    ensures { IsBestForEach programme.now budget nodes root.now result }
+    ensures { IsBestForEach programme.now shapes.now budget nodes root.now result }
 {
     let Room {
         tree,
@@ -95,10 +103,11 @@ pub fn search(programme: &Programme, root: &Fix, budget: u64, nodes: u32, room: 
     let useful = useful_of(programme, budget);
     let task = Task {
         programme,
+        shapes,
         budget,
         useful: &useful.flags,
         root,
-        bare: bare(programme, budget, root),
+        bare: bare(programme, shapes, budget, root),
         most: set_limit(programme),
     };
     let known = propose(&task, nodes, &mut proposed, spares, &mut sets);
@@ -111,6 +120,6 @@ pub fn search(programme: &Programme, root: &Fix, budget: u64, nodes: u32, room: 
     open_all(&task, &cheaper, &zeros, guidance.sets, &mut ledgers);
     let mut walk = Walk { tree, ledgers };
     let found = walked(&task, nodes, &guidance, &known, &mut walk);
-    let best = climbed(programme, budget, root, &found);
+    let best = climbed(&task, &found);
     answer(best, found.low, sets, walk.tree, useful.count)
 }

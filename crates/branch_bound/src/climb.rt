@@ -4,8 +4,9 @@ ghost use Rattle.adv_base.specs.declared.limits.TheConstants.{MOST_CANDIDATES};
 ghost use Rattle.branch_bound.specs.inner.Climbs as climbs;
 
 use crate::fixing::is_free;
+use crate::task::Task;
 use adv_base::Config;
-use bip_model::{Fix, Programme, value};
+use bip_model::value;
 
 /// A configuration with its cost, in thousandths of a page read.
 #[derive(Clone, Copy)]
@@ -25,12 +26,12 @@ pub(crate) fn changed(config: &Config, index: usize, flag: bool) -> Config
 }
 
 /// The configuration without a candidate, where that costs as little.
-fn removed(programme: &Programme, from: &Costed, index: usize) -> Option<Costed>
+fn removed(task: &Task<'_>, from: &Costed, index: usize) -> Option<Costed>
     requires { index < MOST_CANDIDATES }
-    ensures { climbs.IsRemoved programme.now from.now index result }
+    ensures { climbs.IsRemoved task.now.programme.now from.now index result }
 {
     let config = changed(&from.config, index, false);
-    let cost = value(programme, &config);
+    let cost = value(task.programme, &config);
     if cost <= from.cost {
         Some(Costed { config, cost })
     } else {
@@ -39,15 +40,15 @@ fn removed(programme: &Programme, from: &Costed, index: usize) -> Option<Costed>
 }
 
 /// The configuration with a candidate more, where that fits and costs less.
-fn added(programme: &Programme, budget: u64, from: &Costed, index: usize) -> Option<Costed>
+fn added(task: &Task<'_>, from: &Costed, index: usize) -> Option<Costed>
     requires { index < MOST_CANDIDATES }
-    ensures { climbs.IsAdded programme.now budget from.now index result }
+    ensures { climbs.IsAdded task.now.programme.now task.now.shapes.now task.now.budget from.now index result }
 {
     let config = changed(&from.config, index, true);
-    if !programme.space(budget).fits(&config) {
+    if !task.fits(&config) {
         return None;
     }
-    let cost = value(programme, &config);
+    let cost = value(task.programme, &config);
     if cost < from.cost {
         Some(Costed { config, cost })
     } else {
@@ -56,34 +57,28 @@ fn added(programme: &Programme, budget: u64, from: &Costed, index: usize) -> Opt
 }
 
 /// The configuration with one flag changed, where the root leaves the candidate free and that gains something.
-pub(crate) fn tried(
-    programme: &Programme,
-    budget: u64,
-    root: &Fix,
-    from: &Costed,
-    index: usize,
-) -> Option<Costed>
-    requires within { index < length programme.now.sizes }
-    requires sound { climbs.IsSoundHere programme.now budget root.now from.now }
-    ensures { climbs.IsTrial programme.now budget root.now from.now index result }
+fn tried(task: &Task<'_>, from: &Costed, index: usize) -> Option<Costed>
+    requires within { index < length task.now.programme.now.sizes }
+    requires sound { climbs.IsSoundHere task.now.programme.now task.now.shapes.now task.now.budget task.now.root.now from.now }
+    ensures { climbs.IsTrial task.now.programme.now task.now.shapes.now task.now.budget task.now.root.now from.now index result }
 {
-    if !is_free(root.state[index]) {
+    if !is_free(task.root.state[index]) {
         return None;
     }
     if from.config.on[index] {
-        removed(programme, from, index)
+        removed(task, from, index)
     } else {
-        added(programme, budget, from, index)
+        added(task, from, index)
     }
 }
 
 /// A configuration that a single addition or removal makes cheaper, or no larger in cost and smaller in number.
-fn lower(programme: &Programme, budget: u64, root: &Fix, from: &Costed) -> Option<Costed>
-    requires { climbs.IsSoundHere programme.now budget root.now from.now }
-    ensures { climbs.AreTrials programme.now budget root.now from.now (length programme.now.sizes) result }
+fn lower(task: &Task<'_>, from: &Costed) -> Option<Costed>
+    requires { climbs.IsSoundHere task.now.programme.now task.now.shapes.now task.now.budget task.now.root.now from.now }
+    ensures { climbs.AreTrials task.now.programme.now task.now.shapes.now task.now.budget task.now.root.now from.now (length task.now.programme.now.sizes) result }
 {
-    for index in 0..programme.sizes.len() {
-        if let Some(to) = tried(programme, budget, root, from, index) {
+    for index in 0..task.programme.sizes.len() {
+        if let Some(to) = tried(task, from, index) {
             return Some(to);
         }
     }
@@ -92,14 +87,14 @@ fn lower(programme: &Programme, budget: u64, root: &Fix, from: &Costed) -> Optio
 
 /// From a configuration to one that no single addition or removal of a candidate that the root leaves free makes
 /// cheaper, and no removal leaves as cheap.
-pub(crate) fn climb(programme: &Programme, budget: u64, root: &Fix, from: Costed) -> Costed
-    requires { climbs.IsSoundHere programme.now budget root.now from }
-    ensures sound { climbs.IsSoundHere programme.now budget root.now result }
+pub(crate) fn climb(task: &Task<'_>, from: Costed) -> Costed
+    requires { climbs.IsSoundHere task.now.programme.now task.now.shapes.now task.now.budget task.now.root.now from }
+    ensures sound { climbs.IsSoundHere task.now.programme.now task.now.shapes.now task.now.budget task.now.root.now result }
     ensures cheaper { result.cost ≤ from.cost }
-    ensures top { climbs.IsTop programme.now budget root.now result.config result.cost }
+    ensures top { climbs.IsTop task.now.programme.now task.now.shapes.now task.now.budget task.now.root.now result.config result.cost }
 {
     let mut best = from;
-    while let Some(to) = lower(programme, budget, root, &best) {
+    while let Some(to) = lower(task, &best) {
         best = to;
     }
     best

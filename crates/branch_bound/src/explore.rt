@@ -1,6 +1,7 @@
 //! The tree of a search, explored depth first.
 ghost use Rattle.std.specs.Prelude.{◌≡◌, ◌+◌, ◌<◌, ◌≤◌, [], ◌∷◌, ◌++◌, length, vec_len};
 ghost use Rattle.std.specs.Vec.{vec_capacity};
+ghost use Rattle.adv_base.specs.Configs.{IsApart};
 ghost use Rattle.adv_base.specs.declared.limits.TheConstants.{MOST_CANDIDATES};
 ghost use Rattle.bip_model.specs.declared.answer.Node.{Node};
 ghost use Rattle.bip_model.specs.declared.fix.State.TheVariants.{Out};
@@ -11,8 +12,9 @@ use crate::fixing::fixed;
 use crate::found::Found;
 use crate::frame::Frame;
 use crate::ledgers::Ledgers;
-use crate::node::{Fate, fate_of, lag, total_at, visited};
-use bip_model::{Fix, Node, State};
+use crate::node::{Fate, fate_of, lag, visited};
+use adv_base::is_apart;
+use bip_model::{Fix, Node, State, value};
 
 /// Appends a node, for which there is room.
 fn append(tree: &mut Vec<Node>, node: Node)
@@ -78,13 +80,12 @@ fn side_places(frame: &Frame<'_>, place: usize, index: usize) -> SidePlaces {
     }
 }
 
-/// The out-side of a branch, at which is in what was before, at the same cost.
-fn outside(frame: &Frame<'_>, fix: &Fix, index: usize, cost: u128) -> Fix
+/// The out-side of a branch, at which is in what was before.
+fn outside(frame: &Frame<'_>, fix: &Fix, index: usize) -> Fix
     requires choice { runs.IsChoice (runs.rules_of frame.now) fix.now index }
     requires within { index < MOST_CANDIDATES }
-    requires cost { cost ≡ sides.total frame.now.programme.now fix.now }
     ensures exact { result ≡ sides.fixed fix.now index Out }
-    ensures cost { cost ≡ sides.total frame.now.programme.now result }
+    ensures inside { sides.inside result ≡ sides.inside fix.now }
 {
     fixed(fix, index, State::Out)
 }
@@ -96,8 +97,39 @@ pub(crate) struct Walk {
     pub ledgers: Ledgers,
 }
 
+/// Explores what is below the in-side of a branch as `explore` does; where two of what is in there are clustered on one
+/// table, its tree is a leaf that is overfull.
+#[cycle(explore)]
+fn explore_inside(
+    frame: &Frame<'_>,
+    fix: &Fix,
+    before: Found,
+    place: usize,
+    walk: &mut Walk,
+) -> Found
+    requires pending { vec_len walk.old.tree < before.made }
+    requires made { before.made ≤ frame.now.nodes }
+    requires room { frame.now.nodes ≤ vec_capacity walk.old.tree }
+    requires ledgers { runs.AreLedgers (runs.rules_of frame.now) walk.old.ledgers.each.items }
+    ensures explored { runs.IsExplored (runs.rules_of frame.now) fix.now before walk.old.tree.items result walk.new.tree.items }
+    ensures count { vec_len walk.new.tree + before.made ≡ vec_len walk.old.tree + 1 + result.made }
+    ensures more { before.made ≤ result.made }
+    ensures most { result.made ≤ frame.now.nodes }
+    ensures room { vec_capacity walk.old.tree ≤ vec_capacity walk.new.tree }
+    ensures ledgers { runs.AreLedgers (runs.rules_of frame.now) walk.new.ledgers.each.items }
+{
+    let inside = fix.inside();
+    if !is_apart(frame.shapes, &inside) {
+        append(&mut walk.tree, Node::Overfull);
+        return before;
+    }
+    let cost = value(frame.programme, &inside);
+    explore(frame, fix, cost, before, place, walk)
+}
+
 /// Explores what is below a node that was made, and appends its tree in preorder. What is in there costs so much, and
 /// it has this place in the plan.
+#[cycle(explore)]
 pub(crate) fn explore(
     frame: &Frame<'_>,
     fix: &Fix,
@@ -106,6 +138,7 @@ pub(crate) fn explore(
     place: usize,
     walk: &mut Walk,
 ) -> Found
+    requires apart { IsApart frame.now.shapes.now (sides.inside fix.now) }
     requires cost { cost ≡ sides.total frame.now.programme.now fix.now }
     requires pending { vec_len walk.old.tree < before.made }
     requires made { before.made ≤ frame.now.nodes }
@@ -133,9 +166,8 @@ pub(crate) fn explore(
             let places = side_places(frame, place, index);
             let within = fixed(fix, index, State::In);
             let inner = branched(found, frame.nodes);
-            let total = total_at(frame, &within);
-            let middle = explore(frame, &within, total, inner, places.inside, walk);
-            let without = outside(frame, fix, index, cost);
+            let middle = explore_inside(frame, &within, inner, places.inside, walk);
+            let without = outside(frame, fix, index);
             explore(frame, &without, cost, middle, places.outside, walk)
         }
     }

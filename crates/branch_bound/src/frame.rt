@@ -4,17 +4,19 @@ ghost use Rattle.adv_base.specs.declared.limits.TheConstants.{MOST_NODES, MOST_R
 ghost use Rattle.bip_model.specs.Views.{AreMultipliers};
 ghost use Rattle.lagrange_bound.specs.Ledgers.{AreCheaperParts};
 
+use adv_base::IndexShape;
 use adv_base::limits::MOST_CANDIDATES;
 use bip_model::{Multipliers, Programme};
 use lagrange_bound::CheaperParts;
 use relaxations::Step;
 
-/// The programme, a budget of pages and one of nodes, the set of zeros and the other sets of multipliers, which
-/// candidates are useful, the plan of the tree and whether the walk gives up where that ends, and which parts each
-/// candidate can make cheaper.
+/// The programme, its candidates, a budget of pages and one of nodes, the set of zeros and the other sets of
+/// multipliers, which candidates are useful, the plan of the tree and whether the walk gives up where that ends, and
+/// which parts each candidate can make cheaper.
 #[derive(Drop)]
 pub(crate) struct Frame<'a> {
     pub programme: &'a Programme,
+    pub shapes: &'a [IndexShape],
     pub budget: u64,
     pub nodes: u32,
     pub zeros: &'a Multipliers,

@@ -1,15 +1,14 @@
-//! One node of a search: the total of what is in there, its bounds, and what becomes of it.
+//! One node of a search: its bounds, and what becomes of it.
 ghost use Rattle.std.specs.Prelude.{◌≡◌, suc, ◌+◌, ◌<◌, ◌≤◌, ◌⊎◌, false, true, length, IfNone, IfSome};
 ghost use Rattle.adv_base.specs.Nodes as nodes;
 ghost use Rattle.bip_model.specs.Views as views;
 ghost use Rattle.bip_model.specs.Views.{AreMultipliers};
-ghost use Rattle.branch_bound.specs.Sides as sides;
 ghost use Rattle.branch_bound.specs.inner.Runs as runs;
 
 use crate::found::Found;
 use crate::frame::Frame;
 use crate::ledgers::Ledgers;
-use bip_model::{Fix, Multipliers, value};
+use bip_model::{Fix, Multipliers};
 use lagrange_bound::bound_by;
 
 /// What becomes of a node.
@@ -21,13 +20,6 @@ pub(crate) enum Fate {
     Forced(u8),
     /// A branch on the candidate of this index.
     Branch(usize),
-}
-
-/// The total of what is in at a node.
-pub(crate) fn total_at(frame: &Frame<'_>, fix: &Fix) -> u128
-    ensures { result ≡ sides.total frame.now.programme.now fix.now }
-{
-    value(frame.programme, &fix.inside())
 }
 
 /// What was found, with a node whose in-candidates cost so much, which may be less.

@@ -125,7 +125,7 @@ pub(crate) fn propose(
     requires some { 1 ≤ task.now.most }
     requires empty { sets.old.items ≡ [] }
     requires room { MOST_SETS ≤ vec_capacity sets.old }
-    ensures known { climbs.IsSoundHere task.now.programme.now task.now.budget task.now.root.now result }
+    ensures known { climbs.IsSoundHere task.now.programme.now task.now.shapes.now task.now.budget task.now.root.now result }
     ensures sets { proposals.AreRaised task.now.programme.now task.now.budget task.now.root.now task.now.most sets.new.items }
 {
     let Spares {
@@ -133,7 +133,7 @@ pub(crate) fn propose(
         spare,
         others,
     } = spares;
-    let found = proposed.find(task.root, task.useful, task.budget);
+    let found = proposed.find(task.shapes, task.root, task.useful, task.budget);
     let known = taken(task, task.bare, found);
     proposed.plan(known.cost, nodes, task.most);
     keep_first(task, proposed, first, spare, sets);

@@ -38,13 +38,11 @@ fn obeys(states: &[State], flags: &[bool], count: usize) -> bool
 
 /// The cheaper of the configuration that is known and of one that is proposed, where that obeys the root and fits.
 pub(crate) fn taken(task: &Task<'_>, known: Costed, config: Config) -> Costed
-    requires { climbs.IsSoundHere task.now.programme.now task.now.budget task.now.root.now known }
-    ensures { climbs.IsSoundHere task.now.programme.now task.now.budget task.now.root.now result }
+    requires { climbs.IsSoundHere task.now.programme.now task.now.shapes.now task.now.budget task.now.root.now known }
+    ensures { climbs.IsSoundHere task.now.programme.now task.now.shapes.now task.now.budget task.now.root.now result }
 {
     let count = task.programme.sizes.len();
-    if !obeys(&task.root.state, &config.on, count)
-        || !task.programme.space(task.budget).fits(&config)
-    {
+    if !obeys(&task.root.state, &config.on, count) || !task.fits(&config) {
         return known;
     }
     let cost = value(task.programme, &config);

@@ -63,6 +63,7 @@ fn explored(
 {
     let frame = Frame {
         programme: task.programme,
+        shapes: task.shapes,
         budget: task.budget,
         nodes,
         zeros: guidance.zeros,

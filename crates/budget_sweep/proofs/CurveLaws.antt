@@ -12,13 +12,14 @@ use Rattle.bip_model.specs.declared.answer.Answer.{Answer}
 use Rattle.bip_model.specs.declared.point.Point.{Point}
 use Rattle.bip_model.specs.Best.{sets_in}
 use Rattle.bip_model.specs.Proves.{free_node}
+use Rattle.bip_model.specs.Trees.{ByFit}
 use Rattle.bip_model.proofs.Showing.{proved-bound, below-free}
 use Rattle.budget_sweep.specs.Curves.{IsCurve}
 use Rattle.budget_sweep.specs.Laws.{FitsLarger, IsReached, PointsBound, CurvesFall, GapsAreOwn}
 use Rattle.budget_sweep.proofs.Points.{answer-of, point-of}
 
 pub fits-larger : FitsLarger
-fits-larger cat shapes config smaller larger more fits = omega (arith, more, fits)
+fits-larger cat shapes config smaller larger more fits = record { pages = omega (arith, more, fits.pages); apart = fits.apart }
 
 -- budgets rise
 rising : (first step i k : ℕ) → i ≤ k → first + step * i ≤ first + step * k
@@ -61,7 +62,7 @@ point-low setting first step count nodes points i point limits curve found other
     let more = rising-points setting first step count nodes points i greatest.number point late.point curve greatest.late found late.found in
     let within = fits-larger setting.cat setting.shapes other point.budget late.point.budget more fits in
     subst (λ bound. IsAtMost bound total) (ap (λ (a : Answer). a.bound) late.answer_is ∙ greatest.bound_is)
-    (proved-bound setting late.point.budget free_node answer.config answer.cost answer.bound (sets_in setting answer) answer.tree other total limits proves is within (below-free other) total_is)
+    (proved-bound ByFit setting late.point.budget free_node answer.config answer.cost answer.bound (sets_in setting answer) answer.tree other total limits proves is within (below-free other) total_is)
 
 pub points-bound : PointsBound
 points-bound setting first step count nodes points i point limits curve found =

@@ -1,4 +1,3 @@
 pub mod Points
 pub mod CurveLaws
 pub mod Passing
-pub mod Roots

@@ -6,6 +6,7 @@ use Rattle.std.proofs.lemmas.Bool.{cases_lt}
 use Rattle.std.proofs.lemmas.Int.{ints, clamps, by_lt_z}
 use Rattle.std.proofs.lemmas.List.{length-map, map-append}
 use Rattle.std.proofs.lemmas.Option.{slice_get_within, same_Some}
+use Rattle.adv_base.specs.declared.catalogue.index.IndexShape.{IndexShape}
 use Rattle.bip_model.specs.declared.answer.Answer.{Answer}
 use Rattle.bip_model.specs.declared.point.Point.{Point}
 use Rattle.bip_model.specs.declared.programme.Programme.{Programme}
@@ -97,15 +98,15 @@ least-pushed points point least own i other found =
           (subst (λ (p : Point). IsLeastCost (answers_of points ++ point.answer ∷ []) (length points) p.best) one.1 own)
     ])
 
-pub answered-pushed : (programme : Programme) (first step nodes : ℕ) (points : List Point) (point : Point) → AreAnswered programme first step nodes points →
-    IsAnswered programme first step nodes (length points) point → AreAnswered programme first step nodes (points ++ point ∷ [])
-answered-pushed programme first step nodes points point answered own i other found =
+pub answered-pushed : (programme : Programme) (shapes : List IndexShape) (first step nodes : ℕ) (points : List Point) (point : Point) → AreAnswered programme shapes first step nodes points →
+    IsAnswered programme shapes first step nodes (length points) point → AreAnswered programme shapes first step nodes (points ++ point ∷ [])
+answered-pushed programme shapes first step nodes points point answered own i other found =
     elim (either-of points (point ∷ []) i other found) [
       | inl front ↦ answered i other front
       | inr back ↦
           let one = behind-one point other back.number back.found in
           let place : length points ≡ i = omega (arith, back.place, one.0) in
-          subst (λ (k : ℕ). IsAnswered programme first step nodes k other) place (subst (IsAnswered programme first step nodes (length points)) one.1 own)
+          subst (λ (k : ℕ). IsAnswered programme shapes first step nodes k other) place (subst (IsAnswered programme shapes first step nodes (length points)) one.1 own)
     ]
 
 -- ## Back
@@ -180,9 +181,9 @@ greatest-put before after number other low is behind own k point late found =
 
 -- ## Both
 
-pub points-curve : (programme : Programme) (first step count nodes : ℕ) (before after : List Point) → length before ≡ count → AreAnswered programme first step nodes before → AreLeast before →
-    map bare after ≡ map bare before → AreGreatest after 0 → IsCurveForEach programme first step count nodes after
-points-curve programme first step count nodes before after counted answered least same low = λ setting limits stands.
+pub points-curve : (programme : Programme) (shapes : List IndexShape) (first step count nodes : ℕ) (before after : List Point) → length before ≡ count → AreAnswered programme shapes first step nodes before → AreLeast before →
+    map bare after ≡ map bare before → AreGreatest after 0 → IsCurveForEach programme shapes first step count nodes after
+points-curve programme shapes first step count nodes before after counted answered least same low = λ setting limits stands shapes_are.
     record {
       counted = sym (length-map after bare) ∙ ap length same ∙ length-map before bare ∙ counted;
       each =
@@ -192,7 +193,7 @@ points-curve programme first step count nodes before after counted answered leas
           let answers : answers_of before ≡ answers_of after = sym (same-answers after before same) in
           record {
             budget_is = sym (ap (λ (p : Point). p.budget) old.same) ∙ own.budget_is;
-            answer_is = subst (λ (p : Point). IsBest setting p.budget nodes free_node p.answer) old.same (own.answer_is setting limits stands);
+            answer_is = subst (λ (p : Point). IsBest setting p.budget nodes free_node p.answer) old.same (own.answer_is setting limits stands shapes_are);
             best_is = subst (λ (xs : List Answer). IsLeastCost xs i point.best) answers (subst (IsLeastCost (answers_of before) i) (ap (λ (p : Point). p.best) old.same) (least i old.point old.found));
             low_is = low i point (omega arith) found;
           };

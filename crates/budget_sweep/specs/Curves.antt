@@ -1,5 +1,6 @@
 -- What a sweep over space budgets answers: the cost of a workload as a curve over the budget, with a bound at each point.
 use Rattle.std.specs.Prelude.{◌≡◌, ℕ, ◌+◌, ◌*◌, ◌≤◌, List, length, map, Some, slice_get, ℤ, ◌≤ℤ◌}
+use Rattle.adv_base.specs.declared.catalogue.index.IndexShape.{IndexShape}
 use Rattle.adv_base.specs.Settings.{TheSetting, KeepsLimits}
 use Rattle.bip_model.specs.declared.answer.Answer.{Answer}
 use Rattle.bip_model.specs.declared.point.Point.{Point}
@@ -42,7 +43,7 @@ pub record IsCurve (setting : TheSetting) (first step count nodes : ℕ) (points
   pub counted : length points ≡ count
   pub each : (i : ℕ) (point : Point) → slice_get points i ≡ Some point → IsPoint setting first step nodes (answers_of points) i point
 
--- the same for each setting for which a programme stands
-abbrev pub IsCurveForEach : Programme → ℕ → ℕ → ℕ → ℕ → List Point → Type 0
-IsCurveForEach programme first step count nodes points =
-    (setting : TheSetting) → KeepsLimits setting → StandsFor setting programme → IsCurve setting first step count nodes points
+-- the same for each setting for which a programme stands and whose candidates these are
+abbrev pub IsCurveForEach : Programme → List IndexShape → ℕ → ℕ → ℕ → ℕ → List Point → Type 0
+IsCurveForEach programme shapes first step count nodes points =
+    (setting : TheSetting) → KeepsLimits setting → StandsFor setting programme → setting.shapes ≡ shapes → IsCurve setting first step count nodes points

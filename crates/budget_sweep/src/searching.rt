@@ -4,8 +4,8 @@ ghost use Rattle.adv_base.specs.declared.limits.TheConstants.{MOST_CANDIDATES, M
 ghost use Rattle.bip_model.specs.declared.fix.State.TheVariants.{Free};
 ghost use Rattle.budget_sweep.specs.inner.Passes as passes;
 
-use adv_base::NoMemory;
 use adv_base::limits::MOST_CANDIDATES;
+use adv_base::{IndexShape, NoMemory};
 use bip_model::{Answer, Fix, Programme, State};
 use branch_bound::{Room, search};
 use std::alloc::Global;
@@ -23,15 +23,16 @@ fn free_root() -> Fix
 pub(crate) fn searched(
     alloc: Global,
     programme: &Programme,
+    shapes: &[IndexShape],
     budget: u64,
     nodes: u32,
 ) -> Result<Answer, NoMemory>
     requires budget { budget ≤ MOST_ROWS }
     requires some_node { 1 ≤ nodes }
     requires nodes { nodes ≤ MOST_NODES }
-    ensures { IfOk result (passes.IsFreeBest programme.now budget nodes) }
+    ensures { IfOk result (passes.IsFreeBest programme.now shapes.now budget nodes) }
 {
     let root = free_root();
     let room = Room::new(alloc, programme, nodes)?;
-    Ok(search(programme, &root, budget, nodes, room))
+    Ok(search(programme, shapes, &root, budget, nodes, room))
 }

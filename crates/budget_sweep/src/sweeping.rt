@@ -6,7 +6,7 @@ ghost use Rattle.budget_sweep.specs.inner.Passes as passes;
 
 use crate::passes::{least_cost, put_lows};
 use crate::searching::searched;
-use adv_base::{List, NoMemory};
+use adv_base::{IndexShape, List, NoMemory};
 use bip_model::{Point, Programme};
 use std::alloc::Global;
 
@@ -24,6 +24,7 @@ fn budget_at(first: u64, step: u64, count: u32, number: u32) -> u64
 fn next_point(
     alloc: Global,
     programme: &Programme,
+    shapes: &[IndexShape],
     budget: u64,
     nodes: u32,
     points: &[Point],
@@ -33,10 +34,10 @@ fn next_point(
     requires nodes { nodes ≤ MOST_NODES }
     requires least { passes.AreLeast points.now }
     ensures budget { IfOk result (λ point. point.budget ≡ budget) }
-    ensures answer { IfOk result (λ point. passes.IsFreeBest programme.now budget nodes point.answer) }
+    ensures answer { IfOk result (λ point. passes.IsFreeBest programme.now shapes.now budget nodes point.answer) }
     ensures best { IfOk result (λ point. passes.IsNextLeast points.now point) }
 {
-    let answer = searched(alloc, programme, budget, nodes)?;
+    let answer = searched(alloc, programme, shapes, budget, nodes)?;
     let best = least_cost(points, &answer);
     let low = answer.bound;
     Ok(Point {
@@ -51,6 +52,7 @@ fn next_point(
 fn forward(
     alloc: Global,
     programme: &Programme,
+    shapes: &[IndexShape],
     first: u64,
     step: u64,
     count: u32,
@@ -60,13 +62,13 @@ fn forward(
     requires some_node { 1 ≤ nodes }
     requires nodes { nodes ≤ MOST_NODES }
     ensures count { IfOk result (λ points. length points.items ≡ count) }
-    ensures answered { IfOk result (λ points. passes.AreAnswered programme.now first step nodes points.items) }
+    ensures answered { IfOk result (λ points. passes.AreAnswered programme.now shapes.now first step nodes points.items) }
     ensures least { IfOk result (λ points. passes.AreLeast points.items) }
 {
     let mut points = Vec::with_capacity(alloc, count as usize)?;
     for number in 0..count {
         let budget = budget_at(first, step, count, number);
-        let point = next_point(alloc, programme, budget, nodes, points.as_slice())?;
+        let point = next_point(alloc, programme, shapes, budget, nodes, points.as_slice())?;
         points.push(point)?;
     }
     Ok(points)
@@ -74,11 +76,12 @@ fn forward(
 
 /// A curve over space budgets: a best answer of a programme for each of `count` budgets, from `first` pages in steps of
 /// `step`, found by a search of at most `nodes` nodes each from the root that leaves every candidate free; with the least
-/// cost of the answers so far, and the greatest bound of those from there on. Costs are in thousandths of a page read. Want
-/// of memory is the one error.
+/// cost of the answers so far, and the greatest bound of those from there on. The programme stands for a setting whose
+/// candidates are the shapes. Costs are in thousandths of a page read. Want of memory is the one error.
 pub fn sweep(
     alloc: Global,
     programme: &Programme,
+    shapes: &[IndexShape],
     first: u64,
     step: u64,
     count: u32,
@@ -90,9 +93,9 @@ pub fn sweep(
     requires last { first + step * (count - 1) ≤ MOST_ROWS }
     requires some_node { 1 ≤ nodes }
     requires nodes { nodes ≤ MOST_NODES }
-    ensures { IfOk result (IsCurveForEach programme.now first step count nodes) }
+    ensures { IfOk result (IsCurveForEach programme.now shapes.now first step count nodes) }
 {
-    let mut points = forward(alloc, programme, first, step, count, nodes)?;
+    let mut points = forward(alloc, programme, shapes, first, step, count, nodes)?;
     put_lows(points.as_mut_slice());
     Ok(List { items: points })
 }

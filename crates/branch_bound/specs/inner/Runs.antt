@@ -1,6 +1,8 @@
 -- A run of the search below a node: what it had found before and what after, and the tree that it wrote.
 use Rattle.std.specs.Prelude.{◌≡◌, ℕ, suc, ◌+◌, ◌-◌, ◌^◌, ◌<◌, ◌≤◌, nat_lt, nat_le, Bool, true, false, ◌&&◌, if◌then◌else◌, ◌⊎◌, List, [], ◌∷◌, ◌++◌, length, Option, Some, None, slice_index_or, ℤ, pos, negsuc, ◌≤ℤ◌}
 use Rattle.std.specs.Int.{int_min}
+use Rattle.adv_base.specs.declared.catalogue.index.IndexShape.{IndexShape}
+use Rattle.adv_base.specs.Configs.{IsApart}
 use Rattle.adv_base.specs.Nodes.{is_open_in}
 use Rattle.bip_model.specs.declared.answer.Answer.{Answer}
 use Rattle.bip_model.specs.declared.answer.Node.{Node}
@@ -24,6 +26,7 @@ use Rattle.branch_bound.specs.Sides.{fixed, inside, total}
 -- what stays the same in a search
 pub record Rules : Type 0 where
   pub programme : Programme
+  pub shapes : List IndexShape
   pub budget : ℕ
   pub nodes : ℕ
   pub zeros : Multipliers
@@ -36,6 +39,7 @@ abbrev pub rules_of : Frame → Rules
 rules_of frame =
     record {
       programme = frame.programme.now;
+      shapes = frame.shapes.now;
       budget = frame.budget;
       nodes = frame.nodes;
       zeros = frame.zeros.now;
@@ -48,6 +52,7 @@ abbrev pub rules_for : Task → ℕ → Multipliers → List Multipliers → Boo
 rules_for task nodes zeros sets stops =
     record {
       programme = task.programme.now;
+      shapes = task.shapes.now;
       budget = task.budget;
       nodes = nodes;
       zeros = zeros;
@@ -144,31 +149,39 @@ abbrev pub branched : Found → Found
 branched found = record { config = found.config; cost = found.cost; low = found.low; made = found.made + 2 }
 
 pub record IsForcedLeaf (rules : Rules) (fix : Fix) (found : Found) (k : ℕ) (after : Found) : Type 0 where
+  pub apart : IsApart rules.shapes (inside fix)
   pub forced : IsForced rules fix found k
   pub after_is : after ≡ lowered found (lag rules fix k)
 
 pub record IsClosedLeaf (rules : Rules) (fix : Fix) (found : Found) (k : ℕ) (after : Found) : Type 0 where
+  pub apart : IsApart rules.shapes (inside fix)
   pub closed : IsClosed rules fix found k
   pub after_is : after ≡ found
 
+-- a leaf that isn't visited, as what is in clashes
+pub record IsFullLeaf (rules : Rules) (fix : Fix) (before after : Found) : Type 0 where
+  pub clash : ¬ (IsApart rules.shapes (inside fix))
+  pub after_is : after ≡ before
+
 -- a branch, what was found on its first side, and what on both
-pub record IsBranching (number : ℕ) (here : ℕ → Type 0) (first second : ℕ → Found → Type 0) : Type 0 where
+pub record IsBranching (rules : Rules) (fix : Fix) (found : Found) (number : ℕ) (first second : ℕ → Found → Type 0) : Type 0 where
+  pub apart : IsApart rules.shapes (inside fix)
   pub index : ℕ
   pub numbered : number ≡ index + 1
-  pub branch : here index
+  pub branch : IsBranch rules fix found index
   pub middle : Found
   pub inside_run : first index middle
   pub outside_run : second index middle
 
--- a run below a node, which is visited first
+-- a run below a node, which is visited first where what is in is apart
 abbrev pub Runs : Rules → Fix → Found → Tree → Found → Type 0
 Runs rules fix before (Leaf k) after =
     IsClosedLeaf rules fix (visited rules fix before) k after ⊎ IsForcedLeaf rules fix (visited rules fix before) k after
 Runs rules fix before (Branches a inside_tree outside_tree) after =
-    IsBranching a (IsBranch rules fix (visited rules fix before))
+    IsBranching rules fix (visited rules fix before) a
     (λ i middle. Runs rules (fixed fix i In) (branched (visited rules fix before)) inside_tree middle)
     (λ i middle. Runs rules (fixed fix i Out) middle outside_tree after)
-Runs rules fix before Full after = ⊥
+Runs rules fix before Full after = IsFullLeaf rules fix before after
 
 -- what a search knows at its root, where a configuration is known
 abbrev pub MOST_LOW : ℕ

@@ -1,5 +1,6 @@
 -- How the points of a sweep stand while it runs: forward over the budgets, then back.
 use Rattle.std.specs.Prelude.{◌≡◌, ℕ, ◌+◌, ◌*◌, ◌≤◌, List, [], ◌∷◌, ◌++◌, length, Some, slice_get, ℤ, pos}
+use Rattle.adv_base.specs.declared.catalogue.index.IndexShape.{IndexShape}
 use Rattle.adv_base.specs.Settings.{TheSetting, KeepsLimits}
 use Rattle.bip_model.specs.declared.answer.Answer.{Answer}
 use Rattle.bip_model.specs.declared.point.Point.{Point}
@@ -9,19 +10,20 @@ use Rattle.bip_model.specs.Proves.{free_node}
 use Rattle.bip_model.specs.StandsFor.{StandsFor}
 use Rattle.budget_sweep.specs.Curves.{IsLeastCost, IsGreatestBound, answers_of}
 
--- an answer is a best one of each setting for which the programme stands, from the root that leaves each candidate free
-abbrev pub IsFreeBest : Programme → ℕ → ℕ → Answer → Type 0
-IsFreeBest programme budget nodes answer =
-    (setting : TheSetting) → KeepsLimits setting → StandsFor setting programme → IsBest setting budget nodes free_node answer
+-- an answer is a best one of each setting for which the programme stands and whose candidates these are, from the root
+-- that leaves each candidate free
+abbrev pub IsFreeBest : Programme → List IndexShape → ℕ → ℕ → Answer → Type 0
+IsFreeBest programme shapes budget nodes answer =
+    (setting : TheSetting) → KeepsLimits setting → StandsFor setting programme → setting.shapes ≡ shapes → IsBest setting budget nodes free_node answer
 
 -- a point has its budget, and such an answer
-pub record IsAnswered (programme : Programme) (first step nodes i : ℕ) (point : Point) : Type 0 where
+pub record IsAnswered (programme : Programme) (shapes : List IndexShape) (first step nodes i : ℕ) (point : Point) : Type 0 where
   pub budget_is : point.budget ≡ first + step * i
-  pub answer_is : IsFreeBest programme point.budget nodes point.answer
+  pub answer_is : IsFreeBest programme shapes point.budget nodes point.answer
 
-abbrev pub AreAnswered : Programme → ℕ → ℕ → ℕ → List Point → Type 0
-AreAnswered programme first step nodes points =
-    (i : ℕ) (point : Point) → slice_get points i ≡ Some point → IsAnswered programme first step nodes i point
+abbrev pub AreAnswered : Programme → List IndexShape → ℕ → ℕ → ℕ → List Point → Type 0
+AreAnswered programme shapes first step nodes points =
+    (i : ℕ) (point : Point) → slice_get points i ≡ Some point → IsAnswered programme shapes first step nodes i point
 
 -- each point has the least cost of its answer and all earlier ones
 abbrev pub AreLeast : List Point → Type 0

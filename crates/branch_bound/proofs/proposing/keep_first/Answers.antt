@@ -1,4 +1,4 @@
-use Rattle.std.proofs.Common.{◌∙◌, ℕ, zero, suc, ◌+◌, ◌≤◌, [], ◌∷◌, List, ◌≡◌, ◌++◌, All, length, take, refl, sym, ap, subst, arith}
+use Rattle.std.proofs.Common.{◌∙◌, ℕ, zero, suc, ◌≤◌, [], ◌∷◌, List, ◌≡◌, ◌++◌, All, take, sym, ap, subst, arith}
 use Rattle.bip_model.specs.declared.multipliers.Multipliers.{Multipliers}
 use Rattle.bip_model.specs.declared.programme.Programme.{Programme}
 use Rattle.bip_model.specs.Views.{AreMultipliers}

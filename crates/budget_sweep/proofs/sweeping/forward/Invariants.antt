@@ -6,6 +6,6 @@ abbrev pub invariant-loop-number : goal.invariant-loop-number
 invariant-loop-number l =
     record {
       count : length l.points.items ≡ l.number;
-      answered : passes.AreAnswered l.programme l.first l.step l.nodes l.points.items;
+      answered : passes.AreAnswered l.programme l.shapes l.first l.step l.nodes l.points.items;
       least : passes.AreLeast l.points.items;
     }

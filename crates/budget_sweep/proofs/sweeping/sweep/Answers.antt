@@ -12,6 +12,6 @@ returns c =
     let after = c.put_lows.new.points in
     let long : length after ≡ points.len = sym (length-map after bare) ∙ ap length c.put_lows.ensures.bare ∙ length-map before bare ∙ c.as_mut_slice.ensures.len in
     let same : map bare after ≡ map bare points.items = c.put_lows.ensures.bare ∙ ap (map bare) c.as_mut_slice.ensures.value in
-    subst (IsCurveForEach c.args.programme.now c.args.first c.args.step c.args.count c.args.nodes) (sym (take_at after (drop (length after) points.items) points.len long))
-    (points-curve c.args.programme.now c.args.first c.args.step c.args.count c.args.nodes points.items after c.in_ok-points.ensures.count c.in_ok-points.ensures.answered
+    subst (IsCurveForEach c.args.programme.now c.args.shapes.now c.args.first c.args.step c.args.count c.args.nodes) (sym (take_at after (drop (length after) points.items) points.len long))
+    (points-curve c.args.programme.now c.args.shapes.now c.args.first c.args.step c.args.count c.args.nodes points.items after c.in_ok-points.ensures.count c.in_ok-points.ensures.answered
     c.in_ok-points.ensures.least same c.put_lows.ensures.greatest)
