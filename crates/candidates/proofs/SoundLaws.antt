@@ -26,8 +26,8 @@ use Rattle.adv_base.specs.Lookups.{table_at, column_count, slot_columns}
 use Rattle.adv_base.specs.Named.{NamesSlot, NamesPred, NamesEdge, NamesItems, NamesBlock, NamesWork, NamesShape, names_item}
 use Rattle.adv_base.specs.Predicates.{is_point, is_range}
 use Rattle.candidates.specs.Columns.{has_column, with_column, joined, is_slot_pred, tested_columns, point_columns, range_columns, edge_column, join_columns, up_column, own_columns, group_columns, order_columns, needed_columns}
-use Rattle.candidates.specs.Proposals.{KeyList, single_lists, lists_behind, column_lists, sorted_lists, covering_list, slot_lists, block_lists, work_lists, proposals}
-use Rattle.candidates.specs.Candidates.{key_list, existing_lists, fresh_lists}
+use Rattle.candidates.specs.Proposals.{KeyList, Proposal, plain_index, clustered_index, is_clusterable, forms, single_lists, lists_behind, column_lists, sorted_lists, covering_list, slot_proposals, block_proposals, work_proposals, proposals}
+use Rattle.candidates.specs.Candidates.{proposal_of, existing_indexes, fresh_proposals}
 use Rattle.candidates.proofs.FreshLaws.{Fits, All-flat_map, All-fresh}
 
 -- columns below a number, none twice
@@ -211,9 +211,18 @@ covering_list-sound cat t points ranges needed there p r n =
           (sound-joined (column_count cat t) points (take 1 ranges) p (All-take (λ c. c < column_count cat t) 1 ranges r.below)) n;
     }
 
-slot_lists-sound : (cat : Catalogue) (block : Block) (s : ℕ) (slot : Slot) → slice_get block.slots s ≡ Some slot → NamesBlock cat block → slot.table < length cat.tables → All (IsSound cat) (slot_lists cat block s slot)
-unfolding slot_lists
-slot_lists-sound cat block s slot is named there =
+-- the same of an index that is proposed
+abbrev pub IsSoundIndex : Catalogue → Proposal → Type 0
+IsSoundIndex cat p = IsSound cat (p.table, p.keys)
+
+forms-sound : (cat : Catalogue) (clusterable : Bool) (list : KeyList) → IsSound cat list → All (IsSoundIndex cat) (forms clusterable list)
+forms-sound cat true list sound =
+    All-cons (IsSoundIndex cat) (plain_index list) (clustered_index list ∷ []) sound (All-cons (IsSoundIndex cat) (clustered_index list) [] sound (All-nil (IsSoundIndex cat)))
+forms-sound cat false list sound = All-cons (IsSoundIndex cat) (plain_index list) [] sound (All-nil (IsSoundIndex cat))
+
+slot_proposals-sound : (cat : Catalogue) (block : Block) (s : ℕ) (slot : Slot) → slice_get block.slots s ≡ Some slot → NamesBlock cat block → slot.table < length cat.tables → All (IsSoundIndex cat) (slot_proposals cat block s slot)
+unfolding slot_proposals
+slot_proposals-sound cat block s slot is named there =
     let count : slot_columns cat block s ≡ column_count cat slot.table
     = ap (λ (o : Option Slot). option_map_or (λ table. length table.columns) (option_and_then (λ (sl : Slot). table_at cat sl.table) o) 0) is in
     let points = subst (λ (n : ℕ). Sound n (point_columns block s)) count (points-sound cat block s named) in
@@ -221,75 +230,78 @@ slot_lists-sound cat block s slot is named there =
     let joins = subst (λ (n : ℕ). Sound n (join_columns block s)) count (joins-sound cat block s named) in
     let group = subst (λ (n : ℕ). Sound n (group_columns block s)) count (group-sound cat block s named) in
     let order = subst (λ (n : ℕ). Sound n (order_columns block s)) count (order-sound cat block s named) in
-    All-append (IsSound cat)
-    (column_lists slot.table (point_columns block s) (range_columns block s) (join_columns block s) ++ sorted_lists slot.table (point_columns block s) (group_columns block s) (order_columns block s))
-    (covering_list slot.table (point_columns block s) (range_columns block s) (needed_columns cat slot) ∷ [])
-    (All-append (IsSound cat)
-    (column_lists slot.table (point_columns block s) (range_columns block s) (join_columns block s)) (sorted_lists slot.table (point_columns block s) (group_columns block s) (order_columns block s))
+    let tested : List KeyList = column_lists slot.table (point_columns block s) (range_columns block s) (join_columns block s) in
+    let sorted : List KeyList = sorted_lists slot.table (point_columns block s) (group_columns block s) (order_columns block s) in
+    let covering : KeyList = covering_list slot.table (point_columns block s) (range_columns block s) (needed_columns cat slot) in
+    let lists : All (IsSound cat) (tested ++ sorted)
+    = All-append (IsSound cat) tested sorted
     (column_lists-sound cat slot.table (point_columns block s) (range_columns block s) (join_columns block s) there points ranges joins)
-    (sorted_lists-sound cat slot.table (point_columns block s) (group_columns block s) (order_columns block s) there points group order))
-    (All-cons (IsSound cat) (covering_list slot.table (point_columns block s) (range_columns block s) (needed_columns cat slot)) []
-    (covering_list-sound cat slot.table (point_columns block s) (range_columns block s) (needed_columns cat slot) there points ranges (needed-below cat slot)) (All-nil (IsSound cat)))
+    (sorted_lists-sound cat slot.table (point_columns block s) (group_columns block s) (order_columns block s) there points group order) in
+    All-append (IsSoundIndex cat) (flat_map (forms (is_clusterable cat slot.table)) (tested ++ sorted)) (plain_index covering ∷ [])
+    (All-flat_map (IsSoundIndex cat) (forms (is_clusterable cat slot.table)) (tested ++ sorted)
+    (All-weaker (IsSound cat) (λ list. All (IsSoundIndex cat) (forms (is_clusterable cat slot.table) list)) (λ list sound. forms-sound cat (is_clusterable cat slot.table) list sound) (tested ++ sorted) lists))
+    (All-cons (IsSoundIndex cat) (plain_index covering) []
+    (covering_list-sound cat slot.table (point_columns block s) (range_columns block s) (needed_columns cat slot) there points ranges (needed-below cat slot)) (All-nil (IsSoundIndex cat)))
 
 numbered-sound : (cat : Catalogue) (block : Block) (i : ℕ) (slots : List Slot) → NamesBlock cat block → All (NamesSlot cat) slots → ((k : ℕ) → slice_get slots k ≡ slice_get block.slots (i + k))
-    → All (IsSound cat) (flat_map (λ numbered. slot_lists cat block numbered.0 numbered.1) (enumerate_from i slots))
-numbered-sound cat block i [] named each at = All-nil (IsSound cat)
+    → All (IsSoundIndex cat) (flat_map (λ numbered. slot_proposals cat block numbered.0 numbered.1) (enumerate_from i slots))
+numbered-sound cat block i [] named each at = All-nil (IsSoundIndex cat)
 numbered-sound cat block i (slot ∷ slots) named each at =
     let here : slice_get block.slots i ≡ Some slot = ap (slice_get block.slots) (omega arith) ∙ sym (at 0) in
     let next : (k : ℕ) → slice_get slots k ≡ slice_get block.slots (i + 1 + k) = λ k. at (suc k) ∙ ap (slice_get block.slots) (omega arith) in
-    All-append (IsSound cat) (slot_lists cat block i slot) (flat_map (λ numbered. slot_lists cat block numbered.0 numbered.1) (enumerate_from (i + 1) slots))
-    (slot_lists-sound cat block i slot here named (All-head (NamesSlot cat) slot slots each).table)
+    All-append (IsSoundIndex cat) (slot_proposals cat block i slot) (flat_map (λ numbered. slot_proposals cat block numbered.0 numbered.1) (enumerate_from (i + 1) slots))
+    (slot_proposals-sound cat block i slot here named (All-head (NamesSlot cat) slot slots each).table)
     (numbered-sound cat block (i + 1) slots named (All-tail (NamesSlot cat) slot slots each) next)
 
-block_lists-sound : (cat : Catalogue) (block : Block) → NamesBlock cat block → All (IsSound cat) (block_lists cat block)
-unfolding block_lists
-block_lists-sound cat block named = numbered-sound cat block 0 block.slots named named.slots (λ k. ap (slice_get block.slots) (omega arith))
+block_proposals-sound : (cat : Catalogue) (block : Block) → NamesBlock cat block → All (IsSoundIndex cat) (block_proposals cat block)
+unfolding block_proposals
+block_proposals-sound cat block named = numbered-sound cat block 0 block.slots named named.slots (λ k. ap (slice_get block.slots) (omega arith))
 
-work_lists-sound : (cat : Catalogue) (work : Work) → NamesWork cat work → All (IsSound cat) (work_lists cat work)
-unfolding work_lists
-work_lists-sound cat (Select block) named = block_lists-sound cat block (named.selects block refl)
-work_lists-sound cat (Update block columns) named = block_lists-sound cat block (named.updates block columns refl).block_named
-work_lists-sound cat (Delete block) named = block_lists-sound cat block (named.deletes block refl)
-work_lists-sound cat (Insert table rows) named = All-nil (IsSound cat)
+work_proposals-sound : (cat : Catalogue) (work : Work) → NamesWork cat work → All (IsSoundIndex cat) (work_proposals cat work)
+unfolding work_proposals
+work_proposals-sound cat (Select block) named = block_proposals-sound cat block (named.selects block refl)
+work_proposals-sound cat (Update block columns) named = block_proposals-sound cat block (named.updates block columns refl).block_named
+work_proposals-sound cat (Delete block) named = block_proposals-sound cat block (named.deletes block refl)
+work_proposals-sound cat (Insert table rows) named = All-nil (IsSoundIndex cat)
 
 -- each proposal is sound
-pub proposals-sound : (cat : Catalogue) (statements : List Statement) → All (λ statement. NamesWork cat statement.work) statements → All (IsSound cat) (proposals cat statements)
+pub proposals-sound : (cat : Catalogue) (statements : List Statement) → All (λ statement. NamesWork cat statement.work) statements → All (IsSoundIndex cat) (proposals cat statements)
 unfolding proposals
 proposals-sound cat statements named =
-    All-flat_map (IsSound cat) (λ statement. work_lists cat statement.work) statements
-    (All-weaker (λ statement. NamesWork cat statement.work) (λ statement. All (IsSound cat) (work_lists cat statement.work)) (λ statement h. work_lists-sound cat statement.work h) statements named)
+    All-flat_map (IsSoundIndex cat) (λ statement. work_proposals cat statement.work) statements
+    (All-weaker (λ statement. NamesWork cat statement.work) (λ statement. All (IsSoundIndex cat) (work_proposals cat statement.work)) (λ statement h. work_proposals-sound cat statement.work h) statements named)
 
--- sound lists of 1 to 8 columns are keys of an index
-pub KeyLimits-sound : (cat : Catalogue) (p : KeyList) → IsSound cat p → Fits p → KeyLimits p.1
+-- sound keys, 1 to 8 of them, are those of an index
+pub KeyLimits-sound : (cat : Catalogue) (p : Proposal) → IsSoundIndex cat p → Fits p → KeyLimits p.keys
 KeyLimits-sound cat p sound fits =
     record {
       some = fits.some;
       few = fits.few;
       apart = λ i j before within. λ same.
-          let no = apart_from_distinct nat_eq p.1 i j 0 sound.columns.apart before within in
-          let yes = (Decides-eqb (get_or p.1 i 0) (get_or p.1 j 0)).1 same in
+          let no = apart_from_distinct nat_eq p.keys i j 0 sound.columns.apart before within in
+          let yes = (Decides-eqb (get_or p.keys i 0) (get_or p.keys j 0)).1 same in
           absurd (let e : false ≡ true = sym no ∙ yes in cc);
     }
 
-pub NamesShape-sound : (cat : Catalogue) (shape : IndexShape) → IsSound cat (key_list shape) → NamesShape cat shape
+pub NamesShape-sound : (cat : Catalogue) (shape : IndexShape) → IsSoundIndex cat (proposal_of shape) → NamesShape cat shape
 NamesShape-sound cat shape sound = record { table = sound.table; keys = sound.columns.below }
 
 -- so are the fresh ones, which have 1 to 8 columns
 pub fresh-sound : (cat : Catalogue) (statements : List Statement) → All (λ statement. NamesWork cat statement.work) statements
-    → All (λ p. IsSound cat p × Fits p) (fresh_lists cat statements)
-unfolding fresh_lists
+    → All (λ p. IsSoundIndex cat p × Fits p) (fresh_proposals cat statements)
+unfolding fresh_proposals
 fresh-sound cat statements named =
-    All-fresh (λ p. IsSound cat p × Fits p) (existing_lists cat) [] (proposals cat statements) (All-nil (λ p. IsSound cat p × Fits p))
-    (All-weaker (IsSound cat) (λ p. Fits p → IsSound cat p × Fits p) (λ p sound fits. (sound, fits)) (proposals cat statements) (proposals-sound cat statements named))
+    All-fresh (λ p. IsSoundIndex cat p × Fits p) (existing_indexes cat) [] (proposals cat statements) (All-nil (λ p. IsSoundIndex cat p × Fits p))
+    (All-weaker (IsSoundIndex cat) (λ p. Fits p → IsSoundIndex cat p × Fits p) (λ p sound fits. (sound, fits)) (proposals cat statements) (proposals-sound cat statements named))
 
-pub fresh-limits : (cat : Catalogue) (statements : List Statement) → All (λ statement. NamesWork cat statement.work) statements → All (λ p. KeyLimits p.1) (fresh_lists cat statements)
+pub fresh-limits : (cat : Catalogue) (statements : List Statement) → All (λ statement. NamesWork cat statement.work) statements → All (λ p. KeyLimits p.keys) (fresh_proposals cat statements)
 fresh-limits cat statements named =
-    All-weaker (λ p. IsSound cat p × Fits p) (λ p. KeyLimits p.1) (λ p h. KeyLimits-sound cat p h.0 h.1) (fresh_lists cat statements) (fresh-sound cat statements named)
+    All-weaker (λ p. IsSoundIndex cat p × Fits p) (λ p. KeyLimits p.keys) (λ p h. KeyLimits-sound cat p h.0 h.1) (fresh_proposals cat statements) (fresh-sound cat statements named)
 
--- shapes of the first fresh lists name what the catalogue has
+-- shapes of the first fresh proposals name what the catalogue has
 pub shapes-named : (cat : Catalogue) (statements : List Statement) (shapes : List IndexShape) (n : ℕ) → All (λ statement. NamesWork cat statement.work) statements
-    → map key_list shapes ≡ take n (fresh_lists cat statements) → All (NamesShape cat) shapes
+    → map proposal_of shapes ≡ take n (fresh_proposals cat statements) → All (NamesShape cat) shapes
 shapes-named cat statements shapes n named is =
-    let sound = All-take (λ p. IsSound cat p × Fits p) n (fresh_lists cat statements) (fresh-sound cat statements named) in
-    let each = All-unmap (λ p. IsSound cat p × Fits p) key_list shapes (subst (All (λ p. IsSound cat p × Fits p)) (sym is) sound) in
-    All-weaker (λ shape. IsSound cat (key_list shape) × Fits (key_list shape)) (NamesShape cat) (λ shape h. NamesShape-sound cat shape h.0) shapes each
+    let sound = All-take (λ p. IsSoundIndex cat p × Fits p) n (fresh_proposals cat statements) (fresh-sound cat statements named) in
+    let each = All-unmap (λ p. IsSoundIndex cat p × Fits p) proposal_of shapes (subst (All (λ p. IsSoundIndex cat p × Fits p)) (sym is) sound) in
+    All-weaker (λ shape. IsSoundIndex cat (proposal_of shape) × Fits (proposal_of shape)) (NamesShape cat) (λ shape h. NamesShape-sound cat shape h.0) shapes each

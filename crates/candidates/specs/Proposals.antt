@@ -1,13 +1,17 @@
--- The key lists that a workload proposes: for each statement with a block, and in it for each slot in order.
-use Rattle.std.specs.Prelude.{ℕ, List, [], ◌∷◌, ◌++◌, map, take}
-use Rattle.std.specs.List.{flat_map, enumerate_from}
+-- The indexes that a workload proposes: for each statement with a block, and in it for each slot in order.
+use Rattle.std.specs.Prelude.{ℕ, Bool, true, false, not, ◌&&◌, if◌then◌else◌, List, [], ◌∷◌, ◌++◌, map, take}
+use Rattle.std.specs.List.{list_any, flat_map, enumerate_from}
+use Rattle.std.specs.Option.{option_map_or}
 use Rattle.adv_base.specs.declared.catalogue.Catalogue.{Catalogue}
 use Rattle.adv_base.specs.declared.workload.Statement.{Statement}
 use Rattle.adv_base.specs.declared.workload.Work.{Work}
 use Rattle.adv_base.specs.declared.workload.Work.TheVariants.{Select, Update, Delete, Insert}
 use Rattle.adv_base.specs.declared.workload.block.Block.{Block}
 use Rattle.adv_base.specs.declared.workload.parts.Slot.{Slot}
+use Rattle.adv_base.specs.Lookups.{table_at}
 use Rattle.candidates.specs.Columns.{with_column, joined, point_columns, range_columns, join_columns, group_columns, order_columns, needed_columns}
+
+-- ## Key lists
 
 -- the number of a table and key columns of it
 abbrev pub KeyList : Type 0
@@ -35,23 +39,45 @@ sorted_lists table points group order = (table, group) ∷ (table, order) ∷ (t
 unfoldable pub covering_list : ℕ → List ℕ → List ℕ → List ℕ → KeyList
 covering_list table points ranges needed = (table, joined (joined points (take 1 ranges)) needed)
 
--- what a slot proposes, in sequence
-unfoldable pub slot_lists : Catalogue → Block → ℕ → Slot → List KeyList
-slot_lists cat block s slot =
-    column_lists slot.table (point_columns block s) (range_columns block s) (join_columns block s)
-    ++ sorted_lists slot.table (point_columns block s) (group_columns block s) (order_columns block s)
-    ++ covering_list slot.table (point_columns block s) (range_columns block s) (needed_columns cat slot) ∷ []
+-- ## Indexes
 
-unfoldable pub block_lists : Catalogue → Block → List KeyList
-block_lists cat block = flat_map (λ numbered. slot_lists cat block numbered.0 numbered.1) (enumerate_from 0 block.slots)
+-- an index that is proposed: the number of a table, key columns of it, and whether the table is to be clustered by them
+pub record Proposal : Type 0 where
+  pub table : ℕ
+  pub keys : List ℕ
+  pub clustered : Bool
+
+abbrev pub plain_index : KeyList → Proposal
+plain_index list = record { table = list.0; keys = list.1; clustered = false }
+
+abbrev pub clustered_index : KeyList → Proposal
+clustered_index list = record { table = list.0; keys = list.1; clustered = true }
+
+-- a table may be clustered, and no index of it that exists is
+unfoldable pub is_clusterable : Catalogue → ℕ → Bool
+is_clusterable cat t = option_map_or (λ table. table.may_cluster && not (list_any (λ index. index.shape.clustered) table.indexes)) (table_at cat t) false
+
+-- a key list plain, and then clustered where its table is clusterable
+abbrev pub forms : Bool → KeyList → List Proposal
+forms clusterable list = plain_index list ∷ (if clusterable then clustered_index list ∷ [] else [])
+
+-- what a slot proposes, in sequence; the covering list is proposed plain alone
+unfoldable pub slot_proposals : Catalogue → Block → ℕ → Slot → List Proposal
+slot_proposals cat block s slot =
+    flat_map (forms (is_clusterable cat slot.table)) (column_lists slot.table (point_columns block s) (range_columns block s) (join_columns block s)
+    ++ sorted_lists slot.table (point_columns block s) (group_columns block s) (order_columns block s))
+    ++ plain_index (covering_list slot.table (point_columns block s) (range_columns block s) (needed_columns cat slot)) ∷ []
+
+unfoldable pub block_proposals : Catalogue → Block → List Proposal
+block_proposals cat block = flat_map (λ numbered. slot_proposals cat block numbered.0 numbered.1) (enumerate_from 0 block.slots)
 
 -- an INSERT proposes nothing
-unfoldable pub work_lists : Catalogue → Work → List KeyList
-work_lists cat (Select block) = block_lists cat block
-work_lists cat (Update block columns) = block_lists cat block
-work_lists cat (Delete block) = block_lists cat block
-work_lists cat (Insert table rows) = []
+unfoldable pub work_proposals : Catalogue → Work → List Proposal
+work_proposals cat (Select block) = block_proposals cat block
+work_proposals cat (Update block columns) = block_proposals cat block
+work_proposals cat (Delete block) = block_proposals cat block
+work_proposals cat (Insert table rows) = []
 
 -- what a workload proposes, in sequence
-unfoldable pub proposals : Catalogue → List Statement → List KeyList
-proposals cat statements = flat_map (λ statement. work_lists cat statement.work) statements
+unfoldable pub proposals : Catalogue → List Statement → List Proposal
+proposals cat statements = flat_map (λ statement. work_proposals cat statement.work) statements

@@ -1,2 +1,2 @@
--- What retells how the code holds lists; nothing above this crate cites it.
+-- What retells how the code holds proposals; nothing above this crate cites it.
 pub mod Known

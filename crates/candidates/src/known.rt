@@ -1,5 +1,5 @@
-//! The key lists that are known so far, each once.
-ghost use Rattle.std.specs.Prelude.{◌≡◌, ◌<◌, ◌≤◌, [], ◌∷◌, OnOk, fold, length};
+//! The proposals that are known so far, each once.
+ghost use Rattle.std.specs.Prelude.{◌≡◌, ◌<◌, ◌≤◌, [], ◌∷◌, OnOk, length};
 ghost use Rattle.adv_base.specs.declared.limits.TheConstants.{MOST_KEYS};
 ghost use Rattle.candidates.specs.Candidates as proposed;
 ghost use Rattle.candidates.specs.Columns as columns;
@@ -11,115 +11,171 @@ use adv_base::limits::MOST_KEYS;
 use indexmap::IndexSet;
 use std::alloc::{AllocError, Global};
 
-/// The number of a table and key columns of it.
-pub(crate) type KeyList = (u16, Vec<u16>);
+/// An index that is proposed: the number of a table, key columns of it, and whether the table is to be clustered by them.
+#[derive(PartialEq, Eq, Hash, Drop)]
+pub(crate) struct Proposal {
+    pub table: u16,
+    pub keys: Vec<u16>,
+    pub clustered: bool,
+}
 
-/// Adds a list of 1 to 8 columns, unless it is known.
-fn insert_list(known: &mut IndexSet<KeyList>, table: u16, keys: Vec<u16>) -> Result<(), AllocError>
-    requires some { 0 < length keys.items }
-    requires few { length keys.items ≤ MOST_KEYS }
-    ensures { OnOk result (held.as_lists known.new.keys ≡ proposed.with_proposal [] (held.as_lists known.old.keys) (table, keys.items)) }
+/// The number of a table that key lists are proposed for. The forms of a list are a plain index, and where the table is
+/// clusterable a clustered one behind it.
+#[derive(Clone, Copy)]
+pub(crate) struct Target {
+    pub table: u16,
+    pub clusterable: bool,
+}
+
+/// Adds a proposal of 1 to 8 columns, unless it is known.
+fn insert_proposal(known: &mut IndexSet<Proposal>, proposal: Proposal) -> Result<(), AllocError>
+    requires some { 0 < length proposal.keys.items }
+    requires few { length proposal.keys.items ≤ MOST_KEYS }
+    ensures { OnOk result (held.as_proposals known.new.keys
+        ≡ proposed.with_proposal [] (held.as_proposals known.old.keys) (held.as_proposal proposal)) }
 {
-    known.insert((table, keys))?;
+    known.insert(proposal)?;
     Ok(())
 }
 
-/// Adds a list, unless it is empty, has too many columns or is known.
-fn add_list(known: &mut IndexSet<KeyList>, table: u16, keys: Vec<u16>) -> Result<(), AllocError>
-    ensures { OnOk result (held.as_lists known.new.keys ≡ proposed.with_proposal [] (held.as_lists known.old.keys) (table, keys.items)) }
+/// Adds a proposal, unless it is empty, has too many columns or is known.
+fn add_proposal(known: &mut IndexSet<Proposal>, proposal: Proposal) -> Result<(), AllocError>
+    ensures { OnOk result (held.as_proposals known.new.keys
+        ≡ proposed.with_proposal [] (held.as_proposals known.old.keys) (held.as_proposal proposal)) }
 {
-    if keys.is_empty() || keys.len() > MOST_KEYS {
+    if proposal.keys.is_empty() || proposal.keys.len() > MOST_KEYS {
         return Ok(());
     }
-    insert_list(known, table, keys)
+    insert_proposal(known, proposal)
 }
 
-/// Adds a copy of a list.
-pub(crate) fn add_copy(
-    alloc: Global,
-    known: &mut IndexSet<KeyList>,
-    table: u16,
-    keys: &[u16],
-) -> Result<(), AllocError>
-    ensures { OnOk result (held.as_lists known.new.keys ≡ proposed.with_proposal [] (held.as_lists known.old.keys) (table, keys.now)) }
+/// Adds a list plain.
+fn add_plain(known: &mut IndexSet<Proposal>, table: u16, keys: Vec<u16>) -> Result<(), AllocError>
+    ensures { OnOk result (held.as_proposals known.new.keys
+        ≡ proposed.with_proposal [] (held.as_proposals known.old.keys) (proposals.plain_index (table, keys.items))) }
 {
-    add_joined(alloc, known, table, keys, &[])
+    add_proposal(
+        known,
+        Proposal {
+            table,
+            keys,
+            clustered: false,
+        },
+    )
 }
 
-/// Adds a list followed by another. One that is too long already is not copied.
+/// Adds a list plain, and then clustered.
+fn add_both(
+    alloc: Global,
+    known: &mut IndexSet<Proposal>,
+    table: u16,
+    keys: Vec<u16>,
+) -> Result<(), AllocError>
+    ensures { OnOk result (held.as_proposals known.new.keys
+        ≡ held.with_all (held.as_proposals known.old.keys) (proposals.plain_index (table, keys.items) ∷ proposals.clustered_index (table, keys.items) ∷ [])) }
+{
+    add_plain(known, table, Vec::from_slice(alloc, &keys)?)?;
+    add_proposal(
+        known,
+        Proposal {
+            table,
+            keys,
+            clustered: true,
+        },
+    )
+}
+
+/// Adds the forms of a list followed by another. One that is too long already is not copied.
 pub(crate) fn add_joined(
     alloc: Global,
-    known: &mut IndexSet<KeyList>,
-    table: u16,
+    known: &mut IndexSet<Proposal>,
+    target: Target,
     keys: &[u16],
     more: &[u16],
 ) -> Result<(), AllocError>
-    ensures { OnOk result (held.as_lists known.new.keys
-        ≡ proposed.with_proposal [] (held.as_lists known.old.keys) (table, columns.joined keys.now more.now)) }
+    ensures { OnOk result (held.as_proposals known.new.keys
+        ≡ held.with_all (held.as_proposals known.old.keys) (proposals.forms target.clusterable (target.table, columns.joined keys.now more.now))) }
 {
     if keys.len() > MOST_KEYS {
         return Ok(());
     }
     let list = joined(alloc, keys, more)?;
-    add_list(known, table, list)
+    if target.clusterable {
+        add_both(alloc, known, target.table, list)
+    } else {
+        add_plain(known, target.table, list)
+    }
 }
 
-/// Adds a column alone.
+/// Adds the forms of a list.
+pub(crate) fn add_forms(
+    alloc: Global,
+    known: &mut IndexSet<Proposal>,
+    target: Target,
+    keys: &[u16],
+) -> Result<(), AllocError>
+    ensures { OnOk result (held.as_proposals known.new.keys
+        ≡ held.with_all (held.as_proposals known.old.keys) (proposals.forms target.clusterable (target.table, keys.now))) }
+{
+    add_joined(alloc, known, target, keys, &[])
+}
+
+/// Adds the forms of a column alone.
 fn add_single(
     alloc: Global,
-    known: &mut IndexSet<KeyList>,
-    table: u16,
+    known: &mut IndexSet<Proposal>,
+    target: Target,
     column: u16,
 ) -> Result<(), AllocError>
-    ensures { OnOk result (held.as_lists known.new.keys
-        ≡ proposed.with_proposal [] (held.as_lists known.old.keys) (table, column ∷ [])) }
+    ensures { OnOk result (held.as_proposals known.new.keys
+        ≡ held.with_all (held.as_proposals known.old.keys) (proposals.forms target.clusterable (target.table, column ∷ []))) }
 {
-    add_copy(alloc, known, table, &[column])
+    add_forms(alloc, known, target, &[column])
 }
 
-/// Adds each column alone.
+/// Adds the forms of each column alone.
 pub(crate) fn add_singles(
     alloc: Global,
-    known: &mut IndexSet<KeyList>,
-    table: u16,
+    known: &mut IndexSet<Proposal>,
+    target: Target,
     columns: &[u16],
 ) -> Result<(), AllocError>
-    ensures { OnOk result (held.as_lists known.new.keys
-        ≡ fold (proposed.with_proposal []) (held.as_lists known.old.keys) (proposals.single_lists table columns.now)) }
+    ensures { OnOk result (held.as_proposals known.new.keys
+        ≡ held.with_forms target.clusterable (held.as_proposals known.old.keys) (proposals.single_lists target.table columns.now)) }
 {
     'columns: for column in columns {
-        add_single(alloc, known, table, *column)?;
+        add_single(alloc, known, target, *column)?;
     }
     Ok(())
 }
 
-/// Adds a list followed by a column.
+/// Adds the forms of a list followed by a column.
 fn add_one_behind(
     alloc: Global,
-    known: &mut IndexSet<KeyList>,
-    table: u16,
+    known: &mut IndexSet<Proposal>,
+    target: Target,
     keys: &[u16],
     column: u16,
 ) -> Result<(), AllocError>
-    ensures { OnOk result (held.as_lists known.new.keys
-        ≡ proposed.with_proposal [] (held.as_lists known.old.keys) (table, columns.with_column keys.now column)) }
+    ensures { OnOk result (held.as_proposals known.new.keys
+        ≡ held.with_all (held.as_proposals known.old.keys) (proposals.forms target.clusterable (target.table, columns.with_column keys.now column))) }
 {
-    add_joined(alloc, known, table, keys, &[column])
+    add_joined(alloc, known, target, keys, &[column])
 }
 
-/// Adds a list followed by each of the columns.
+/// Adds the forms of a list followed by each of the columns.
 pub(crate) fn add_behind(
     alloc: Global,
-    known: &mut IndexSet<KeyList>,
-    table: u16,
+    known: &mut IndexSet<Proposal>,
+    target: Target,
     keys: &[u16],
     columns: &[u16],
 ) -> Result<(), AllocError>
-    ensures { OnOk result (held.as_lists known.new.keys
-        ≡ fold (proposed.with_proposal []) (held.as_lists known.old.keys) (proposals.lists_behind table keys.now columns.now)) }
+    ensures { OnOk result (held.as_proposals known.new.keys
+        ≡ held.with_forms target.clusterable (held.as_proposals known.old.keys) (proposals.lists_behind target.table keys.now columns.now)) }
 {
     'columns: for column in columns {
-        add_one_behind(alloc, known, table, keys, *column)?;
+        add_one_behind(alloc, known, target, keys, *column)?;
     }
     Ok(())
 }

@@ -2,8 +2,8 @@
 //!
 //! In go a catalogue and the statements of a workload; out come at most 256 candidate indexes, and how many proposals
 //! more there were. For each slot of a statement that reads, `specs/Columns.antt` tells which of its columns are tested,
-//! joined, grouped or ordered by and needed, `specs/Proposals.antt` which key lists they make, and
-//! `specs/Candidates.antt` which of these are left out. Whether a candidate helps is left to others.
+//! joined, grouped or ordered by and needed, `specs/Proposals.antt` which key lists they make and whether each is proposed
+//! clustered too, and `specs/Candidates.antt` which proposals are left out. Whether a candidate helps is left to others.
 //!
 //! `Candidates` has them, as `adv_base`'s `IndexShape`s, and that number.
 //!

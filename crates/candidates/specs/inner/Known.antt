@@ -1,14 +1,20 @@
--- Key lists as the code holds them.
-use Rattle.std.specs.Prelude.{ℕ, List, map, Vec}
-use Rattle.std.specs.declared.alloc.Global.{Global}
-use Rattle.candidates.specs.Proposals.{KeyList}
+-- Proposals as the code holds them.
+use Rattle.std.specs.Prelude.{Bool, List, [], map, fold}
+use Rattle.std.specs.List.{flat_map}
+use Rattle.candidates.specs.declared.known.Proposal.{Proposal as OwnedProposal}
+use Rattle.candidates.specs.Candidates.{with_proposal}
+use Rattle.candidates.specs.Proposals.{KeyList, Proposal, forms}
 
--- the number of a table and a vector of key columns
-abbrev pub OwnedList : Type 0
-OwnedList = ℕ × Vec ℕ Global
+abbrev pub as_proposal : OwnedProposal → Proposal
+as_proposal p = record { table = p.table; keys = p.keys.items; clustered = p.clustered }
 
-abbrev pub as_list : OwnedList → KeyList
-as_list p = (p.0, p.1.items)
+abbrev pub as_proposals : List OwnedProposal → List Proposal
+as_proposals known = map as_proposal known
 
-abbrev pub as_lists : List OwnedList → List KeyList
-as_lists known = map as_list known
+-- what is known behind proposals
+abbrev pub with_all : List Proposal → List Proposal → List Proposal
+with_all known proposals = fold (with_proposal []) known proposals
+
+-- what is known behind the forms of key lists
+abbrev pub with_forms : Bool → List Proposal → List KeyList → List Proposal
+with_forms clusterable known lists = with_all known (flat_map (forms clusterable) lists)

@@ -1,11 +1,9 @@
-use Rattle.std.proofs.Common.{◌≡◌, [], drop}
-use Rattle.std.specs.Prelude.{fold}
-use Rattle.candidates.specs.Candidates.{with_proposal}
-use Rattle.candidates.specs.inner.Known.{as_lists}
+use Rattle.std.proofs.Common.{◌≡◌, drop}
+use Rattle.candidates.specs.inner.Known.{as_proposals, with_forms}
 use Rattle.candidates.specs.Proposals.{single_lists}
 use Rattle.candidates.proofs.known.add_singles.Given as goal
 
 abbrev pub invariant-columns : goal.invariant-columns
 invariant-columns l =
-    fold (with_proposal []) (as_lists l.known.keys) (single_lists l.table (drop l.column-index l.columns))
-    ≡ fold (with_proposal []) (as_lists l.initial.known.keys) (single_lists l.table l.columns)
+    with_forms l.target.clusterable (as_proposals l.known.keys) (single_lists l.target.table (drop l.column-index l.columns))
+    ≡ with_forms l.target.clusterable (as_proposals l.initial.known.keys) (single_lists l.target.table l.columns)
