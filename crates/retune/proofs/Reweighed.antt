@@ -15,8 +15,8 @@ use Rattle.adv_base.specs.Limits.Settings.{SettingLimits, slot_count}
 use Rattle.adv_base.specs.Named.{NamesWork}
 use Rattle.bip_model.specs.StandsFor.{AreEach}
 use Rattle.bip_model.proofs.Lists.{each-length}
-use Rattle.candidates.specs.Candidates.{AreCandidates, existing_lists, fresh_lists, with_proposal}
-use Rattle.candidates.specs.Proposals.{KeyList, proposals, work_lists}
+use Rattle.candidates.specs.Candidates.{AreCandidates, existing_indexes, fresh_proposals, with_proposal}
+use Rattle.candidates.specs.Proposals.{Proposal, proposals, work_proposals}
 use Rattle.plan_model.specs.Totals.{block_of}
 use Rattle.inum_cache.specs.declared.cache.Cache.{Cache}
 use Rattle.retune.specs.Steps.{AreReweighed, slots_in_all}
@@ -95,19 +95,19 @@ works (x ∷ xs) (y ∷ ys) h =
 same-proposals : (cat : Catalogue) (xs ys : List Statement) → Alike xs ys → proposals cat xs ≡ proposals cat ys
 unfolding proposals
 same-proposals cat xs ys h =
-    sym (flat_map-map (work_lists cat) (λ (s : Statement). s.work) xs) ∙ ap (flat_map (work_lists cat)) (works xs ys h) ∙ flat_map-map (work_lists cat) (λ (s : Statement). s.work) ys
+    sym (flat_map-map (work_proposals cat) (λ (s : Statement). s.work) xs) ∙ ap (flat_map (work_proposals cat)) (works xs ys h) ∙ flat_map-map (work_proposals cat) (λ (s : Statement). s.work) ys
 
-same-lists : (cat : Catalogue) (xs ys : List Statement) → Alike xs ys → fresh_lists cat xs ≡ fresh_lists cat ys
-unfolding fresh_lists
-same-lists cat xs ys h = ap (λ (lists : List KeyList). fold (with_proposal (existing_lists cat)) [] lists) (same-proposals cat xs ys h)
+same-fresh : (cat : Catalogue) (xs ys : List Statement) → Alike xs ys → fresh_proposals cat xs ≡ fresh_proposals cat ys
+unfolding fresh_proposals
+same-fresh cat xs ys h = ap (λ (proposed : List Proposal). fold (with_proposal (existing_indexes cat)) [] proposed) (same-proposals cat xs ys h)
 
 pub alike-candidates : (cat : Catalogue) (xs ys : List Statement) (shapes : List IndexShape) (left_over : ℕ) → Alike xs ys → AreCandidates cat xs shapes left_over → AreCandidates cat ys shapes left_over
 alike-candidates cat xs ys shapes left_over h are =
-    let same = same-lists cat xs ys h in
+    let same = same-fresh cat xs ys h in
     record {
-      lists = are.lists ∙ ap (take MOST_CANDIDATES) same;
-      plain = are.plain;
-      rest = are.rest ∙ ap (λ (lists : List KeyList). length lists - MOST_CANDIDATES) same;
+      proposed = are.proposed ∙ ap (take MOST_CANDIDATES) same;
+      not_unique = are.not_unique;
+      rest = are.rest ∙ ap (λ (proposed : List Proposal). length proposed - MOST_CANDIDATES) same;
     }
 
 -- ## Weights

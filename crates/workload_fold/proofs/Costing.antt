@@ -16,7 +16,7 @@ use Rattle.adv_base.specs.declared.workload.parts.Slot.{Slot}
 use Rattle.adv_base.specs.Configs.{candidates_in}
 use Rattle.adv_base.specs.Offers.{OfferTable, offers}
 use Rattle.adv_base.specs.Upkeep.{is_on_table, holds_some, write_cost, upkeep, kept_upkeep, config_upkeep}
-use Rattle.candidates.specs.Proposals.{work_lists}
+use Rattle.candidates.specs.Proposals.{work_proposals}
 use Rattle.plan_model.specs.declared.task.Task.{Task}
 use Rattle.plan_model.specs.BlockTask.{IsTaskOf}
 use Rattle.plan_model.specs.Least.{Least}
@@ -26,7 +26,7 @@ use Rattle.workload_fold.proofs.Pairs.{pairs_at}
 use Rattle.workload_fold.proofs.SameBlocks.{SameSlot, SameBlocks, blocks_told, blocks_turned}
 use Rattle.workload_fold.proofs.Rows.{same_filtered, same_task}
 use Rattle.workload_fold.proofs.Paths.{same_offer_table}
-use Rattle.workload_fold.proofs.Proposing.{same_block_lists}
+use Rattle.workload_fold.proofs.Proposing.{same_block_proposals}
 
 -- What holds of statements of one kind whose blocks have all in common, and that set or add the same, holds of alike
 -- statements.
@@ -60,11 +60,11 @@ alike_works cat P s u d n (Insert t rows) (Insert v more) h =
 
 -- ## Proposals
 
-pub same_lists : (cat : Catalogue) (p q : Work) → is_alike cat p q ≡ true → work_lists cat p ≡ work_lists cat q
-unfolding work_lists
-same_lists cat p q h =
-    alike_works cat (λ x y. work_lists cat x ≡ work_lists cat y) (λ a b same. same_block_lists cat a b same) (λ a b set same. same_block_lists cat a b same)
-    (λ a b same. same_block_lists cat a b same) (λ t rows. refl) p q h
+pub same_work_proposals : (cat : Catalogue) (p q : Work) → is_alike cat p q ≡ true → work_proposals cat p ≡ work_proposals cat q
+unfolding work_proposals
+same_work_proposals cat p q h =
+    alike_works cat (λ x y. work_proposals cat x ≡ work_proposals cat y) (λ a b same. same_block_proposals cat a b same) (λ a b set same. same_block_proposals cat a b same)
+    (λ a b same. same_block_proposals cat a b same) (λ t rows. refl) p q h
 
 -- ## Upkeep
 

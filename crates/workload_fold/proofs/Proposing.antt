@@ -1,7 +1,7 @@
--- Alike blocks propose the same key lists.
-use Rattle.std.proofs.Common.{◌≡◌, ℕ, ◌==◌, Bool, ◌&&◌, List, [], ◌∷◌, ◌++◌, map, Option, Some, None, refl, sym, ap, ◌∙◌}
+-- Alike blocks propose the same indexes.
+use Rattle.std.proofs.Common.{◌≡◌, ℕ, ◌==◌, Bool, ◌&&◌, List, [], ◌∷◌, ◌++◌, Option, Some, None, ap}
 use Rattle.std.specs.Prelude.{filter, if◌then◌else◌}
-use Rattle.std.specs.List.{filter_map, range_with_len}
+use Rattle.std.specs.List.{flat_map, range_with_len}
 use Rattle.std.specs.Option.{option_map_or}
 use Rattle.adv_base.specs.declared.catalogue.Catalogue.{Catalogue}
 use Rattle.adv_base.specs.declared.workload.block.Block.{Block}
@@ -13,7 +13,7 @@ use Rattle.adv_base.specs.declared.workload.predicate.Test.{Test}
 use Rattle.adv_base.specs.Lookups.{column_count}
 use Rattle.adv_base.specs.Predicates.{is_point, is_range}
 use Rattle.candidates.specs.Columns.{has_column, without_repeats, is_slot_pred, tested_columns, point_columns, range_columns, edge_column, join_columns, own_columns, group_columns, order_columns, needed_columns}
-use Rattle.candidates.specs.Proposals.{column_lists, sorted_lists, covering_list, slot_lists, block_lists}
+use Rattle.candidates.specs.Proposals.{column_lists, sorted_lists, covering_list, plain_index, is_clusterable, forms, slot_proposals, block_proposals}
 use Rattle.workload_fold.proofs.Pairs.{Pairs, pairs_filter, pairs_map, pairs_filter_map, pairs_numbered}
 use Rattle.workload_fold.proofs.SameBlocks.{SameSlot, SameEdge, SamePred, SameBlocks, Agrees, point_agrees, range_agrees}
 
@@ -53,20 +53,20 @@ module _ (cat : Catalogue) (a b : Block) (same : SameBlocks cat a b) where
   unfolding needed_columns
   same_needed x y h = λ i. filter (has_column (h.needed i)) (range_with_len 0 (column_count cat (h.table i)))
 
-  same_slot_lists : (s : ℕ) (x y : Slot) → SameSlot x y → slot_lists cat a s x ≡ slot_lists cat b s y
-  unfolding slot_lists
-  same_slot_lists s x y h =
+  same_slot_proposals : (s : ℕ) (x y : Slot) → SameSlot x y → slot_proposals cat a s x ≡ slot_proposals cat b s y
+  unfolding slot_proposals
+  same_slot_proposals s x y h =
       let points = same_points s in
       let ranges = same_ranges s in
       let joins = same_joins s in
       let group = same_group s in
       let order = same_order s in
       let needed = same_needed x y h in
-      λ i. column_lists (h.table i) (points i) (ranges i) (joins i)
-      ++ sorted_lists (h.table i) (points i) (group i) (order i)
-      ++ covering_list (h.table i) (points i) (ranges i) (needed i) ∷ []
+      λ i. flat_map (forms (is_clusterable cat (h.table i)))
+      (column_lists (h.table i) (points i) (ranges i) (joins i) ++ sorted_lists (h.table i) (points i) (group i) (order i))
+      ++ plain_index (covering_list (h.table i) (points i) (ranges i) (needed i)) ∷ []
 
-  pub same_block_lists : block_lists cat a ≡ block_lists cat b
-  unfolding block_lists
-  same_block_lists =
-      pairs_numbered SameSlot (λ numbered. slot_lists cat a numbered.0 numbered.1) (λ numbered. slot_lists cat b numbered.0 numbered.1) same_slot_lists 0 a.slots b.slots same.slots
+  pub same_block_proposals : block_proposals cat a ≡ block_proposals cat b
+  unfolding block_proposals
+  same_block_proposals =
+      pairs_numbered SameSlot (λ numbered. slot_proposals cat a numbered.0 numbered.1) (λ numbered. slot_proposals cat b numbered.0 numbered.1) same_slot_proposals 0 a.slots b.slots same.slots

@@ -8,8 +8,8 @@ use Rattle.adv_base.specs.declared.workload.Work.{Work}
 use Rattle.adv_base.specs.declared.workload.block.Block.{Block}
 use Rattle.adv_base.specs.Offers.{offers}
 use Rattle.adv_base.specs.Upkeep.{upkeep}
-use Rattle.candidates.specs.Proposals.{work_lists}
-use Rattle.candidates.specs.Candidates.{fresh_lists, AreCandidates}
+use Rattle.candidates.specs.Proposals.{work_proposals}
+use Rattle.candidates.specs.Candidates.{fresh_proposals, AreCandidates}
 use Rattle.plan_model.specs.declared.task.Task.{Task}
 use Rattle.plan_model.specs.BlockTask.{IsTaskOf}
 use Rattle.plan_model.specs.Totals.{IsCost, IsTotal}
@@ -18,9 +18,9 @@ use Rattle.workload_fold.specs.Groups.{IsFolded}
 
 -- ## Of two statements that are alike
 
--- they propose the same key lists
+-- they propose the same indexes
 abbrev pub ProposeTheSame : Type 0
-ProposeTheSame = (cat : Catalogue) (p q : Work) → is_alike cat p q ≡ true → work_lists cat p ≡ work_lists cat q
+ProposeTheSame = (cat : Catalogue) (p q : Work) → is_alike cat p q ≡ true → work_proposals cat p ≡ work_proposals cat q
 
 -- blocks that are alike have one task
 abbrev pub HaveOneTask : Type 0
@@ -47,7 +47,7 @@ HaveOneCost =
 -- they have the same candidates, and as many are left over
 abbrev pub FoldingKeepsCandidates : Type 0
 FoldingKeepsCandidates =
-    (cat : Catalogue) (statements folded : List Statement) → IsFolded cat statements folded → fresh_lists cat statements ≡ fresh_lists cat folded
+    (cat : Catalogue) (statements folded : List Statement) → IsFolded cat statements folded → fresh_proposals cat statements ≡ fresh_proposals cat folded
 
 abbrev pub FoldingKeepsLeftOver : Type 0
 FoldingKeepsLeftOver =

@@ -8,7 +8,7 @@ ghost use Rattle.workload_fold.specs.Readings.{StatementsReadAlike};
 /// Alike statements propose the same candidates, and cost the same under every configuration: their blocks have one task
 /// and one table of offers, and they have one upkeep.
 pub fn alike_cost_the_same()
-    ensures lists { laws.ProposeTheSame }
+    ensures proposals { laws.ProposeTheSame }
     ensures task { laws.HaveOneTask }
     ensures table { laws.HaveOneTable }
     ensures upkeep { laws.HaveOneUpkeep }
@@ -18,7 +18,7 @@ pub fn alike_cost_the_same()
 /// A folded workload has the candidates of the whole, with as many left over, and one total with it under every
 /// configuration.
 pub fn folding_keeps_totals()
-    ensures lists { laws.FoldingKeepsCandidates }
+    ensures proposals { laws.FoldingKeepsCandidates }
     ensures left_over { laws.FoldingKeepsLeftOver }
     ensures total { laws.FoldingKeepsTotals }
 {}

@@ -1,8 +1,8 @@
-use Rattle.workload_fold.proofs.Costing.{same_lists, same_upkeep, same_cost, one_task, one_table}
+use Rattle.workload_fold.proofs.Costing.{same_work_proposals, same_upkeep, same_cost, one_task, one_table}
 use Rattle.workload_fold.proofs.laws.alike_cost_the_same.Goals as goal
 
-pub returns-clause-lists : goal.returns-clause-lists
-returns-clause-lists c = same_lists
+pub returns-clause-proposals : goal.returns-clause-proposals
+returns-clause-proposals c = same_work_proposals
 
 pub returns-clause-task : goal.returns-clause-task
 returns-clause-task c = one_task
