@@ -6,7 +6,7 @@ use Rattle.adv_shelf.proofs.CallerLemmas.{put_is_there, others_stay}
 use Rattle.adv_shelf.specs.Shelf.{Files, put_file}
 use Rattle.bip_model.specs.Best.{IsBest}
 use Rattle.bip_model.specs.Views.{node_of}
-use Rattle.certificate.specs.Answers.{answer_cert}
+use Rattle.certificate.specs.Answers.{answer_cert, version_of}
 use Rattle.report.specs.declared.done.Done.{Done}
 use Rattle.report.specs.declared.done.Done.TheVariants.{Ruled as RuledDone, Checked}
 use Rattle.report.specs.declared.done.Ruled.{Ruled as UnderRules}
@@ -49,7 +49,7 @@ accepted laws alone cat load rules file budget nodes files words under puts text
     let there : put_all (Some files) puts ≡ after = ap (put_all (Some files)) put.puts_are in
     let apart : Apart file (ruled_files cat load rules) = (λ x. not_cat (sym x), (λ x. not_load (sym x), (λ x. not_rules (sym x), tt))) in
     let are = stay files file put.bytes (ruled_files cat load rules) h.inputs apart h.inputs_are in
-    let few = laws.fit put.bytes (answer_cert own.programme under.advice.budget answer) own.is_text in
+    let few = laws.fit put.bytes (answer_cert own.programme (version_of h.setting.shapes) under.advice.budget answer) own.is_text in
     let all = with_fourth after cat load rules file h.inputs put.bytes are (record { whole = put_is_there files file put.bytes; short = few }) in
     let want = Checked (record { budget = budget; cost = answer.cost; bound = answer.bound }) in
     let holds_now : Answers (CheckRuled cat load rules file) after want = record {

@@ -25,13 +25,13 @@ use Rattle.certificate.proofs.Complete.{complete}
 use Rattle.certificate.proofs.OneLine.{all-before}
 use Rattle.certificate.proofs.ReadLaws.{text-append}
 use Rattle.certificate.proofs.Reached.{has-read}
-use Rattle.certificate.proofs.Sizes.{line-front, title-size}
+use Rattle.certificate.proofs.Sizes.{line-front}
 use Rattle.certificate.proofs.Splits.{all-append, cert-plain, lines-front}
 use Rattle.dba_rules.specs.Settled.{IsFirstBroken}
 use Rattle.gap_checker.specs.At.{BoundsBelow, cert_at, IsBehind, IsTreeOf, IsProofAt, IsFaultAt, IsMalformed}
 use Rattle.gap_checker.specs.Faults.{IsChecked}
 use Rattle.gap_checker.specs.Laws.{ToldOfCertificates}
-use Rattle.gap_checker.specs.Views.{config_of, config_with, sets_of}
+use Rattle.gap_checker.specs.Views.{config_of, config_with, rule_of, sets_of}
 use Rattle.gap_checker.specs.declared.fault.Checked.{Checked}
 use Rattle.gap_checker.specs.declared.fault.CheckFault.{CheckFault}
 use Rattle.gap_checker.specs.declared.fault.CheckFault.TheVariants as check
@@ -53,6 +53,8 @@ behind files name bytes text at is told =
 -- a head with a tree that it may have is a certificate
 with_tree : (head : Head) (tree : List Node) → HeadLimits head → IsTreeOf head tree → CertLimits (cert_at head tree)
 with_tree head tree limits is = record {
+  version_least = limits.version_least;
+  version_most = limits.version_most;
   budget = limits.budget;
   config = limits.config;
   cost = limits.cost;
@@ -89,7 +91,7 @@ pub proved : ProofsBound → (setting : TheSetting) (root : nodes.Node) (bytes :
 proved bound setting root bytes cert checked limits cert_is obeys is =
     let proof = is.proof in
     let all : BoundsBelow setting root cert.budget cert.bound = λ other total members fits below total_is.
-    bound setting cert.budget root (config_of cert) cert.cost cert.bound (sets_of cert) cert.tree other total limits proof members fits below total_is in
+    bound (rule_of cert.version) setting cert.budget root (config_of cert) cert.cost cert.bound (sets_of cert) cert.tree other total limits proof members fits below total_is in
     record {
       cert = cert;
       cert_is = cert_is;
@@ -134,7 +136,7 @@ faulty_again laws None file setting root head text fault most read obeys told so
 -- a head with a tree and another budget
 abbrev priced : Head → List Node → ℕ → Cert
 priced head tree budget =
-    record { budget = budget; config = head.config; cost = head.cost; bound = head.bound; sets = head.sets; tree = tree }
+    record { version = head.version; budget = budget; config = head.config; cost = head.cost; bound = head.bound; sets = head.sets; tree = tree }
 
 -- the lines behind that of the budget
 abbrev behind_budget : Head → List Node → List (List ℕ)
@@ -145,6 +147,8 @@ behind_budget head tree =
 priced_is : (head : Head) (tree : List Node) (budget : ℕ) → budget ≤ 10 → HeadLimits head → IsTreeOf head tree → CertLimits (priced head tree budget)
 priced_is head tree budget most limits is =
     let own = with_tree head tree limits is in record {
+      version_least = own.version_least;
+      version_most = own.version_most;
       budget = omega (arith, most);
       config = own.config;
       cost = own.cost;
@@ -157,11 +161,11 @@ priced_is head tree budget most limits is =
       tree = own.tree;
     }
 
-size : (head : Head) (tree : List Node) (budget : ℕ) → length (cert_text (priced head tree budget)) ≡ 21 + length (budget_line budget) + length (text_of (behind_budget head tree))
+size : (head : Head) (tree : List Node) (budget : ℕ) → length (cert_text (priced head tree budget)) ≡ length (title_line head.version) + 2 + length (budget_line budget) + length (text_of (behind_budget head tree))
 size head tree budget =
     let lines = behind_budget head tree in
-    let whole : length (cert_text (priced head tree budget)) ≡ length title_line + 1 + length (text_of (budget_line budget ∷ lines)) = line-front title_line (budget_line budget ∷ lines) in
-    omega (arith, whole, line-front (budget_line budget) lines, title-size)
+    let whole : length (cert_text (priced head tree budget)) ≡ length (title_line head.version) + 1 + length (text_of (budget_line budget ∷ lines)) = line-front (title_line head.version) (budget_line budget ∷ lines) in
+    omega (arith, whole, line-front (budget_line budget) lines)
 
 narrow : length (budget_line 0) ≤ 8
 unfolding budget_line
@@ -184,7 +188,7 @@ short_text fit head tree limits is =
 -- the lines of a certificate begin with those before the nodes
 front : (cert : Cert) → cert_lines cert ≡ lines_before cert ++ (map node_line cert.tree ++ end_line ∷ [])
 front cert =
-    let head : List (List ℕ) = head_lines cert.budget cert.config cert.cost cert.bound (length cert.sets) in
+    let head : List (List ℕ) = head_lines cert.version cert.budget cert.config cert.cost cert.bound (length cert.sets) in
     let tree : List (List ℕ) = tree_line (length cert.tree) ∷ [] in
     let nodes : List (List ℕ) = map node_line cert.tree ++ end_line ∷ [] in
     sym (append_assoc head (sets_lines cert.sets ++ tree) nodes ∙ ap (λ (ls : List (List ℕ)). head ++ ls) (append_assoc (sets_lines cert.sets) tree nodes))
@@ -192,7 +196,7 @@ front cert =
 front_count : (cert : Cert) → length (lines_before cert) ≡ 6 + (length (sets_lines cert.sets) + 1)
 front_count cert =
     let sets = length-append (sets_lines cert.sets) (tree_line (length cert.tree) ∷ []) in
-    let all = length-append (head_lines cert.budget cert.config cert.cost cert.bound (length cert.sets)) (sets_lines cert.sets ++ tree_line (length cert.tree) ∷ []) in
+    let all = length-append (head_lines cert.version cert.budget cert.config cert.cost cert.bound (length cert.sets)) (sets_lines cert.sets ++ tree_line (length cert.tree) ∷ []) in
     omega (arith, sets, all)
 
 -- lines that a certificate begins with, and an open one behind them

@@ -7,7 +7,7 @@ use Rattle.bip_model.specs.declared.answer.Answer.{Answer}
 use Rattle.bip_model.specs.declared.programme.Programme.{Programme}
 use Rattle.bip_model.specs.Best.{IsBest}
 use Rattle.bip_model.specs.StandsFor.{StandsFor}
-use Rattle.certificate.specs.Answers.{answer_cert}
+use Rattle.certificate.specs.Answers.{answer_cert, version_of}
 use Rattle.certificate.specs.declared.cert.Cert.{Cert}
 use Rattle.certificate.specs.Certificates.{IsCertificate, OneCertificate, TextsFit}
 use Rattle.dba_rules.proofs.Unique.{broken_or_below}
@@ -54,8 +54,8 @@ only_proved laws setting root bytes cert done is proof obeys h = absurd h
 
 -- what the certificate of a best answer is
 pub record Proving (setting : TheSetting) (root : nodes.Node) (programme : Programme) (budget : ℕ) (answer : Answer) : Type 0 where
-  pub proof : IsProof setting root (answer_cert programme budget answer)
-  pub obeys : nodes.IsBelow root (config_of (answer_cert programme budget answer))
+  pub proof : IsProof setting root (answer_cert programme (version_of setting.shapes) budget answer)
+  pub obeys : nodes.IsBelow root (config_of (answer_cert programme (version_of setting.shapes) budget answer))
 
 pub proving : Laws → (setting : TheSetting) (root : nodes.Node) (programme : Programme) (budget count : ℕ) (answer : Answer) → StandsFor setting programme → length answer.config.on ≡ MOST_CANDIDATES → IsBest setting budget count root answer →
     Proving setting root programme budget answer
@@ -65,10 +65,10 @@ proving laws setting root programme budget count answer stands flags best = reco
 }
 
 -- so much is told of it
-pub told : (setting : TheSetting) (root : nodes.Node) (programme : Programme) (budget : ℕ) (answer : Answer) (bytes : List ℕ) → IsCertificate bytes (answer_cert programme budget answer) → Proving setting root programme budget answer →
+pub told : (setting : TheSetting) (root : nodes.Node) (programme : Programme) (budget : ℕ) (answer : Answer) (bytes : List ℕ) → IsCertificate bytes (answer_cert programme (version_of setting.shapes) budget answer) → Proving setting root programme budget answer →
     BoundsBelow setting root budget answer.bound → IsAtMost answer.bound answer.cost → check.IsProved setting root bytes (record { budget = budget; cost = answer.cost; bound = answer.bound })
 told setting root programme budget answer bytes is proves bounds own = record {
-  cert = answer_cert programme budget answer;
+  cert = answer_cert programme (version_of setting.shapes) budget answer;
   cert_is = is;
   obeys = proves.obeys;
   checked_is = record { budget_is = refl; cost_is = refl; bound_is = refl; proof = proves.proof };

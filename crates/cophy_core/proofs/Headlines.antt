@@ -11,7 +11,7 @@ use Rattle.adv_shelf.specs.Shelf.{Files, HasFile, put_file}
 use Rattle.adv_shelf.specs.Sink.{append_to}
 use Rattle.bip_model.specs.declared.answer.Answer.{Answer}
 use Rattle.bip_model.specs.Proves.{free_node}
-use Rattle.certificate.specs.Answers.{answer_cert}
+use Rattle.certificate.specs.Answers.{answer_cert, version_of}
 use Rattle.report.specs.declared.done.Advice.{Advice}
 use Rattle.report.specs.declared.done.Done.{Done}
 use Rattle.report.specs.declared.done.Done.TheVariants.{ReadFault, WriteFault, Refused, Memory, Advised}
@@ -164,7 +164,7 @@ certificate laws setting files asked advice left_over a b (Some file) puts after
       inputs = a ∷ b ∷ put.bytes ∷ [];
       setting = setting;
       left_over = left_over;
-      inputs_are = checked_inputs files asked.cat asked.load file a b put.bytes after are there not_cat not_load (laws.certificates.fit put.bytes (answer_cert own.programme asked.budget answer) own.is_text);
+      inputs_are = checked_inputs files asked.cat asked.load file a b put.bytes after are there not_cat not_load (laws.certificates.fit put.bytes (answer_cert own.programme (version_of setting.shapes) asked.budget answer) own.is_text);
       setting_is = is_setting;
       holds = (told, is.bounds);
     } in
@@ -175,7 +175,7 @@ certificate laws setting files asked advice left_over a b (Some file) puts after
       alone = λ not_cat not_load.
           check_alone_after laws asked file after (insert files file put.bytes) answer there (accepted not_cat not_load);
       nothing_else = λ done h.
-          certified.only_proved laws.certificates setting free_node put.bytes (answer_cert own.programme asked.budget answer) done own.is_text proves.proof proves.obeys (free_given setting put.bytes done h);
+          certified.only_proved laws.certificates setting free_node put.bytes (answer_cert own.programme (version_of setting.shapes) asked.budget answer) done own.is_text proves.proof proves.obeys (free_given setting put.bytes done h);
       accepted = accepted;
     }
 certificate laws setting files asked advice left_over a b None puts after are is_setting is put e = e ∙ ap (put_all (Some files)) put

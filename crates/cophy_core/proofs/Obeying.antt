@@ -1,6 +1,7 @@
 -- The root that rules make, and the one fault that they have.
 use Rattle.std.proofs.Common.{◌≡◌, ◌∙◌, ◌⊎◌, inl, inr, ℕ, ◌≤◌, List, length, map, Ok, Err, refl, sym, subst, arith}
 use Rattle.std.proofs.lemmas.List.{length-map}
+use Rattle.adv_base.specs.Configs.{Fits}
 use Rattle.adv_base.specs.Settings.{TheSetting}
 use Rattle.bip_model.specs.declared.fix.Fix.{Fix}
 use Rattle.bip_model.specs.declared.programme.Programme.{Programme}
@@ -11,7 +12,7 @@ use Rattle.dba_rules.specs.declared.fault.RuleFault.{RuleFault}
 use Rattle.dba_rules.specs.Rules.{root_of, IsFreePast}
 use Rattle.dba_rules.specs.Settled.{IsFault}
 use Rattle.dba_rules.proofs.Unique.{one_fault, fault_or_fits}
-use Rattle.cophy_core.specs.commands.Ruled.{IsSettled, IsRootOf, IsUnsettled, HasRuleFault}
+use Rattle.cophy_core.specs.commands.Ruled.{IsRootOf, IsUnsettled, HasRuleFault}
 
 pub one_root : (setting : TheSetting) (rules : List ℕ) (root other : Fix) → root_of setting rules ≡ Ok root → root_of setting rules ≡ Ok other → root ≡ other
 one_root setting rules root other a b = let both : Ok root ≡ Ok other = sym a ∙ b in cc
@@ -26,19 +27,20 @@ faulty_or_root setting rules budget fault root has is =
       | inl first ↦ not_both setting rules root fault is.root_is first
       | inr h ↦
           let same = one_root setting rules root h.root is.root_is h.root_is in
-          let settled = subst (λ (r : Fix). IsSettled setting (node_of r).inside budget) same is.settled in
-          fault_or_fits setting (node_of h.root).inside budget fault h.fault_is settled.fits settled.apart
+          let fits = subst (λ (r : Fix). Fits setting.cat setting.shapes (node_of r).inside budget) same is.fits in
+          fault_or_fits setting (node_of h.root).inside budget fault h.fault_is fits
     ]
 
 -- ## The root
 
 -- a search can start from it
-pub root_starts : (setting : TheSetting) (programme : Programme) (budget : ℕ) (root : Fix) → StandsFor setting programme → IsSettled setting (node_of root).inside budget → IsFreePast setting.shapes root → IsRoot programme budget root
-root_starts setting programme budget root stands settled past =
+pub root_starts : (setting : TheSetting) (programme : Programme) (budget : ℕ) (root : Fix) → StandsFor setting programme → Fits setting.cat setting.shapes (node_of root).inside budget → IsFreePast setting.shapes root → IsRoot programme setting.shapes budget root
+root_starts setting programme budget root stands fits past =
     let sizes = stands.sizes_are in
     let count : length programme.sizes ≡ length setting.shapes = rw (sizes, length-map) refl in
     record {
-      fits = rw sizes settled.fits;
+      fits = rw sizes fits.pages;
+      apart = fits.apart;
       past = λ i h. past i (omega (arith, count, h));
     }
 

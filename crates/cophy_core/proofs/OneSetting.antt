@@ -30,8 +30,8 @@ use Rattle.adv_base.specs.Limits.Works.{StatementLimits}
 use Rattle.adv_base.specs.Settings.{TheSetting}
 use Rattle.binder.specs.Plain.{plain_pred, plain_edge, plain_block, plain_work, plain_statement}
 use Rattle.binder.specs.Statements.{statements_of}
-use Rattle.candidates.specs.Candidates.{key_list, IsPlain, fresh_lists}
-use Rattle.candidates.specs.Proposals.{KeyList}
+use Rattle.candidates.specs.Candidates.{proposal_of, IsNotUnique, fresh_proposals}
+use Rattle.candidates.specs.Proposals.{Proposal}
 use Rattle.catalogue.specs.Content.{plain_column, plain_index, plain_table, plain_rates, plain_catalogue}
 use Rattle.sql_reader.proofs.Unique.{one_workload}
 use Rattle.cophy_core.specs.Settings.{IsCatalogueOf, AreStatementsOf, IsSetting}
@@ -181,17 +181,16 @@ one_list cat text xs ys a b =
 
 -- ## Candidates
 
-same_shapes : (xs ys : List IndexShape) → map key_list xs ≡ map key_list ys → All IsPlain xs → All IsPlain ys → xs ≡ ys
+same_shapes : (xs ys : List IndexShape) → map proposal_of xs ≡ map proposal_of ys → All IsNotUnique xs → All IsNotUnique ys → xs ≡ ys
 same_shapes [] [] e a b = refl
 same_shapes [] (y ∷ ys) e a b = absurd cc
 same_shapes (x ∷ xs) [] e a b = absurd cc
 same_shapes (x ∷ xs) (y ∷ ys) e a b =
-    let p = All-head IsPlain x xs a in
-    let q = All-head IsPlain y ys b in
-    let head : key_list x ≡ key_list y = cc in
-    let tail : map key_list xs ≡ map key_list ys = cc in
-    let first = same_shape x y (λ i. (head i).0) (λ i. (head i).1) (p.unique ∙ sym q.unique) (p.clustered ∙ sym q.clustered) in
-    let rest = same_shapes xs ys tail (All-tail IsPlain x xs a) (All-tail IsPlain y ys b) in
+    let unique = All-head IsNotUnique x xs a ∙ sym (All-head IsNotUnique y ys b) in
+    let head : proposal_of x ≡ proposal_of y = cc in
+    let tail : map proposal_of xs ≡ map proposal_of ys = cc in
+    let first = same_shape x y (λ i. (head i).table) (λ i. (head i).keys) unique (λ i. (head i).clustered) in
+    let rest = same_shapes xs ys tail (All-tail IsNotUnique x xs a) (All-tail IsNotUnique y ys b) in
     cc
 
 -- ## Settings
@@ -205,12 +204,12 @@ one_setting cat load x y p q a b =
     let cats = one_catalogue cat x.cat y.cat a.catalogue_is b.catalogue_is in
     let mine = subst (λ (c : Catalogue). AreStatementsOf c load x.statements) cats a.statements_are in
     let lists = one_list y.cat load x.statements y.statements mine b.statements_are in
-    let fresh = ap (λ (c : Catalogue). fresh_lists c x.statements) cats ∙ ap (λ (s : List Statement). fresh_lists y.cat s) lists in
-    let keys = a.candidates_are.lists ∙ ap (λ (ls : List KeyList). take MOST_CANDIDATES ls) fresh ∙ sym b.candidates_are.lists in
-    same_parts x y cats lists (same_shapes x.shapes y.shapes keys a.candidates_are.plain b.candidates_are.plain)
+    let fresh = ap (λ (c : Catalogue). fresh_proposals c x.statements) cats ∙ ap (λ (s : List Statement). fresh_proposals y.cat s) lists in
+    let proposed = a.candidates_are.proposed ∙ ap (λ (ps : List Proposal). take MOST_CANDIDATES ps) fresh ∙ sym b.candidates_are.proposed in
+    same_parts x y cats lists (same_shapes x.shapes y.shapes proposed a.candidates_are.not_unique b.candidates_are.not_unique)
 
 -- it has no more candidates than there may be
 pub few_shapes : (cat load : List ℕ) (setting : TheSetting) (left_over : ℕ) → IsSetting cat load setting left_over → length setting.shapes ≤ MOST_CANDIDATES
 few_shapes cat load setting left_over is =
-    let count : length (map key_list setting.shapes) ≡ length (take MOST_CANDIDATES (fresh_lists setting.cat setting.statements)) = ap length is.candidates_are.lists in
-    omega (arith, count, length-map setting.shapes key_list, length-take MOST_CANDIDATES (fresh_lists setting.cat setting.statements))
+    let count : length (map proposal_of setting.shapes) ≡ length (take MOST_CANDIDATES (fresh_proposals setting.cat setting.statements)) = ap length is.candidates_are.proposed in
+    omega (arith, count, length-map setting.shapes proposal_of, length-take MOST_CANDIDATES (fresh_proposals setting.cat setting.statements))

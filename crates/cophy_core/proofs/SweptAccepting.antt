@@ -10,7 +10,7 @@ use Rattle.adv_shelf.proofs.CallerLemmas.{put_is_there}
 use Rattle.adv_shelf.specs.Shelf.{Files, put_file}
 use Rattle.bip_model.specs.Proves.{free_node}
 use Rattle.bip_model.specs.declared.point.Point.{Point}
-use Rattle.certificate.specs.Answers.{answer_cert}
+use Rattle.certificate.specs.Answers.{answer_cert, version_of}
 use Rattle.report.specs.declared.done.Done.{Done}
 use Rattle.report.specs.declared.done.Done.TheVariants.{Swept, Checked}
 use Rattle.report.specs.declared.done.Role.TheVariants.{Third}
@@ -104,7 +104,7 @@ accepted laws alone cat load prefix first step count nodes files words points pu
     let place : 1 + i ≡ i + 1 = omega arith in
     let file = prefix ++ decimal (i + 1) in
     let cert = own.certificate_is in
-    let fits = laws.fit own.bytes (answer_cert cert.programme point.budget point.answer) cert.is_text in
+    let fits = laws.fit own.bytes (answer_cert cert.programme (version_of h.setting.shapes) point.budget point.answer) cert.is_text in
     let there : IsInput after (input_file Third file MOST_CERTIFICATE_BYTES) own.bytes = rw place at (own.there MOST_CERTIFICATE_BYTES fits) in
     let apart : AreApart prefix 1 (length points) (setting_files cat load) = λ k low high.
     let other = others k low (omega (arith, counted, high)) in

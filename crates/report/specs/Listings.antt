@@ -1,5 +1,5 @@
--- Candidate indexes as they are printed: `2 t(a, b) 5 pages`.
-use Rattle.std.specs.Prelude.{ℕ, ◌+◌, if◌then◌else◌, List, [], ◌∷◌, ◌++◌, codes, decimal, slice_get}
+-- Candidate indexes as they are printed: `2 t(a, b) 5 pages`, and `3 t(b) clustered 4 pages` for a clustered one.
+use Rattle.std.specs.Prelude.{ℕ, ◌+◌, Bool, if◌then◌else◌, List, [], ◌∷◌, ◌++◌, codes, decimal, slice_get}
 use Rattle.std.specs.List.{join_by}
 use Rattle.std.specs.Option.{option_map_or}
 use Rattle.adv_base.specs.declared.catalogue.Catalogue.{Catalogue}
@@ -26,10 +26,13 @@ index_words table keys = table.name ++ (codes "(" ++ (key_words table keys ++ co
 abbrev pub shape_words : Catalogue → IndexShape → List ℕ
 shape_words cat shape = option_map_or (λ table. index_words table shape.keys) (lookups.table_at cat shape.table) []
 
--- a candidate by its number, its table and columns, and its pages
+abbrev pub cluster_words : Bool → List ℕ
+cluster_words clustered = if clustered then codes " clustered" else []
+
+-- a candidate by its number, its table and columns, whether it is clustered, and its pages
 unfoldable pub candidate_words : Catalogue → ℕ → IndexShape → List ℕ
 candidate_words cat number shape =
-    decimal number ++ (codes " " ++ (shape_words cat shape ++ (codes " " ++ (decimal (sizes.shape_pages cat shape) ++ codes " pages"))))
+    decimal number ++ (codes " " ++ (shape_words cat shape ++ (cluster_words shape.clustered ++ (codes " " ++ (decimal (sizes.shape_pages cat shape) ++ codes " pages")))))
 
 -- a line for each, numbered from there on
 unfoldable pub candidate_lines : Catalogue → ℕ → List IndexShape → List ℕ

@@ -233,6 +233,7 @@ check_fault (check.BadBranch node) = numbered (codes "branch at node ") node
 check_fault (check.LeafBelow node computed claimed) =
     numbered (codes "leaf ") node ++ (signed (codes " has ") computed ++ signed (codes " below ") claimed)
 check_fault (check.NotInfeasible node size) = numbered (codes "leaf ") node ++ numbered (codes " has size ") size
+check_fault (check.Clash first second) = (numbered (codes "candidates ") first ++ numbered (codes " and ") second) ++ codes " clash"
 
 -- why a certificate proves nothing, behind `not proved: `
 abbrev pub not_proved : NotProved → List ℕ

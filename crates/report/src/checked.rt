@@ -62,6 +62,22 @@ fn push_leaf(
     push_signed(alloc, out, b" below ", claimed)
 }
 
+/// Adds which candidates are clustered on one table.
+fn push_clash(alloc: Global, out: &mut Vec<u8>, first: u16, second: u16) -> Result<(), AllocError>
+    ensures { OnOk result (out.new.items ≡ out.old.items
+        ++ ((numbered (codes "candidates ") first ++ numbered (codes " and ") second) ++ codes " clash")) }
+{
+    push_both(
+        alloc,
+        out,
+        b"candidates ",
+        first as u128,
+        b" and ",
+        second as u128,
+    )?;
+    out.extend_from_slice(b" clash")
+}
+
 /// Adds a fault of a certificate as a proof.
 fn push_check_fault(alloc: Global, out: &mut Vec<u8>, fault: CheckFault) -> Result<(), AllocError>
     ensures { OnOk result (out.new.items ≡ out.old.items ++ check_fault fault) }
@@ -87,6 +103,7 @@ fn push_check_fault(alloc: Global, out: &mut Vec<u8>, fault: CheckFault) -> Resu
         CheckFault::NotInfeasible(node, size) => {
             push_both(alloc, out, b"leaf ", node as u128, b" has size ", size)
         }
+        CheckFault::Clash(first, second) => push_clash(alloc, out, first, second),
     }
 }
 

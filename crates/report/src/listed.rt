@@ -53,6 +53,16 @@ fn push_shape(out: &mut Vec<u8>, cat: &Catalogue, shape: &IndexShape) -> Result<
     }
 }
 
+/// Adds that an index is clustered, where it is.
+fn push_cluster(out: &mut Vec<u8>, clustered: bool) -> Result<(), AllocError>
+    ensures { OnOk result (out.new.items ≡ out.old.items ++ lists.cluster_words clustered) }
+{
+    if clustered {
+        return out.extend_from_slice(b" clustered");
+    }
+    Ok(())
+}
+
 /// Adds a candidate with its number.
 #[tactic(auto, unfolding(crate::specs::Listings::candidate_words))]
 fn push_candidate(
@@ -68,6 +78,7 @@ fn push_candidate(
     push_decimal(alloc, out, number)?;
     out.extend_from_slice(b" ")?;
     push_shape(out, cat, shape)?;
+    push_cluster(out, shape.clustered)?;
     push_numbered(alloc, out, b" ", pages(cat, shape) as u128)?;
     out.extend_from_slice(b" pages")
 }

@@ -11,7 +11,7 @@ use Rattle.bip_model.specs.Proves.{free_node}
 use Rattle.gap_checker.specs.At.{BoundsBelow}
 use Rattle.bip_model.specs.StandsFor.{StandsFor}
 use Rattle.candidates.specs.Candidates as candidates
-use Rattle.certificate.specs.Answers.{answer_cert}
+use Rattle.certificate.specs.Answers.{answer_cert, version_of}
 use Rattle.certificate.specs.Certificates.{IsCertificate}
 use Rattle.programme_parts.specs.Combinations.{AreFew}
 use Rattle.report.specs.declared.done.Advice.{Advice}
@@ -25,7 +25,7 @@ use Rattle.cophy_core.specs.Endings.{Put}
 pub record IsAdviceFrom (root : nodes.Node) (budget nodes : ℕ) (setting : TheSetting) (advice : Advice) : Type 0 where
   pub budget_is : advice.budget ≡ budget
   pub nodes_is : advice.nodes ≡ nodes
-  pub left_over_is : advice.left_over ≡ length (candidates.fresh_lists setting.cat setting.statements) - MOST_CANDIDATES
+  pub left_over_is : advice.left_over ≡ length (candidates.fresh_proposals setting.cat setting.statements) - MOST_CANDIDATES
   pub few : AreFew setting.cat setting.statements
   pub flags : length advice.answer.config.on ≡ MOST_CANDIDATES
   pub best : IsBest setting budget nodes root advice.answer
@@ -36,7 +36,7 @@ pub record IsAdviceFrom (root : nodes.Node) (budget nodes : ℕ) (setting : TheS
 pub record IsAdvice (budget nodes : ℕ) (setting : TheSetting) (advice : Advice) : Type 0 where
   pub budget_is : advice.budget ≡ budget
   pub nodes_is : advice.nodes ≡ nodes
-  pub left_over_is : advice.left_over ≡ length (candidates.fresh_lists setting.cat setting.statements) - MOST_CANDIDATES
+  pub left_over_is : advice.left_over ≡ length (candidates.fresh_proposals setting.cat setting.statements) - MOST_CANDIDATES
   pub few : AreFew setting.cat setting.statements
   pub flags : length advice.answer.config.on ≡ MOST_CANDIDATES
   pub best : IsBest setting budget nodes free_node advice.answer
@@ -47,12 +47,13 @@ abbrev pub Gives : ℕ → ℕ → TheSetting → Done → Type 0
 Gives budget nodes setting (Advised advice) = IsAdvice budget nodes setting advice
 Gives budget nodes setting done = ⊥
 
--- The text of an answer's certificate: the budget, the answer's configuration, cost, bound, sets of multipliers and tree. The
--- sets name the places of the grants of a programme that stands for the setting.
+-- The text of an answer's certificate: its version, which is 2 where a candidate is clustered, the budget, the answer's
+-- configuration, cost, bound, sets of multipliers and tree. The sets name the places of the grants of a programme that stands
+-- for the setting.
 pub record IsCertificateOf (setting : TheSetting) (budget : ℕ) (answer : Answer) (bytes : List ℕ) : Type 0 where
   pub programme : Programme
   pub stands : StandsFor setting programme
-  pub is_text : IsCertificate bytes (answer_cert programme budget answer)
+  pub is_text : IsCertificate bytes (answer_cert programme (version_of setting.shapes) budget answer)
 
 -- that text alone is put, into this file
 pub record IsCertificatePut (setting : TheSetting) (budget : ℕ) (answer : Answer) (file : List ℕ) (puts : List Put) : Type 0 where

@@ -1,7 +1,6 @@
 -- What `ruled` answers: which candidates to make within a budget of pages, where an administrator's rules say that some have
 -- to be, and that others never may.
 use Rattle.std.specs.Prelude.{◌≡◌, ◌≢◌, ◌⊎◌, ℕ, List, [], count_by, Option, Ok, Err}
-use Rattle.adv_base.specs.declared.setting.Config.{Config}
 use Rattle.adv_base.specs.Configs.{Fits}
 use Rattle.adv_base.specs.Settings.{TheSetting}
 use Rattle.bip_model.specs.declared.fix.Fix.{Fix}
@@ -9,7 +8,7 @@ use Rattle.bip_model.specs.Views.{node_of, is_in, is_out}
 use Rattle.dba_rules.specs.declared.fault.RuleFault.{RuleFault}
 use Rattle.dba_rules.specs.declared.fault.RuleFault.TheVariants as faults
 use Rattle.dba_rules.specs.Rules.{root_of}
-use Rattle.dba_rules.specs.Settled.{IsApart, IsFault}
+use Rattle.dba_rules.specs.Settled.{IsFault}
 use Rattle.programme_parts.specs.Combinations.{IsFirstBeyond}
 use Rattle.report.specs.declared.done.Done.{Done}
 use Rattle.report.specs.declared.done.Done.TheVariants.{Ruled as RuledDone}
@@ -19,15 +18,10 @@ use Rattle.report.specs.declared.done.Ruled.{Ruled}
 use Rattle.cophy_core.specs.Endings.{Put}
 use Rattle.cophy_core.specs.commands.Advise.{IsAdviceFrom, PutsFor}
 
--- what has to be fits the budget, and no two of it are clustered on one table
-pub record IsSettled (setting : TheSetting) (inside : Config) (budget : ℕ) : Type 0 where
-  pub fits : Fits setting.cat setting.shapes inside budget
-  pub apart : IsApart setting.shapes inside
-
--- the rules of a text make a root, from which a search can start
+-- the rules of a text make a root, and what has to be there fits the budget: a search can start from it
 pub record IsRootOf (setting : TheSetting) (rules : List ℕ) (budget : ℕ) (root : Fix) : Type 0 where
   pub root_is : root_of setting rules ≡ Ok root
-  pub settled : IsSettled setting (node_of root).inside budget
+  pub fits : Fits setting.cat setting.shapes (node_of root).inside budget
 
 -- advice from that root, with how many candidates the rules make in, and how many out
 pub record IsRuled (budget nodes : ℕ) (rules : List ℕ) (setting : TheSetting) (ruled : Ruled) : Type 0 where

@@ -4,7 +4,7 @@ ghost use Rattle.adv_base.specs.declared.limits.TheConstants.{MOST_CANDIDATES, M
 ghost use Rattle.bip_model.specs.StandsFor.{StandsFor};
 ghost use Rattle.bip_model.specs.Views.{node_of};
 ghost use Rattle.branch_bound.specs.Sides.{IsRoot};
-ghost use Rattle.adv_base.specs.Settings.{TheSetting, the_setting};
+ghost use Rattle.adv_base.specs.Settings.{the_setting};
 ghost use Rattle.report.specs.Texts.{FitsSetting, IsBoundedBy};
 ghost use Rattle.certificate.specs.Answers as answers;
 ghost use Rattle.candidates.specs.Candidates.{AreCandidates};
@@ -21,7 +21,9 @@ use adv_base::limits::MOST_CANDIDATES;
 use adv_base::{Config, List, NoMemory, Setting};
 use bip_model::{Answer, Fix, Programme, State, shown_bounds};
 use branch_bound::{Room, search};
-use certificate::{best_answers_keep_limits, standing_programmes_are_in_order, write_cert};
+use certificate::{
+    best_answers_keep_limits, standing_programmes_are_in_order, version_of, write_cert,
+};
 use report::{Advice, Done};
 use std::alloc::Global;
 
@@ -44,17 +46,18 @@ pub(crate) fn has_all_flags(config: &Config)
 /// The certificate of an answer, to be put into a file of that name.
 fn certificate_put(
     alloc: Global,
+    setting: &Setting<'_>,
     programme: &Programme,
     budget: u64,
     answer: &Answer,
     name: &str,
 ) -> Result<List<FilePut>, NoMemory>
+    requires stands { StandsFor (the_setting setting.now) programme.now }
     requires limits { answers.AnswerLimits programme.now budget answer.now }
     requires order { answers.InOrder programme.now }
-    ensures { IfOk result (λ puts. (setting : TheSetting) → StandsFor setting programme.now →
-        spec.IsCertificatePut setting budget answer.now name.now (plain_puts puts)) }
+    ensures { IfOk result (λ puts. spec.IsCertificatePut (the_setting setting.now) budget answer.now name.now (plain_puts puts)) }
 {
-    let bytes = write_cert(alloc, programme, budget, answer)?;
+    let bytes = write_cert(alloc, programme, version_of(setting.shapes), budget, answer)?;
     let puts = one_put(alloc, name, bytes)?;
     Ok(puts)
 }
@@ -62,18 +65,19 @@ fn certificate_put(
 /// The certificate of an answer, to be put where a file is named for it.
 pub(crate) fn certified(
     alloc: Global,
+    setting: &Setting<'_>,
     programme: &Programme,
     budget: u64,
     answer: &Answer,
     cert: Option<&str>,
 ) -> Result<List<FilePut>, NoMemory>
+    requires stands { StandsFor (the_setting setting.now) programme.now }
     requires limits { answers.AnswerLimits programme.now budget answer.now }
     requires order { answers.InOrder programme.now }
-    ensures { IfOk result (λ puts. (setting : TheSetting) → StandsFor setting programme.now →
-        spec.PutsFor (option_map (λ name. name.now) cert.entry) setting budget answer.now (plain_puts puts)) }
+    ensures { IfOk result (λ puts. spec.PutsFor (option_map (λ name. name.now) cert.entry) (the_setting setting.now) budget answer.now (plain_puts puts)) }
 {
     match cert {
-        Some(name) => certificate_put(alloc, programme, budget, answer, name),
+        Some(name) => certificate_put(alloc, setting, programme, budget, answer, name),
         None => Ok(List::new(alloc)),
     }
 }
@@ -93,7 +97,7 @@ pub(crate) fn advice_below(
     requires found { AreCandidates setting.now.cat.now setting.now.statements.now setting.now.shapes.now left_over }
     requires stands { StandsFor (the_setting setting.now) programme.now }
     requires few { AreFew setting.now.cat.now setting.now.statements.now }
-    requires root { IsRoot programme.now budget root.now }
+    requires root { IsRoot programme.now setting.now.shapes.now budget root.now }
     requires budget { budget ≤ MOST_ROWS }
     requires some { 1 ≤ nodes }
     requires nodes { nodes ≤ MOST_NODES }
@@ -101,7 +105,7 @@ pub(crate) fn advice_below(
     ensures bounded { IfOk result (λ advice. IsBoundedBy advice.answer.cost advice.answer.bound) }
 {
     let room = Room::new(alloc, programme, nodes)?;
-    let answer = search(programme, root, budget, nodes, room);
+    let answer = search(programme, setting.shapes, root, budget, nodes, room);
     shown_bounds();
     has_all_flags(&answer.config);
     Ok(Advice {
@@ -179,7 +183,7 @@ pub(crate) fn advise(
     let advice = best_advice(alloc, setting, &programme, left_over, budget, nodes)?;
     best_answers_keep_limits();
     standing_programmes_are_in_order();
-    let puts = certified(alloc, &programme, budget, &advice.answer, cert)?;
+    let puts = certified(alloc, setting, &programme, budget, &advice.answer, cert)?;
     Ok(Worked {
         done: Done::Advised(advice),
         puts,

@@ -70,7 +70,7 @@ pub(crate) fn ruled(
     let advice = advice_below(alloc, setting, &programme, &root, left_over, budget, nodes)?;
     best_answers_keep_limits();
     standing_programmes_are_in_order();
-    let puts = certified(alloc, &programme, budget, &advice.answer, cert)?;
+    let puts = certified(alloc, setting, &programme, budget, &advice.answer, cert)?;
     Ok(Worked {
         done: Done::Ruled(Ruled {
             must: in_count(&root),

@@ -1,7 +1,7 @@
 //! `sweep`: which candidates to make within each of several budgets of pages.
 ghost use Rattle.std.specs.Prelude.{◌≡◌, ◌+◌, ◌-◌, ◌*◌, ◌≤◌, ◌++◌, ℕ, decimal, length, slice_get, string_bytes, option_map, IfOk, IfErr, Some};
 ghost use Rattle.adv_base.specs.declared.limits.TheConstants.{MOST_CANDIDATES, MOST_NODES, MOST_ROWS};
-ghost use Rattle.adv_base.specs.Settings.{TheSetting, the_setting};
+ghost use Rattle.adv_base.specs.Settings.{the_setting};
 ghost use Rattle.bip_model.specs.declared.point.Point as points;
 ghost use Rattle.bip_model.specs.StandsFor.{StandsFor};
 ghost use Rattle.certificate.specs.Answers as answers;
@@ -19,7 +19,9 @@ use crate::worked::{FilePut, Worked};
 use adv_base::{List, NoMemory, Setting};
 use bip_model::{Point, Programme, shown_bounds};
 use budget_sweep::curves_bound;
-use certificate::{best_answers_keep_limits, standing_programmes_are_in_order, write_cert};
+use certificate::{
+    best_answers_keep_limits, standing_programmes_are_in_order, version_of, write_cert,
+};
 use report::Done;
 use std::alloc::Global;
 
@@ -43,6 +45,7 @@ fn certificate_name(alloc: Global, prefix: &str, number: u32) -> Result<String, 
 /// The certificate of a point, to be put into the file of its number.
 fn certificate_put(
     alloc: Global,
+    setting: &Setting<'_>,
     programme: &Programme,
     point: &Point,
     prefix: &str,
@@ -50,9 +53,15 @@ fn certificate_put(
 ) -> Result<FilePut, NoMemory>
     requires limits { answers.AnswerLimits programme.now point.now.budget point.now.answer }
     requires order { answers.InOrder programme.now }
-    ensures { IfOk result (inner.IsCertificateOfPoint programme.now point.now (prefix.now ++ decimal number)) }
+    ensures { IfOk result (inner.IsCertificateOfPoint (the_setting setting.now) programme.now point.now (prefix.now ++ decimal number)) }
 {
-    let bytes = write_cert(alloc, programme, point.budget, &point.answer)?;
+    let bytes = write_cert(
+        alloc,
+        programme,
+        version_of(setting.shapes),
+        point.budget,
+        &point.answer,
+    )?;
     let name = certificate_name(alloc, prefix, number)?;
     Ok(FilePut { name, bytes })
 }
@@ -60,19 +69,27 @@ fn certificate_put(
 /// Those of all points, numbered from 1.
 fn certificates(
     alloc: Global,
+    setting: &Setting<'_>,
     programme: &Programme,
     points: &[Point],
     prefix: &str,
 ) -> Result<List<FilePut>, NoMemory>
+    requires stands { StandsFor (the_setting setting.now) programme.now }
     requires few { length points.now ≤ 16 }
     requires limits { inner.KeepLimits programme.now points.now }
     requires order { answers.InOrder programme.now }
-    ensures { IfOk result (λ puts. (setting : TheSetting) → StandsFor setting programme.now →
-        spec.AreCertificates setting prefix.now 1 points.now (plain_puts puts)) }
+    ensures { IfOk result (λ puts. spec.AreCertificates (the_setting setting.now) prefix.now 1 points.now (plain_puts puts)) }
 {
     let mut items = Vec::new(alloc);
     'points: for at in 0..points.len() {
-        let put = certificate_put(alloc, programme, &points[at], prefix, at as u32 + 1)?;
+        let put = certificate_put(
+            alloc,
+            setting,
+            programme,
+            &points[at],
+            prefix,
+            at as u32 + 1,
+        )?;
         items.push(put)?;
     }
     Ok(List { items })
@@ -81,18 +98,19 @@ fn certificates(
 /// The certificates of points, to be put where a prefix of their names is given.
 fn certified(
     alloc: Global,
+    setting: &Setting<'_>,
     programme: &Programme,
     points: &[Point],
     cert: Option<&str>,
 ) -> Result<List<FilePut>, NoMemory>
+    requires stands { StandsFor (the_setting setting.now) programme.now }
     requires few { length points.now ≤ 16 }
     requires limits { inner.KeepLimits programme.now points.now }
     requires order { answers.InOrder programme.now }
-    ensures { IfOk result (λ puts. (setting : TheSetting) → StandsFor setting programme.now →
-        spec.PutsFor (option_map (λ name. name.now) cert.entry) setting points.now (plain_puts puts)) }
+    ensures { IfOk result (λ puts. spec.PutsFor (option_map (λ name. name.now) cert.entry) (the_setting setting.now) points.now (plain_puts puts)) }
 {
     match cert {
-        Some(prefix) => certificates(alloc, programme, points, prefix),
+        Some(prefix) => certificates(alloc, setting, programme, points, prefix),
         None => Ok(List::new(alloc)),
     }
 }
@@ -123,14 +141,14 @@ pub(crate) fn sweep(
     ensures stop { IfErr result (StopsAt (LacksProgramme (the_setting setting.now))) }
 {
     let programme = programme_of(alloc, setting)?;
-    let points = budget_sweep::sweep(alloc, &programme, first, step, count, nodes)?;
+    let points = budget_sweep::sweep(alloc, &programme, setting.shapes, first, step, count, nodes)?;
     curves_bound();
     shown_bounds();
     let curve = points.as_slice();
     have_all_flags(curve);
     best_answers_keep_limits();
     standing_programmes_are_in_order();
-    let puts = certified(alloc, &programme, curve, cert)?;
+    let puts = certified(alloc, setting, &programme, curve, cert)?;
     Ok(Worked {
         done: Done::Swept(points),
         puts,

@@ -56,5 +56,5 @@ returns-clause-setting c = record {
     is_workload = c.in_ok-parsed.ensures.found;
     bound = rw c.in_ok-parsed.ensures.same_text at c.in_ok-statements.ensures.exact;
   };
-  candidates_are = record { lists = rw c.as_slice.ensures at c.in_ok-found.ensures.list; plain = c.in_ok-found.ensures.plain; rest = rw c.as_slice.ensures at c.in_ok-found.ensures.left_over };
+  candidates_are = record { proposed = rw c.as_slice.ensures at c.in_ok-found.ensures.list; not_unique = c.in_ok-found.ensures.not_unique; rest = rw c.as_slice.ensures at c.in_ok-found.ensures.left_over };
 }

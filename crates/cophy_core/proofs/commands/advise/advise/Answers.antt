@@ -12,4 +12,4 @@ certified-requires-clause-order c =
     c.standing_programmes_are_in_order.ensures (the_setting c.args.setting.now) c.in_ok-programme.programme c.in_ok-programme.ensures.stands
 
 pub returns-clause-puts : goal.returns-clause-puts
-returns-clause-puts c = rw c.in_ok-advice.ensures.advice.budget_is (c.in_ok-puts.ensures (the_setting c.args.setting.now) c.in_ok-programme.ensures.stands)
+returns-clause-puts c = rw c.in_ok-advice.ensures.advice.budget_is c.in_ok-puts.ensures

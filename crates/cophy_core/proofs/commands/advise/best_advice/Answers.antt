@@ -6,7 +6,7 @@ use Rattle.cophy_core.proofs.Advising.{root_is, root_starts, from_free}
 use Rattle.cophy_core.proofs.commands.advise.best_advice.Goals as goal
 
 pub advice_below-requires-clause-root : goal.advice_below-requires-clause-root
-advice_below-requires-clause-root c = root_starts c.args.programme.now c.args.budget c.free_root-root.result c.free_root-root.ensures
+advice_below-requires-clause-root c = root_starts c.args.programme.now c.args.setting.now.shapes.now c.args.budget c.free_root-root.result c.free_root-root.ensures
 
 pub returns-clause-advice : goal.returns-clause-advice
 returns-clause-advice c =

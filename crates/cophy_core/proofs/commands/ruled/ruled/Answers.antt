@@ -4,7 +4,7 @@ use Rattle.cophy_core.proofs.commands.ruled.ruled.Goals as goal
 
 pub advice_below-requires-clause-root : goal.advice_below-requires-clause-root
 advice_below-requires-clause-root c =
-    root_starts (the_setting c.args.setting.now) c.in_ok-programme.programme c.args.budget c.in_ok-root.root c.in_ok-programme.ensures.stands c.in_ok-root.ensures.root.settled c.in_ok-root.ensures.past
+    root_starts (the_setting c.args.setting.now) c.in_ok-programme.programme c.args.budget c.in_ok-root.root c.in_ok-programme.ensures.stands c.in_ok-root.ensures.root.fits c.in_ok-root.ensures.past
 
 pub certified-requires-clause-limits : goal.certified-requires-clause-limits
 certified-requires-clause-limits c =

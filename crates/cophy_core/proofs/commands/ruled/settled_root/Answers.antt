@@ -8,4 +8,4 @@ returns-in-Err-clause-fault c = λ apart. record {
 }
 
 pub returns-in-Ok-clause-root : goal.returns-in-Ok-clause-root
-returns-in-Ok-clause-root c = record { root_is = c.in_ok-root.ensures.exact; settled = record { fits = c.in-Ok.ensures.fits; apart = c.in-Ok.ensures.apart } }
+returns-in-Ok-clause-root c = record { root_is = c.in_ok-root.ensures.exact; fits = c.in-Ok.ensures.fits }
