@@ -54,9 +54,15 @@ fn cert_of(rt: &impl Abort, alloc: Global, text: &str) -> Cert
     }
 }
 
-/// What a certificate proves of a workload.
-fn judged(rt: &impl Abort, alloc: Global, load: &str, text: &str) -> Result<Checked, CheckFault> {
-    let opened = open(rt, alloc, TWO.as_bytes(), load.as_bytes());
+/// What a certificate proves of a workload over a catalogue.
+pub(crate) fn judged(
+    rt: &impl Abort,
+    alloc: Global,
+    cat: &str,
+    load: &str,
+    text: &str,
+) -> Result<Checked, CheckFault> {
+    let opened = open(rt, alloc, cat.as_bytes(), load.as_bytes());
     let cert = cert_of(rt, alloc, text);
     check(alloc, &opened.setting(), &cert)
 }
@@ -71,7 +77,7 @@ fn changed(
     new: &str,
 ) -> Result<Checked, CheckFault> {
     let text = text.replacen(alloc, old, new, 1).expect(rt, "memory");
-    judged(rt, alloc, load, text.as_str())
+    judged(rt, alloc, TWO, load, text.as_str())
 }
 
 /// What is proved of a budget of 4 pages with the second index.
@@ -88,6 +94,7 @@ fn claims(rt: HostRuntime) {
     let alloc = rt.alloc();
     for (old, new, wanted) in [
         ("end", "end", proved(954000)),
+        ("certificate 1", "certificate 2", proved(954000)),
         ("bound 954000", "bound -7", proved(-7)),
         ("config 2", "config 3", Err(CheckFault::BadConfig(3))),
         ("config 2", "config 1 2 5 9", Err(CheckFault::BadConfig(5))),

@@ -6,6 +6,10 @@
 #[cfg(test)]
 mod checks;
 #[cfg(test)]
+mod clashes;
+#[cfg(test)]
+mod clustered;
+#[cfg(test)]
 mod lagrangian;
 #[cfg(test)]
 mod opened;

@@ -1,12 +1,13 @@
 //! What is proposed for statements: cases as lines.
 //!
-//! Each case is the key lists that a workload proposes, in sequence, `|` and the workload. They were written from the
-//! rules, by hand.
+//! Each case is the indexes that a workload proposes, in sequence, `|` and the workload; a star stands behind a clustered one.
+//! They were written from the rules, by hand.
 use crate::opened::{candidates_of, catalogue_of};
 use crate::texts::{SHOP, WORTH};
 use adv_base::{Catalogue, IndexShape};
 use candidates::Candidates;
 use std::alloc::{AllocError, Global};
+use std::process::Abort;
 
 /// A table without indexes, one with three and one with an index on both columns.
 const CATALOGUE: &str = r#"version = 1
@@ -138,7 +139,7 @@ t(a)|INSERT INTO t VALUES (1); DELETE FROM t WHERE a = 1
 const FOR_WORTH: &str =
     "customer(c_segment) customer(c_segment,c_id) orders(o_date) orders(o_cust) orders(o_id,o_date) orders(o_date,o_id,o_cust) lineitem(l_order) lineitem(l_order,l_price)";
 
-/// Writes a key list as `table(column,column)`.
+/// Writes an index as `table(column,column)`, and a star where it is clustered.
 fn add_shape(out: &mut Vec<u8>, cat: &Catalogue, shape: &IndexShape) -> Result<(), AllocError> {
     let Some(table) = cat.tables.items.get(shape.table as usize) else {
         return Ok(());
@@ -151,11 +152,18 @@ fn add_shape(out: &mut Vec<u8>, cat: &Catalogue, shape: &IndexShape) -> Result<(
         }
     }
     out.push(b')')?;
+    if shape.clustered {
+        out.push(b'*')?;
+    }
     Ok(())
 }
 
 /// The candidates as a line.
-fn shown(alloc: Global, cat: &Catalogue, found: &Candidates) -> Result<Vec<u8>, AllocError> {
+pub(crate) fn shown(
+    alloc: Global,
+    cat: &Catalogue,
+    found: &Candidates,
+) -> Result<Vec<u8>, AllocError> {
     let mut out = Vec::new(alloc);
     for (at, shape) in found.list.items.iter().enumerate() {
         if at > 0 {
@@ -166,21 +174,25 @@ fn shown(alloc: Global, cat: &Catalogue, found: &Candidates) -> Result<Vec<u8>, 
     Ok(out)
 }
 
-#[test]
-fn key_lists_by_hand(rt: HostRuntime) {
-    let alloc = rt.alloc();
-    let cat = catalogue_of(&rt, alloc, CATALOGUE.as_bytes());
-    for case in CASES.lines() {
-        let (wanted, text) = case.split_once('|').expect(&rt, "a bar");
-        let found = candidates_of(&rt, alloc, &cat, text.as_bytes());
-        let line = shown(alloc, &cat, &found).expect(&rt, "memory");
+/// Compares what each case wants with what its workload proposes over a catalogue.
+pub(crate) fn assert_cases(rt: &impl Abort, alloc: Global, cat: &str, cases: &str) {
+    let cat = catalogue_of(rt, alloc, cat.as_bytes());
+    for case in cases.lines() {
+        let (wanted, text) = case.split_once('|').expect(rt, "a bar");
+        let found = candidates_of(rt, alloc, &cat, text.as_bytes());
+        let line = shown(alloc, &cat, &found).expect(rt, "memory");
         assert_eq!(rt; line.as_slice(), wanted.as_bytes(), "in {text}");
         assert_eq!(rt; found.left_over, 0, "in {text}");
     }
 }
 
-/// A statement for each order of three of ten columns, each of which proposes that order and the columns sorted.
-fn all_orders(alloc: Global) -> Result<Vec<u8>, AllocError> {
+#[test]
+fn key_lists_by_hand(rt: HostRuntime) {
+    assert_cases(&rt, rt.alloc(), CATALOGUE, CASES);
+}
+
+/// A statement for each order of three of ten columns of t, each of which proposes that order and the columns sorted.
+pub(crate) fn all_orders(alloc: Global) -> Result<Vec<u8>, AllocError> {
     let mut text = Vec::new(alloc);
     for first in b'a'..=b'j' {
         for second in b'a'..=b'j' {

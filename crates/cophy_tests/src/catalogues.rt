@@ -30,6 +30,16 @@ c c
 c n
 i t_c "c"
 clustered = true
+= CLC
+t t
+may_cluster = true
+c c
+c n
+= CLAB
+t t
+may_cluster = true
+c a
+c b
 = AB
 t t
 c a

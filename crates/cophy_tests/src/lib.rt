@@ -7,6 +7,8 @@
 #![tactic(auto)]
 
 mod catalogues;
+#[cfg(test)]
+mod clustered;
 mod files;
 #[cfg(test)]
 mod histograms;

@@ -15,6 +15,8 @@ advise CAT LOAD 0|KNAP|-- weight 10~SELECT c FROM t ORDER BY c;~-- weight 11~SEL
 advise CAT LOAD 3|T|SELECT p.c FROM t p, t q WHERE p.c = q.c|proved cost 46000 bound 46000 budget 3~
 advise CAT LOAD 10|T|SELECT c FROM t ORDER BY c; UPDATE t SET c = 1|proved cost 110000 bound 110000 budget 10~
 advise CAT LOAD 10|EMPTY||proved cost 0 bound 0 budget 10~
+advise CAT LOAD 3|CLC 2|SELECT * FROM t ORDER BY c|proved cost 33000 bound 33000 budget 3~
+advise CAT LOAD 6|CLAB 2|SELECT * FROM t ORDER BY a; SELECT * FROM t ORDER BY b|proved cost 78000 bound 78000 budget 6~
 advise CAT LOAD 3000|ORDERS|-- weight 50~SELECT o.o_id, o.o_date, sum(l.l_price) AS revenue~FROM customer c JOIN orders o ON c.c_id = o.o_cust JOIN lineitem l ON l.l_order = o.o_id~WHERE c.c_segment = 'BUILDING' AND o.o_date BETWEEN DATE '1995-01-01' AND DATE '1995-03-31'~GROUP BY o.o_id, o.o_date ORDER BY revenue DESC, o.o_date LIMIT 10;~|proved cost 583783100 bound 583783100 budget 3000~"#;
 
 /// A workload over KNAP.

@@ -15,6 +15,7 @@ const RETUNED: &str =
 0|retune CAT LOAD CONF 4|KNAP|-- weight 10~SELECT c FROM t ORDER BY c;~-- weight 11~SELECT d, e FROM v ORDER BY d, e;~||
 0|retune CAT LOAD CONF 4|KNAP|-- weight 10~SELECT c FROM t ORDER BY c;~-- weight 11~SELECT d, e FROM v ORDER BY d, e;~|remove 1~remove 1~|
 0|retune CAT LOAD CONF 4|KNAP||add 10 SELECT c FROM t ORDER BY c~advise~|advice 1~budget 4~candidates 1 left over 0~pick 1 t(c) 3 pages~size 3~cost 130000~bound 130000~gap 0~nodes  of 20000~finished~
+0|retune CAT LOAD CONF 3|CLAB 2|SELECT * FROM t ORDER BY a|advise~add 2 SELECT a FROM t ORDER BY b~advise~|advice 1~budget 3~candidates 3 left over 0~pick 2 t(a) clustered 3 pages~size 3~cost 33000~bound 33000~gap 0~nodes  of 20000~finished~advice 2~budget 3~candidates 5 left over 0~pick 5 t(b) clustered 3 pages~size 3~cost 146000~bound 146000~gap 0~nodes  of 20000~finished~
 5|retune CAT LOAD CONF 4|KNAP|-- weight 10~SELECT c FROM t ORDER BY c;~-- weight 11~SELECT d, e FROM v ORDER BY d, e;~|remove 3~|refused: edit line 1: no statement 3~
 5|retune CAT LOAD CONF 4|KNAP|-- weight 10~SELECT c FROM t ORDER BY c;~-- weight 11~SELECT d, e FROM v ORDER BY d, e;~|add 5 SELECT c FROM~|refused: edit line 1: syntax at 14~
 5|retune CAT LOAD CONF 4|KNAP|-- weight 10~SELECT c FROM t ORDER BY c;~-- weight 11~SELECT d, e FROM v ORDER BY d, e;~|remove 2~remove 2~|refused: edit line 2: no statement 2~

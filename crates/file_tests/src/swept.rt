@@ -64,6 +64,22 @@ fn a_sweep_is_told_point_by_point(rt: HostRuntime) {
     assert_eq!(rt; TWO.changed(alloc, &shelf).expect(&rt, "memory"), None);
 }
 
+/// Candidates 2 and 5 cost 99000 in 6 pages, and clash: in 7 pages the second takes a statement, and a plain index that covers the
+/// other.
+#[test]
+fn a_sweep_has_one_clustered_index_a_table(rt: HostRuntime) {
+    let alloc = rt.alloc();
+    let files = Files {
+        cat: "CLAB 2",
+        load: "-- weight 2~SELECT * FROM t ORDER BY a;~SELECT * FROM t ORDER BY b~",
+        conf: "",
+    };
+    let mut shelf = files.shelf(alloc).expect(&rt, "memory");
+    let told =
+        "point 1 budget 3 size 3 cost 146000 bound 146000 best 146000 low 146000 nodes ~point 2 budget 7 size 7 cost 61000 bound 61000 best 61000 low 61000 nodes ~finished~";
+    assert_swept(&rt, alloc, &mut shelf, "sweep CAT LOAD 3 4 2", (0, told));
+}
+
 #[test]
 fn each_certificate_of_a_sweep_is_accepted(rt: HostRuntime) {
     let alloc = rt.alloc();

@@ -87,6 +87,10 @@ fn faults_of_certificates(rt: HostRuntime) {
             CheckFault::NotInfeasible(2, 3),
             "not proved: leaf 2 has size 3\n",
         ),
+        (
+            CheckFault::Clash(2, 5),
+            "not proved: candidates 2 and 5 clash\n",
+        ),
     ] {
         let done = Done::NotProved(NotProved::Fault(fault));
         assert_text(&rt, rt.alloc(), &done, None, want);

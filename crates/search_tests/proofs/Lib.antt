@@ -1,3 +1,2 @@
 pub mod Programmes
-pub mod Roots
 pub mod Ledgers

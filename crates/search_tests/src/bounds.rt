@@ -1,6 +1,7 @@
 //! Bounds that are worked out by hand, and those of small programmes at all nodes against a plain program.
-ghost use Rattle.std.specs.Prelude.{◌≡◌, ◌<◌, ◌≤◌, length};
+ghost use Rattle.std.specs.Prelude.{◌≡◌, ◌<◌, ◌≤◌, length, replicate};
 ghost use Rattle.adv_base.specs.declared.limits.TheConstants.{MOST_ROWS};
+ghost use Rattle.bip_model.specs.declared.fix.State.TheVariants.{Free};
 ghost use Rattle.bip_model.specs.Views.{AreMultipliers};
 ghost use Rattle.lagrange_bound.specs.Ledgers as ledgers;
 
@@ -14,21 +15,23 @@ use lagrange_bound::{
 use std::alloc::Global;
 use std::process::Abort;
 
+/// The node at which each candidate is free.
+pub(crate) fn free() -> Fix
+    ensures { result.state ≡ replicate 256 Free }
+{
+    Fix {
+        state: [State::Free; 256],
+    }
+}
+
 /// The node that says so much of the first four candidates; the others are free.
 fn node(states: [State; 4]) -> Fix {
-    let mut fix = Fix {
-        state: [State::Free; 256],
-    };
+    let mut fix = free();
     fix.state[0] = states[0];
     fix.state[1] = states[1];
     fix.state[2] = states[2];
     fix.state[3] = states[3];
     fix
-}
-
-/// The node at which each candidate is free.
-pub(crate) fn free() -> Fix {
-    node([State::Free; 4])
 }
 
 /// The node at which the first candidate is in.

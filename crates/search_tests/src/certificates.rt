@@ -13,10 +13,10 @@ use std::process::Abort;
 pub const CERTK: &str =
     "cophy certificate 1\nbudget 4\nconfig 2\ncost 954000\nbound 954000\nsets 0\ntree 3\nB 1\nL 0\nL 0\nend\n";
 
-/// What may stand in place of each byte of that certificate: at `d` any digit, at `n` any but 0, at `s` a minus too,
-/// elsewhere nothing else.
+/// What may stand in place of each byte of that certificate: at `v` a version, at `d` any digit, at `n` any but 0, at `s` a
+/// minus too, elsewhere nothing else.
 const CLASSES: &str =
-    "...................\n.......d\n.......n\n.....nddddd\n......sddddd\n......\n......\n..n\n...\n...\n...\n";
+    "..................v\n.......d\n.......n\n.....nddddd\n......sddddd\n......\n......\n..n\n...\n...\n...\n";
 
 /// What comes before the lines of two sets.
 const TWO_SETS: &str = "cophy certificate 1\nbudget 0\nconfig\ncost 0\nbound -1\nsets 2\n";
@@ -73,6 +73,7 @@ fn prefixes_break_at_their_last_line(rt: HostRuntime) {
 
 fn may_stand(class: u8, byte: u8) -> bool {
     match class {
+        b'v' => byte == b'1' || byte == b'2',
         b'd' => byte.is_ascii_digit(),
         b'n' => byte != b'0' && byte.is_ascii_digit(),
         b's' => byte == b'-' || (byte != b'0' && byte.is_ascii_digit()),
@@ -109,10 +110,12 @@ fn every_other_byte_breaks_or_says_something_else(rt: HostRuntime) {
 }
 
 /// What stands in the certificate, what stands there instead, and the line at which none goes on.
-const CHANGED: [(&str, &str, u64); 23] = [
+const CHANGED: [(&str, &str, u64); 25] = [
     ("end\n", "end\n\n", 12),
     ("end\n", "end\nx", 12),
-    ("certificate 1", "certificate 2", 1),
+    ("certificate 1", "certificate 10", 1),
+    ("certificate 1", "certificate 02", 1),
+    ("certificate 1", "certificate 1 ", 1),
     ("budget 4", "budget 04", 2),
     ("budget 4", "budget  4", 2),
     ("budget 4", "budget 1000000000001", 2),

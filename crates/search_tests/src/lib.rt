@@ -12,6 +12,8 @@ mod made;
 #[cfg(test)]
 mod plain;
 #[cfg(test)]
+mod problems;
+#[cfg(test)]
 mod rented;
 #[cfg(test)]
 mod searches;

@@ -7,7 +7,7 @@ ghost use Rattle.lagrange_bound.specs.Bounds as bounds;
 
 use crate::bounds::{agree, free, no_terms, numbered_node, with_lists, zero};
 use crate::made::{Draws, knapsack, mixed, shared};
-use crate::searches::{configuration, pages};
+use crate::problems::{configuration, pages};
 use adv_base::Config;
 use bip_model::{Fix, Multipliers, Programme, State, value};
 use lagrange_bound::{Terms, bound, carry, terms, total};
@@ -98,7 +98,7 @@ fn allows(state: State, has: bool) -> bool {
 }
 
 /// A configuration is below a node of the first four candidates.
-fn is_below(fix: &Fix, config: &Config) -> bool {
+fn obeys(fix: &Fix, config: &Config) -> bool {
     for place in 0..4 {
         if !allows(fix.state[place], config.on[place]) {
             return false;
@@ -123,7 +123,7 @@ fn bounds_costs_at(
     let mut fitting: u32 = 0;
     for chosen in 0..16 {
         let config = configuration(chosen);
-        if is_below(&fix, &config) && pages(programme, &config) <= budget {
+        if obeys(&fix, &config) && pages(programme, &config) <= budget {
             let cost = i128::try_from(value(programme, &config)).expect(rt, "cost");
             assert!(rt;
                 cost >= least,

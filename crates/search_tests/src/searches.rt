@@ -1,69 +1,32 @@
 //! Searches of programmes that are made by hand or drawn, against a plain program that tries every configuration.
-ghost use Rattle.std.specs.Prelude.{◌≡◌, ◌≤◌, replicate};
-ghost use Rattle.bip_model.specs.declared.fix.State.TheVariants.{Free};
+ghost use Rattle.std.specs.Prelude.{◌≤◌};
 
-use crate::made::{Draws, drawn, ordered, part, wide_programme, wide_slot};
-use adv_base::Config;
-use bip_model::{Answer, Fix, Programme, State, value};
+use crate::bounds::free;
+use crate::made::{Draws, drawn, mixed, ordered, part, shared, wide_programme, wide_slot};
+use crate::problems::{PLAIN, Problem, fits, least, shapes_of};
+use bip_model::{Answer, Programme, value};
 use branch_bound::{Room, search};
 use std::alloc::Global;
 use std::process::Abort;
 
-/// The root that leaves every candidate free.
-fn free() -> Fix
-    ensures { result.state ≡ replicate 256 Free }
-{
-    Fix {
-        state: [State::Free; 256],
-    }
-}
-
-/// The configuration whose candidates are the binary digits of a number.
-pub(crate) fn configuration(number: usize) -> Config {
-    let mut config = Config::none();
-    for index in 0..6 {
-        config.on[index] = (number >> index) & 1 == 1;
-    }
-    config
-}
-
-/// The pages of a configuration.
-pub(crate) fn pages(programme: &Programme, config: &Config) -> u64 {
-    let mut sum: u64 = 0;
-    for (size, on) in programme.sizes.as_slice().iter().zip(config.on.iter()) {
-        if *on {
-            sum = sum.saturating_add(*size);
-        }
-    }
-    sum
-}
-
-/// The least value of the 64 configurations that fits.
-pub(crate) fn least(programme: &Programme, budget: u64) -> u128 {
-    let mut best = u128::MAX;
-    for number in 0..64 {
-        let config = configuration(number);
-        if pages(programme, &config) <= budget {
-            best = best.min(value(programme, &config));
-        }
-    }
-    best
-}
-
-/// A search from the free root.
-fn searched(
-    rt: &impl Abort,
-    alloc: Global,
-    programme: &Programme,
-    budget: u64,
-    nodes: u32,
-) -> Answer
-    requires budget { budget ≤ 1000 }
+/// What a search answers.
+fn searched(rt: &impl Abort, alloc: Global, problem: &Problem<'_>, nodes: u32) -> Answer
+    requires budget { problem.now.budget ≤ 1000 }
     requires some { 1 ≤ nodes }
     requires most { nodes ≤ 20000 }
 {
+    let programme = problem.programme;
+    let shapes = shapes_of(rt, alloc, problem.tables);
+    let root = free();
     let room = Room::new(alloc, programme, nodes).expect(rt, "memory");
-    search(programme, &free(), budget, nodes, room)
+    search(
+        programme,
+        shapes.as_slice(),
+        &root,
+        problem.budget,
+        nodes,
+        room,
+    )
 }
 
 /// A bound lies below a cost.
@@ -72,14 +35,14 @@ pub(crate) fn is_below(bound: i128, cost: u128) -> bool {
 }
 
 /// What a search answers is right beside the least cost, and it gives up only where its nodes are spent.
-fn judge(rt: &impl Abort, alloc: Global, programme: &Programme, budget: u64, nodes: u32, best: u128)
-    requires budget { budget ≤ 1000 }
+fn judge(rt: &impl Abort, alloc: Global, problem: &Problem<'_>, nodes: u32, best: u128)
+    requires budget { problem.now.budget ≤ 1000 }
     requires some { 1 ≤ nodes }
     requires most { nodes ≤ 20000 }
 {
-    let answer = searched(rt, alloc, programme, budget, nodes);
-    assert!(rt; pages(programme, &answer.config) <= budget);
-    assert_eq!(rt; value(programme, &answer.config), answer.cost);
+    let answer = searched(rt, alloc, problem, nodes);
+    assert!(rt; fits(problem, &answer.config));
+    assert_eq!(rt; value(problem.programme, &answer.config), answer.cost);
     assert!(rt; best <= answer.cost);
     assert!(rt; is_below(answer.bound, best.saturating_add(1)));
     let made = answer.tree.len();
@@ -94,34 +57,92 @@ fn judge(rt: &impl Abort, alloc: Global, programme: &Programme, budget: u64, nod
 }
 
 /// The same with few nodes and many.
-fn judge_all(rt: &impl Abort, alloc: Global, programme: &Programme, budget: u64)
+fn judge_all(rt: &impl Abort, alloc: Global, programme: &Programme, tables: [u16; 6], budget: u64)
     requires budget { budget ≤ 1000 }
 {
-    let best = least(programme, budget);
-    judge(rt, alloc, programme, budget, 1, best);
-    judge(rt, alloc, programme, budget, 2, best);
-    judge(rt, alloc, programme, budget, 5, best);
-    judge(rt, alloc, programme, budget, 20000, best);
+    let problem = Problem {
+        programme,
+        tables,
+        budget,
+    };
+    let best = least(&problem);
+    judge(rt, alloc, &problem, 1, best);
+    judge(rt, alloc, &problem, 2, best);
+    judge(rt, alloc, &problem, 5, best);
+    judge(rt, alloc, &problem, 20000, best);
 }
 
-/// Drawn programmes, under budgets from nothing to all.
+/// Drawn programmes, under budgets from nothing to all, and where some of the candidates clash.
 #[test]
 fn as_by_trying_all(rt: HostRuntime) {
     let alloc = rt.alloc();
     let mut draws = Draws::new(2007);
     for _ in 0..16 {
         let programme = drawn(&rt, alloc, &mut draws);
-        judge_all(&rt, alloc, &programme, 0);
-        judge_all(&rt, alloc, &programme, 8);
-        judge_all(&rt, alloc, &programme, 14);
+        judge_all(&rt, alloc, &programme, PLAIN, 0);
+        judge_all(&rt, alloc, &programme, PLAIN, 8);
+        judge_all(&rt, alloc, &programme, PLAIN, 14);
+        judge_all(&rt, alloc, &programme, [1, 1, 2, 2, 2, 0], 14);
     }
 }
 
+/// With 1 to 70 nodes, and many.
+fn judge_nodes(rt: &impl Abort, alloc: Global, problem: &Problem<'_>, best: u128)
+    requires budget { problem.now.budget ≤ 1000 }
+{
+    for nodes in 1..71 {
+        judge(rt, alloc, problem, nodes, best);
+    }
+    judge(rt, alloc, problem, 20000, best);
+}
+
+/// So where candidates are clustered on these tables, at each budget at which the least cost falls. All have 20 pages.
+fn judge_budgets(rt: &impl Abort, alloc: Global, programme: &Programme, tables: [u16; 6]) {
+    let mut before = u128::MAX;
+    for budget in 0..21 {
+        let problem = Problem {
+            programme,
+            tables,
+            budget,
+        };
+        let best = least(&problem);
+        if best < before {
+            judge_nodes(rt, alloc, &problem, best);
+        }
+        before = best;
+    }
+}
+
+/// Two pairs of candidates that clash.
+const PAIRS: [u16; 6] = [1, 1, 2, 2, 0, 0];
+
+/// Three candidates that clash with each other.
+const THREE: [u16; 6] = [3, 0, 3, 3, 0, 0];
+
+#[test]
+fn clustered_as_by_trying_all(rt: HostRuntime) {
+    let alloc = rt.alloc();
+    judge_budgets(&rt, alloc, &mixed(&rt, alloc), PAIRS);
+    judge_budgets(&rt, alloc, &shared(&rt, alloc), THREE);
+}
+
 /// The best configuration within a budget has this cost, and the search says so.
-fn costs(rt: &impl Abort, alloc: Global, programme: &Programme, budget: u64, cost: u128)
+fn costs(
+    rt: &impl Abort,
+    alloc: Global,
+    programme: &Programme,
+    tables: [u16; 6],
+    budget: u64,
+    cost: u128,
+)
     requires budget { budget ≤ 1000 }
 {
-    let answer = searched(rt, alloc, programme, budget, 20000);
+    let problem = Problem {
+        programme,
+        tables,
+        budget,
+    };
+    let answer = searched(rt, alloc, &problem, 20000);
     assert_eq!(rt; answer.cost, cost);
     assert!(rt; !is_below(answer.bound, cost));
 }
@@ -161,9 +182,21 @@ pub(crate) fn knapsack_programme(rt: &impl Abort, alloc: Global) -> Programme {
 fn knapsack(rt: HostRuntime) {
     let alloc = rt.alloc();
     let programme = knapsack_programme(&rt, alloc);
-    costs(&rt, alloc, &programme, 0, 1680007);
-    costs(&rt, alloc, &programme, 3, 1010007);
-    costs(&rt, alloc, &programme, 4, 954007);
-    costs(&rt, alloc, &programme, 6, 954007);
-    costs(&rt, alloc, &programme, 7, 284007);
+    costs(&rt, alloc, &programme, PLAIN, 0, 1680007);
+    costs(&rt, alloc, &programme, PLAIN, 3, 1010007);
+    costs(&rt, alloc, &programme, PLAIN, 4, 954007);
+    costs(&rt, alloc, &programme, PLAIN, 6, 954007);
+    costs(&rt, alloc, &programme, PLAIN, 7, 284007);
+}
+
+/// Where both indexes are clustered on one table, the one that saves more is taken alone, however large the budget is.
+#[test]
+fn clustered_knapsack(rt: HostRuntime) {
+    let alloc = rt.alloc();
+    let programme = knapsack_programme(&rt, alloc);
+    let tables = [5, 5, 0, 0, 0, 0];
+    costs(&rt, alloc, &programme, tables, 3, 1010007);
+    costs(&rt, alloc, &programme, tables, 4, 954007);
+    costs(&rt, alloc, &programme, tables, 7, 954007);
+    costs(&rt, alloc, &programme, tables, 1000, 954007);
 }

@@ -2,7 +2,8 @@
 ghost use Rattle.std.specs.Prelude.{◌≤◌};
 
 use crate::made::{Draws, drawn};
-use crate::searches::{is_below, knapsack_programme, least, pages};
+use crate::problems::{PLAIN, Problem, least, pages, shapes_of};
+use crate::searches::{is_below, knapsack_programme};
 use bip_model::{Point, Programme};
 use budget_sweep::sweep;
 use std::alloc::Global;
@@ -31,7 +32,9 @@ fn is_point(
 fn knapsack_curve(rt: HostRuntime) {
     let alloc = rt.alloc();
     let programme = knapsack_programme(&rt, alloc);
-    let curve = sweep(alloc, &programme, 0, 3, 4, 20000).expect(&rt, "memory");
+    let shapes = shapes_of(&rt, alloc, PLAIN);
+    assert_eq!(&rt; programme.sizes.len(), 6);
+    let curve = sweep(alloc, &programme, shapes.as_slice(), 0, 3, 4, 20000).expect(&rt, "memory");
     match curve.as_slice() {
         [none, first, second, both] => {
             is_point(&rt, &programme, none, 0, 0, 1680000);
@@ -49,13 +52,19 @@ fn judge_curve(rt: &impl Abort, alloc: Global, programme: &Programme, nodes: u32
     requires some { 1 ≤ nodes }
     requires most { nodes ≤ 20000 }
 {
-    let curve = sweep(alloc, programme, 2, 2, 8, nodes).expect(rt, "memory");
+    let shapes = shapes_of(rt, alloc, PLAIN);
+    assert_eq!(rt; programme.sizes.len(), 6);
+    let curve = sweep(alloc, programme, shapes.as_slice(), 2, 2, 8, nodes).expect(rt, "memory");
     assert_eq!(rt; curve.len(), 8);
     let mut budget = 2;
     let mut best = u128::MAX;
     let mut low = i128::MAX;
     for point in curve.as_slice() {
-        let cost = least(programme, budget);
+        let cost = least(&Problem {
+            programme,
+            tables: PLAIN,
+            budget,
+        });
         assert_eq!(rt; point.budget, budget);
         assert!(rt; cost <= point.best && point.best <= best);
         assert!(rt; is_below(point.low, cost.saturating_add(1)) && point.low <= low);

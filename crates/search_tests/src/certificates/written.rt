@@ -1,5 +1,5 @@
 //! Certificates that are written from answers made by hand, and read again.
-ghost use Rattle.std.specs.Prelude.{◌≡◌};
+ghost use Rattle.std.specs.Prelude.{◌≡◌, ◌≤◌};
 ghost use Rattle.bip_model.specs.Values as values;
 ghost use Rattle.certificate.specs.Answers as answers;
 
@@ -17,16 +17,20 @@ fn is_written(
     rt: &impl Abort,
     alloc: Global,
     prog: &Programme,
+    version: u8,
     budget: u64,
     answer: &Answer,
     want: &str,
 )
+    requires some_version { 1 ≤ version }
+    requires version { version ≤ 2 }
     requires limits { answers.AnswerLimits prog.now budget answer.now }
     requires order { answers.InOrder prog.now }
 {
-    let bytes = write_cert(alloc, prog, budget, answer).expect(rt, "memory");
+    let bytes = write_cert(alloc, prog, version, budget, answer).expect(rt, "memory");
     assert_eq!(rt; bytes.as_slice(), want.as_bytes());
     let cert = read_cert(alloc, bytes.as_slice()).expect(rt, "a certificate");
+    assert_eq!(rt; cert.version, version);
     assert_eq!(rt; cert.budget, budget);
     assert_eq!(rt; cert.cost, answer.cost);
     assert_eq!(rt; cert.bound, answer.bound);
@@ -51,7 +55,7 @@ fn two_parts(rt: &impl Abort, alloc: Global) -> Programme
 }
 
 #[test]
-fn without_sets(rt: HostRuntime) {
+fn without_sets_in_both_versions(rt: HostRuntime) {
     let alloc = rt.alloc();
     let mut config = Config::none();
     config.on[1] = true;
@@ -67,7 +71,12 @@ fn without_sets(rt: HostRuntime) {
         ),
         useful: 2,
     };
-    is_written(&rt, alloc, &two_parts(&rt, alloc), 4, &answer, CERTK)
+    let prog = two_parts(&rt, alloc);
+    is_written(&rt, alloc, &prog, 1, 4, &answer, CERTK);
+    let second = CERTK
+        .replacen(alloc, "certificate 1", "certificate 2", 1)
+        .expect(&rt, "memory");
+    is_written(&rt, alloc, &prog, 2, 4, &answer, second.as_str())
 }
 
 /// Entries with rents of 0 before, between and behind them.
@@ -100,6 +109,7 @@ fn with_sets(rt: HostRuntime) {
         &rt,
         alloc,
         &two_parts(&rt, alloc),
+        1,
         1000000000000,
         &answer,
         "cophy certificate 1\nbudget 1000000000000\nconfig 1 256\ncost 0\nbound -12\nsets 2\nset 0 0\nset 65536 3\n2 1 256 7\n5 1 1 9\n5 2 256 1000000000000000000\ntree 3\nB 256\nX\nL 2\nend\n",
