@@ -2,9 +2,11 @@
 """Stands for the program in tests: its answers have the program's form and none of its sense.
 
 A statement costs 900000. A candidate is an index over one column of a table of the catalogue that a statement names; a
-statement that names table and column costs a tenth of that under it, and one that writes its table 1000 more. Advice is
-what saves something, or rules want, in the order of the candidates, as long as it fits; its certificate says what is to be
-proved. Statements that differ in literals are folded.
+statement that names table and column costs a tenth of that under it, and one that writes its table 1000 more. Where a table
+may be clustered there is a clustered candidate too, over columns with an index as well, under which such a statement costs
+a twentieth. Advice is what saves something, or rules want, clustered ones before others and otherwise in the order of the
+candidates, as long as it fits, one for a column and one clustered one for a table; its certificate says what is to be proved.
+Statements that differ in literals are folded.
 """
 from __future__ import annotations
 
@@ -16,6 +18,8 @@ from pathlib import Path
 
 MOST = int(os.environ.get("STAND_IN_MOST", "256"))
 """How many picks an advice has at most."""
+Index = tuple[str, str, int, bool]
+"""The table, the column and the pages of a candidate, and whether it is clustered."""
 
 
 def main() -> int:
@@ -44,8 +48,8 @@ def main() -> int:
     elif command == "retune":
         retune(Path(more[0]).read_text(), int(more[1]), every, Path(catalogue).read_text())
     elif command == "candidates":
-        for at, (table, column, pages) in enumerate(indexes[:256], 1):
-            print(f"{at} {table}({column}) {pages} pages")
+        for at, it in enumerate(indexes[:256], 1):
+            print(f"{at} {shown(it)} {it[2]} pages")
         print(f"left over {max(0, len(indexes) - 256)}")
     elif command == "check":
         print(Path(more[0]).read_text().splitlines()[-1])
@@ -56,12 +60,16 @@ def main() -> int:
     return 0
 
 
-def advise(budget: int, every: list[tuple[int, str]], indexes: list[tuple[str, str, int]], rules: str = "") -> str:
+def shown(index: Index) -> str:
+    return f"{index[0]}({index[1]}){' clustered' * index[3]}"
+
+
+def advise(budget: int, every: list[tuple[int, str]], indexes: list[Index], rules: str = "") -> str:
     """Prints advice; its certificate."""
     picks, size, cost, certificate = advised(budget, every, indexes, rules)
     print(f"budget {budget}\ncandidates {len(indexes)} left over 0")
     for at in picks:
-        print(f"pick {at} {indexes[at - 1][0]}({indexes[at - 1][1]}) {indexes[at - 1][2]} pages")
+        print(f"pick {at} {shown(indexes[at - 1])} {indexes[at - 1][2]} pages")
     print(f"size {size}\ncost {cost}\nbound {cost}\ngap 0\nnodes 1 of 20000\nfinished")
     return certificate
 
@@ -82,7 +90,7 @@ def retune(edits: str, budget: int, every: list[tuple[int, str]], catalogue: str
             advise(budget, every, candidates(catalogue, " ".join(text for _, text in every)))
 
 
-def sweep(words: list[str], every: list[tuple[int, str]], indexes: list[tuple[str, str, int]]) -> None:
+def sweep(words: list[str], every: list[tuple[int, str]], indexes: list[Index]) -> None:
     """Prints the points of the words, and writes their certificates."""
     first, step, count = map(int, words[:3])
     for at in range(1, count + 1):
@@ -94,13 +102,15 @@ def sweep(words: list[str], every: list[tuple[int, str]], indexes: list[tuple[st
 
 
 def advised(
-    budget: int, every: list[tuple[int, str]], indexes: list[tuple[str, str, int]], rules: str = ""
+    budget: int, every: list[tuple[int, str]], indexes: list[Index], rules: str = ""
 ) -> tuple[list[int], int, int, str]:
     """The picks, their pages, the cost, and a certificate."""
-    size, picks = 0, list[int]()
-    for at, it in sorted(enumerate(indexes, 1), key=lambda it: f"must {it[1][0]}({it[1][1]})" not in rules):
-        is_good = total(every, [it]) < total(every, []) or f"must {it[0]}({it[1]})" in rules
-        if is_good and len(picks) < MOST and size + it[2] <= budget and f"never {it[0]}({it[1]})" not in rules:
+    size, picks, lines = 0, list[int](), rules.splitlines()
+    for at, it in sorted(enumerate(indexes, 1), key=lambda it: (f"must {shown(it[1])}" not in lines, not it[1][3])):
+        is_good = total(every, [it]) < total(every, []) or f"must {shown(it)}" in lines
+        others = [indexes[other - 1] for other in picks]
+        is_free = not any(it[0] == other[0] and (it[1] == other[1] or it[3] and other[3]) for other in others)
+        if is_good and is_free and len(picks) < MOST and size + it[2] <= budget and f"never {shown(it)}" not in lines:
             picks, size = picks + [at], size + it[2]
     picks.sort()
     cost = total(every, [indexes[it - 1] for it in picks])
@@ -120,30 +130,31 @@ def folded(listed: list[tuple[str, str]], out: Path) -> str:
     return f"statements {len(listed)} folded {len(groups)} total 0"
 
 
-def candidates(catalogue: str, texts: str) -> list[tuple[str, str, int]]:
-    """The table, the column and the pages of each candidate."""
-    found = []
+def candidates(catalogue: str, texts: str) -> list[Index]:
+    """The candidates."""
+    found = list[Index]()
     for table in tomllib.loads(catalogue)["table"]:
         keys = {tuple(it["keys"][:1]) for it in table.get("index", ())}
         for it in table["column"]:
             is_named = all(re.search(rf"\b{name.lower()}\b", texts) for name in (table["name"], it["name"]))
-            if is_named and (it["name"],) not in keys and "postgres_no_key" not in it and it.get("postgres") != "":
-                found.append((table["name"], it["name"], table["pages"] // 4 + 2))
+            if is_named and "postgres_no_key" not in it and it.get("postgres") != "":
+                flags = [False] * ((it["name"],) not in keys) + [True] * table.get("may_cluster", False)
+                found += ((table["name"], it["name"], table["pages"] // 4 + 2, flag) for flag in flags)
     return found
 
 
-def price(text: str, indexes: list[tuple[str, str, int]]) -> int:
+def price(text: str, indexes: list[Index]) -> int:
     cost = 900000
-    for table, column, _ in indexes:
+    for table, column, _, is_clustered in indexes:
         names = re.search(rf"\b{table.lower()}\b", text)
         if names and not text.startswith("select"):
             cost += 1000
         elif names and re.search(rf"\b{column.lower()}\b", text.partition("\nwhere")[2]):
-            cost = min(cost, 90000)
+            cost = min(cost, 45000 if is_clustered else 90000)
     return cost
 
 
-def total(every: list[tuple[int, str]], indexes: list[tuple[str, str, int]]) -> int:
+def total(every: list[tuple[int, str]], indexes: list[Index]) -> int:
     return sum(weight * price(text, indexes) for weight, text in every)
 
 

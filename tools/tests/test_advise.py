@@ -64,7 +64,8 @@ class Shown(unittest.TestCase):
         from cophy_pg.rewrite.options import TEXTS
 
         given: dict[str, object] = {"nodes": None, "is_trusted": False, **dict.fromkeys(TEXTS, True), "min_calls": 1}
-        given |= {"program": "cophy", "sql": None, "log": None, "since": None, "tables": [], "users": []}
+        given |= {"program": "cophy", "sql": None, "log": None, "since": None}
+        given |= {"tables": [], "users": [], "may_cluster": []}
         text = commands_text(argparse.Namespace(**given), Folder("a\nb '$(c)"), 5, False)
         head, steps = text.split("cophy-pg export", 1)
         self.assertTrue(all(it.startswith("#") for it in head.splitlines()), head)

@@ -145,7 +145,8 @@ class Lint(unittest.TestCase):
 class Rules(unittest.TestCase):
     """Files of rules."""
 
-    CATALOGUE = HEAD + COLUMN + TEXT + '[[table.index]]\nname = "i"\nkeys = ["c"]\n'
+    SECOND = HEAD.replace("version = 1", "version = 2") + "may_cluster = true\n"
+    CATALOGUE = SECOND + COLUMN + TEXT + '[[table.index]]\nname = "i"\nkeys = ["c"]\n'
 
     def linted(self, rules: str, workload: str = "SELECT c FROM t") -> tuple[int, list[str]]:
         with tempfile.TemporaryDirectory() as folder:

@@ -66,7 +66,7 @@ def document(folder: str) -> dict[str, Any]:
         "database": "shop & <b>",
         "server": "15.18",
         "folder": folder,
-        "options": options | {"rules": None, "tables": [], "users": []},
+        "options": options | {"rules": None, "tables": [], "users": [], "may_cluster": []},
         "asked_pages": 262144,
         "budget_pages": 262144,
         "size_pages": 30,
@@ -85,19 +85,31 @@ def document(folder: str) -> dict[str, Any]:
                 "number": 4,
                 "table": "t",
                 "columns": ["b"],
+                "clustered": True,
                 "pages": 30,
                 "stored_pages": 20,
                 "name": "t_b_idx",
-                "statements": ['CREATE INDEX CONCURRENTLY "t_b_idx" ON "public"."t" ("b");'],
+                "statements": [
+                    'CREATE INDEX CONCURRENTLY "t_b_idx" ON "public"."t" ("b");',
+                    'CLUSTER "public"."t" USING "t_b_idx";',
+                ],
                 "outcome": "unknown",
                 "unknown_for": ["42883 a function or an operator isn't there: statement 2"],
                 "begins": None,
+                "notes": ["it locks <the table>", "hypopg shows no other order"],
                 "saves": {"ours": 80.0, "server": 88.8889, "cost_without": 9000000},
                 "changes": [change(1, ODD, 81.0, 88.8889), change(2, "UPDATE t SET b = 1", -1.0, 0.0)],
             }
         ],
         "left_out": [
-            {"number": 5, "table": "t", "columns": ["c"], "pages": 9, "why": "no plan of the server takes it"}
+            {
+                "number": 5,
+                "table": "t",
+                "columns": ["c"],
+                "clustered": False,
+                "pages": 9,
+                "why": "no plan of the server takes it",
+            }
         ],
         "statements": [
             statement(1, ODD, 9, 100.0, [4]),
@@ -148,7 +160,11 @@ class Page(unittest.TestCase):
         text = self.page()
         for part in (
             "1 index to make for shop &amp; &lt;b&gt;",
+            "<h3>1. t(b) clustered</h3>",
             "CREATE INDEX CONCURRENTLY &#34;t_b_idx&#34;",
+            "CLUSTER &#34;public&#34;.&#34;t&#34; USING &#34;t_b_idx&#34;;",
+            "<p>It locks &lt;the table&gt;.</p>\n<p>Hypopg shows no other order.</p>",
+            "<td><code>t(c)</code></td>",
             "<b>80.0 %</b> by our model and <b>88.9 %</b> by the server's planner",
             "Without it the workload costs 9,000 by our model, with it 1,800.",
             "42883 a function or an operator isn&#39;t there: statement 2",
@@ -206,6 +222,13 @@ class Page(unittest.TestCase):
         text = self.page()
         self.assertIn("No index is worth making for shop", text)
         self.assertIn("There are none.", text)
+
+    def test_a_folder_from_before_there_were_clustered_picks_is_shown(self) -> None:
+        for it in (*self.document["picks"], *self.document["left_out"], self.document["options"]):
+            for key in ("clustered", "notes", "may_cluster"):
+                it.pop(key, None)
+        self.write()
+        self.assertIn("<h3>1. t(b)</h3>", self.page())
 
     def test_what_is_no_folder_of_advise_is_refused(self) -> None:
         (self.here / "link.html").symlink_to(self.here / "plans.json")

@@ -71,6 +71,18 @@ class Points(InFolder):
         self.assertEqual([it.budget for it in at_once], [0, 33, 66, 99, 10**12])
         self.assertEqual([len(it.numbers.picks) for it in at_once], [0, 2, 3, 4, 6])
 
+    def test_clustered_picks_are_those_of_one_advice_after_the_other(self) -> None:
+        text = CATALOGUE.replace("version = 1", "version = 2").replace(
+            "rows = 1000\n", "rows = 1000\nmay_cluster = true\n", 1
+        )
+        (self.folder / "catalogue.toml").write_text(text)
+        found = self.swept(self.settings())
+        listed = [[it.shown() for it in point.numbers.picks] for point in found]
+        self.assertIn("t1(a) clustered", listed[-1])
+        self.assertEqual(
+            listed, [[it.shown() for it in point.numbers.picks] for point in self.swept(self.settings(without="sweep"))]
+        )
+
     def test_more_points_than_a_sweep_has_take_several(self) -> None:
         found = self.swept(self.settings(steps=40))
         self.assertEqual(self.commands()[:5], ["advise", "candidates", "sweep", "sweep", "sweep"])

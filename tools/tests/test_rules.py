@@ -22,7 +22,8 @@ def column(name: str, ours: str = "", more: str = "") -> str:
 
 
 def table(name: str, ours: str, *columns: str) -> str:
-    head = f'[[table]]\nname = "{name}"\nrows = 100\npages = 9\n' + (f"postgres = [{ours}]\n" * bool(ours))
+    head = f'[[table]]\nname = "{name}"\nrows = 100\npages = 9\nmay_cluster = true\n'
+    head += f"postgres = [{ours}]\n" * bool(ours)
     return head + "".join(columns)
 
 

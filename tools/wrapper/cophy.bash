@@ -44,6 +44,7 @@ _cophy_pg() {
         advise | daily)
             if [ "$command" = daily ]; then options+=" --keep"; fi
             options+=" --budget --folder --since --min-calls --min-saving --rules --most-per-table --no-curve --table --user --nodes --sql --log"
+            options+=" --may-cluster"
             options+="$rewriting --dsn --timeout --i-trust-the-statements --program --json"
             ;;
         health) options+=" --folder --min-size --dsn --timeout --program --json" ;;
@@ -51,10 +52,10 @@ _cophy_pg() {
         edits) options+=" --output --advise" ;;
         report) options+=" --output" ;;
         snapshot) options+=" --dsn --timeout" ;;
-        export) options+=" --dsn --sql --log --report --since --min-calls --table --user --timeout$rewriting --program" ;;
+        export) options+=" --dsn --sql --log --report --since --min-calls --table --user --may-cluster --timeout$rewriting --program" ;;
         rewrite) options+=" --report$rewriting --program" ;;
         rules) options+=" --skip-unknown" ;;
-        ddl) options+=" --script --include --rows-a-second --json" ;;
+        ddl) options+=" --script --include --rows-a-second --pages-a-second --json" ;;
         verify)
             options+=" --dsn --sql --log --since --min-calls --table --user --timeout --i-trust-the-statements"
             options+=" --advice --rules --json --program"

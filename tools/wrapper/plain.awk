@@ -5,7 +5,7 @@ BEGIN {
     known["[[table]]"] = " name rows pages postgres postgres_children "
     known["[[table.column]]"] = " name kind width distinct low high postgres postgres_type postgres_scale " \
         "postgres_fractions postgres_nulls postgres_no_key "
-    known["[[table.index]]"] = " name keys unique clustered postgres "
+    known["[[table.index]]"] = " name keys unique clustered postgres postgres_ordered "
 }
 { sub(/^[ \t]+/, ""); sub(/[ \t\r]+$/, "") }
 /^(#|$)/ { next }

@@ -5,7 +5,9 @@ import re
 from dataclasses import dataclass, field
 
 PAGE = 8192
-_PICK = re.compile(r"(?:pick )?(\d{1,18}) ([A-Za-z0-9_]+)\(([A-Za-z0-9_]+(?:, [A-Za-z0-9_]+)*)\) (\d{1,30}) pages\Z")
+_PICK = re.compile(
+    r"(?:pick )?(\d{1,18}) ([A-Za-z0-9_]+)\(([A-Za-z0-9_]+(?:, [A-Za-z0-9_]+)*)\)( clustered)? (\d{1,30}) pages\Z"
+)
 _LEFT_OVER = re.compile(r"^left over (\d{1,18})$", re.MULTILINE)
 _PRICE = re.compile(r"statement (\d{1,18}) weight (\d{1,18}) cost (\d{1,60})\Z")
 _POINT = re.compile(
@@ -31,15 +33,17 @@ class NoAnswer(Exception):
 
 @dataclass(frozen=True)
 class Candidate:
-    """A candidate index with its number, its table and its columns by their names in the catalogue, and its pages."""
+    """A candidate index with its number, its table and its columns by their names in the catalogue, its pages, and whether the
+    rows of its table are to lie in its order."""
 
     number: int
     table: str
     columns: tuple[str, ...]
     pages: int
+    is_clustered: bool = False
 
     def shown(self) -> str:
-        return f"{self.table}({', '.join(self.columns)})"
+        return f"{self.table}({', '.join(self.columns)}){' clustered' * self.is_clustered}"
 
 
 @dataclass
@@ -188,4 +192,4 @@ def _candidate(line: str) -> Candidate:
     found = _PICK.match(line)
     if found is None:
         raise NoAnswer("a line of an index can't be read")
-    return Candidate(int(found[1]), found[2], tuple(found[3].split(", ")), int(found[4]))
+    return Candidate(int(found[1]), found[2], tuple(found[3].split(", ")), int(found[5]), found[4] is not None)

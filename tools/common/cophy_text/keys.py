@@ -46,8 +46,8 @@ RANGES = {
     **{it: "a whole number from 0 to 1000000" for it in RATES},
 }
 OURS = "postgres"
-"""A key under which the export keeps what PostgreSQL calls a table or a column; `cophy` passes it over, as it does the
-keys below. A table's has its schema, its name, and words of these two. A column's is empty where PostgreSQL has no such
+"""A key under which the export keeps what PostgreSQL calls a table, a column or an index; `cophy` passes it over, as it does
+the keys below. A table's has its schema, its name, and words of these two. A column's is empty where PostgreSQL has no such
 column."""
 PARTITIONED, NOT_ANALYSED = "partitioned", "never analysed"
 NO_KEY = "postgres_no_key"
@@ -64,7 +64,9 @@ FRACTIONS = "postgres_fractions"
 """Whether values of a column lie between its numbers."""
 NULLS = "postgres_nulls"
 """The share of the rows that have no value in a column."""
-PASSED_OVER = frozenset((OURS, NO_KEY, CHILDREN, TAKEN, TYPE, SCALE, FRACTIONS, NULLS))
+ORDERED = "postgres_ordered"
+"""Whether the rows lie in the order of an index that isn't `clustered`, since they may be laid in another one."""
+PASSED_OVER = frozenset((OURS, NO_KEY, CHILDREN, TAKEN, TYPE, SCALE, FRACTIONS, NULLS, ORDERED))
 
 _STEP = re.compile(r"([a-z_]+)(?:\[(\d+)\])?")
 

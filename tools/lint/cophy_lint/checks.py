@@ -74,6 +74,11 @@ def elements_of(parent: dict[str, Any], part: str) -> list[dict[str, Any]]:
     return [it for it in listed if isinstance(it, dict)] if isinstance(listed, list) else []
 
 
+def clustered_index(table: dict[str, Any]) -> str:
+    """The name of the index by which a table is clustered; nothing where there is none."""
+    return next((str(it.get("name")) for it in elements_of(table, "index") if it.get("clustered") is True), "")
+
+
 def _table(path: str, table: dict[str, Any], named: set[str] | None) -> Iterator[Remark]:
     name = str(table.get("name"))
     notes = table.get(keys.OURS)
@@ -83,6 +88,9 @@ def _table(path: str, table: dict[str, Any], named: set[str] | None) -> Iterator
         yield Warning(path, f"{name!a} has no rows and counts as one row on one page: was it analysed?")
     elif table.get("pages") == 0:
         yield Warning(path, f"{name!a} has rows but no pages, and counts as one page")
+    clustered = clustered_index(table)
+    if clustered and table.get("may_cluster") is True:
+        yield Warning(path, f"{name!a} is clustered by {clustered!a} already, so may_cluster changes nothing")
     indexed = {
         str(key).lower()
         for index in elements_of(table, "index")

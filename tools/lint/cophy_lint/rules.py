@@ -7,7 +7,7 @@ from typing import Any
 from cophy_text import keys
 from cophy_text.rules import Rule, rules_in, why_not
 from cophy_text.tokens import names_in
-from cophy_lint.checks import Note, Remark, Warning, elements_of
+from cophy_lint.checks import Note, Remark, Warning, clustered_index, elements_of
 
 UNNAMED = "no statement names the table of a rule, so the rule changes nothing"
 
@@ -32,7 +32,8 @@ def rules_remarks(content: bytes, document: dict[str, Any], workload: bytes | No
         elif named is not None and rule.table.lower() not in named:
             found.append(Note(UNNAMED, f"{place} ({rule.table!a})"))
         else:
-            found += (Warning(place, it) for it in (*_of_table(rule, table), *_of_others(rule, seen)))
+            told = [*_of_table(rule, table), *_of_clustering(rule, table, document), *_of_others(rule, seen)]
+            found += (Warning(place, it) for it in told)
         seen.setdefault(rule.key(), (number, rule.verb))
     return found
 
@@ -48,11 +49,20 @@ def _of_table(rule: Rule, table: dict[str, Any]) -> Iterator[str]:
     for it in (*rule.columns, *([rule.column] if rule.column else [])):
         if it.lower() not in map(str.lower, columns):
             yield f"the table {rule.table!a} has no column {it!a}{_near(it, columns)}"
-    given = [it.lower() for it in rule.columns]
+    given = [it.lower() for it in rule.columns if not rule.is_clustered]
     for index in elements_of(table, "index"):
         known = index.get("keys")
         if given and isinstance(known, list) and [str(it).lower() for it in known] == given:
             yield f"the index exists already, as {str(index.get('name'))!a}, so it is no candidate"
+
+
+def _of_clustering(rule: Rule, table: dict[str, Any], document: dict[str, Any]) -> Iterator[str]:
+    """Why no index of a table is a clustered candidate, which the rule speaks of."""
+    clustered = clustered_index(table)
+    if rule.is_clustered and clustered:
+        yield f"the table is clustered by {clustered!a} already, so none that is clustered is a candidate"
+    elif rule.is_clustered and not (document.get("version") == 2 and table.get("may_cluster") is True):
+        yield "the table lacks may_cluster of version 2, so none that is clustered is a candidate"
 
 
 def _of_others(rule: Rule, seen: Seen) -> Iterator[str]:

@@ -15,6 +15,7 @@ from cophy_pg import export, folder, inputs
 from cophy_pg.amounts import amount, whole
 from cophy_pg.catalogue import read_schema
 from cophy_pg.choice import UNTAKEN, Choice, Limits, drop_by_limits, drop_by_server
+from cophy_pg.clustering import add_clustering, permit
 from cophy_pg.commands import commands_text
 from cophy_pg.curve import as_json as as_json_of_point
 from cophy_pg.folder import Folder
@@ -33,7 +34,6 @@ from cophy_pg.result import Result
 from cophy_pg.rewrite import Rewriter
 from cophy_pg.rewrite.options import options_of
 from cophy_pg.schema import Schema
-from cophy_pg.script import ROWS_A_SECOND
 from cophy_pg.searches import Rules, Searches, listed_in
 from cophy_pg.selection import add_selection, count, ran_once, selection_of
 from cophy_pg.server import Server, add_connection, connected, reading, version_of
@@ -94,6 +94,7 @@ def add_words(parser: argparse.ArgumentParser) -> None:
     source.add_argument("--sql", metavar="FILE", help="statements from a file of SQL, as export takes them")
     source.add_argument("--log", metavar="FILE", help="statements from a log, as export takes them")
     add_selection(parser)
+    add_clustering(parser)
     export.add_options(parser, has_report=False)
     add_connection(parser)
     add_trust(parser)
@@ -188,7 +189,7 @@ class Run:
             {
                 folder.VERIFY: json.dumps(as_json(result.judged, [none, kept, kept]), indent=2) + "\n",
                 folder.KEPT: text,
-                folder.DDL: ddl_text(result.schema, read_advice(text), rows_a_second=ROWS_A_SECOND),
+                folder.DDL: ddl_text(result.schema, read_advice(text), is_script=True),
                 folder.PLANS: json.dumps(result.plans.document(result.workload)) + "\n",
                 folder.COMMANDS: commands_text(
                     self.words, self.folder, result.advice.budget, bool(result.told["rules"])
@@ -212,6 +213,7 @@ class Run:
                     contents[folder.SNAPSHOT] = taken_of(server, given).text()
                 version = version_of(server)
             listed, found, self.warnings, name = export.read(server, given, selection_of(words), self.steps)
+            self.warnings += permit(found.schema, words.may_cluster)
             with reading(server, "READ COMMITTED"):
                 look_up(server, [Verdict(at, it, {}) for at, it in enumerate(listed, 1)], words.is_trusted)
         folding = Folding(lambda: export.catalogue_of(found, name), words.program, self.steps)
@@ -243,6 +245,7 @@ class Run:
                 "rules": words.rules,
                 "tables": words.tables,
                 "users": words.users,
+                "may_cluster": words.may_cluster,
             },
         }
 

@@ -46,7 +46,7 @@ SELECT c.relname::text FROM pg_catalog.pg_class c JOIN pg_catalog.pg_namespace n
 WHERE {OWN} AND c.relname ~* '_idx$' ORDER BY 1"""
 INDEXES = f"""
 SELECT i.indrelid::int8, x.relname::text, m.amname::text, i.indisunique, i.indisvalid AND i.indisready,
-       i.indpred IS NOT NULL, i.indexprs IS NOT NULL, i.indnkeyatts::int4, i.indkey::int2[]::int4[],
+       i.indpred IS NOT NULL, i.indexprs IS NOT NULL, i.indisclustered, i.indnkeyatts::int4, i.indkey::int2[]::int4[],
        i.indoption::int2[]::int4[],
        ARRAY(SELECT CASE WHEN a.attcollation <> l.coll THEN 'other'
                  WHEN EXISTS (SELECT FROM pg_catalog.pg_opclass d

@@ -41,7 +41,7 @@ def catalogue_text(schema: Schema, rates: dict[str, int], head: list[str]) -> st
     lines += [f"{name} = {rate}" for name, rate in rates.items()]
     for table in schema.tables.values():
         lines += ["", *(f"# {it}" for it in table.remarks), "[[table]]", f'name = "{table.shown}"']
-        lines += [f"rows = {table.rows}", f"pages = {table.pages}"]
+        lines += [f"rows = {table.rows}", f"pages = {table.pages}", *["may_cluster = true"] * table.may_cluster]
         notes = [keys.PARTITIONED] * table.is_partitioned + [keys.NOT_ANALYSED] * (not table.is_analysed)
         if notes or (table.schema, table.name) != ("public", table.shown):
             lines.append(f"{keys.OURS} = {_toml_list([table.schema, table.name, *notes])}")
@@ -84,7 +84,10 @@ def _end_text(column: Column, end: int) -> str:
 def _index(index: Index, table: Table) -> list[str]:
     names = ", ".join(f'"{table.columns[it].shown}"' for it in index.keys)
     lines = ["[[table.index]]", f'name = "{index.shown}"', f"keys = [{names}]"]
-    return lines + ["unique = true"] * index.unique + ["clustered = true"] * index.clustered
+    if index.shown != index.name:
+        lines.append(f"{keys.OURS} = {toml_text(index.name)}")
+    flags = (("unique", index.unique), ("clustered", index.clustered), (keys.ORDERED, index.ordered))
+    return lines + [f"{name} = true" for name, is_set in flags if is_set]
 
 
 class NoCatalogue(Exception):
@@ -95,8 +98,8 @@ def read_schema(content: bytes) -> Schema:
     """The schema of a catalogue that `cophy` takes, with the names that PostgreSQL knows where it has them."""
     try:
         document = tomllib.loads(content.decode())
-        has_bounds = document.get("version") == VERSION
-        tables = [_read_table(it, has_bounds) for it in _of(list, document.get("table", []))]
+        is_second = document.get("version") == VERSION
+        tables = [_read_table(it, is_second) for it in _of(list, document.get("table", []))]
         taken = _texts(document.get(keys.TAKEN, []))
     except (ValueError, TypeError, KeyError, AttributeError, RecursionError):
         raise NoCatalogue from None
@@ -117,17 +120,18 @@ def _texts(value: Any) -> list[str]:
     return [_of(str, it) for it in _of(list, value)]
 
 
-def _read_table(element: dict[str, Any], has_bounds: bool) -> Table:
+def _read_table(element: dict[str, Any], is_second: bool) -> Table:
     shown = _of(str, element["name"])
     schema, name, *notes = _texts(element.get(keys.OURS, ["public", shown]))
     table = Table(schema, name, shown, _of(int, element["rows"]), _of(int, element["pages"]))
     table.is_partitioned, table.is_analysed = keys.PARTITIONED in notes, keys.NOT_ANALYSED not in notes
+    table.may_cluster = is_second and _of(bool, element.get("may_cluster", False))
     for it in _of(list, element.get(keys.CHILDREN, [])):
         child_schema, child = _texts(it)
         table.children.append((child_schema, child))
     by_shown: dict[str, str] = {}
     for it in _of(list, element["column"]):
-        column = _read_column(it, has_bounds)
+        column = _read_column(it, is_second)
         if column.name:
             table.columns[column.name] = column
             by_shown[column.shown.lower()] = column.name
@@ -135,12 +139,12 @@ def _read_table(element: dict[str, Any], has_bounds: bool) -> Table:
             table.spares.append(column)
     for it in _of(list, element.get("index", [])):
         names = [by_shown[key.lower()] for key in _texts(it["keys"])]
-        flags = (_of(bool, it.get(flag, False)) for flag in ("unique", "clustered"))
-        table.indexes.append(Index(_of(str, it["name"]), it["name"], names, *flags))
+        flags = (_of(bool, it.get(flag, False)) for flag in ("unique", "clustered", keys.ORDERED))
+        table.indexes.append(Index(_of(str, it.get(keys.OURS, it["name"])), _of(str, it["name"]), names, *flags))
     return table
 
 
-def _read_column(element: dict[str, Any], has_bounds: bool) -> Column:
+def _read_column(element: dict[str, Any], is_second: bool) -> Column:
     shown, kind = _of(str, element["name"]), _of(str, element["kind"])
     if kind not in KINDS:
         raise ValueError
@@ -153,7 +157,7 @@ def _read_column(element: dict[str, Any], has_bounds: bool) -> Column:
         column.distinct = _of(int, element["distinct"])
     if kind != "text":
         column.low, column.high = _end(kind, element.get("low")), _end(kind, element.get("high"))
-        if has_bounds and "bounds" in element:
+        if is_second and "bounds" in element:
             column.bounds = _read_bounds(kind, _of(list, element["bounds"]))
     return column
 

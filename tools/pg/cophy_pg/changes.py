@@ -49,7 +49,8 @@ class Found:
             table, columns = names_of(self.schema, Candidate(0, pick["table"], tuple(pick["columns"]), 0))
         except NoIndex:
             return False
-        return any(it.keys == columns for it in table.indexes)
+        is_clustered = pick.get("clustered", False)
+        return any(it.keys == columns and it.clustered >= is_clustered for it in table.indexes)
 
 
 def add_changes(commands: argparse._SubParsersAction[argparse.ArgumentParser]) -> None:

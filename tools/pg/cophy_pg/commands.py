@@ -5,7 +5,7 @@ import argparse
 import shlex
 
 from cophy_text.files import shown
-from cophy_pg import folder
+from cophy_pg import clustering, folder
 from cophy_pg.folder import Folder
 from cophy_pg.rewrite.options import words_of
 
@@ -13,7 +13,7 @@ from cophy_pg.rewrite.options import words_of
 def commands_text(words: argparse.Namespace, kept: Folder, budget: int, has_rules: bool) -> str:
     """A line for each step, without the connection. The budget is the program's, in pages."""
     both = [kept.path(folder.CATALOGUE), kept.path(folder.WORKLOAD)]
-    chosen = _chosen(words)
+    chosen, written = _chosen(words), [*words_of(words), *clustering.words_of(words)]
     nodes = ["--nodes", str(words.nodes)] if words.nodes else []
     trusted = ["--i-trust-the-statements"] if words.is_trusted else []
     advice, certificate, curve = kept.path(folder.ADVICE), kept.path(folder.CERTIFICATE), kept.path(folder.CURVE)
@@ -22,7 +22,7 @@ def commands_text(words: argparse.Namespace, kept: Folder, budget: int, has_rule
         ruled = [[words.program, "ruled", *both, str(budget), kept.path(folder.RULES), *nodes]]
         advice = kept.path(folder.RULED)
     steps = [
-        ["cophy-pg", "export", *both, "--report", kept.path(folder.EXPORT), *chosen, *words_of(words)],
+        ["cophy-pg", "export", *both, "--report", kept.path(folder.EXPORT), *chosen, *written],
         ["cophy-lint", *both],
         [words.program, "advise", *both, str(budget), *nodes, "--cert", certificate],
         [words.program, "check", *both, certificate],

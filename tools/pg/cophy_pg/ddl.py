@@ -29,7 +29,7 @@ class Named:
 
     def shown(self) -> str:
         """Its name with its schema, as it is written."""
-        return f"{written_name(self.where[0])}.{written_name(self.name)}"
+        return written_path((self.where[0], self.name))
 
     def columns_text(self) -> str:
         """Its columns as they are written."""
@@ -41,27 +41,48 @@ class Named:
     def statement(self) -> str:
         """The statement that makes it."""
         concurrently = "CONCURRENTLY " if self.is_concurrent else ""
-        table = ".".join(map(written_name, self.where))
-        return f"CREATE INDEX {concurrently}{written_name(self.name)} ON {table} {self.columns_text()};"
+        return (
+            f"CREATE INDEX {concurrently}{written_name(self.name)} ON {written_path(self.where)} {self.columns_text()};"
+        )
+
+
+@dataclass(frozen=True)
+class Laid:
+    """A table whose rows are to be laid in the order of an index, and the name of that."""
+
+    where: tuple[str, str]
+    index: str
+
+    def statements(self) -> list[str]:
+        """The statements that lay them."""
+        table = written_path(self.where)
+        return [f"CLUSTER {table} USING {written_name(self.index)};", f"ANALYZE {table};"]
 
 
 @dataclass
 class Made:
-    """A pick with the indexes that stand for it, or why none can be made."""
+    """A pick with the indexes that stand for it, of a clustered one with the table that is laid in the order of its index, or
+    why none can be made."""
 
     pick: Candidate
     indexes: tuple[Named, ...] = ()
     why_not: str = ""
+    laid: Laid | None = None
 
     @property
     def name(self) -> str:
         """The name of the first index."""
-        return self.indexes[0].name if self.indexes else ""
+        return self.indexes[0].name if self.indexes else self.laid.index if self.laid else ""
+
+    @property
+    def where(self) -> tuple[str, str]:
+        """The table, where anything is made."""
+        return self.laid.where if self.laid else self.indexes[0].where
 
     @property
     def statements(self) -> list[str]:
         """The statements that make the indexes."""
-        return [it.statement() for it in self.indexes]
+        return [*(it.statement() for it in self.indexes), *(self.laid.statements() if self.laid else ())]
 
 
 def advice_of(file: str, may_be_retuned: bool = False) -> Advice:
@@ -98,6 +119,8 @@ def why_not(schema: Schema, pick: Candidate) -> str:
     given = {it.lower() for it in pick.columns}
     if given & {it.shown.lower() for it in table.spares}:
         return "it has a column that stands for what no index holds"
+    if pick.is_clustered and (table.is_partitioned or table.children or not table.may_cluster):
+        return "the catalogue doesn't say that the rows of its table may be laid anew"
     columns = names_of(schema, pick)[1]
     found = [it for it in columns if table.columns[it].no_key]
     return "; ".join(f"no index can have {table.columns[it].shown}: {table.columns[it].no_key}" for it in found)
@@ -106,6 +129,11 @@ def why_not(schema: Schema, pick: Candidate) -> str:
 def written_name(name: str) -> str:
     """A name in PostgreSQL's quotes, in printable ASCII whatever it holds."""
     return _written(name, '"', _PLAIN.match(name) is not None)
+
+
+def written_path(path: tuple[str, str]) -> str:
+    """A name behind its schema, as they are written."""
+    return ".".join(map(written_name, path))
 
 
 def written_text(text: str) -> str:
@@ -133,16 +161,21 @@ def create(schema: Schema, pick: Candidate, taken: set[str], keys: int | None = 
     if why:
         return Made(pick, why_not=why)
     table, columns = names_of(schema, pick)
+    where, there = (table.schema, table.name), table.index_over(columns) if pick.is_clustered else None
+    if there is not None and there.ordered:
+        return Made(pick, why_not=f"the rows lie in its order already, by the index {written_name(there.name)}")
+    if there is not None:
+        return Made(pick, laid=Laid(where, there.name))
     name = _free(f"{table.shown}_{'_'.join(pick.columns)}", taken)
     count = len(columns) if keys is None else keys
-    indexes = [Named(name, (table.schema, table.name), columns, count, not table.is_partitioned)]
+    indexes = [Named(name, where, columns, count, not table.is_partitioned)]
     for child in table.children:
         known = schema.tables.get(child)
         if known is None or not any(it.keys == columns for it in known.indexes):
             stem = known.shown if known is not None else re.sub(r"[^A-Za-z0-9_]", "_", child[1])
             own = _free(f"{stem}_{'_'.join(pick.columns)}", taken)
             indexes.append(Named(own, child, columns, count, True))
-    return Made(pick, tuple(indexes))
+    return Made(pick, tuple(indexes), laid=Laid(where, name) if pick.is_clustered else None)
 
 
 def _free(stem: str, taken: set[str]) -> str:

@@ -7,6 +7,7 @@ from cophy_text import files
 from cophy_text.answers import counted
 from cophy_pg import inputs
 from cophy_pg.catalogue import catalogue_text, read_schema
+from cophy_pg.clustering import add_clustering, permit
 from cophy_pg.folding import Folding
 from cophy_pg.program import add_program
 from cophy_pg.progress import Progress, say
@@ -40,6 +41,7 @@ def add_export(commands: argparse._SubParsersAction[argparse.ArgumentParser]) ->
     )
     source.add_argument("--log", metavar="FILE", help="statements from a log (stderr, csvlog or jsonlog)")
     add_selection(parser)
+    add_clustering(parser)
     add_options(parser)
     add_program(parser)
     parser.set_defaults(run=export)
@@ -80,6 +82,7 @@ def export(words: argparse.Namespace) -> int:
         given = inputs.from_log(files.read(words.log))
     with connected(words.dsn, words.timeout) as server:
         listed, found, warnings, name = read(server, given, selection, progress)
+    warnings += permit(found.schema, words.may_cluster)
     folding = Folding(lambda: catalogue_of(found, name), words.program, progress)
     workload = made(listed, Rewriter(found.schema, options.options_of(words)), progress, folding)
     catalogue = catalogue_of(found, name)

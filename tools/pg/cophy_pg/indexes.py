@@ -24,6 +24,7 @@ class Given:
     valid: bool
     partial: bool
     expressions: bool
+    clustered: bool
     count: int
     columns: list[str | None]
     options: list[int]
@@ -62,9 +63,9 @@ class Given:
 
 def given(row: Row, numbers: dict[int, str]) -> Given:
     """An index of the server, over the columns of a table by their numbers."""
-    table, name, method, unique, valid, partial, expressions, count, keys, options, classes = row
+    table, name, method, unique, valid, partial, expressions, clustered, count, keys, options, classes = row
     columns = [numbers.get(int(it)) for it in keys]
-    flags = (bool(unique), bool(valid), bool(partial), bool(expressions))
+    flags = (bool(unique), bool(valid), bool(partial), bool(expressions), bool(clustered))
     return Given(
         int(table), str(name), str(method), *flags, int(count), columns, [*map(int, options)], [*map(str, classes)]
     )
@@ -84,6 +85,7 @@ def fitting(listed: list[Given]) -> set[str]:
 def add_indexes(table: Table, listed: list[Given]) -> None:
     """Adds the indexes that the model has to a table; each other one leaves a remark."""
     taken: set[str] = set()
+    table.clustered_by = next((it.name for it in listed if it.clustered), "")
     for it in listed:
         why = it.why_not()
         if why:
@@ -131,7 +133,21 @@ def limit_indexes(tables: list[Table]) -> None:
 
 
 def mark_clustered(table: Table, correlations: dict[str, float]) -> None:
-    """Marks the index along whose leading column the rows lie, if there is one."""
-    best = max(table.indexes, key=lambda it: correlations.get(it.keys[0], 0.0), default=None)
-    if best is not None and correlations.get(best.keys[0], 0.0) >= ORDERED:
+    """Marks the index along whose leading column the rows lie, if there is one: before others that by which the table is
+    clustered, of which it is told where the rows have strayed from it."""
+    own = next((it for it in table.indexes if it.name == table.clustered_by and not table.children), None)
+
+    def lies(it: Index) -> tuple[bool, bool, float]:
+        if it is own:
+            # Its order may run down, and isn't known before the first ANALYZE.
+            return abs(correlations.get(it.keys[0], 1.0)) >= ORDERED, True, 1.0
+        correlation = correlations.get(it.keys[0], 0.0)
+        return correlation >= ORDERED, False, correlation
+
+    best = max(table.indexes, key=lies, default=None)
+    if best is not None and lies(best)[0]:
         best.clustered = True
+    if own is not None and not own.clustered:
+        table.remarks.append(
+            f"index {own.name!a} clusters the table, but by the last ANALYZE rows don't lie in its order"
+        )

@@ -5,6 +5,7 @@ import argparse
 import json
 import os
 from contextlib import suppress
+from textwrap import wrap
 from typing import Any
 
 from cophy_text import files
@@ -15,13 +16,15 @@ from cophy_pg.ddl import Made, advice_of, create, taken_names
 from cophy_pg.included import key_count, searched_columns
 from cophy_pg.progress import say
 from cophy_pg.schema import Schema
+from cophy_pg.script import script_text
 from cophy_pg.sizes import both, stored_pages
-from cophy_pg.script import ROWS_A_SECOND, script_text
+from cophy_pg.speed import PAGES_A_SECOND, ROWS_A_SECOND, Speed
 
 OWNERS = [
     "-- Let the owner of the tables run this, not a superuser: functions that an owner planted, as in a partition key or behind",
     "-- an event trigger, would run with a superuser's rights. What --script prints refuses a superuser there.",
 ]
+WAITS = "while it waits for the lock, all others wait behind it: what --script prints gives up soon"
 NEWER = "the catalogue is newer than the advice: if it has changed, export and advise again"
 
 
@@ -30,9 +33,9 @@ def add_ddl(commands: argparse._SubParsersAction[argparse.ArgumentParser]) -> No
     parser = commands.add_parser(
         "ddl",
         help="print the statements CREATE INDEX of an advice",
-        description="Prints CREATE INDEX CONCURRENTLY for each pick of an advice, with PostgreSQL's own names. Each runs by "
-        "itself, outside a transaction; psql -f runs them in turn. A pick that PostgreSQL can't make is left out, with "
-        "the reason.",
+        description="Prints CREATE INDEX CONCURRENTLY for each pick of an advice, with PostgreSQL's own names, and for a "
+        "clustered one CLUSTER and ANALYZE. Each runs by itself, outside a transaction; psql -f runs them in turn. A pick that "
+        "PostgreSQL can't make is left out, with the reason.",
     )
     parser.add_argument("catalogue", metavar="CATALOGUE", help="the catalogue that the advice is of")
     parser.add_argument(
@@ -56,14 +59,21 @@ def add_ddl(commands: argparse._SubParsersAction[argparse.ArgumentParser]) -> No
         type=rate,
         default=ROWS_A_SECOND,
         metavar="N",
-        help=f"how fast an index is made, for the script's estimates ({ROWS_A_SECOND})",
+        help=f"how fast an index is made, for the estimates ({ROWS_A_SECOND})",
+    )
+    parser.add_argument(
+        "--pages-a-second",
+        type=rate,
+        default=PAGES_A_SECOND,
+        metavar="N",
+        help=f"how fast CLUSTER writes a table beside its indexes, for the estimates ({PAGES_A_SECOND})",
     )
     parser.add_argument("--json", action="store_true", help="print JSON instead")
     parser.set_defaults(run=ddl)
 
 
 def rate(text: str) -> int:
-    """A number of rows a second."""
+    """A number of rows or pages a second."""
     if not 1 <= int(text) <= 10**12:
         raise ValueError
     return int(text)
@@ -84,8 +94,8 @@ def ddl(words: argparse.Namespace) -> int:
         )
     else:
         more = [f"-- {NEWER}"] if is_newer else []
-        rows_a_second = words.rows_a_second if words.script else None
-        print(ddl_text(schema, advice, searched, rows_a_second, more), end="")
+        speed = Speed(words.rows_a_second, words.pages_a_second)
+        print(ddl_text(schema, advice, searched, speed, words.script, more), end="")
     return 0
 
 
@@ -100,30 +110,42 @@ def made_of(schema: Schema, advice: Advice, searched: set[str] | None = None) ->
     """The indexes of an advice. Of columns that are searched, where that is known, the last one ends the keys."""
     taken = taken_names(schema)
     keys = {it.number: key_count(it, searched) for it in advice.picks} if searched is not None else {}
-    return [create(schema, it, taken, keys.get(it.number)) for it in advice.picks]
+    made = [create(schema, it, taken, keys.get(it.number)) for it in advice.picks]
+    # A table is laid anew before its other indexes are made, which would be made anew with it.
+    return sorted(made, key=lambda it: it.laid is None)
 
 
 def ddl_text(
     schema: Schema,
     advice: Advice,
     searched: set[str] | None = None,
-    rows_a_second: int | None = None,
+    speed: Speed = Speed(),
+    is_script: bool = False,
     more: list[str] | None = None,
 ) -> str:
-    """The statements with comments on what they are of, or a script, where it is said how fast an index is made."""
+    """The statements with comments on what they are of, or a script."""
     end = "the bound is reached: no other choice costs less" if advice.is_finished else "the bound isn't reached"
     made = made_of(schema, advice, searched)
     budget, size = both(advice.budget, None), both(advice.size, sum(stored_of(schema, it) for it in made))
     cost, bound, gap = map(grouped, (advice.cost, advice.bound, advice.gap))
     head = [*(more or []), f"-- budget {budget}, size {size}", f"-- cost {cost}, bound {bound}, gap {gap}: {end}"]
     left_out = [f"-- pick {it.pick.number} is left out, {_comment(it.why_not)}" for it in made if it.why_not]
-    if rows_a_second is not None:
-        return script_text(schema, made, [*head, *left_out], rows_a_second)
+    if is_script:
+        return script_text(schema, made, [*head, *left_out], speed)
     lines = [*head, *OWNERS]
     for it in made:
         lines += ["", f"-- pick {it.pick.number}: {both(it.pick.pages, stored_of(schema, it) or None)}"]
-        lines += it.statements if not it.why_not else [f"-- left out, {_comment(it.why_not)}"]
+        lines += [f"-- left out, {_comment(it.why_not)}"] if it.why_not else _statements(schema, it, speed)
     return "\n".join(lines) + "\n"
+
+
+def _statements(schema: Schema, made: Made, speed: Speed) -> list[str]:
+    """The statements of a pick, those that lock readers out behind what there is to say of that."""
+    lines = [it.statement() for it in made.indexes]
+    if made.laid is not None:
+        told = [*speed.told(schema.tables[made.where], len(made.indexes)), WAITS]
+        lines += [*(f"-- {it}" for text in told for it in wrap(text, 117)), *made.laid.statements()]
+    return lines
 
 
 def stored_of(schema: Schema, made: Made) -> int:
@@ -150,6 +172,7 @@ def _as_json(schema: Schema, advice: Advice, made: list[Made]) -> dict[str, Any]
                 "number": it.pick.number,
                 "table": it.pick.table,
                 "columns": it.pick.columns,
+                "clustered": it.pick.is_clustered,
                 "pages": it.pick.pages,
                 "stored_pages": stored_of(schema, it) or None,
                 "name": it.name or None,

@@ -10,6 +10,11 @@ from cophy_pg.inputs import Input
 from cophy_pg.workload import FROM
 
 MOST_NUMBERS = 20
+ORDINARY = (
+    "hypopg shows no rows in another order, so the server is asked about a clustered pick as about an ordinary index"
+)
+"""What is said where a pick is clustered. That no plan takes an ordinary index says little of it."""
+UNSHOWN = "no plan takes it as an ordinary index"
 
 
 @dataclass
@@ -61,7 +66,9 @@ class Outcome:
 
     def shown(self) -> str:
         """The outcome in a few words."""
-        words = {"taken": f"taken by {counted(self.users, 'statement')}", "not taken": "taken by no statement"}
+        ordinary = ", as an ordinary index" * self.pick.is_clustered
+        taken = f"taken by {counted(self.users, 'statement')}{ordinary}"
+        words = {"taken": taken, "not taken": "taken by no statement"}
         text = words.get(self.name, "unknown")
         if self.exists:
             return f"{text}; it is there already, as {self.exists}"
@@ -87,6 +94,8 @@ def outcomes(picks: list[Outcome], found: list[Verdict], texts: dict[int, str], 
         lost = [at for at in missing if names.search(texts.get(at, ""))]
         if lost:
             it.reasons["not among the statements that are given now"] = numbered("statement", lost)
+        if it.pick.is_clustered:
+            it.reasons[UNSHOWN] = ""
         it.name = "unknown" if it.reasons else "not taken"
 
 

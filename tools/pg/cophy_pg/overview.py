@@ -32,7 +32,7 @@ def lines_of(document: dict[str, Any]) -> list[str]:
 
 def named(pick: dict[str, Any]) -> str:
     """A pick by the names of the catalogue."""
-    return f"{pick['table']}({', '.join(pick['columns'])})"
+    return f"{pick['table']}({', '.join(pick['columns'])}){' clustered' * pick.get('clustered', False)}"
 
 
 def name_of(statement: dict[str, Any]) -> str:
@@ -80,8 +80,9 @@ def _pick(at: int, pick: dict[str, Any]) -> list[str]:
         f"   {space(pick['stored_pages'])}; saves {percent(saves['ours'])} by our model, "
         f"{percent(saves['server'])} by the server's{taken[pick['outcome']]}"
     ]
-    lines += [f"   unknown for {it}" for it in pick["unknown_for"]]
+    lines += [f"   unknown: {it}" for it in pick["unknown_for"]]
     lines += [f"   {pick['begins']} begins with its columns"] if pick["begins"] else []
+    lines += [f"   {it}" for it in pick["notes"]]
     for it in changes[:MOST_CHANGES]:
         numbers = f"{percent(it['ours']):>8} {percent(it['server']):>8}"
         lines += [f"   {numbers}  {name_of(it)}, {counted(it['calls'], 'call')}: {it['sql']}"]

@@ -114,7 +114,7 @@ def _cost(number: float) -> str:
 
 def _pick(pick: dict[str, Any]) -> dict[str, Any]:
     changes = [it | {"anchor": _anchor(it), "name": name_of(it)} for it in pick["changes"]]
-    return {**pick, "index": named(pick), "listed": changes}
+    return {"notes": [], **pick, "index": named(pick), "listed": changes}
 
 
 def _anchor(statement: dict[str, Any]) -> str:

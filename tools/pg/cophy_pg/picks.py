@@ -13,7 +13,7 @@ from cophy_pg.sizes import stored_pages
 from cophy_pg.trust import callable_of
 
 _INDEXES = """
-SELECT n.nspname::text, x.relname::text, i.indnkeyatts::int4,
+SELECT n.nspname::text, x.relname::text, i.indisclustered, i.indnkeyatts::int4,
     ARRAY(SELECT a.attname::text FROM unnest(i.indkey::int2[]) WITH ORDINALITY k(number, at)
         JOIN pg_catalog.pg_attribute a ON a.attrelid = i.indrelid AND a.attnum = k.number ORDER BY k.at)
 FROM pg_catalog.pg_index i JOIN pg_catalog.pg_class x ON x.oid = i.indexrelid
@@ -79,7 +79,10 @@ def make(server: Server, schema: Schema, advice: Advice) -> tuple[list[Outcome],
         table, columns = names_of(schema, it)
         outcome.stored = stored_pages(schema, it)
         try:
-            name = _there(server, table, columns, outcome) or hypothetical(server, home, table, columns)
+            name = _there(server, table, columns, outcome)
+            if outcome.reasons:
+                continue
+            name = name or hypothetical(server, home, table, columns)
             for child in table.children:
                 made[hypothetical(server, home, Table(*child, ""), columns)] = it.number
         except ServerFault as fault:
@@ -92,12 +95,19 @@ def make(server: Server, schema: Schema, advice: Advice) -> tuple[list[Outcome],
 
 
 def _there(server: Server, table: Table, columns: list[str], outcome: Outcome) -> str | None:
-    """The name of an index over these columns alone; another that begins with them is noted."""
-    for schema, name, count, keys in server.rows(_INDEXES, (table.schema, table.name)):
-        if keys[: len(columns)] == columns and len(columns) <= int(count):
-            shown = f"{str(schema)!a}.{str(name)!a}"
-            if len(keys) == len(columns):
-                outcome.exists = shown
-                return str(name)
-            outcome.begins = outcome.begins or shown
+    """The name of an index over these columns alone; another that begins with them is noted. Where the rows don't lie in its
+    order, it is the one of a clustered pick, of which plans show nothing."""
+    same = ""
+    for schema, name, clusters, count, keys in server.rows(_INDEXES, (table.schema, table.name)):
+        if keys[: len(columns)] != columns or len(columns) > int(count):
+            continue
+        shown, is_same = f"{str(schema)!a}.{str(name)!a}", len(keys) == len(columns)
+        lies = clusters or any(it.ordered and it.name == name for it in table.indexes)
+        if is_same and (lies or not outcome.pick.is_clustered):
+            outcome.exists = shown
+            return str(name)
+        same = same or shown * is_same
+        outcome.begins = outcome.begins or shown * (not is_same)
+    if same:
+        outcome.reasons[f"its index is there, as {same}, and plans don't show its order"] = ""
     return None

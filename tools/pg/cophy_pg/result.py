@@ -8,10 +8,12 @@ from cophy_text import VERSION
 from cophy_text.answers import Advice, Candidate, Prices
 from cophy_text.shown import short
 from cophy_pg.choice import Choice
-from cophy_pg.ddl import create, taken_names
+from cophy_pg.ddl import Made, create, taken_names
+from cophy_pg.outcomes import ORDINARY
 from cophy_pg.plans import Plans
 from cophy_pg.schema import Schema
 from cophy_pg.sizes import stored_size
+from cophy_pg.speed import Speed
 from cophy_pg.verify import Judged
 from cophy_pg.why import Reason
 from cophy_pg.workload import Record, Workload
@@ -78,11 +80,18 @@ class Result:
                     "outcome": outcome.name,
                     "unknown_for": [f"{why}: {where}" if where else why for why, where in outcome.reasons.items()],
                     "begins": outcome.begins or None,
+                    "notes": self._notes(made),
                     "saves": self._saves(it),
                     "changes": self._changes(it),
                 }
             )
         return sorted(found, key=lambda it: (-max(it["saves"]["ours"], it["saves"]["server"]), it["number"]))
+
+    def _notes(self, made: Made) -> list[str]:
+        """What a clustered pick asks of others, and how the server was asked about it."""
+        if made.laid is None:
+            return []
+        return [*Speed().told(self.schema.tables[made.where], len(made.indexes)), ORDINARY]
 
     def _saves(self, reason: Reason) -> dict[str, float]:
         """What the workload would cost more without a pick, in percent of what it costs without any."""
@@ -139,7 +148,13 @@ class Result:
 
 
 def _index(pick: Candidate) -> dict[str, Any]:
-    return {"number": pick.number, "table": pick.table, "columns": [*pick.columns], "pages": pick.pages}
+    return {
+        "number": pick.number,
+        "table": pick.table,
+        "columns": [*pick.columns],
+        "clustered": pick.is_clustered,
+        "pages": pick.pages,
+    }
 
 
 def _both(before: float | None, after: float | None) -> dict[str, float] | None:

@@ -10,6 +10,7 @@ from cophy_text import files
 from cophy_text.answers import counted
 from cophy_text.rules import MOST_KEYS, Rule
 from cophy_pg.catalogue import read_schema
+from cophy_pg.clustering import WORD
 from cophy_pg.progress import say
 from cophy_pg.schema import Column, Schema, Table
 
@@ -147,9 +148,12 @@ class Translation:
         if faults:
             raise NoRule("; ".join(faults))
         keys = [it.name for it in columns]
-        there = next((it for it in table.indexes if it.keys == keys and (it.clustered or not is_clustered)), None)
+        listed = (it for it in table.indexes if it.keys == keys)
+        there = next((it for it in listed if it.clustered or it.ordered or not is_clustered), None)
         if there is not None:
             self.remarks.append(f"line {number}: it is there already, as {there.name!a}, and is left out")
+        elif is_clustered and not table.may_cluster:
+            raise NoRule(f"by the catalogue the rows of {table.name!a} can't be laid anew: export it with {WORD}")
         return there is not None
 
     def _of_tables_and_columns(self, path: tuple[Name, ...]) -> Iterator[Rule]:

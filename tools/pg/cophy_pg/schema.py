@@ -53,13 +53,15 @@ class Column:
 
 @dataclass(eq=False)
 class Index:
-    """A btree index with all its keys, the included columns at their end."""
+    """A btree index with all its keys, the included columns at their end. `clustered` says that the rows lie in its order, and
+    `ordered` that they do, and may be laid in another one."""
 
     name: str
     shown: str
     keys: list[str]
     unique: bool = False
     clustered: bool = False
+    ordered: bool = False
 
 
 @dataclass(eq=False)
@@ -68,7 +70,8 @@ class Table:
 
     A table with a column that no index can have also has `spares` in the catalogue, which PostgreSQL doesn't have: a
     statement that needs such a column needs more of them than an index has keys, so that no index covers it. `children`
-    are the tables that inherit from it.
+    are the tables that inherit from it. `clustered_by` is the index by which PostgreSQL clusters it, and `may_cluster` says
+    that the rows may be laid in the order of a new one.
     """
 
     schema: str
@@ -84,6 +87,12 @@ class Table:
     remarks: list[str] = field(default_factory=list)
     spares: list[Column] = field(default_factory=list)
     children: list[tuple[str, str]] = field(default_factory=list)
+    clustered_by: str = ""
+    may_cluster: bool = False
+
+    def index_over(self, columns: list[str]) -> Index | None:
+        """The index with just these keys, if there is one."""
+        return next((it for it in self.indexes if it.keys == columns), None)
 
     def add_spares(self, is_needed: bool = False) -> None:
         """Adds the spare columns, where they are needed, be it for some column."""

@@ -2,14 +2,12 @@
 from __future__ import annotations
 
 from cophy_text import VERSION
-from cophy_text.answers import counted
 from cophy_text.shown import space
-from cophy_pg.ddl import Made, Named, written_text
+from cophy_pg.ddl import Laid, Made, Named, written_path, written_text
 from cophy_pg.schema import Schema, Table
 from cophy_pg.sizes import stored_pages
+from cophy_pg.speed import Speed
 
-ROWS_A_SECOND = 350_000
-"""So many rows a second CREATE INDEX CONCURRENTLY took in, as measured: tools/pg/README.md."""
 BRIEF, PATIENT = "5s", "30min"
 
 _HEAD = f"""\\set ON_ERROR_STOP on
@@ -72,31 +70,41 @@ ORDER BY CASE $1 WHEN 4 THEN -level ELSE level END, nspname, relname;
 """
 """The steps of a partitioned table, by their numbers: what an earlier run left INVALID is dropped, the indexes of what has
 parts are made alone, those of the parts, and these are attached; the fifth drops what isn't attached."""
+_LAID = """PREPARE cophy_laid (text, text, text) AS
+SELECT count(*) > 0 AS is_laid FROM pg_index i JOIN pg_class x ON x.oid = i.indexrelid
+JOIN pg_class t ON t.oid = i.indrelid JOIN pg_namespace n ON n.oid = t.relnamespace
+WHERE i.indisclustered AND n.nspname = $1 AND t.relname = $2 AND x.relname = $3;
+"""
 
 
-def script_text(schema: Schema, made: list[Made], head: list[str], rows_a_second: int) -> str:
+def script_text(schema: Schema, made: list[Made], head: list[str], speed: Speed) -> str:
     """The script. It can be run again after a fault, and with `-v undo=1` it drops what it made."""
     listed = [it for it in made if not it.why_not]
-    has_parts = any(_table(schema, it).is_partitioned for it in listed)
+    prepared = [_PARTS] * any(_table(schema, it).is_partitioned for it in listed)
+    prepared += [_LAID] * any(it.laid is not None for it in listed)
     lines = [f"-- Made by cophy-pg {VERSION}. The owner of the tables runs it: psql -X -f FILE"]
     lines += ["-- It may be run again after a fault. To drop what it made: psql -X -v undo=1 -f FILE", *head, ""]
-    lines += [_HEAD + _refuse_powers(listed) + (_PARTS if has_parts else "") + "\\if :{?undo}"]
+    lines += [_HEAD + _refuse_powers(listed) + "".join(prepared) + "\\if :{?undo}"]
     for it in reversed(listed):
         lines += _undo(_table(schema, it), it)
     lines += ["\\else"]
     for at, it in enumerate(listed, 1):
-        table = _table(schema, it)
-        seconds = counted(max(1, round(table.rows / rows_a_second)), "second")
-        size = space(stored_pages(schema, it.pick, it.indexes[0].keys) or it.pick.pages)
-        lines += ["", f"\\echo '{at} of {len(listed)}: {it.pick.shown()}, about {size} and {seconds}'"]
+        table, about = _table(schema, it), "by an index that is there"
+        if it.indexes:
+            size = space(stored_pages(schema, it.pick, it.indexes[0].keys) or it.pick.pages)
+            about = f"about {size} and {speed.of_index(table)}"
+        lines += ["", f"\\echo '{at} of {len(listed)}: {it.pick.shown()}, {about}'"]
         lines += _make_parts(table, it) if table.is_partitioned else _make(it)
+        if it.laid is not None:
+            lines += _lay(it, it.laid, speed.told(table, len(it.indexes)))
     return "\n".join([*lines, "", "\\endif", "\\echo done", ""])
 
 
 def _refuse_powers(listed: list[Made]) -> str:
     """Ends the script for a superuser, or who may become one, where a table, a partition or an event trigger's function is
     another role's: what that planted there, as in a partition key, would run with all rights."""
-    names = sorted({f"({', '.join(map(written_text, index.where))})" for it in listed for index in it.indexes})
+    tables = {it.where for it in listed} | {index.where for it in listed for index in it.indexes}
+    names = sorted(f"({', '.join(map(written_text, it))})" for it in tables)
     if not names:
         return ""
     return f"""WITH RECURSIVE touched AS (
@@ -117,7 +125,7 @@ WHERE NOT o.rolsuper AND o.rolname <> session_user AND (
 
 
 def _table(schema: Schema, made: Made) -> Table:
-    return schema.tables[made.indexes[0].where]
+    return schema.tables[made.where]
 
 
 def _make(made: Made) -> list[str]:
@@ -148,6 +156,28 @@ def _make(made: Made) -> list[str]:
     return lines
 
 
+def _lay(made: Made, laid: Laid, told: list[str]) -> list[str]:
+    """Lays the rows of a table in the order of its index, unless they are."""
+    cluster, analyse = laid.statements()
+    lines = [_is_laid(laid), "\\if :is_laid", "    \\echo 'its table is clustered by it already'", "\\else"]
+    lines += [f"    -- {it}" for it in told[1:]]
+    lines += [f"    \\echo '{told[0]}'", "    SET lock_timeout TO :'brief';", "    \\set ON_ERROR_STOP off"]
+    lines += [
+        f"    {cluster}",
+        "    \\set ON_ERROR_STOP on",
+        f"    {_is_laid(laid)}",
+        "    \\if :is_laid",
+        "    \\else",
+    ]
+    lines += [f"        {_fail(made, 'does not cluster its table yet: run the script again, or with -v undo=1')}"]
+    return [*lines, "    \\endif", "\\endif", "SET lock_timeout TO :'patient';", analyse]
+
+
+def _is_laid(laid: Laid) -> str:
+    """Asks whether a table is clustered by its index."""
+    return f"EXECUTE cophy_laid ({', '.join(map(written_text, (*laid.where, laid.index)))}) \\gset"
+
+
 def _make_parts(table: Table, made: Made) -> list[str]:
     state = _state(made.indexes[0])
     lines = ["SET lock_timeout TO :'patient';", state, *_refuse_other(made), _step(table, made, 1)]
@@ -163,6 +193,10 @@ def _make_parts(table: Table, made: Made) -> list[str]:
 
 def _undo(table: Table, made: Made) -> list[str]:
     lines = []
+    if made.laid is not None:
+        lines += ["SET lock_timeout TO :'brief';", _is_laid(made.laid), "\\if :is_laid"]
+        lines += [f"    ALTER TABLE {written_path(made.laid.where)} SET WITHOUT CLUSTER;"]
+        lines += [f"    \\echo 'the rows of {made.pick.table} stay as they lie'", "\\endif"]
     for index in made.indexes:
         wait, how = ("brief", "") if table.is_partitioned else ("patient", "CONCURRENTLY ")
         lines += [f"SET lock_timeout TO :'{wait}';", _state(index)]

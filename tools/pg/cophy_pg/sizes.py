@@ -48,12 +48,14 @@ def part_of(column: Column, rows: int) -> Part:
 
 
 def stored_pages(schema: Schema, pick: Candidate, keys: int | None = None) -> int | None:
-    """The pages of a pick as PostgreSQL stores it, whose first columns alone, where it is said how many, are keys; nothing
-    where it isn't of this catalogue."""
+    """The pages of a pick as PostgreSQL stores it, whose first columns alone, where it is said how many, are keys; none where the
+    table is laid in the order of an index that is there, and nothing where it isn't of this catalogue."""
     try:
         table, names = names_of(schema, pick)
     except NoIndex:
         return None
+    if pick.is_clustered and table.index_over(names) is not None:
+        return 0
     columns = [table.columns[it] for it in names]
     rows = max(1, table.rows)
     is_shared = keys in (None, len(columns)) and not any(it.type in NOT_SHARED for it in columns)
@@ -62,7 +64,8 @@ def stored_pages(schema: Schema, pick: Candidate, keys: int | None = None) -> in
 
 def stored_size(schema: Schema, picks: Iterable[Candidate]) -> int:
     """The pages of picks together."""
-    return sum(stored_pages(schema, it) or it.pages for it in picks)
+    known = ((it.pages, stored_pages(schema, it)) for it in picks)
+    return sum(model if stored is None else stored for model, stored in known)
 
 
 def both(model: int, stored: int | None) -> str:

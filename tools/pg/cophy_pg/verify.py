@@ -13,7 +13,7 @@ from cophy_pg import inputs
 from cophy_pg.catalogue import read_schema
 from cophy_pg.ddl import advice_of
 from cophy_pg.explain import Explainer, NoStatement, add_names, statement_of
-from cophy_pg.outcomes import Outcome, Verdict, outcomes, texts_in, unmatched
+from cophy_pg.outcomes import ORDINARY, Outcome, Verdict, outcomes, texts_in, unmatched
 from cophy_pg.parameters import Columns
 from cophy_pg.picks import index_names, make, replaceable
 from cophy_pg.program import Program, ProgramFault, add_program
@@ -250,6 +250,8 @@ def _print(judged: Judged, prices: list[Prices] | None) -> None:
             print(f"{it.shown()}: a call costs more with the picks: {costs}")
         if it.fault:
             print(f"{it.shown()}: not explained: {it.fault}: {short(it.input.text)}")
+    if any(it.pick.is_clustered for it in judged.outcomes):
+        print(ORDINARY)
     print(_verdict(judged))
 
 
@@ -291,6 +293,7 @@ def as_json(judged: Judged, prices: list[Prices] | None) -> dict[str, Any]:
             "taken_by": sorted({at for v in judged.verdicts if it.pick.number in v.taken for at in v.written}),
             "reasons": it.reasons,
             "exists": it.exists or None,
+            **({"note": ORDINARY} if it.pick.is_clustered else {}),
         }
         for it in judged.outcomes
     ]

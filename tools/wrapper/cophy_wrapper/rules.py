@@ -31,6 +31,8 @@ def _of_line(text: str, line: str, rule: Rule | None, catalogue: dict[str, Any])
         yield "an earlier line says the contrary of that candidate: cophy candidates tells which it is"
     elif text.startswith("rules no candidate"):
         yield "what must be is a candidate: no index that exists, and one that cophy candidates lists"
+        if rule is not None and rule.is_clustered:
+            yield "one that is clustered may be where its table has may_cluster, of version 2, and no index that is clustered"
     elif rule is None or text.startswith("rules line"):
         yield why_not(line)
     else:
