@@ -1,7 +1,7 @@
 #!/usr/bin/env -S python3 -IB
 """Searches on workloads of many shapes (`shapes.py`), six budgets each: whether it closed within the nodes, or the gap; nodes,
 sets, time. Beside it, in the same run, cbc, glpsol and HiGHS on the same programme, where they are installed. Constants of
-the search were chosen on odd seeds, so what is shown is of even ones."""
+the search were chosen on odd seeds, so what is shown is of even ones; those for clustered candidates the other way round."""
 import argparse
 import os
 import sys
@@ -56,7 +56,7 @@ def print_sums(rows: list[Row]) -> None:
 def searched(options: argparse.Namespace, advice: Advice, name: str, seed: int, folder: str) -> list[Row]:
     """The searches of one workload."""
     paths = [os.path.join(folder, f"workload.{end}") for end in ("toml", "sql")]
-    for path, text in zip(paths, texts(name, seed)):
+    for path, text in zip(paths, texts(name, seed, options.may_cluster)):
         with open(path, "w") as file:
             file.write(text)
     printed = advice.printed([["print-files", *paths]])[0]
@@ -83,17 +83,19 @@ def main() -> None:
     parser = argparse.ArgumentParser(description=__doc__)
     add_options(parser)
     parser.add_argument("--shapes", help=f"with blanks between (default: {' '.join(SHAPES)})")
-    parser.add_argument("--seeds", default="2 4", help="with blanks between (default: 2 4)")
+    parser.add_argument("--seeds", help="with blanks between (default: 2 4, and 1 3 with --may-cluster)")
+    parser.add_argument("--may-cluster", action="store_true", help="each table may get one clustered index")
     parser.add_argument("--nodes", type=int, default=20000, help="nodes of a search (default: 20000)")
     parser.add_argument("--most", type=float, default=MOST_SECONDS, help="seconds that a solver may take (default: 60)")
     parser.add_argument("--no-solvers", action="store_true", help="leave the solvers out")
     options = parser.parse_args()
     names = options.shapes.split() if options.shapes else list(SHAPES)[:3] if options.quick else list(SHAPES)
+    seeds = options.seeds or ("1 3" if options.may_cluster else "2 4")
     rows: list[Row] = []
     with made(options) as advice, TemporaryDirectory() as folder:
         print_row(HEADS, WIDTHS)
         for name in names:
-            for seed in map(int, options.seeds.split()):
+            for seed in map(int, seeds.split()):
                 rows += searched(options, advice, name, seed, folder)
         print_sums(rows)
 

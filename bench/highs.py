@@ -9,7 +9,7 @@ from scipy.optimize import Bounds, LinearConstraint, milp
 from scipy.sparse import csr_matrix
 
 sys.path.insert(0, os.path.dirname(os.path.realpath(__file__)))
-from printed import Part, Programme, programme_of, slot_ways, useful  # noqa: E402
+from printed import Part, Programme, groups, programme_of, slot_ways, useful  # noqa: E402
 
 
 class Model:
@@ -26,6 +26,8 @@ class Model:
             self.add_part(q, part)
         if self.open:
             self.row(-numpy.inf, budget, [(self.candidates[a], programme.sizes[a - 1]) for a in self.open])
+        for group in groups(programme, self.open):
+            self.row(-numpy.inf, 1, [(self.candidates[a], 1) for a in group])
 
     def column(self, cost: float) -> int:
         self.costs.append(cost)

@@ -1,5 +1,5 @@
 """Programmes as `advice_bench print` prints them, and the same programme in the LP format of solvers."""
-from collections.abc import Iterator
+from collections.abc import Collection, Iterator
 from dataclasses import dataclass, field
 
 Prices = list[int | None]
@@ -33,6 +33,8 @@ class Part:
 
 @dataclass
 class Programme:
+    # The number of the table on which each candidate is clustered; None where it is on none.
+    clustered: Prices = field(default_factory=list)
     kept: int = 0
     sizes: list[int] = field(default_factory=list)
     upkeep: list[int] = field(default_factory=list)
@@ -48,7 +50,9 @@ def programme_of(text: str) -> Programme:
     made = Programme()
     for line in text.splitlines():
         kind, *words = line.split()
-        if kind == "kept":
+        if kind == "clustered":
+            made.clustered = prices(words)
+        elif kind == "kept":
             made.kept = int(words[0])
         elif kind == "sizes":
             made.sizes = [int(word) for word in words]
@@ -82,6 +86,16 @@ def useful(programme: Programme, budget: int) -> set[int]:
     return {number for number in found if programme.sizes[number - 1] <= budget}
 
 
+def groups(programme: Programme, of: Collection[int]) -> list[list[int]]:
+    """Of some candidates those that are clustered, table by table, where there are more than one."""
+    found: dict[int, list[int]] = {}
+    for number in sorted(of):
+        table = programme.clustered[number - 1]
+        if table is not None:
+            found.setdefault(table, []).append(number)
+    return [numbers for _, numbers in sorted(found.items()) if len(numbers) > 1]
+
+
 def cost(programme: Programme, chosen: set[int]) -> int:
     """What the workload costs under a configuration, in thousandths of a page read."""
     total = programme.kept + sum(programme.upkeep[number - 1] for number in chosen)
@@ -109,7 +123,8 @@ def lp_text(programme: Programme, budget: int) -> str:
     """The programme for a budget in the LP format, in pages read of a thousand units each.
 
     CoPhy's: one template of each statement, at each slot one way to read it among those that give the order that the
-    template needs, a way through a candidate only where the candidate is chosen, and the chosen ones within the budget.
+    template needs, a way through a candidate only where the candidate is chosen, and the chosen ones within the budget,
+    of those that are clustered on one table one at most.
     Ways of a slot are kept by order and not by template, and all that use one candidate at one slot are held by it
     together, which is as strong a form as there is of this programme. Ways that cost no less than what exists are left
     out. Only the candidates have to be whole.
@@ -124,6 +139,8 @@ def lp_text(programme: Programme, budget: int) -> str:
     lines = ["Minimize", " obj:", *sum_lines([f"+ {constant} one", *costs]), "Subject To", " c_one: one = 1", *rows]
     if open_:
         lines += [" budget:", *sum_lines([f"+ {programme.sizes[a - 1]} z{a}" for a in open_]), f" <= {budget}"]
+    for number, group in enumerate(groups(programme, open_)):
+        lines += [f" clustered{number}:", *sum_lines([f"+ 1 z{a}" for a in group]), " <= 1"]
     lines += ["Binary" if open_ else "", *sum_lines([f"z{a}" for a in open_]), "End", ""]
     return "\n".join(lines)
 

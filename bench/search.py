@@ -11,7 +11,7 @@ from tempfile import TemporaryDirectory
 sys.path.insert(0, os.path.dirname(os.path.realpath(__file__)))
 from advice import Advice, add_options, made  # noqa: E402
 from measure import print_row  # noqa: E402
-from printed import Programme, cost, lp_text, programme_of, useful  # noqa: E402
+from printed import Programme, cost, groups, lp_text, programme_of, useful  # noqa: E402
 from searches import numbers  # noqa: E402
 from solvers import MOST_SECONDS, REPEATS, SHORT_SECONDS, Solved, installed  # noqa: E402
 from workloads import Workload, workload_of  # noqa: E402
@@ -66,6 +66,8 @@ def faults(row: Row, programme: Programme) -> list[str]:
         found.append("another cost")
     if sum(programme.sizes[number - 1] for number in row.chosen) > told["budget"]:
         found.append("over the budget")
+    if groups(programme, row.chosen):
+        found.append("two clustered on one table")
     if len(useful(programme, told["budget"])) != told["useful"]:
         found.append("another count of useful candidates")
     for name, solved in row.solved.items():

@@ -47,8 +47,9 @@ SHARES = (20, 100, 300, 1000, 3000, 5000)
 class Maker:
     """Makes the texts of a shape from a seed."""
 
-    def __init__(self, shape: Shape, seed: int):
+    def __init__(self, shape: Shape, seed: int, may_cluster: bool):
         self.shape = shape
+        self.may_cluster = may_cluster
         self.draws = random.Random(seed)
 
     def column(self, number: int, rows: int, order: int) -> str:
@@ -68,6 +69,8 @@ class Maker:
         text = (
             f'[[table]]\nname = "t{number}"\nrows = {rows}\npages = {rows // self.draws.choice(ROWS_OF_A_PAGE) + 1}\n'
         )
+        if self.may_cluster:
+            text += "may_cluster = true\n"
         text += "".join(self.column(it, rows, order) for it in range(shape.columns))
         if self.draws.randrange(3):
             clustered = "true" if self.draws.randrange(2) else "false"
@@ -116,10 +119,10 @@ class Maker:
 
     def texts(self) -> tuple[str, str]:
         """A catalogue and a workload."""
-        catalogue = "version = 1\n" + "".join(self.table(it) for it in range(self.shape.tables))
+        catalogue = f"version = {2 if self.may_cluster else 1}\n" + "".join(self.table(it) for it in range(self.shape.tables))
         return catalogue, "".join(self.statement() for _ in range(self.shape.statements))
 
 
-def texts(name: str, seed: int) -> tuple[str, str]:
-    """The catalogue and the workload of a shape."""
-    return Maker(SHAPES[name], seed).texts()
+def texts(name: str, seed: int, may_cluster: bool = False) -> tuple[str, str]:
+    """The catalogue and the workload of a shape, whose tables may be clustered or not."""
+    return Maker(SHAPES[name], seed, may_cluster).texts()
