@@ -21,7 +21,9 @@ from patience import LONG
 MISSING = missing() or ("" if has_extension("hypopg") else "postgresql-15-hypopg isn't installed")
 MISSING = MISSING or ("" if importlib.util.find_spec("jinja2") else "python3-jinja2 isn't installed")
 BLOCK = re.compile(r"^```([^\n]*)\n(.*?)^```$", re.MULTILINE | re.DOTALL)
-COMMAND = re.compile(r"(?:\./cophy|cophy-[a-z]+|tools/|apt-get|service|su|useradd|psql|export|rt|pip|python3|make)\b")
+COMMAND = re.compile(
+    r"(?:\./cophy|cophy-[a-z]+|(?:tools|bench)/|apt-get|service|su|useradd|psql|export|rt|pip|python3|make)\b"
+)
 STATEMENTS = """SELECT id, name FROM customer WHERE city = 'City 3';
 SELECT id FROM sales.orders WHERE total = 17.75 ORDER BY id;
 UPDATE customer SET name = 'Name 9' WHERE id = 12;

@@ -66,10 +66,10 @@ class Documents(unittest.TestCase):
                             self.assertEqual(ran.stdout, output)
 
     def test_code_of_the_documents_stands_in_the_sources(self) -> None:
-        for document, least in (("docs/CRATES.md", 5), ("docs/PROOFS.md", 1)):
+        for document, least in (("docs/CRATES.md", 5), ("docs/PROOFS.md", 2)):
             text = (ROOT / document).read_text()
-            files = [(ROOT / it).read_text() for it in re.findall(r"`(crates/\S+\.rt)`", text)]
-            blocks = re.findall(r"^```rust\n(.*?)^```$", text, re.MULTILINE | re.DOTALL)
+            files = [(ROOT / it).read_text() for it in re.findall(r"`(crates/\S+\.(?:rt|antt))`", text)]
+            blocks = re.findall(r"^```(?:rust|antt)\n(.*?)^```$", text, re.MULTILINE | re.DOTALL)
             self.assertGreaterEqual(len(blocks), least)
             for block in blocks:
                 with self.subTest(document=document, block=block[:60]):

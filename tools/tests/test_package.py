@@ -87,7 +87,8 @@ class Package(OverCopy):
             for it in ("unproved", "checkout", "COPHY_", "build"):
                 self.assertNotIn(it, text)
         self.assertRegex(
-            self.run_there(there, "--version").stdout, r"\Acophy 1\.0\.0, .*; catalogue versions 1 and 2, .*\n\Z"
+            self.run_there(there, "--version").stdout,
+            r"\Acophy 1\.0\.0, .*; catalogue versions 1 and 2, certificate versions 1 and 2\n\Z",
         )
         self.assertEqual(self.run_there(there, "cost", "--help").stdout, told.stdout)
         self.assertEqual(self.run_there(there).stderr, told.stdout)

@@ -9,6 +9,7 @@ import unittest
 import zlib
 from dataclasses import replace
 from pathlib import Path
+from typing import Any
 
 from cophy_fleet.calls import Failed, NoCommand, Refused, Settings, said
 from cophy_fleet.outcomes import Point
@@ -143,7 +144,8 @@ class Order(InFolder):
                 store.keep(Answer(name, "digest", "", "one", "two", seconds, seconds))
             store.fail("failed", "nothing listens there")
             settings = Settings("", "", 8, 20000, 600)
-            run = Run(None, Fleet(tuple(fleet)), settings, store, print)  # type: ignore[arg-type]
+            nobody: Any = None
+            run = Run(nobody, Fleet(tuple(fleet)), settings, store, print)
             found = [it.name for it in run.longest_first()]
         self.assertEqual(found, ["large", "small", "failed", "new", "long", "short", "refused"])
 

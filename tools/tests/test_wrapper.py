@@ -16,7 +16,7 @@ class Wrapper(OverCopy):
                 self.copy.build()
             table = [(it, b"cophy explain CAT") for it in helped]
             table += [(it, b"is built" if is_built else b"isn't built yet") for it in versions]
-            table += [(it, b"; catalogue versions 1 and 2, certificate version 1\n") for it in versions]
+            table += [(it, b"; catalogue versions 1 and 2, certificate versions 1 and 2\n") for it in versions]
             table += [(it, f"cophy {VERSION}, commit ".encode()) for it in versions]
             for words, told in table:
                 with self.subTest(words=words, is_built=is_built):

@@ -55,7 +55,8 @@ class Run:
 
     async def all(self) -> None:
         """Answers for each database of the fleet, the failures too."""
-        await self.client.wait_for_workers(1)  # type: ignore[func-returns-value]
+        client: Any = self.client  # its types say that nothing is awaited
+        await client.wait_for_workers(1)
         for server in sorted({it.server for it in self.fleet.databases if it.service}):
             # Whoever uses the same cluster counts the same connections.
             name = f"cophy-fleet {self.fleet.connections} {server}"
