@@ -49,6 +49,17 @@ def commands(document: str) -> Iterator[str]:
             yield from (shlex.join(shlex.split(it, comments=True)) for it in text.splitlines())
 
 
+class OfLint(unittest.TestCase):
+    def test_what_the_documents_show_beside_a_block_finds_no_fault(self) -> None:
+        text = "\n".join((ROOT / it).read_text() for it in documents())
+        found = set(re.findall(r"`(tools/lint/cophy-lint examples/[^`]+)`", text))
+        self.assertTrue(found)
+        for line in sorted(found):
+            with self.subTest(line=line):
+                ran = subprocess.run(shlex.split(line), cwd=ROOT, capture_output=True, check=False, timeout=LONG)
+                self.assertEqual(ran.returncode, 0, ran.stdout + ran.stderr)
+
+
 class Marks(unittest.TestCase):
     def test_each_block_with_commands_is_run_or_marked(self) -> None:
         found = 0
