@@ -82,6 +82,42 @@ class Documents(unittest.TestCase):
                 self.assertIn(f"```{mark}\n{(ROOT / 'examples' / name).read_text()}```\n", text)
 
 
+@unittest.skipUnless(COPHY.exists(), "the program isn't built")
+class Savings(unittest.TestCase):
+    def asked(self, *words: str, line: str) -> int:
+        """The number behind that word in what the program prints."""
+        ran = subprocess.run([str(COPHY), *words], cwd=ROOT, capture_output=True, text=True, check=False, timeout=LONG)
+        found = re.search(rf"^{line} (\d+)$", ran.stdout, re.MULTILINE)
+        assert found is not None, ran.stdout
+        return int(found[1])
+
+    def saved(self, catalogue: str, workload: str, budget: int) -> tuple[int, float]:
+        """What the workload costs without new indexes, and how many percent of that the best ones save."""
+        before = self.asked("cost", catalogue, workload, line="total")
+        return before, 100 - 100 * self.asked("advise", catalogue, workload, str(budget), line="cost") / before
+
+    def test_the_readme_says_what_the_example_saves(self) -> None:
+        text = " ".join((ROOT / "README.md").read_text().split())
+        files = ("examples/shop.toml", "examples/shop.sql")
+        before, percent = self.saved(*files, 500)
+        space = self.asked("advise", *files, "500", line="size") * 8192 / 2**20
+        self.assertIn(f"costs {before} thousandths", text)
+        self.assertIn(f"two indexes of {space:.1f} MB save {percent:.1f} percent", text)
+
+    def test_the_readme_says_what_its_picture_shows(self) -> None:
+        text = " ".join((ROOT / "README.md").read_text().split())
+        found = re.search(r"(\d+) MB of indexes save (\d+) percent of its cost by the model, (\d+) MB half", text)
+        assert found is not None
+        parts = re.split(r"(?=^-- weight )", (ROOT / "examples/tpch/workload.sql").read_text(), flags=re.MULTILINE)
+        with tempfile.TemporaryDirectory() as folder:
+            workload = Path(folder) / "workload.sql"
+            workload.write_text("".join(it for it in parts if it.startswith("-- weight 1\n")))
+            for space, told in ((found[1], int(found[2])), (found[3], 50)):
+                pages = int(space) * 2**20 // 8192
+                percent = self.saved("examples/tpch/catalogue.toml", str(workload), pages)[1]
+                self.assertAlmostEqual(percent, told, delta=1)
+
+
 class Named(unittest.TestCase):
     def test_links_lead_somewhere(self) -> None:
         for document in documents():
