@@ -29,6 +29,14 @@ def documents() -> list[Path]:
     return sorted(it for it in ROOT.rglob("*.md") if not {"out", ".git"} & {*it.relative_to(ROOT).parts})
 
 
+def sources() -> list[Path]:
+    """The files of the crates, of the tools and the benchmarks, and the script."""
+    kinds = ("crates/*/*/**/*.rt", "crates/*/*/**/*.antt", "crates/*/*/*.edit", "tools/**/*.py", "bench/**/*.py")
+    found = [it for kind in kinds for it in ROOT.glob(kind) if "out" not in it.relative_to(ROOT).parts]
+    scripts = ("cophy", ".ci/run", "tools/tests/run", "tools/docs/crates_drawing", "tools/docs/evidence")
+    return [*found, *(ROOT / it for it in scripts)]
+
+
 def anchors(text: str) -> set[str]:
     """What links may name of a document: its headings in small letters, with `-` for spaces."""
     headings = HEADING.findall(FENCED.sub("", text))
@@ -152,11 +160,20 @@ class Named(unittest.TestCase):
         rows = re.findall(r"^\| (`.*?`) \|", parts["What the program promises"], re.MULTILINE)
         told = [name for row in rows for name in re.findall(r"`(\w+)`", row)]
         self.assertEqual(sorted(told), sorted(re.findall(r"^    ensures (\w+) ", top, re.MULTILINE)))
-        files = [it for kind in ("src/**/*.rt", "specs/**/*.antt") for it in ROOT.glob(f"crates/*/{kind}")]
-        known = {it for file in files for it in re.findall(r"\w+", file.read_text())} | {it.stem for it in files}
-        known |= {it.name for it in (ROOT / "crates").iterdir()}
-        named = set(re.findall(r"`(\w+)`", parts["What proves that a bound is one"]))
-        self.assertEqual(named - known, set())
+
+    def test_names_of_documents_for_developers_are_those_of_the_sources(self) -> None:
+        files = sources()
+        known = {it for file in files for it in re.findall(r"\w+", file.read_text())}
+        known |= {it.stem for it in files} | {part for it in files for part in it.parts}
+        paths = [f"/{it.relative_to(ROOT).with_suffix('')}/" for it in files]
+        for document in ("ARCHITECTURE", "CHANGING", "CRATES", "PROOFS"):
+            text = FENCED.sub("", (ROOT / "docs" / f"{document}.md").read_text())
+            named = {*re.findall(r"`(\w+)`", text)}
+            ways = {it.strip("/") for it in re.findall(r"`([\w.]*/[\w./]*)`", text) if "NAME" not in it}
+            with self.subTest(document=document):
+                self.assertEqual(named - known, set())
+                gone = [it for it in ways if not any(f"/{Path(it).with_suffix('')}/" in path for path in paths)]
+                self.assertEqual(gone, [])
 
 
 class Short(unittest.TestCase):
