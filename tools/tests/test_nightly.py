@@ -18,7 +18,7 @@ from test_daily import MADE
 
 UNITS = ROOT / "examples" / "systemd"
 PROGRAMS = [HERE / "stand_in.py", *([COPHY] if os.access(COPHY, os.X_OK) else [])]
-PAGES = "2000"
+SPACE, PAGES = "16MB", 2048
 
 
 @skipIf(missing(), missing())
@@ -34,7 +34,7 @@ class Nightly(InFolder):
 
     def night(self, *words: str, status: int = 0) -> list[str]:
         """The lines about indexes that a call prints."""
-        command = [str(UNITS / "cophy-retune"), str(self.home), *(words or (PAGES, "--table", "t"))]
+        command = [str(UNITS / "cophy-retune"), str(self.home), *(words or (SPACE, "--table", "t"))]
         ran = subprocess.run(
             command,
             env=self.server.environment("nights", PGUSER="cophy_advisor", COPHY_PROGRAM=str(self.program)),
@@ -47,6 +47,7 @@ class Nightly(InFolder):
         self.said = ran.stderr
         self.assertEqual(self.folders()[-1].stat().st_mode & 0o777, 0o700)
         self.assertEqual((self.folders()[-1] / "changes.txt").read_text(), ran.stdout)
+        self.assertIn(f"budget {PAGES}\n", (self.folders()[-1] / "advice.txt").read_text())
         self.assertRegex(ran.stdout, r"(\A|\n)size \d+\ncost \d+\nbound \d+\n\Z")
         return [it for it in ran.stdout.splitlines() if ": " in it]
 
@@ -112,15 +113,24 @@ class Nightly(InFolder):
             with self.over(program):
                 by_b = "SELECT a FROM t WHERE b = 5"
                 self.run_statements("SELECT a FROM u WHERE a = 5", by_b)
-                before = self.night(PAGES, status=3)
+                before = self.night(SPACE, status=3)
                 self.server.psql("DROP TABLE u", "nights")
                 self.run_statements(by_b)
-                found = self.night(PAGES, status=3 if len(before) > 1 else 0)
+                found = self.night(SPACE, status=3 if len(before) > 1 else 0)
                 kept = [it.replace("new", "as before") for it in before if "t(b" in it]
                 self.assertEqual([it for it in found if "t(b" in it], kept)
                 if self.program == COPHY:
                     self.assertIn("cophy retune answers: refused: no table at", self.said)
                     self.assertIn("advice starts afresh", self.said)
+
+    def test_what_is_no_amount_of_space_is_refused(self) -> None:
+        for it in ("2PB", "-1", "", "1.5GB", "1e3", "12345678901", "9 GB"):
+            with self.subTest(space=it):
+                words = [str(UNITS / "cophy-retune"), str(self.home), it]
+                ran = subprocess.run(words, capture_output=True, text=True, check=False, timeout=LONG)
+                self.assertEqual((ran.returncode, ran.stdout), (2, ""))
+                self.assertIn("is no amount of space", ran.stderr)
+        self.assertEqual(self.folders(), [])
 
     def test_the_example_of_a_timer_calls_it(self) -> None:
         units = {}
@@ -132,7 +142,7 @@ class Nightly(InFolder):
         self.assertEqual(service["SuccessExitStatus"], "3")
         command = shlex.split(service["ExecStart"])
         self.assertEqual(command[:2], ["/opt/cophy/examples/systemd/cophy-retune", "${STATE_DIRECTORY}"])
-        self.assertGreater(int(command[2]), 0)
+        self.assertEqual(command[2], "2GB")
         ran = subprocess.run(
             [str(ROOT / "tools" / "pg" / "cophy-pg"), "export", "a", "b", *command[3:], "--help"],
             stdout=subprocess.DEVNULL,
