@@ -155,7 +155,8 @@ class Command(unittest.TestCase):
 
     def test_it_has_a_line_for_each_budget(self) -> None:
         lines = self.call("--budgets", "0,2,400kB,343").splitlines()
-        self.assertEqual([it.split()[0] for it in lines[1:]], ["0", "2", "50", "343"])
+        self.assertEqual([it.split()[0] for it in lines[1:-1]], ["0", "2", "50", "343"])
+        self.assertTrue(lines[-1].startswith("costs are in thousandths of a sequential page read"))
         shown = ["50", "0.4", "MB", "43", "2", "2,000", "77.8", "%", "1,900", "5.00", "%"]
         self.assertEqual(lines[3].split(), shown)
         found = json.loads(self.call("--budgets", "0,5", "--json"))

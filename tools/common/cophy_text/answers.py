@@ -176,6 +176,10 @@ def counted(number: int, word: str) -> str:
     return f"{number:,} {word}{'s' * (number != 1)}"
 
 
+UNIT = "costs are in thousandths of a sequential page read: 1,000 are 1 of EXPLAIN's"
+"""What the costs that the program prints are in, where the catalogue has the rates of an export."""
+
+
 def explained(cost: float) -> float:
     """A cost in the unit of PostgreSQL's EXPLAIN, where the catalogue has the rates of an export."""
     return cost / 1000

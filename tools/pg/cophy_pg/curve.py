@@ -11,7 +11,7 @@ from datetime import UTC, datetime
 from typing import Any
 
 from cophy_text import files
-from cophy_text.answers import Advice, counted
+from cophy_text.answers import UNIT, Advice, counted
 from cophy_text.shown import MOST_PAGES, percent, space
 from cophy_pg.amounts import amounts, step_count, whole
 from cophy_pg.curves import Point
@@ -123,7 +123,7 @@ def as_json(it: Advice, without: int) -> dict[str, Any]:
 
 def _table(found: list[Advice], without: int) -> list[str]:
     head = f"{'budget':>15} {'':>12} {'size':>15} {'picks':>6} {'cost':>24} {'saved':>8} {'bound':>24} {'gap':>8}"
-    return [head, *(_row(it, without) for it in found)]
+    return [head, *(_row(it, without) for it in found), UNIT]
 
 
 def _row(it: Advice, without: int) -> str:

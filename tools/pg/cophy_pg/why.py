@@ -6,7 +6,7 @@ import json
 from dataclasses import dataclass
 
 from cophy_text import files
-from cophy_text.answers import Advice, Candidate, Prices, counted
+from cophy_text.answers import UNIT, Advice, Candidate, Prices, counted
 from cophy_text.shown import grouped, share, short, space
 from cophy_text.tokens import statements
 from cophy_pg.catalogue import NoCatalogue, read_schema
@@ -85,6 +85,7 @@ def why(words: argparse.Namespace) -> int:
         return 0
     before, after = grouped(none.total), grouped(all_.total)
     print(f"without any pick the workload costs {before}, with all {after} ({share(all_.total, none.total)})")
+    print(UNIT)
     for it in found:
         saves = grouped(it.total_without - all_.total)
         print(f"\npick {it.pick.number} {it.pick.shown()}, {both(it.pick.pages, stored.get(it.pick.number))}")
