@@ -87,6 +87,7 @@ def _pick(at: int, pick: dict[str, Any]) -> list[str]:
         numbers = f"{percent(it['ours']):>8} {percent(it['server']):>8}"
         lines += [f"   {numbers}  {name_of(it)}, {counted(it['calls'], 'call')}: {it['sql']}"]
     left = len(changes) - MOST_CHANGES
+    lines += [] if changes else ["   by less than 0.1 % in each statement"]
     return lines + ([f"   and {counted(left, 'statement')} more"] if left > 0 else [])
 
 

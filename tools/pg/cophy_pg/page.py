@@ -13,7 +13,7 @@ from cophy_text.shown import grouped, percent, share, short, space
 from cophy_pg import folder
 from cophy_pg.curves import curve_of
 from cophy_pg.folder import Folder
-from cophy_pg.overview import end_of, headline, name_of, named
+from cophy_pg.overview import end_of, headline, is_seen, name_of, named
 from cophy_pg.plan_text import plan_text
 from cophy_pg.progress import say
 from cophy_pg.rewrite import CHANGES
@@ -113,7 +113,7 @@ def _cost(number: float) -> str:
 
 
 def _pick(pick: dict[str, Any]) -> dict[str, Any]:
-    changes = [it | {"anchor": _anchor(it), "name": name_of(it)} for it in pick["changes"]]
+    changes = [it | {"anchor": _anchor(it), "name": name_of(it)} for it in pick["changes"] if is_seen(it)]
     return {"notes": [], **pick, "index": named(pick), "listed": changes}
 
 
