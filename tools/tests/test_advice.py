@@ -92,7 +92,7 @@ class Programs(InFolder):
 
     def test_why_tells_who_gains_and_who_loses(self) -> None:
         text = self.call("why", "advice")
-        self.assertIn("without any pick the workload costs 15,000, with all 7,100 (47.3 %)", text)
+        self.assertIn("without any pick the workload costs 15,000, with all 7,100 (47.3 %)\ncosts are in ", text)
         self.assertIn(
             "pick 1 a(x), 3 pages (0.0 MB)\n  without it the workload costs 15,100, 8,000 more (212.7 %)\n"
             "  statement 1 gains 8,000: SELECT c FROM t\n",
@@ -129,7 +129,9 @@ class OnServer(OverShop):
         stored = r"as PostgreSQL stores it about [\d,]+ pages? \(\d+\.\d MB\)"
         self.assertRegex(text, rf"-- budget .*, {stored}\n")
         self.assertRegex(text, rf"-- pick 1: 30 pages \(0\.2 MB\), {stored}\n")
-        self.assertIn("-- cost 583,783,100, bound 580,000,000, gap 3,783,100: the bound isn't reached", text)
+        self.assertIn(
+            "-- cost 583,783,100, bound 580,000,000, gap 3,783,100: the bound isn't reached\n-- costs are in ", text
+        )
         self.server.psql(text, "shop")
         made = self.server.value(
             "SELECT string_agg(indexdef, E'\\n' ORDER BY indexname) FROM pg_indexes WHERE indexname ~ '_idx$'"

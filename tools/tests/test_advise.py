@@ -5,18 +5,21 @@ import argparse
 import importlib.util
 import json
 import os
+import pty
 import re
 import shlex
 import stat
 import subprocess
 import tempfile
 import unittest
+from contextlib import suppress
 from pathlib import Path
 from typing import Any
 
 from cophy_text import answers, shown
 from cophy_text.tokens import statements
-from fixtures import COPHY, HERE, ROOT, called, shop
+from fixtures import COPHY, HERE, ROOT, TOOL, called, shop
+from patience import LONG
 from private_server import PrivateServer, has_extension, missing
 from schema_check import faults
 
@@ -35,6 +38,7 @@ FILES = (
     "plans.json summary.txt verify.json workload.sql"
 ).split()
 HAS_JINJA = importlib.util.find_spec("jinja2") is not None
+HAS_RICH = importlib.util.find_spec("rich") is not None
 
 
 class Shown(unittest.TestCase):
@@ -65,7 +69,7 @@ class Shown(unittest.TestCase):
 
         given: dict[str, object] = {"nodes": None, "is_trusted": False, **dict.fromkeys(TEXTS, True), "min_calls": 1}
         given |= {"program": "cophy", "sql": None, "log": None, "since": None}
-        given |= {"tables": [], "users": [], "may_cluster": []}
+        given |= {"tables": [], "users": [], "may_cluster": [], "include": False}
         text = commands_text(argparse.Namespace(**given), Folder("a\nb '$(c)"), 5, False)
         head, steps = text.split("cophy-pg export", 1)
         self.assertTrue(all(it.startswith("#") for it in head.splitlines()), head)
@@ -335,6 +339,44 @@ class Advise(unittest.TestCase):
         Path(kept).write_text(json.dumps(older))
         ran = called(self.server, *words, "--since", kept, "--folder", str(self.here / "f3"), database="daily", **given)
         self.assertIn("began to count anew", ran.stderr)
+
+    @unittest.skipUnless(COPHY.exists(), "the program isn't built")
+    def test_what_is_only_read_is_included(self) -> None:
+        found = self.advise("--include", COPHY_PROGRAM=str(COPHY))
+        self.assertTrue(found["options"]["include"])
+        made = {it["table"]: it for it in found["picks"]}["customer"]
+        self.assertRegex(made["statements"][0], r'ON "public"\."customer" \("city"\) INCLUDE \(".+"\);\Z')
+        self.assertEqual((made["outcome"], made["columns"][0]), ("taken", "city"))
+        self.assertLessEqual(found["stored_pages"], found["asked_pages"])
+        (step,) = [
+            it for it in (self.folder / "commands.txt").read_text().splitlines() if it.startswith("cophy-pg ddl ")
+        ]
+        script = (self.folder / "indexes.sql").read_text()
+        self.assertEqual(self.call(*shlex.split(step)[1:]).stdout, script)
+        self.assertIn(made["statements"][0], script)
+        sizes = json.loads(self.call(*shlex.split(step)[1:], "--json").stdout)
+        self.assertEqual(sizes["stored_size"], found["stored_pages"])
+
+    @unittest.skipUnless(HAS_RICH, "python3-rich isn't installed")
+    def test_a_terminal_is_shown_a_bar_for_each_step(self) -> None:
+        words = (str(TOOL), "advise", "--sql", str(self.sql), "--budget", "20MB", "--folder", str(self.folder))
+        more = {"PGUSER": "cophy_advisor", "COPHY_PROGRAM": str(STAND_IN), "TERM": "xterm", "COLUMNS": "100"}
+        ours, its = pty.openpty()
+        with subprocess.Popen(
+            words, stdout=subprocess.DEVNULL, stderr=its, env=self.server.environment("shop", **more)
+        ) as ran:
+            os.close(its)
+            shown = b""
+            with suppress(OSError):
+                while part := os.read(ours, 65536):
+                    shown += part
+            self.assertEqual(ran.wait(LONG), 0)
+        os.close(ours)
+        text = re.sub(r"\x1b\[[0-9;?]*[A-Za-z]", "", shown.decode(errors="replace")).rsplit("reading the database", 1)[
+            1
+        ]
+        for it in ("searching for the best indexes +\u2501+ 1/1", "asking the server's planner +\u2501+ 10/10"):
+            self.assertIsNotNone(re.search(rf"\n{it} +\d:\d\d:\d\d\r", text), text[-2000:])
 
     @unittest.skipUnless(COPHY.exists(), "the program isn't built")
     def test_with_the_program_itself(self) -> None:

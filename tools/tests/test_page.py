@@ -52,7 +52,14 @@ def change(number: int, sql: str, ours: float, server: float) -> dict[str, Any]:
 
 def document(folder: str) -> dict[str, Any]:
     """A document with a pick, a statement of hostile text, one with a long word, and a skipped one."""
-    options = {"source": "sql", "since": None, "min_calls": 1, "min_saving": 0.0, "most_per_table": None}
+    options = {
+        "source": "sql",
+        "since": None,
+        "min_calls": 1,
+        "min_saving": 0.0,
+        "most_per_table": None,
+        "include": False,
+    }
     skipped = statement(1, "SHOW x", 5, 900.0, []) | {
         "numbers": [],
         "outcome": "skipped",

@@ -85,7 +85,7 @@ class Script(unittest.TestCase):
     def run_script(self, text: str, *more: str, status: int = 0) -> str:
         """What psql says of a script."""
         (self.here / "script.sql").write_text(text)
-        words = [str(program("psql")), "-X", "-q", *more, "-f", str(self.here / "script.sql")]
+        words = [str(program("psql")), "-X", *more, "-f", str(self.here / "script.sql")]
         environment = self.server.environment("making", PGUSER="cophy")
         ran = subprocess.run(words, capture_output=True, text=True, env=environment, check=False, timeout=LONG)
         self.assertEqual(ran.returncode, status, ran.stderr)
@@ -97,7 +97,9 @@ class Script(unittest.TestCase):
     def test_it_makes_all_makes_none_twice_and_takes_them_back(self) -> None:
         text = self.script(PICKS)
         said = self.run_script(text)
-        self.assertIn("1 of 4: plain(a, b), about 0.1 MB and 1 second\n", said)
+        self.assertRegex(
+            said, r"\A1 of 4: plain\(a, b\), about 0\.1 MB and 1 second\n2 of 4: .*\n3 of 4: .*\n4 of 4: .*\ndone\n\Z"
+        )
         made = self.names()
         self.assertEqual(len(made), 4 + 4 + 1, made)
         self.assertFalse([it for it in made if it.endswith("INVALID")])

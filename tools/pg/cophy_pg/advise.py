@@ -20,6 +20,7 @@ from cophy_pg.commands import commands_text
 from cophy_pg.curve import as_json as as_json_of_point
 from cophy_pg.folder import Folder
 from cophy_pg.folding import Folding
+from cophy_pg.included import searched_columns
 from cophy_pg.making import ddl_text
 from cophy_pg.outcomes import Verdict, outcomes
 from cophy_pg.overview import lines_of
@@ -76,13 +77,7 @@ def add_words(parser: argparse.ArgumentParser) -> None:
         help="what the indexes may take as PostgreSQL stores them: 2GB, 500MB, or pages",
     )
     parser.add_argument("--folder", metavar="DIR", help="where all files go (cophy-advice- and the time)")
-    parser.add_argument(
-        "--min-saving", type=percent, default=0.0, metavar="PERCENT", help="what each index has to save"
-    )
-    parser.add_argument(
-        "--rules", metavar="FILE", help="what has to be made and what never may, as cophy-pg rules takes them"
-    )
-    parser.add_argument("--most-per-table", type=count, metavar="N", help="how many new indexes a table may get")
+    _add_limits(parser)
     parser.add_argument(
         "--no-curve",
         action="store_true",
@@ -99,6 +94,22 @@ def add_words(parser: argparse.ArgumentParser) -> None:
     add_connection(parser)
     add_trust(parser)
     add_program(parser)
+
+
+def _add_limits(parser: argparse.ArgumentParser) -> None:
+    """The words that say which indexes may be made, and of what form."""
+    parser.add_argument(
+        "--min-saving", type=percent, default=0.0, metavar="PERCENT", help="what each index has to save"
+    )
+    parser.add_argument(
+        "--rules", metavar="FILE", help="what has to be made and what never may, as cophy-pg rules takes them"
+    )
+    parser.add_argument("--most-per-table", type=count, metavar="N", help="how many new indexes a table may get")
+    parser.add_argument(
+        "--include",
+        action="store_true",
+        help="put columns that no statement compares, joins, groups or orders by behind INCLUDE",
+    )
 
 
 def percent(text: str) -> float:
@@ -203,21 +214,24 @@ class Run:
         if words.sql or words.log:
             given = inputs.from_sql(files.read(words.sql)) if words.sql else inputs.from_log(files.read(words.log))
         contents: dict[str, bytes | str] = {}
+        doubts: list[str] = []
         with connected(words.dsn, words.timeout) as server:
             with reading(server):
                 if not words.is_trusted:
                     refuse_powers(server)
                 home_of(server)
                 if given is None:
-                    given = inputs.from_server(server, is_trusted=words.is_trusted)
+                    given = inputs.from_server(server, doubts.append, words.is_trusted)
                     contents[folder.SNAPSHOT] = taken_of(server, given).text()
                 version = version_of(server)
             listed, found, self.warnings, name = export.read(server, given, selection_of(words), self.steps)
-            self.warnings += permit(found.schema, words.may_cluster)
+            self.warnings = [*doubts, *self.warnings, *permit(found.schema, words.may_cluster)]
             with reading(server, "READ COMMITTED"):
                 look_up(server, [Verdict(at, it, {}) for at, it in enumerate(listed, 1)], words.is_trusted)
         folding = Folding(lambda: export.catalogue_of(found, name), words.program, self.steps)
         workload = made(listed, Rewriter(found.schema, options_of(words)), self.steps, folding)
+        if words.include:
+            found.schema.searched = searched_columns(workload.text().encode(errors="replace"))
         self.head = self._head_of(name, version)
         catalogue = export.catalogue_of(found, name)
         rank(workload, catalogue, words.program, is_ordered=not (words.sql or words.log))
@@ -242,6 +256,7 @@ class Run:
                 "min_calls": words.min_calls,
                 "min_saving": words.min_saving,
                 "most_per_table": words.most_per_table,
+                "include": words.include,
                 "rules": words.rules,
                 "tables": words.tables,
                 "users": words.users,

@@ -17,6 +17,7 @@ def commands_text(words: argparse.Namespace, kept: Folder, budget: int, has_rule
     nodes = ["--nodes", str(words.nodes)] if words.nodes else []
     trusted = ["--i-trust-the-statements"] if words.is_trusted else []
     advice, certificate, curve = kept.path(folder.ADVICE), kept.path(folder.CERTIFICATE), kept.path(folder.CURVE)
+    included = ["--include", both[1]] if words.include else []
     ruled: list[list[str]] = []
     if has_rules:
         ruled = [[words.program, "ruled", *both, str(budget), kept.path(folder.RULES), *nodes]]
@@ -29,7 +30,7 @@ def commands_text(words: argparse.Namespace, kept: Folder, budget: int, has_rule
         *ruled,
         ["cophy-pg", "verify", *both, advice, *chosen, *trusted, "--advice", kept.path(folder.KEPT)],
         ["cophy-pg", "why", *both, kept.path(folder.KEPT)],
-        ["cophy-pg", "ddl", both[0], kept.path(folder.KEPT), "--script"],
+        ["cophy-pg", "ddl", both[0], kept.path(folder.KEPT), "--script", *included],
         ["cophy-pg", "curve", *both, "--json"],
         ["cophy-pg", "report", kept.name],
     ]

@@ -6,6 +6,7 @@ from dataclasses import dataclass
 
 from cophy_text import files
 from cophy_text.answers import Advice, Candidate, NoAnswer, read_advice, read_retuned
+from cophy_pg.included import key_count
 from cophy_pg.schema import Schema, Table
 
 LONGEST = 63
@@ -154,7 +155,7 @@ def _written(text: str, quote: str, is_plain: bool) -> str:
     return f"U&{quote}{''.join(shown)}{quote}"
 
 
-def create(schema: Schema, pick: Candidate, taken: set[str], keys: int | None = None) -> Made:
+def create(schema: Schema, pick: Candidate, taken: set[str]) -> Made:
     """The index that is to be made, of whose columns the first ones, or else all, are keys; of a table that others inherit
     from, one for each of them too."""
     why = why_not(schema, pick)
@@ -167,7 +168,7 @@ def create(schema: Schema, pick: Candidate, taken: set[str], keys: int | None = 
     if there is not None:
         return Made(pick, laid=Laid(where, there.name))
     name = _free(f"{table.shown}_{'_'.join(pick.columns)}", taken)
-    count = len(columns) if keys is None else keys
+    count = key_count(pick, schema.searched)
     indexes = [Named(name, where, columns, count, not table.is_partitioned)]
     for child in table.children:
         known = schema.tables.get(child)

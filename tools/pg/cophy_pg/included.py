@@ -43,6 +43,9 @@ def _is_apart(after: list[Token]) -> bool:
     return [it.word for it in after] == ["IS", "NOT", "NULL"]
 
 
-def key_count(pick: Candidate, searched: set[str]) -> int:
-    """How many leading columns of a pick have to be keys: those up to the last one that is searched, and one at least."""
+def key_count(pick: Candidate, searched: set[str] | None) -> int:
+    """How many leading columns of a pick have to be keys: those up to the last one that is searched, and one at least; all
+    where it isn't asked which are."""
+    if searched is None:
+        return len(pick.columns)
     return max((at for at, it in enumerate(pick.columns, 1) if it.lower() in searched), default=1)

@@ -59,7 +59,7 @@ def from_server(server: Server, warn: Callable[[str], None] = say, is_trusted: b
                 f"{who}, and its code would have this role's rights: tools/pg/advisor_role.sql makes a role with few; "
                 "or give the statements by --sql or --log, or the schema to a superuser"
             )
-        warn(who)
+        warn(f"{who}: what it says may be made up")
     view = f"{quoted_name(where)}.{EXTENSION}"
     names = {
         str(it[0])

@@ -9,11 +9,11 @@ from textwrap import wrap
 from typing import Any
 
 from cophy_text import files
-from cophy_text.answers import Advice
+from cophy_text.answers import UNIT, Advice
 from cophy_text.shown import grouped
 from cophy_pg.catalogue import read_schema
 from cophy_pg.ddl import Made, advice_of, create, taken_names
-from cophy_pg.included import key_count, searched_columns
+from cophy_pg.included import searched_columns
 from cophy_pg.progress import say
 from cophy_pg.schema import Schema
 from cophy_pg.script import script_text
@@ -82,20 +82,19 @@ def rate(text: str) -> int:
 def ddl(words: argparse.Namespace) -> int:
     """Prints the statements."""
     schema, advice = read_schema(files.read(words.catalogue)), advice_of(words.advice, may_be_retuned=True)
-    searched = searched_columns(files.read(words.include)) if words.include else None
+    if words.include:
+        schema.searched = searched_columns(files.read(words.include))
     is_newer = _is_newer(words.catalogue, words.advice)
     if is_newer:
         say(NEWER)
     if words.json:
         print(
-            json.dumps(
-                _as_json(schema, advice, made_of(schema, advice, searched)) | {"catalogue_is_newer": is_newer}, indent=2
-            )
+            json.dumps(_as_json(schema, advice, made_of(schema, advice)) | {"catalogue_is_newer": is_newer}, indent=2)
         )
     else:
         more = [f"-- {NEWER}"] if is_newer else []
         speed = Speed(words.rows_a_second, words.pages_a_second)
-        print(ddl_text(schema, advice, searched, speed, words.script, more), end="")
+        print(ddl_text(schema, advice, speed, words.script, more), end="")
     return 0
 
 
@@ -106,29 +105,24 @@ def _is_newer(catalogue: str, advice: str) -> bool:
     return False
 
 
-def made_of(schema: Schema, advice: Advice, searched: set[str] | None = None) -> list[Made]:
-    """The indexes of an advice. Of columns that are searched, where that is known, the last one ends the keys."""
+def made_of(schema: Schema, advice: Advice) -> list[Made]:
+    """The indexes of an advice."""
     taken = taken_names(schema)
-    keys = {it.number: key_count(it, searched) for it in advice.picks} if searched is not None else {}
-    made = [create(schema, it, taken, keys.get(it.number)) for it in advice.picks]
+    made = [create(schema, it, taken) for it in advice.picks]
     # A table is laid anew before its other indexes are made, which would be made anew with it.
     return sorted(made, key=lambda it: it.laid is None)
 
 
 def ddl_text(
-    schema: Schema,
-    advice: Advice,
-    searched: set[str] | None = None,
-    speed: Speed = Speed(),
-    is_script: bool = False,
-    more: list[str] | None = None,
+    schema: Schema, advice: Advice, speed: Speed = Speed(), is_script: bool = False, more: list[str] | None = None
 ) -> str:
     """The statements with comments on what they are of, or a script."""
     end = "the bound is reached: no other choice costs less" if advice.is_finished else "the bound isn't reached"
-    made = made_of(schema, advice, searched)
+    made = made_of(schema, advice)
     budget, size = both(advice.budget, None), both(advice.size, sum(stored_of(schema, it) for it in made))
     cost, bound, gap = map(grouped, (advice.cost, advice.bound, advice.gap))
     head = [*(more or []), f"-- budget {budget}, size {size}", f"-- cost {cost}, bound {bound}, gap {gap}: {end}"]
+    head.append(f"-- {UNIT}")
     left_out = [f"-- pick {it.pick.number} is left out, {_comment(it.why_not)}" for it in made if it.why_not]
     if is_script:
         return script_text(schema, made, [*head, *left_out], speed)
@@ -150,7 +144,7 @@ def _statements(schema: Schema, made: Made, speed: Speed) -> list[str]:
 
 def stored_of(schema: Schema, made: Made) -> int:
     """The pages of a pick as PostgreSQL stores it; none of one that isn't made."""
-    return stored_pages(schema, made.pick, made.indexes[0].keys) or 0 if made.indexes else 0
+    return stored_pages(schema, made.pick) or 0 if made.indexes else 0
 
 
 def _comment(text: str) -> str:

@@ -6,6 +6,7 @@ from typing import Any
 
 from cophy_text.answers import Advice
 from cophy_pg.ddl import names_of, why_not
+from cophy_pg.included import key_count
 from cophy_pg.outcomes import Outcome
 from cophy_pg.schema import Schema, Table
 from cophy_pg.server import Server, ServerFault, quoted_name
@@ -58,10 +59,11 @@ def _hypopg(server: Server) -> tuple[str, list[str]]:
     return found
 
 
-def hypothetical(server: Server, home: str, table: Table, columns: list[str]) -> str:
-    """Makes a hypothetical index; its name in plans."""
-    listed = ", ".join(map(quoted_name, columns))
+def hypothetical(server: Server, home: str, table: Table, columns: list[str], keys: int) -> str:
+    """Makes a hypothetical index, of whose columns the first ones are keys; its name in plans."""
+    listed, others = (", ".join(map(quoted_name, it)) for it in (columns[:keys], columns[keys:]))
     text = f"CREATE INDEX ON {quoted_name(table.schema)}.{quoted_name(table.name)} ({listed})"
+    text += f" INCLUDE ({others})" if others else ""
     with server.savepoint():
         return str(server.value(f"SELECT indexname::text FROM {home}.hypopg_create_index(%s::text)", (text,)))
 
@@ -76,15 +78,15 @@ def make(server: Server, schema: Schema, advice: Advice) -> tuple[list[Outcome],
         if why := why_not(schema, it):
             outcome.reasons[f"it can't be made: {why}"] = ""
             continue
-        table, columns = names_of(schema, it)
+        (table, columns), keys = names_of(schema, it), key_count(it, schema.searched)
         outcome.stored = stored_pages(schema, it)
         try:
             name = _there(server, table, columns, outcome)
             if outcome.reasons:
                 continue
-            name = name or hypothetical(server, home, table, columns)
+            name = name or hypothetical(server, home, table, columns, keys)
             for child in table.children:
-                made[hypothetical(server, home, Table(*child, ""), columns)] = it.number
+                made[hypothetical(server, home, Table(*child, ""), columns, keys)] = it.number
         except ServerFault as fault:
             if server.is_lost():
                 raise

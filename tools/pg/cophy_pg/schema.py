@@ -111,7 +111,8 @@ class Table:
 
 class Schema:
     """The tables of a database, found as PostgreSQL finds them. `taken` are names of other relations; `is_written` says that
-    the catalogue is there already."""
+    the catalogue is there already. `searched` are the columns that have to be keys of an index that is made, where others
+    are only to be included."""
 
     def __init__(self, tables: Iterable[Table], path: Iterable[str] = ("public",)) -> None:
         self.tables = {(it.schema, it.name): it for it in tables}
@@ -122,6 +123,7 @@ class Schema:
         self.left_out: dict[tuple[str, str], str] = {}
         self.aggregates: frozenset[str] = frozenset()
         self.is_written = False
+        self.searched: set[str] | None = None
 
     def is_never_covered(self, table: Table) -> bool:
         """Whether no index covers a statement that needs all columns of a table, which gets spare ones for that where it may."""

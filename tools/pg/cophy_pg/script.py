@@ -11,6 +11,7 @@ from cophy_pg.speed import Speed
 BRIEF, PATIENT = "5s", "30min"
 
 _HEAD = f"""\\set ON_ERROR_STOP on
+\\set QUIET on
 \\set AUTOCOMMIT on
 SET search_path TO pg_catalog, pg_temp;
 SET standard_conforming_strings TO on;
@@ -91,7 +92,7 @@ def script_text(schema: Schema, made: list[Made], head: list[str], speed: Speed)
     for at, it in enumerate(listed, 1):
         table, about = _table(schema, it), "by an index that is there"
         if it.indexes:
-            size = space(stored_pages(schema, it.pick, it.indexes[0].keys) or it.pick.pages)
+            size = space(stored_pages(schema, it.pick) or it.pick.pages)
             about = f"about {size} and {speed.of_index(table)}"
         lines += ["", f"\\echo '{at} of {len(listed)}: {it.pick.shown()}, {about}'"]
         lines += _make_parts(table, it) if table.is_partitioned else _make(it)

@@ -7,6 +7,7 @@ from collections.abc import Iterable
 from cophy_text.answers import Candidate, counted
 from cophy_text.shown import space
 from cophy_pg.ddl import NoIndex, names_of
+from cophy_pg.included import key_count
 from cophy_pg.schema import Column, Schema
 from cophy_pg.stored import LONG, NOT_SHARED, Part, pages
 
@@ -47,9 +48,9 @@ def part_of(column: Column, rows: int) -> Part:
     return Part(column.width, alignment, values_of(column, rows), column.nulls, varies)
 
 
-def stored_pages(schema: Schema, pick: Candidate, keys: int | None = None) -> int | None:
-    """The pages of a pick as PostgreSQL stores it, whose first columns alone, where it is said how many, are keys; none where the
-    table is laid in the order of an index that is there, and nothing where it isn't of this catalogue."""
+def stored_pages(schema: Schema, pick: Candidate) -> int | None:
+    """The pages of a pick as PostgreSQL stores it, in which columns may be included; none where the table is laid in the order
+    of an index that is there, and nothing where it isn't of this catalogue."""
     try:
         table, names = names_of(schema, pick)
     except NoIndex:
@@ -58,7 +59,8 @@ def stored_pages(schema: Schema, pick: Candidate, keys: int | None = None) -> in
         return 0
     columns = [table.columns[it] for it in names]
     rows = max(1, table.rows)
-    is_shared = keys in (None, len(columns)) and not any(it.type in NOT_SHARED for it in columns)
+    is_whole = key_count(pick, schema.searched) == len(columns)
+    is_shared = is_whole and not any(it.type in NOT_SHARED for it in columns)
     return pages(rows, [part_of(it, rows) for it in columns], is_shared)
 
 
