@@ -335,7 +335,13 @@ class Advise(unittest.TestCase):
             self.assertEqual(json.loads((Path(folder) / "snapshot.json").read_text())["version"], 1)
         once = "statements that ran once have 33.3 % of the workload's cost by our model: --min-calls 2 leaves them out"
         self.assertEqual([once in it for it in found["warnings"]], [True])
-        older = json.loads(Path(kept).read_text()) | {"begun": "1700000000.5"}
+        taken = json.loads(Path(kept).read_text())
+        self.assertEqual(taken["database"], "daily")
+        Path(kept).write_text(json.dumps(taken | {"database": "shop"}))
+        ran = called(self.server, *words, "--since", kept, "--folder", str(self.here / "f2"), database="daily", **given)
+        self.assertEqual((ran.returncode, ran.stdout), (1, ""))
+        self.assertIn("the snapshot is of the database 'shop', and this one is 'daily'", ran.stderr)
+        older = taken | {"begun": "1700000000.5"}
         Path(kept).write_text(json.dumps(older))
         ran = called(self.server, *words, "--since", kept, "--folder", str(self.here / "f3"), database="daily", **given)
         self.assertIn("began to count anew", ran.stderr)
@@ -345,7 +351,7 @@ class Advise(unittest.TestCase):
         found = self.advise("--include", COPHY_PROGRAM=str(COPHY))
         self.assertTrue(found["options"]["include"])
         made = {it["table"]: it for it in found["picks"]}["customer"]
-        self.assertRegex(made["statements"][0], r'ON "public"\."customer" \("city"\) INCLUDE \(".+"\);\Z')
+        self.assertRegex(made["statements"][0], r'ON "public"\."customer" \("city".*\) INCLUDE \("name"\);\Z')
         self.assertEqual((made["outcome"], made["columns"][0]), ("taken", "city"))
         self.assertLessEqual(found["stored_pages"], found["asked_pages"])
         (step,) = [

@@ -8,7 +8,7 @@ from cophy_text.answers import Prices
 from cophy_text.shown import share
 from cophy_pg.inputs import Input, NoInput
 from cophy_pg.server import Server
-from cophy_pg.snapshots import begun_of, read_snapshot, since
+from cophy_pg.snapshots import begun_of, database_of, read_snapshot, since
 from cophy_pg.workload import Workload, mentioned
 
 
@@ -24,7 +24,7 @@ class Selection:
     def of(self, server: Server, listed: list[Input]) -> list[Input]:
         """The statements that count, of those that are given."""
         if self.since is not None:
-            listed = since(listed, read_snapshot(self.since), begun_of(server))
+            listed = since(listed, read_snapshot(self.since), begun_of(server), database_of(server))
         listed = [it for it in listed if it.calls >= self.min_calls]
         if self.users:
             if not any(it.role for it in listed):

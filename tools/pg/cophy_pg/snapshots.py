@@ -30,15 +30,18 @@ class Count:
 
 @dataclass
 class Snapshot:
-    """What was counted of each statement, by a digest of its text and path, and when the counts began, if that is known."""
+    """What was counted of each statement, by a digest of its text and path, when the counts began, and in which database, if
+    that is known."""
 
     begun: str = ""
     counts: dict[str, Count] = field(default_factory=dict)
+    database: str = ""
 
     def text(self) -> bytes:
         """The snapshot as a file, in which no statement can be read."""
         counts = {key: [it.calls, it.seconds, it.rows] for key, it in sorted(self.counts.items())}
-        return (json.dumps({"version": 1, "begun": self.begun, "counts": counts}, indent=0) + "\n").encode("ascii")
+        document = {"version": 1, "database": self.database, "begun": self.begun, "counts": counts}
+        return (json.dumps(document, indent=0) + "\n").encode("ascii")
 
 
 def add_snapshot(commands: argparse._SubParsersAction[argparse.ArgumentParser]) -> None:
@@ -67,7 +70,12 @@ def snapshot(words: argparse.Namespace) -> int:
 def taken_of(server: Server, listed: list[Input]) -> Snapshot:
     """The snapshot of the statements of pg_stat_statements."""
     counts = {digest(it): Count(it.calls, it.seconds or 0.0, (it.rows or 0.0) * it.calls) for it in listed}
-    return Snapshot(begun_of(server), counts)
+    return Snapshot(begun_of(server), counts, database_of(server))
+
+
+def database_of(server: Server) -> str:
+    """The name of the database."""
+    return str(server.value("SELECT pg_catalog.current_database()::text"))
 
 
 def begun_of(server: Server) -> str:
@@ -92,7 +100,7 @@ def read_snapshot(file: str) -> Snapshot:
         if document["version"] != 1:
             raise ValueError
         counts = {str(key): _count(it) for key, it in document["counts"].items()}
-        return Snapshot(str(document["begun"]), counts)
+        return Snapshot(str(document["begun"]), counts, str(document.get("database", "")))
     except (ValueError, TypeError, KeyError, AttributeError, RecursionError, OverflowError):
         raise NoInput(f"{files.shown(file)} is no snapshot of cophy-pg") from None
 
@@ -104,9 +112,11 @@ def _count(values: Any) -> Count:
     return Count(calls, seconds, rows)
 
 
-def since(listed: list[Input], then: Snapshot, begun: str) -> list[Input]:
+def since(listed: list[Input], then: Snapshot, begun: str, database: str) -> list[Input]:
     """The statements with what was counted after a snapshot, without those that weren't called. Where the counts began
-    anew in between, all of them came after it."""
+    anew in between, all of them came after it. The same statements of another database were counted apart."""
+    if then.database and then.database != database:
+        raise NoInput(f"--since: the snapshot is of the database {then.database[:63]!a}, and this one is {database!a}")
     if then.begun and begun and then.begun != begun:
         say("pg_stat_statements began to count anew after the snapshot, so all that it has counts")
         return listed
