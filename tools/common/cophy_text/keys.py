@@ -64,9 +64,11 @@ FRACTIONS = "postgres_fractions"
 """Whether values of a column lie between its numbers."""
 NULLS = "postgres_nulls"
 """The share of the rows that have no value in a column."""
+COMMON = "postgres_common"
+"""The share that a column's most common value has of the rows with a value."""
 ORDERED = "postgres_ordered"
 """Whether the rows lie in the order of an index that isn't `clustered`, since they may be laid in another one."""
-PASSED_OVER = frozenset((OURS, NO_KEY, CHILDREN, TAKEN, TYPE, SCALE, FRACTIONS, NULLS, ORDERED))
+PASSED_OVER = frozenset((OURS, NO_KEY, CHILDREN, TAKEN, TYPE, SCALE, FRACTIONS, NULLS, COMMON, ORDERED))
 
 _STEP = re.compile(r"([a-z_]+)(?:\[(\d+)\])?")
 

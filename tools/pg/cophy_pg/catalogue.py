@@ -72,6 +72,8 @@ def _column(column: Column) -> list[str]:
         lines.append(f"{keys.FRACTIONS} = true")
     if column.nulls:
         lines.append(f"{keys.NULLS} = {column.nulls}")
+    if column.common:
+        lines.append(f"{keys.COMMON} = {column.common}")
     if column.no_key:
         lines.append(f"{keys.NO_KEY} = {toml_text(column.no_key)}")
     return lines
@@ -152,6 +154,7 @@ def _read_column(element: dict[str, Any], is_second: bool) -> Column:
     column.no_key, column.type = (_of(str, element.get(it, "")) for it in (keys.NO_KEY, keys.TYPE))
     column.scale = min(MOST_SCALE, max(0, _of(int, element.get(keys.SCALE, 0))))
     column.nulls = share_of(_of(float, element.get(keys.NULLS, 0.0)))
+    column.common = share_of(_of(float, element.get(keys.COMMON, 0.0)))
     column.has_fractions = _of(bool, element.get(keys.FRACTIONS, False))
     if "distinct" in element:
         column.distinct = _of(int, element["distinct"])

@@ -22,7 +22,8 @@ class Column:
     since 1970-01-01 of one of kind `date`;
     `bounds` are such numbers too, between each two of which lie as many rows. They are values times ten to the power of
     `scale`; `has_fractions` says that values lie between them.
-    `nulls` is the share of the rows that have no value.
+    `nulls` is the share of the rows that have no value, `common` what its most common value has of the others, where that is
+    known.
     `no_key` says why no index can have the column, and is empty where one can.
     """
 
@@ -39,6 +40,7 @@ class Column:
     scale: int = 0
     has_fractions: bool = False
     nulls: float = 0.0
+    common: float = 0.0
 
     def has_range(self) -> bool:
         """Whether a literal of this column can be priced by its place: between low and high, or by the histogram."""

@@ -45,7 +45,7 @@ def part_of(column: Column, rows: int) -> Part:
     else:
         alignment = column.width
     varies = column.kind == "text" and column.type not in ALIGNED and column.type not in FIXED
-    return Part(column.width, alignment, values_of(column, rows), column.nulls, varies)
+    return Part(column.width, alignment, values_of(column, rows), column.nulls, varies, column.common)
 
 
 def stored_pages(schema: Schema, pick: Candidate) -> int | None:

@@ -254,6 +254,8 @@ class Reader:
             count = distinct if distinct > 0 else -distinct * table.rows
             column.distinct = within(count, 1, MOST_ROWS) if distinct else None
             column.nulls = round(share_of(float(missing)), 3)
+            if masses and missing < 1:
+                column.common = round(share_of(float(masses[0]) / (1 - float(missing))), 3)
             known = [*(common or ()), *(bounds or ())]
             set_scale(column, known)
             column.low, column.high = ends(column, known)

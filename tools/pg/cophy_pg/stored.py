@@ -24,13 +24,21 @@ NOT_SHARED = frozenset(("numeric", "float4", "float8", "jsonb", "interval"))
 @dataclass(frozen=True)
 class Part:
     """A column in an entry: the average bytes of a value, its alignment, how many values there are, the share of the rows that
-    have none, and whether values may differ in their bytes."""
+    have none, whether values may differ in their bytes, and the share of the most common value, where it is known."""
 
     size: int
     alignment: int
     distinct: float
     nulls: float = 0.0
     varies: bool = False
+    common: float = 0.0
+
+    def found_in(self, rows: float, most: float) -> float:
+        """How many values so many rows have of at most so many. Those beside the most common one are as common as each other."""
+        count = max(1.0, min(most, self.distinct))
+        first = max(1 / count, min(1.0, self.common))
+        other = (1 - first) / (count - 1) if count > 1 else 0.0
+        return _hit(rows, first) + (count - 1) * _hit(rows, other)
 
 
 def pages(rows: float, columns: Sequence[Part], is_shared: bool) -> int:
@@ -56,7 +64,7 @@ def _size(rows: float, columns: Sequence[Part], is_shared: bool, header: int) ->
     entry = _entry(columns, header)
     if not is_shared or rows < 1:
         return rows * entry
-    keys = _keys(rows, (it.distinct for it in columns))
+    keys = _keys(rows, columns)
     alone = _alone(rows, keys)
     keys = max(keys, rows / MOST_PLACES)
     return keys * entry + (rows - alone) * ROW_PLACE + (keys - alone) * GAP
@@ -64,21 +72,28 @@ def _size(rows: float, columns: Sequence[Part], is_shared: bool, header: int) ->
 
 def _entry(columns: Iterable[Part], header: int) -> float:
     """The bytes of an entry with its pointer. Behind a value whose bytes vary, what stands at a multiple of some loses half of
-    that less one on average; that average is taken where it is more than what the average value loses."""
-    size, mean, varies = header, float(header), False
+    that less one on average; that average is taken where it is more than what the average value loses, for the rows that don't
+    have the most common value."""
+    size, mean, alike = header, float(header), 1.0
     for it in columns:
-        mean += it.size + (it.alignment - 1) / 2 if varies else _aligned(size, it.alignment) - size + it.size
+        mean += it.size + (it.alignment - 1) / 2 if alike < 1 else _aligned(size, it.alignment) - size + it.size
         size = _aligned(size, it.alignment) + it.size
-        varies |= it.varies
-    return POINTER + (max(_aligned(size, 8), mean + 3.5) if varies else _aligned(size, 8))
+        alike *= it.common if it.varies else 1
+    whole = _aligned(size, 8)
+    return POINTER + alike * whole + (1 - alike) * max(whole, mean + 3.5)
 
 
-def _keys(rows: float, counts: Iterable[float]) -> float:
-    """The distinct keys of so many rows over columns of so many values each that have nothing to do with each other."""
+def _keys(rows: float, columns: Iterable[Part]) -> float:
+    """The distinct keys of so many rows over columns that have nothing to do with each other."""
     found = 1.0
-    for it in sorted((max(1.0, min(rows, it)) for it in counts), reverse=True):
-        found *= it if found == 1 or it == 1 else it * -math.expm1(rows / found * math.log1p(-1 / it))
+    for it in sorted(columns, key=lambda it: -it.distinct):
+        found *= max(1.0, min(rows, it.distinct)) if found == 1 else it.found_in(rows / found, rows)
     return min(rows, found)
+
+
+def _hit(rows: float, share: float) -> float:
+    """How likely it is that some of so many rows have a value with this share."""
+    return 1.0 if share >= 1 else -math.expm1(rows * math.log1p(-share))
 
 
 def _alone(rows: float, keys: float) -> float:
