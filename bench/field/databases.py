@@ -27,11 +27,12 @@ def make(server: FieldServer, database: str, scale: float) -> None:
 
 
 def collect(server: FieldServer, database: str, statements: list[Statement], scale: float) -> None:
-    """Runs each statement as often as it is called, and takes back what it wrote. pg_stat_statements counts anew."""
+    """Runs each statement as often as it is called, and takes back what it wrote. pg_stat_statements counts anew, and so does
+    ANALYZE, since VACUUM alone takes the rows that were written for others of the table."""
     with session(server, database) as connection:
         connection.execute("SELECT pg_stat_statements_reset()")
         for it in statements:
             for number in range(it.calls):
                 with connection.transaction(force_rollback=True):
                     connection.execute(it.drawn(number, scale).encode())
-    server.run("psql", database, "-X", "-q", "-c", "VACUUM")
+    server.run("psql", database, "-X", "-q", "-c", "VACUUM (ANALYZE)")
