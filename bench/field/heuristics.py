@@ -16,7 +16,7 @@ from pathlib import Path
 
 HERE = Path(__file__).resolve().parent
 ROOT = HERE.parents[1]
-sys.path[:0] = [str(HERE), str(ROOT / "bench"), str(ROOT / "tools" / "common")]
+sys.path[:0] = [str(HERE), str(ROOT / "bench"), *(str(ROOT / "tools" / it) for it in ("pg", "common"))]
 
 from field import BUILT  # noqa: E402
 from generator import texts  # noqa: E402

@@ -5,7 +5,8 @@ import random
 from collections.abc import Callable
 from itertools import combinations
 
-from prices import Chosen, Prices
+from cophy_pg.pricing import Chosen
+from prices import Prices
 
 VARIATIONS, MOST_SWAPPED, SEED = 200, 4, 1
 """DB2 Advisor swaps at random, here so often, and so many indexes at a time."""

@@ -167,12 +167,14 @@ class Run:
         try:
             first = self._searched(found.schema)
             with connected(self.words.dsn, self.words.timeout) as server:
-                choice, judged, rules = self._rounds(server, found.schema, workload, first)
+                choice, judged = self._rounds(server, found.schema, workload, first)
                 with self.steps.step("plans", "comparing plans", 2 * len(judged.verdicts)):
                     plans = plans_of(server, found.schema, choice.advice, judged.verdicts, self.steps)
             with self.steps.step("check", "checking the certificate"):
+                left_out = [it for it, _ in choice.left_out]
+                unused = self.searches.unused(found.schema, self.rules, choice.advice.picks, left_out)
                 advice, proved = self.searches.proved(choice.advice.budget)
-                self.searches.keep(choice.advice.budget, rules)
+                self.searches.keep(choice.advice.budget, choice.rules)
             with self.steps.step("curve", "searching for what other budgets buy"):
                 points = [] if self.words.no_curve else self.searches.curve()
         finally:
@@ -182,8 +184,9 @@ class Run:
             all_ = self.program.whatif(it.number for it in advice.picks)
         # In a file of SQL a statement has the weight that it was given.
         warnings = [*self.warnings, *self.rules.remarks, *([] if self.words.sql else ran_once(workload, none))]
-        told = {"warnings": warnings, "lint": lint, "rewriting": summary(workload), "rules": listed_in(rules)}
+        told = {"warnings": warnings, "lint": lint, "rewriting": summary(workload), "rules": listed_in(choice.rules)}
         parts = (found.schema, workload, advice, choice, judged, plans, (none, kept, all_), reason, proved)
+        self.head["unused"] = unused
         result = Result(*parts, self.head, told, self.steps.seconds)
         self._write(result)
         if points:
@@ -274,20 +277,19 @@ class Run:
     def _searched(self, schema: Schema) -> Choice:
         """What fills the budget under the rules so far."""
         with self.steps.step("advise", "searching for the best indexes"):
-            advice = self.searches.filling(schema, self.rules)
-        return Choice(advice, [(it, UNTAKEN) for it in self.rules.forbidden])
+            advice, rules = self.searches.filling(schema, self.rules)
+        return Choice(advice, [(it, UNTAKEN) for it in self.rules.forbidden], rules=rules)
 
-    def _rounds(self, server: Server, schema: Schema, workload: Workload, choice: Choice) -> tuple[Choice, Judged, str]:
+    def _rounds(self, server: Server, schema: Schema, workload: Workload, choice: Choice) -> tuple[Choice, Judged]:
         """Searches again without what no plan takes, which leaves room for others; the choice that costs the least by the
-        server's planner, what it says of that, and the rules that it keeps. An older program doesn't search again."""
-        best: tuple[Choice, Judged, str] | None = None
+        server's planner, and what it says of that. An older program doesn't search again."""
+        best: tuple[Choice, Judged] | None = None
         least = (0, 0.0)
         for number in range(1, ROUNDS + 1):
-            rules = self.rules.text()
             judged = self._settle(server, schema, workload, choice)
             count, _, after = judged.sums()
             if best is None or (-count, after) < least:
-                best, least = (choice, judged, rules), (-count, after)
+                best, least = (choice, judged), (-count, after)
             if number == ROUNDS or not self.rules.forbid(choice.untaken):
                 break
             try:

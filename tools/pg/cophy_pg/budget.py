@@ -61,9 +61,14 @@ class Search:
         return found if found not in self.tried else None
 
 
+def room_in(asked: int) -> int:
+    """The part of the space that is filled."""
+    return asked - asked // SPARED
+
+
 def filled(asked: int, advise: Callable[[int], Advice], size_of: Callable[[Advice], int]) -> Advice:
     """The advice for the budget at which the space is filled best. It takes at most that, as PostgreSQL stores it."""
-    search = Search(asked - asked // SPARED)
+    search = Search(room_in(asked))
     budget: int | None = asked
     while budget is not None and len(search.tried) < MOST_TRIES:
         advice = advise(budget)

@@ -30,11 +30,13 @@ class Limits:
 
 @dataclass
 class Choice:
-    """The picks that stay, those that were left out, each with the reason, and those of them that no plan takes."""
+    """The picks that stay, those that were left out, each with the reason, those of them that no plan takes, and the rules that
+    all were found under."""
 
     advice: Advice
     left_out: list[tuple[Candidate, str]] = field(default_factory=list)
     untaken: list[Candidate] = field(default_factory=list)
+    rules: str = ""
 
     def drop(self, pick: Candidate, why: str) -> None:
         """Leaves a pick out."""

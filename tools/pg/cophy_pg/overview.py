@@ -128,4 +128,5 @@ def end_of(document: dict[str, Any]) -> str:
 
 def _end(document: dict[str, Any]) -> list[str]:
     budget = f"of {counted(document['budget_pages'], 'page')} as our model counts them"
-    return [end_of(document), f"certificate, for a budget {budget}: {document['proved']}"]
+    unused = [document["unused"]] if document.get("unused") else []
+    return [end_of(document), *unused, f"certificate, for a budget {budget}: {document['proved']}"]

@@ -6,18 +6,23 @@ from dataclasses import dataclass, field, replace
 
 from cophy_text import files
 from cophy_text.answers import Advice, Candidate, counted, read_advice
-from cophy_text.shown import MOST_PAGES, grouped
+from cophy_text.rules import Rule, read_rule
+from cophy_text.shown import MOST_PAGES, grouped, space
 from cophy_pg import folder
-from cophy_pg.budget import filled
+from cophy_pg.budget import filled, room_in
 from cophy_pg.curve import between
+from cophy_pg.exchange import Exchange
 from cophy_pg.folder import Folder
 from cophy_pg.inputs import NoInput
-from cophy_pg.program import Program
+from cophy_pg.pricing import Pricing
+from cophy_pg.program import NoCommand, Program
 from cophy_pg.progress import Progress, say
 from cophy_pg.rules import Translation
 from cophy_pg.schema import Schema
 from cophy_pg.sizes import stored_size
 
+WELL_FILLED = 0.95
+"""Where less of the space is filled, it is said why."""
 POINTS = 6
 """How many points a curve has, where there aren't more that were searched for anyhow."""
 
@@ -52,6 +57,10 @@ class Rules:
         """All of them as a file."""
         return "".join(f"{it}\n" for it in self.lines())
 
+    def speak_of(self, pick: Candidate) -> bool:
+        """Whether any of them says what becomes of a candidate."""
+        return any(it is not None and is_about(it, pick) for it in map(read_rule, self.lines()))
+
     def asks_for(self, pick: Candidate) -> bool:
         """Whether a rule wants that pick, taken or not."""
         return f"must {pick.shown()}" in self.given
@@ -61,6 +70,16 @@ class Rules:
         new = [it for it in picks if it not in self.forbidden]
         self.forbidden += new
         return bool(new)
+
+
+def is_about(rule: Rule, pick: Candidate) -> bool:
+    """Whether a rule says what becomes of a candidate."""
+    if rule.table.lower() != pick.table.lower():
+        return False
+    columns = [it.lower() for it in pick.columns]
+    if rule.columns:
+        return rule.is_clustered == pick.is_clustered and [it.lower() for it in rule.columns] == columns
+    return not rule.column or rule.column.lower() in columns
 
 
 @dataclass
@@ -74,13 +93,54 @@ class Searches:
     progress: Progress
     texts: dict[int, str] = field(default_factory=dict)
     ruled: dict[tuple[int, str], str] = field(default_factory=dict)
+    pricing: Pricing | None = None
 
-    def filling(self, schema: Schema, rules: Rules) -> Advice:
-        """The advice that fills the budget as PostgreSQL stores it."""
-        lines = rules.text()
+    def filling(self, schema: Schema, rules: Rules) -> tuple[Advice, str]:
+        """The advice that fills the budget as PostgreSQL stores it, and the rules that it is found under: where other picks cost
+        less in the same space, these have to be."""
+        lines, tried = rules.text(), list[Advice]()
         if lines:
             self.kept.write({folder.RULES: lines})
-        return filled(self.asked, lambda it: self._at(it, lines), lambda it: stored_size(schema, it.picks))
+
+        def advised(budget: int) -> Advice:
+            tried.append(self._at(budget, lines))
+            return tried[-1]
+
+        found = filled(self.asked, advised, lambda it: stored_size(schema, it.picks))
+        self.progress("exchanging picks for others")
+        better = self._exchange(schema, rules).improved(
+            frozenset(it.number for it in found.picks), {it.number for one in tried for it in one.picks}
+        )
+        picks = [it for number, it in self._prices().candidates.items() if number in better]
+        if better == {it.number for it in found.picks}:
+            return found, lines
+        ruled = lines + "".join(f"must {it.shown()}\n" for it in picks)
+        self.kept.write({folder.RULES: ruled})
+        try:
+            return self._at(sum(it.pages for it in picks), ruled), ruled
+        except NoCommand:
+            return found, lines
+
+    def unused(self, schema: Schema, rules: Rules, picks: list[Candidate], left_out: list[Candidate]) -> str | None:
+        """What is said of space that is left, where it is much and nothing that fits and wasn't left out saves anything."""
+        exchange, chosen = self._exchange(schema, rules), frozenset(it.number for it in picks)
+        exchange.fixed |= {it.number for it in left_out}
+        left = self.asked - exchange.size(chosen)
+        if left <= self.asked * (1 - WELL_FILLED) or not exchange.improved(chosen, ()) <= chosen:
+            return None
+        but = ", but for what was left out" * bool(left_out)
+        return f"{space(left)} of the space stay free: by our model no other index that fits saves anything{but}"
+
+    def _prices(self) -> Pricing:
+        self.pricing = self.pricing or Pricing(self.program)
+        return self.pricing
+
+    def _exchange(self, schema: Schema, rules: Rules) -> Exchange:
+        """Exchanges candidates that rules don't speak of. A clustered one stays, since it forbids others of its table."""
+        prices = self._prices()
+        sizes = {number: stored_size(schema, [it]) for number, it in prices.candidates.items()}
+        fixed = (number for number, it in prices.candidates.items() if it.is_clustered or rules.speak_of(it))
+        return Exchange(prices, sizes, room_in(self.asked), frozenset(fixed))
 
     def _at(self, budget: int, rules: str = "") -> Advice:
         self.progress(f"advising for {grouped(budget)} pages by the model")
