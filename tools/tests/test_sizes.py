@@ -35,6 +35,7 @@ COLUMNS = {
     "key": ("uuid", "md5(g::text || 'k')::uuid"),
     "host": ("inet", "inet '10.0.0.0' + floor(3000 * random())::int8"),
     "seldom": ("int4", "CASE WHEN random() < 0.8 THEN NULL ELSE g END"),
+    "mostly": ("text", "CASE WHEN random() < 0.97 THEN 'shown' ELSE 'waiting' || g % 3 END"),
     "empty": ("text", "CASE WHEN random() < 0.5 THEN NULL ELSE 'v' || g % 400 END"),
 }
 INDEXES = """
@@ -42,6 +43,7 @@ id|big|small|flag|few|group_|many|price|rate|born|made|code|name|word|long|key|h
 id, few|few, id|small, group_|flag, word|word, flag, few|few, group_|group_, many|born, few|made, id|code, word|word, made
 key, id|name, flag|price, few|few, price|rate, id|host, small|flag, big|small, flag|few, word, id|born, made, price
 word, born|code, small, many|seldom, few|few, empty|big, flag, id, word|word, many|few, born
+mostly|many, mostly|group_, mostly, few|mostly, made, id|group_, mostly, id
 """.replace(
     "\n", "|"
 ).split(
@@ -144,6 +146,9 @@ class Stored(unittest.TestCase):
             print("\n".join([f"{'index':24s} {'real':>6s} {'ours':>6s} {'ratio':>6s}", *lines, f"near {near}"]))
         self.assertGreaterEqual(len(lines), 40)
         self.assertGreaterEqual(near, 0.9 * len(lines), "\n".join(lines))
+        # Where nearly all rows have one value of a text, it neither makes new keys nor do entries differ by it.
+        skewed = [float(it.split()[-1]) for it in lines if "mostly" in it]
+        self.assertEqual([it for it in skewed if not 0.9 <= it <= 1.08], [], "\n".join(lines))
 
 
 if __name__ == "__main__":

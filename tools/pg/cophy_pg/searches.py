@@ -112,7 +112,7 @@ class Searches:
             frozenset(it.number for it in found.picks), {it.number for one in tried for it in one.picks}
         )
         picks = [it for number, it in self._prices().candidates.items() if number in better]
-        if better == {it.number for it in found.picks}:
+        if self._prices().cost(better) >= found.cost:
             return found, lines
         ruled = lines + "".join(f"must {it.shown()}\n" for it in picks)
         self.kept.write({folder.RULES: ruled})
