@@ -103,6 +103,29 @@ class Filling(unittest.TestCase):
         self.assertEqual(self.filled(0, [(1, 1)]), (0, 1))
 
 
+class Skewed(unittest.TestCase):
+    """Indexes of a forum with 40500 posts and 67245 votes, by the pages that they had there."""
+
+    def test_a_value_that_nearly_all_rows_have_makes_few_keys(self) -> None:
+        from cophy_pg.stored import Part, pages
+
+        member, topic, post = Part(4, 4, 4497), Part(4, 4, 6731), Part(4, 4, 32802)
+        number, made, score = Part(4, 4, 40500), Part(8, 8, 40500), Part(4, 4, 90, common=0.225)
+        state, value = Part(5, 1, 3, varies=True, common=0.978), Part(4, 4, 3, common=0.833)
+        for rows, parts, real in (
+            (40500, [member, state], 56),
+            (40500, [topic, state, member], 153),
+            (40500, [state, made, number, topic, member], 248),
+            (40500, [member, state, number, topic, score, made], 248),
+            (67245, [post, value], 159),
+        ):
+            with self.subTest(real=real, columns=len(parts)):
+                self.assertTrue(0.95 <= real / pages(rows, parts, True) <= 1.03, pages(rows, parts, True))
+        # Not knowing how common the most common value is, all are taken to be as common as each other.
+        blind = [member, Part(5, 1, 3, varies=True)]
+        self.assertGreater(pages(40500, blind, True), 1.4 * pages(40500, [member, state], True))
+
+
 @unittest.skipIf(MISSING, MISSING)
 class Stored(unittest.TestCase):
     """Real indexes of several types, as they are freshly made, beside the formula over an exported catalogue."""
