@@ -21,6 +21,7 @@ if HAS_PARSER:
     from cophy_pg.folder import Folder
     from cophy_pg.pricing import Chosen, Pricing
     from cophy_pg.program import Program
+    from cophy_pg.progress import Progress
     from cophy_pg.searches import Rules, Searches
     from cophy_pg.sizes import stored_size
     from cophy_text.rules import read_rule
@@ -112,7 +113,7 @@ class OverTheProgram(unittest.TestCase):
             exchanged = 0
             for share in (5, 11, 23, 37, 52, 71, 110):
                 asked = every * share // 100
-                searches = Searches(program, kept, asked, (), lambda _: None)
+                searches = Searches(program, kept, asked, (), Progress())
                 before = filled(asked, program.advise, lambda it: stored_size(schema, it.picks))
                 advice, rules = searches.filling(schema, Rules())
                 self.assertLessEqual(stored_size(schema, advice.picks), room_in(asked))

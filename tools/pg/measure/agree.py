@@ -45,7 +45,7 @@ def prepare(folder: Path) -> None:
             for at, (table, columns, query) in enumerate(pairs()):
                 home = found.schema.tables[("public", table)]
                 with reading(server):
-                    name = hypothetical(server, home_of(server), home, columns)
+                    name = hypothetical(server, home_of(server), home, columns, len(columns))
                     plan = Explainer(server, Columns()).explain(statement_of(query))
                 said.append(f"{int(name in index_names(plan))} {plan['Total Cost']}")
                 case = folder / f"{number}-{at}"
