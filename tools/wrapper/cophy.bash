@@ -44,7 +44,7 @@ _cophy_pg() {
         advise | daily)
             if [ "$command" = daily ]; then options+=" --keep"; fi
             options+=" --budget --folder --since --min-calls --min-saving --rules --most-per-table --no-curve --table --user --nodes --sql --log"
-            options+=" --may-cluster"
+            options+=" --may-cluster --include"
             options+="$rewriting --dsn --timeout --i-trust-the-statements --program --json"
             ;;
         health) options+=" --folder --min-size --dsn --timeout --program --json" ;;
