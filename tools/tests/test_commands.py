@@ -131,9 +131,9 @@ class Walk(unittest.TestCase):
     @classmethod
     def setUpClass(cls) -> None:
         cls.server = shop()
-        # Few statements, so that the walk takes little time.
+        # Few statements, so that the walk takes little time; each ran twice, since those that ran once are left out.
         cls.server.psql("SELECT pg_stat_statements_reset()", "shop")
-        cls.server.psql(STATEMENTS, "shop")
+        cls.server.psql(STATEMENTS + STATEMENTS, "shop")
 
     def setUp(self) -> None:
         folder = tempfile.TemporaryDirectory()

@@ -126,6 +126,26 @@ class Savings(unittest.TestCase):
                 self.assertAlmostEqual(percent, told, delta=1)
 
 
+class FirstPage(unittest.TestCase):
+    """What a person reads of POSTGRES.md before the first advice: little, with all commands in their order."""
+
+    def test_it_is_read_in_less_than_two_minutes_and_has_all_commands(self) -> None:
+        page, _ = (ROOT / "docs/POSTGRES.md").read_text().split("\nThat is all that is needed.")
+        self.assertLess(len(page.split()), 300)
+        places = [
+            page.index(it)
+            for it in ("apt-get", "advisor_role.sql", ".pgpass", "advise --budget 2GB --min", "psql -X -U")
+        ]
+        self.assertEqual(places, sorted(places))
+        minutes = re.search(r"first call takes some (\d+) minutes", (ROOT / "README.md").read_text())
+        assert minutes is not None
+        self.assertIn(f"some {minutes[1]} minutes on four processors", page)
+
+    def test_no_line_is_wider_than_a_screen(self) -> None:
+        text = FENCED.sub("", (ROOT / "docs/POSTGRES.md").read_text())
+        self.assertEqual([it for it in text.splitlines() if len(it) > 120 and not it.startswith("|")], [])
+
+
 class Named(unittest.TestCase):
     def test_links_lead_somewhere(self) -> None:
         for document in documents():

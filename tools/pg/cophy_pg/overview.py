@@ -18,7 +18,8 @@ def lines_of(document: dict[str, Any]) -> list[str]:
         lines += [*_pick(at, it), ""]
     little = [it for it in document["picks"] if max(it["saves"]["ours"], it["saves"]["server"]) < LITTLE]
     if little and document["options"]["min_saving"] < LITTLE:
-        lines += [f"{len(little)} of these save less than {LITTLE} % each: --min-saving {LITTLE} leaves such out", ""]
+        save = "saves" if len(little) == 1 else "save"
+        lines += [f"{len(little)} of these {save} less than {LITTLE} %: --min-saving {LITTLE} leaves such out", ""]
     if document["left_out"]:
         lines += ["left out of the advice:", *(f"  {named(it)}: {it['why']}" for it in document["left_out"]), ""]
     unknown = [it for it in document["statements"] if it["not_explained"]]

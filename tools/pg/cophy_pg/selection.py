@@ -44,7 +44,7 @@ def ran_once(workload: Workload, prices: Prices) -> list[str]:
     if 10 * once < every or once == every:
         return []
     much = f"statements that ran once have {share(once, every)} of the workload's cost by our model"
-    return [f"{much}: --min-calls 2 leaves them out, such as those that filled the tables"]
+    return [f"{much}: --min-calls 2 leaves them out"]
 
 
 def add_selection(parser: argparse.ArgumentParser) -> None:
