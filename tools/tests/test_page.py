@@ -160,6 +160,15 @@ class Page(unittest.TestCase):
         self.call(str(self.here))
         return (self.here / "report.html").read_text()
 
+    def test_the_summary_counts_what_saves_little(self) -> None:
+        from cophy_pg.overview import lines_of
+
+        pick = self.document["picks"][0] | {"saves": {"ours": 0.4, "server": 0.0}}
+        self.document["options"]["min_saving"] = 0
+        for count, text in ((1, "1 of these saves less"), (2, "2 of these save less")):
+            self.document["picks"] = [pick] * count
+            self.assertIn(f"{text} than 1 %: --min-saving 1 leaves such out", lines_of(self.document))
+
     def test_the_document_is_one_of_advise(self) -> None:
         self.assertEqual([*faults(self.document, SCHEMA, SCHEMA)], [])
 
