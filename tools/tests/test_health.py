@@ -161,6 +161,7 @@ class Health(unittest.TestCase):
         self.assertTrue(all(it.startswith("--") or not it for it in text.splitlines()), text)
         self.assertTrue(text.isascii())
         self.assertIn('-- DROP INDEX CONCURRENTLY "public"."people_name_again";', text)
+        self.assertIn("an index that was just made has no scans yet", text)
         self.assertIn("-- the foreign key 'people_city_fkey' of \"people\" to 'city' has no index:", text)
         self.server.psql(text, "health")
 

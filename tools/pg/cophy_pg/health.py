@@ -112,7 +112,8 @@ def _lines(
     lines = [head + (f"; those that may go have {space(gone)}" if gone else "")]
     if everything.days is not None and everything.days < YOUNG:
         lines += [f"-- scans are counted since {everything.since} UTC alone: what runs once a month may be missing"]
-    lines += ["-- What runs on a standby isn't counted here."] if found else []
+    if found:
+        lines += ["-- What runs on a standby isn't counted here, and an index that was just made has no scans yet."]
     for it in found:
         size = space(it.index.pages) if it.index.pages is not None else "of unknown size"
         scans = counted(it.index.scans, "scan") if it.index.scans is not None else "scans unknown"
