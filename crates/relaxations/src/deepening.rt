@@ -46,7 +46,7 @@ impl Planner {
                 Settled::Full => break,
                 Settled::Open(_) => {}
             }
-            if is_first || own.is_some() || !self.is_due(task, 1) || self.is_spent(task) {
+            if is_first || own.is_some() || !self.has_room(task) || self.is_spent(task) {
                 break;
             }
             own = Some(self.add_own(task, finder));
@@ -82,7 +82,7 @@ impl Planner {
             self.finish(task, start);
             return;
         };
-        let has_room = self.is_due(task, 1);
+        let has_room = self.has_room(task);
         let times = if has_room { 2 } else { 16 };
         let is_tried = !is_first || !has_room;
         if is_tried && !self.is_spent(task) && self.close(task, nodes.saturating_mul(times), None) {

@@ -17,8 +17,6 @@ const MOST_PASSES: u32 = 4;
 const MANY_FIXED: usize = 3;
 /// A candidate whose share is nearer to a whole number than this is branched on last.
 const LEAST_PART: f64 = 1e-4;
-/// A rise on both sides of a branch on a candidate of a group is worth so many times its pages in doubt.
-const WORTH: f64 = 24.0;
 /// The least price of a page by which what rises is told in pages.
 const LEAST_PAGE: f64 = 1e-12;
 /// So often at first, and then once in so many times, the search goes on to a side of the branch that it made.
@@ -216,14 +214,14 @@ impl Finder {
         crowds
     }
 
-    /// What a branch on a candidate of a group promises, of which a relaxation takes more than one, in pages, by what the value
-    /// rises by on both sides.
+    /// What a branch on a candidate of a group promises, of which a relaxation takes more than one: so many pages are worth
+    /// what the value rises by on both sides.
     fn promise(&self, crowds: &Crowds, group: u8, number: usize) -> f64 {
         let rises = self.losses.best_rises(&self.view, &self.lagrangian, number);
         let inside = crowds.inside(group, rises.inside.max(0.0), rises.outside);
         let missing = (self.target() - self.lagrangian.value).max(1.0);
         let rise = inside.min(rises.outside).min(missing);
-        WORTH * rise.max(0.0) / self.lagrangian.page.max(LEAST_PAGE)
+        rise.max(0.0) / self.lagrangian.page.max(LEAST_PAGE)
     }
 
     /// The candidate of the view, by its number there, on which to branch: the one with the most pages in doubt.

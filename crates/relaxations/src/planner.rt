@@ -42,8 +42,7 @@ pub(crate) struct Best {
 }
 
 /// What is planned: a value above `target` closes a node, in parts of 65536 as `cost` is in whole numbers; at most so many
-/// nodes and sets, zeros among these. Sets are shared out along the leaves of the tree, but so many may be early. Unless it is
-/// the last one, an attempt ends where a leaf is left open.
+/// nodes and sets, zeros among these.
 #[derive(Clone, Copy)]
 pub(crate) struct Task<'a> {
     pub matrix: &'a Matrix,
@@ -53,8 +52,6 @@ pub(crate) struct Task<'a> {
     pub nodes: usize,
     pub most_sets: usize,
     pub most_asked: u64,
-    pub early: usize,
-    pub is_last: bool,
 }
 
 /// Where a subtree begins: in the plan, among the fixings, and on the path.
@@ -86,10 +83,6 @@ pub(crate) struct Planner {
     pub gains: Gains,
     pub hint: usize,
     pub asked: u64,
-    pub has_open: bool,
-    /// The leaves of the tree, and how many stand before the present node.
-    pub leaves: usize,
-    pub passed: usize,
     pub turns: Vec<(usize, usize)>,
     pub spans: Vec<(usize, usize)>,
     pub lifting: Lifting,
@@ -117,9 +110,6 @@ impl Planner {
             gains: Gains::BLANK,
             hint: 0,
             asked: 0,
-            has_open: false,
-            leaves: 0,
-            passed: 0,
             turns: Vec::with_capacity(alloc, 257)?,
             spans: Vec::with_capacity(alloc, 512)?,
             lifting: Lifting::new(alloc, matrix)?,
@@ -146,8 +136,6 @@ impl Planner {
         self.plan.clear();
         self.fixings.clear();
         self.pending = 0;
-        self.has_open = false;
-        self.passed = 0;
         self.hint = self.count.saturating_sub(1).min(1);
     }
 
@@ -175,15 +163,6 @@ impl Planner {
     /// Whether one more set may be made.
     pub(crate) fn has_room(&self, task: &Task<'_>) -> bool {
         self.count < task.most_sets.min(self.ledgers.len()) && !self.is_heavy
-    }
-
-    /// Whether the next set is due where so many leaves of the tree are at hand.
-    pub(crate) fn is_due(&self, task: &Task<'_>, leaves: usize) -> bool {
-        let reached = self.passed.saturating_add(leaves.max(1));
-        let share = reached.saturating_mul(task.most_sets.saturating_sub(task.early));
-        let later = self.count.saturating_sub(task.early);
-        let is_early = self.count < task.early;
-        self.has_room(task) && (is_early || later.saturating_mul(self.leaves) < share)
     }
 
     /// How many nodes the plan has, with those that are to come.
@@ -257,7 +236,6 @@ impl Planner {
 
     /// Appends a leaf.
     pub(crate) fn put_leaf(&mut self, best: Best, is_open: bool) {
-        self.has_open = self.has_open || is_open;
         let _ = self.plan.push(PlanNode {
             candidate: 0,
             set: (best.set & 255) as u8,

@@ -32,14 +32,9 @@ fn is_inner(node: &TreeNode) -> bool {
 }
 
 impl Planner {
-    /// Whether a leaf is left open in an attempt that isn't the last.
-    fn is_lost(&self, task: &Task<'_>) -> bool {
-        self.has_open && !task.is_last
-    }
-
-    /// Whether sets have been asked as often as may be, or the attempt is lost.
+    /// Whether sets have been asked as often as may be.
     pub(crate) fn is_spent(&self, task: &Task<'_>) -> bool {
-        self.asked >= task.most_asked || self.is_lost(task)
+        self.asked >= task.most_asked
     }
 
     /// Whether the best set is far from the bound of an inner node of the tree, and there is room for another.
@@ -47,7 +42,6 @@ impl Planner {
         if !is_inner(node)
             || node.parent == NO_NODE
             || self.count.saturating_add(KEPT_FOR_LEAVES) >= task.most_sets
-            || !self.is_due(task, node.leaves as usize)
         {
             return false;
         }
@@ -134,13 +128,9 @@ impl Planner {
         if self.close(task, nodes, wanted) {
             return;
         }
-        let more = nodes.saturating_mul(8);
         if self.has_room(task) {
-            if !self.is_due(task, 1) && self.close(task, more, wanted) {
-                return;
-            }
             let _ = self.add_own(task, finder);
-            if self.close(task, more, wanted) {
+            if self.close(task, nodes.saturating_mul(8), wanted) {
                 return;
             }
         }
@@ -187,10 +177,6 @@ impl Planner {
     ) {
         let start = self.start();
         let mut node = from;
-        if self.is_lost(task) {
-            return;
-        }
-        let passed = self.passed.saturating_add(from.leaves as usize);
         match self.settle_along(task, finder, &mut node) {
             Settled::Closed => self.finish(task, start),
             Settled::Full => self.leave_open(task, start),
@@ -200,7 +186,6 @@ impl Planner {
                 self.finish(task, start);
             }
         }
-        self.passed = passed;
     }
 
     /// The sides of a node of the tree whose branch is on a candidate that may come in.
@@ -264,7 +249,6 @@ impl Planner {
     ) -> bool {
         self.begin_anew();
         if let Some(root) = node_of(&finder.tree, 0) {
-            self.leaves = root.leaves as usize;
             self.plan_node(task, finder, root, nodes, MOST_LEVELS);
         }
         self.plan.iter().all(|node| !node.is_open)

@@ -14,36 +14,10 @@ use bip_model::{Fix, Multipliers, Programme, State};
 use interior_point::{Matrix, at};
 use std::alloc::Global;
 
-/// An attempt at a plan: its trials have so many nodes, so many sets may be early, and sets are asked so often at most.
-struct Attempt {
-    nodes: usize,
-    early: usize,
-    asked: u64,
-}
-
-/// The attempts, one after the other while something is left open: a short one, one that shares sets out, and two longer ones.
-const ATTEMPTS: [Attempt; 4] = [
-    Attempt {
-        nodes: 80,
-        early: MOST_SETS,
-        asked: 60_000,
-    },
-    Attempt {
-        nodes: 640,
-        early: 2,
-        asked: 440_000,
-    },
-    Attempt {
-        nodes: 80,
-        early: MOST_SETS,
-        asked: 400_000,
-    },
-    Attempt {
-        nodes: 640,
-        early: MOST_SETS,
-        asked: 600_000,
-    },
-];
+/// The nodes that trials have, one time after the other while something is left open.
+const TRIALS: [usize; 3] = [80, 640, 5120];
+/// Sets are asked so often at most.
+const MOST_ASKED: u64 = 1_500_000;
 /// The most of a cost that is looked at, 2^100.
 const MOST_COST: u128 = 1_267_650_600_228_229_401_496_703_205_376;
 
@@ -131,27 +105,17 @@ impl Proposals {
             target: whole.wrapping_sub(1).wrapping_mul(65536),
             nodes: nodes as usize,
             most_sets: most.saturating_add(1),
-            most_asked: 0,
-            early: 0,
-            is_last: false,
+            most_asked: MOST_ASKED,
         };
         self.planner.begin(&task, &self.root);
         if self.planner.has_room(&task) {
             let _ = self.planner.add_own(&task, &mut self.finder);
         }
         let first = self.planner.count;
-        self.finder.tree.count_leaves();
-        for (number, attempt) in ATTEMPTS.iter().enumerate() {
+        for trial in TRIALS {
             self.planner.count = first;
-            let own = Task {
-                most_asked: self.planner.asked.saturating_add(attempt.asked),
-                early: attempt.early,
-                is_last: number.saturating_add(1) == ATTEMPTS.len(),
-                ..task
-            };
-            if self
-                .planner
-                .plan_along(&own, &mut self.finder, attempt.nodes)
+            if self.planner.plan_along(&task, &mut self.finder, trial)
+                || self.planner.is_spent(&task)
             {
                 break;
             }
@@ -162,15 +126,16 @@ impl Proposals {
         self.write_steps(&numbers);
     }
 
-    /// Keeps the sets that leaves name, and answers the number of each. The root's is the first: that is compared with others at
-    /// the root, so none that serves elsewhere is to stand in its place.
+    /// Keeps the sets that leaves name, and answers the number of each. Where there are groups the root's is the first: that is
+    /// compared with others at the root, so none that serves elsewhere is to stand in its place.
     fn keep_sets(&mut self) -> [u8; MOST_SETS] {
         let mut numbers = [0; MOST_SETS];
+        let is_grouped = self.matrix.groups.iter().any(|group| *group != 0);
         self.kept.clear();
         for set in 1..MOST_SETS {
             for own in self.splitter.nodes.iter() {
                 if own.node.candidate == 0 && own.node.set as usize == set {
-                    if set > 1 && self.kept.is_empty() {
+                    if is_grouped && set > 1 && self.kept.is_empty() {
                         let _ = self.kept.push(1);
                     }
                     let _ = self.kept.push(set);

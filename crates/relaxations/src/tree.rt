@@ -42,8 +42,8 @@ fn marks_of(fix: &Fix, state: State) -> Marks {
 }
 
 /// A node: what is in and out there, as found when it was made and, once it was visited, after its fixings; the candidate of
-/// its branch, counted from 0, with the sides where this is in and out; its bound, whether nothing cheaper is below it; the
-/// node above; and how many leaves at or below it were visited.
+/// its branch, counted from 0, with the sides where this is in and out; its bound, whether nothing cheaper is below it; and the
+/// node above.
 #[derive(Clone, Copy)]
 pub(crate) struct TreeNode {
     pub inside: Marks,
@@ -53,7 +53,6 @@ pub(crate) struct TreeNode {
     pub bound: f64,
     pub is_closed: bool,
     pub parent: u32,
-    pub leaves: u32,
 }
 
 impl TreeNode {
@@ -67,7 +66,6 @@ impl TreeNode {
             bound,
             is_closed: false,
             parent,
-            leaves: 0,
         }
     }
 
@@ -134,27 +132,6 @@ impl Tree {
             node.outside = marks_of(fix, State::Out);
             node.bound = bound;
             node.is_closed = is_closed;
-            node.leaves = 1;
-        }
-    }
-
-    /// Counts the leaves of each node that has a branch, once all are made: sides stand behind the nodes above them.
-    pub(crate) fn count_leaves(&mut self) {
-        for back in 1..self.nodes.len().saturating_add(1) {
-            let place = self.nodes.len().saturating_sub(back);
-            if place < self.nodes.len() && self.nodes[place].branch != NO_BRANCH {
-                let inside = self.leaves(self.nodes[place].sides[0]);
-                let outside = self.leaves(self.nodes[place].sides[1]);
-                self.nodes[place].leaves = inside.saturating_add(outside);
-            }
-        }
-    }
-
-    /// The leaves of the node at a place.
-    fn leaves(&self, place: u32) -> u32 {
-        match self.nodes.get(place as usize) {
-            Some(node) => node.leaves,
-            None => 0,
         }
     }
 
