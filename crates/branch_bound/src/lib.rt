@@ -40,4 +40,5 @@ mod useful;
 mod walk;
 
 pub use best::search;
+pub use relaxations::Proposals;
 pub use room::Room;
