@@ -40,5 +40,4 @@ mod useful;
 mod walk;
 
 pub use best::search;
-pub use relaxations::Proposals;
 pub use room::Room;

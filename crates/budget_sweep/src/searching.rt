@@ -7,7 +7,7 @@ ghost use Rattle.budget_sweep.specs.inner.Passes as passes;
 use adv_base::limits::MOST_CANDIDATES;
 use adv_base::{IndexShape, NoMemory};
 use bip_model::{Answer, Fix, Programme, State};
-use branch_bound::{Proposals, Room, search};
+use branch_bound::{Room, search};
 use std::alloc::Global;
 
 /// The root of a search that leaves each candidate free.
@@ -26,7 +26,6 @@ pub(crate) fn searched(
     shapes: &[IndexShape],
     budget: u64,
     nodes: u32,
-    proposed: &mut Proposals,
 ) -> Result<Answer, NoMemory>
     requires budget { budget ≤ MOST_ROWS }
     requires some_node { 1 ≤ nodes }
@@ -35,5 +34,5 @@ pub(crate) fn searched(
 {
     let root = free_root();
     let room = Room::new(alloc, programme, nodes)?;
-    Ok(search(programme, shapes, &root, budget, nodes, room, proposed))
+    Ok(search(programme, shapes, &root, budget, nodes, room))
 }

@@ -228,12 +228,12 @@ impl Configuration {
     }
 
     /// The candidate that loses least for each page that is missing, but for one.
-    fn least_loss(&mut self, matrix: &Matrix, keep: usize) -> Option<u8> {
+    fn least_loss(&mut self, matrix: &Matrix, keep: u8) -> Option<u8> {
         let mut best = None;
         let mut least = f64::INFINITY;
         let missing = 0i64.wrapping_sub(self.left);
         for a in 0..matrix.count.min(256) {
-            if self.on[a] && !self.stays[a] && a != keep {
+            if self.on[a] && !self.stays[a] && a != keep as usize {
                 let pages = nearest_i64_to_f64(matrix.sizes[a].min(missing)) + 1.0;
                 let rate = self.change(matrix, a as u8) / pages;
                 if rate < least {
@@ -251,26 +251,11 @@ impl Configuration {
             if self.left >= 0 {
                 return;
             }
-            match self.least_loss(matrix, keep as usize) {
+            match self.least_loss(matrix, keep) {
                 Some(candidate) => self.flip(matrix, candidate),
                 None => return,
             }
         }
-    }
-
-    /// Drops what loses least until the rest fits.
-    pub(crate) fn refit(&mut self, matrix: &Matrix, allowed: &Chosen) {
-        for _turn in 0..256 {
-            if self.left >= 0 {
-                break;
-            }
-            match self.least_loss(matrix, usize::MAX) {
-                Some(candidate) => self.flip(matrix, candidate),
-                None => return,
-            }
-        }
-        self.fill(matrix, allowed);
-        self.prune(matrix);
     }
 
     /// Drops what clashes with a candidate that comes in.

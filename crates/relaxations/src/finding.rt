@@ -24,6 +24,15 @@ const FIRST_DIVES: u32 = 3;
 
 const LATER_DIVES: u32 = 16;
 
+/// The cheapest configuration that was found, whether no other is cheaper, and the bound of the root.
+#[derive(Clone, Copy)]
+pub(crate) struct Found {
+    pub on: Chosen,
+    pub cost: i128,
+    pub is_closed: bool,
+    pub root_bound: f64,
+}
+
 /// The visit of a node: its states and its bound, and a candidate on which both sides of a branch are closed.
 #[derive(Clone, Copy)]
 struct Visit {
@@ -43,7 +52,7 @@ pub(crate) struct Finder {
     pub tree: Tree,
     rounding: Rounding,
     losses: Losses,
-    pub best: Incumbent,
+    best: Incumbent,
     rents: Vec<f64>,
     own_rents: Vec<f64>,
     shares: [f64; 256],
@@ -322,43 +331,11 @@ impl Finder {
         }
     }
 
-    /// Begins at a root, with the cheaper of a greedy configuration and of one that is known from elsewhere.
-    pub(crate) fn begin(
-        &mut self,
-        matrix: &Matrix,
-        root: &Fix,
-        budget: i64,
-        known: Option<&Chosen>,
-    ) {
+    /// Searches for the cheapest configuration below a root. Where the root's relaxation can't be solved, its rounding is taken.
+    pub(crate) fn find(&mut self, matrix: &Matrix, root: &Fix, budget: i64) -> Found {
         self.best = self.rounding.begin(matrix, root, budget);
-        if let Some(known) = known {
-            self.rounding
-                .adopt(matrix, root, budget, known, &mut self.best);
-        }
         self.tree.begin(root);
         self.root_bound = f64::NEG_INFINITY;
-    }
-
-    /// Rounds the relaxation of a node that was solved last; whether there is a new incumbent.
-    pub(crate) fn round(
-        &mut self,
-        matrix: &Matrix,
-        fix: &Fix,
-        budget: i64,
-        is_first: bool,
-    ) -> bool {
-        let node = Shared {
-            fix,
-            view: &self.view,
-            shares: self.relaxation.shares.as_slice(),
-            budget,
-        };
-        self.rounding
-            .round(matrix, &node, is_first, &mut self.best)
-    }
-
-    /// Searches for the cheapest configuration below a root. Where the root's relaxation can't be solved, its rounding is taken.
-    pub(crate) fn find(&mut self, matrix: &Matrix, budget: i64) {
         let mut dive = None;
         let mut turns = 0u32;
         for _visit in 0..MOST_NODES {
@@ -383,7 +360,12 @@ impl Finder {
             dive = if is_dive { side } else { None };
         }
         let target = self.target();
-        let _ = self.tree.close(target);
+        Found {
+            on: self.best.on,
+            cost: self.best.cost,
+            is_closed: self.tree.close(target),
+            root_bound: self.root_bound,
+        }
     }
 }
 

@@ -35,11 +35,6 @@ impl Planner {
                 TOLERANCE,
             );
             write_relaxation(task.matrix, finder, ledger);
-            if task.is_sketch {
-                let is_first = self.path.depth() == 0;
-                self.is_beaten =
-                    finder.round(task.matrix, &fix, task.budget, is_first) || self.is_beaten;
-            }
             page = whole(finder.relaxation.page * 65536.0) as i128;
         }
         let rents = ledger.rents.as_mut_slice();

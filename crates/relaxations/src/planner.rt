@@ -52,8 +52,6 @@ pub(crate) struct Task<'a> {
     pub nodes: usize,
     pub most_sets: usize,
     pub most_asked: u64,
-    /// Whether relaxations are rounded too, and the plan is given up where something cheaper is found.
-    pub is_sketch: bool,
 }
 
 /// Where a subtree begins: in the plan, among the fixings, and on the path.
@@ -89,7 +87,6 @@ pub(crate) struct Planner {
     pub spans: Vec<(usize, usize)>,
     pub lifting: Lifting,
     is_heavy: bool,
-    pub is_beaten: bool,
     values: [i128; MOST_SETS],
     /// The values where what clashes is left out.
     promised: [i128; MOST_SETS],
@@ -117,7 +114,6 @@ impl Planner {
             spans: Vec::with_capacity(alloc, 512)?,
             lifting: Lifting::new(alloc, matrix)?,
             is_heavy: false,
-            is_beaten: false,
             values: [0; MOST_SETS],
             promised: [0; MOST_SETS],
             most_nodes: nodes,
@@ -131,7 +127,6 @@ impl Planner {
         self.count = 0;
         self.asked = 0;
         self.is_heavy = false;
-        self.is_beaten = false;
         self.add(task, 0);
         self.begin_anew();
     }

@@ -34,7 +34,7 @@ fn is_inner(node: &TreeNode) -> bool {
 impl Planner {
     /// Whether sets have been asked as often as may be.
     pub(crate) fn is_spent(&self, task: &Task<'_>) -> bool {
-        self.asked >= task.most_asked || self.is_beaten
+        self.asked >= task.most_asked
     }
 
     /// Whether the best set is far from the bound of an inner node of the tree, and there is room for another.

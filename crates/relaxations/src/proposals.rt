@@ -4,7 +4,6 @@ ghost use Rattle.adv_base.specs.declared.limits.TheConstants.{MOST_RENT};
 ghost use Rattle.bip_model.specs.Views.{AreMultipliers};
 
 use crate::clashing::{groups_of, settle};
-use crate::configuration::Chosen;
 use crate::entering::matrix_of;
 use crate::finding::Finder;
 use crate::planner::{MOST_SETS, OVERFULL, PlanNode, Planner, Task};
@@ -17,10 +16,6 @@ use std::alloc::Global;
 
 /// The nodes that trials have, one time after the other while something is left open.
 const TRIALS: [usize; 3] = [80, 640, 5120];
-/// So often a plan is begun anew for something cheaper that was found on the way.
-const MOST_SKETCHES: u32 = 4;
-/// Sets are asked so often at most before there is a search.
-const MOST_SKETCHED: u64 = 6_000;
 /// Sets are asked so often at most.
 const MOST_ASKED: u64 = 1_500_000;
 /// The most of a cost that is looked at, 2^100.
@@ -36,16 +31,6 @@ pub struct Step {
     pub outside: u32,
 }
 
-/// The limits of a plan, as `Task` has them.
-#[derive(Clone, Copy)]
-struct Limits {
-    budget: i64,
-    nodes: usize,
-    most_sets: usize,
-    most_asked: u64,
-    is_sketch: bool,
-}
-
 /// All memory of proposals for one programme, and what was proposed last.
 #[derive(Drop)]
 pub struct Proposals {
@@ -59,9 +44,6 @@ pub struct Proposals {
     waiting: Vec<(usize, usize)>,
     root: Fix,
     budget: i64,
-    /// The configuration that was found last, if there is one, and what it costs where the plan that stands is for it.
-    known: Option<Chosen>,
-    planned: Option<i128>,
 }
 
 impl Proposals {
@@ -85,8 +67,6 @@ impl Proposals {
             waiting,
             root: Fix::free(),
             budget: 0,
-            known: None,
-            planned: None,
         })
     }
 
@@ -98,8 +78,6 @@ impl Proposals {
         root: &Fix,
         useful: &[bool; 256],
         budget: u64,
-        nodes: u32,
-        most: usize,
     ) -> Config {
         self.matrix.groups = groups_of(shapes);
         self.root = *root;
@@ -111,47 +89,24 @@ impl Proposals {
         }
         let mut settled = self.root;
         let _ = settle(&self.matrix, &mut settled);
-        self.planned = None;
-        let limits = Limits {
-            budget: self.budget,
-            nodes: nodes as usize,
-            most_sets: most.saturating_add(1),
-            most_asked: MOST_SKETCHED,
-            is_sketch: true,
-        };
-        let known = self.known;
-        self.finder
-            .begin(&self.matrix, &settled, self.budget, known.as_ref());
-        if known.is_none() || !self.sketch(&limits) {
-            self.finder.find(&self.matrix, self.budget);
-        }
-        let on = self.finder.best.on;
-        self.known = Some(on);
+        let found = self.finder.find(&self.matrix, &settled, self.budget);
+        let on = found.on;
         Config { on }
     }
 
-    /// Plans for the cheapest configuration that is known, without a search; whether it is shown that nothing is cheaper.
-    fn sketch(&mut self, limits: &Limits) -> bool {
-        let task = task_of(&self.matrix, limits, self.finder.best.cost);
-        self.planner.begin(&task, &self.root);
-        let _ = self.planner.add_own(&task, &mut self.finder);
-        for _turn in 0..MOST_SKETCHES {
-            let task = task_of(&self.matrix, limits, self.finder.best.cost);
-            self.planner.is_beaten = false;
-            let is_closed = self
-                .planner
-                .plan_along(&task, &mut self.finder, TRIALS[0]);
-            if !self.planner.is_beaten {
-                self.planned = if is_closed { Some(task.cost) } else { None };
-                return is_closed;
-            }
-        }
-        false
-    }
-
-    /// Plans along the tree of the search, with longer trials while something is left open.
-    fn plan_all(&mut self, limits: &Limits, cost: i128) {
-        let task = task_of(&self.matrix, limits, cost);
+    /// Makes at most so many sets, and with them a plan of at most so many nodes that is to show that no configuration below
+    /// the root of `find` is cheaper than a cost.
+    pub fn plan(&mut self, cost: u128, nodes: u32, most: usize) {
+        let whole = cost.min(MOST_COST) as i128;
+        let task = Task {
+            matrix: &self.matrix,
+            budget: self.budget,
+            cost: whole,
+            target: whole.wrapping_sub(1).wrapping_mul(65536),
+            nodes: nodes as usize,
+            most_sets: most.saturating_add(1),
+            most_asked: MOST_ASKED,
+        };
         self.planner.begin(&task, &self.root);
         if self.planner.has_room(&task) {
             let _ = self.planner.add_own(&task, &mut self.finder);
@@ -165,23 +120,6 @@ impl Proposals {
                 break;
             }
         }
-    }
-
-    /// Makes at most so many sets, and with them a plan of at most so many nodes that is to show that no configuration below
-    /// the root of `find` is cheaper than a cost.
-    pub fn plan(&mut self, cost: u128, nodes: u32, most: usize) {
-        let whole = cost.min(MOST_COST) as i128;
-        let limits = Limits {
-            budget: self.budget,
-            nodes: nodes as usize,
-            most_sets: most.saturating_add(1),
-            most_asked: MOST_ASKED,
-            is_sketch: false,
-        };
-        if self.planned != Some(whole) {
-            self.plan_all(&limits, whole);
-        }
-        let task = task_of(&self.matrix, &limits, whole);
         self.splitter.read(self.planner.plan.as_slice());
         self.splitter.split(&task, &mut self.planner);
         let numbers = self.keep_sets();
@@ -262,20 +200,6 @@ impl Proposals {
             ledger.rents.as_slice(),
             into.lambda.items.as_mut_slice(),
         );
-    }
-}
-
-/// What is planned for a cost.
-fn task_of<'a>(matrix: &'a Matrix, limits: &Limits, cost: i128) -> Task<'a> {
-    Task {
-        matrix,
-        budget: limits.budget,
-        cost,
-        target: cost.wrapping_sub(1).wrapping_mul(65536),
-        nodes: limits.nodes,
-        most_sets: limits.most_sets,
-        most_asked: limits.most_asked,
-        is_sketch: limits.is_sketch,
     }
 }
 

@@ -86,7 +86,7 @@ impl Planner {
     /// Closes the subtree of the node with the sets that there are; whether this was done. Else the plan is as it was.
     #[cycle(trying)]
     fn try_node(&mut self, task: &Task<'_>, trial: Trial<'_>, levels: usize) -> bool {
-        if levels == 0 || self.is_beaten || self.asked > task.most_asked.saturating_mul(2) {
+        if levels == 0 || self.asked > task.most_asked.saturating_mul(2) {
             return false;
         }
         let start = self.start();

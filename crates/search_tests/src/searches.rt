@@ -1,13 +1,11 @@
 //! Searches of programmes that are made by hand or drawn, against a plain program that tries every configuration.
 ghost use Rattle.std.specs.Prelude.{◌≤◌};
 
-use crate::bounds::numbered_node;
+use crate::bounds::free;
 use crate::made::{Draws, drawn, mixed, ordered, part, shared, wide_programme, wide_slot};
 use crate::problems::{PLAIN, Problem, fits, least, shapes_of};
-use crate::rented::obeys;
-use adv_base::is_apart;
 use bip_model::{Answer, Programme, value};
-use branch_bound::{Proposals, Room, search};
+use branch_bound::{Room, search};
 use std::alloc::Global;
 use std::process::Abort;
 
@@ -19,13 +17,8 @@ fn searched(rt: &impl Abort, alloc: Global, problem: &Problem<'_>, nodes: u32) -
 {
     let programme = problem.programme;
     let shapes = shapes_of(rt, alloc, problem.tables);
-    let root = numbered_node(problem.root);
-    let inside = root.inside();
+    let root = free();
     let room = Room::new(alloc, programme, nodes).expect(rt, "memory");
-    let mut proposed = Proposals::new(alloc, programme, nodes).expect(rt, "memory");
-    assert_eq!(rt; programme.sizes.len(), 6);
-    assert!(rt; programme.space(problem.budget).has_space(&inside));
-    assert!(rt; is_apart(shapes.as_slice(), &inside));
     search(
         programme,
         shapes.as_slice(),
@@ -33,7 +26,6 @@ fn searched(rt: &impl Abort, alloc: Global, problem: &Problem<'_>, nodes: u32) -
         problem.budget,
         nodes,
         room,
-        &mut proposed,
     )
 }
 
@@ -50,7 +42,6 @@ fn judge(rt: &impl Abort, alloc: Global, problem: &Problem<'_>, nodes: u32, best
 {
     let answer = searched(rt, alloc, problem, nodes);
     assert!(rt; fits(problem, &answer.config));
-    assert!(rt; obeys(&numbered_node(problem.root), &answer.config));
     assert_eq!(rt; value(problem.programme, &answer.config), answer.cost);
     assert!(rt; best <= answer.cost);
     assert!(rt; is_below(answer.bound, best.saturating_add(1)));
@@ -72,7 +63,6 @@ fn judge_all(rt: &impl Abort, alloc: Global, programme: &Programme, tables: [u16
     let problem = Problem {
         programme,
         tables,
-        root: 0,
         budget,
     };
     let best = least(&problem);
@@ -113,7 +103,6 @@ fn judge_budgets(rt: &impl Abort, alloc: Global, programme: &Programme, tables: 
         let problem = Problem {
             programme,
             tables,
-            root: 0,
             budget,
         };
         let best = least(&problem);
@@ -121,25 +110,6 @@ fn judge_budgets(rt: &impl Abort, alloc: Global, programme: &Programme, tables: 
             judge_nodes(rt, alloc, &problem, best);
         }
         before = best;
-    }
-}
-
-/// Below each root that fixes some of the first four candidates and fits.
-fn judge_roots(rt: &impl Abort, alloc: Global, programme: &Programme, tables: [u16; 6], budget: u64)
-    requires budget { budget ≤ 1000 }
-{
-    for root in 0..81 {
-        let problem = Problem {
-            programme,
-            tables,
-            root,
-            budget,
-        };
-        if fits(&problem, &numbered_node(root).inside()) {
-            let best = least(&problem);
-            judge(rt, alloc, &problem, 3, best);
-            judge(rt, alloc, &problem, 20000, best);
-        }
     }
 }
 
@@ -156,13 +126,6 @@ fn clustered_as_by_trying_all(rt: HostRuntime) {
     judge_budgets(&rt, alloc, &shared(&rt, alloc), THREE);
 }
 
-#[test]
-fn clustered_below_roots(rt: HostRuntime) {
-    let alloc = rt.alloc();
-    judge_roots(&rt, alloc, &mixed(&rt, alloc), THREE, 6);
-    judge_roots(&rt, alloc, &shared(&rt, alloc), PAIRS, 18);
-}
-
 /// The best configuration within a budget has this cost, and the search says so.
 fn costs(
     rt: &impl Abort,
@@ -177,7 +140,6 @@ fn costs(
     let problem = Problem {
         programme,
         tables,
-        root: 0,
         budget,
     };
     let answer = searched(rt, alloc, &problem, 20000);

@@ -20,7 +20,7 @@ use crate::worked::{FilePut, Worked, one_put};
 use adv_base::limits::MOST_CANDIDATES;
 use adv_base::{Config, List, NoMemory, Setting};
 use bip_model::{Answer, Fix, Programme, State, shown_bounds};
-use branch_bound::{Proposals, Room, search};
+use branch_bound::{Room, search};
 use certificate::{
     best_answers_keep_limits, standing_programmes_are_in_order, version_of, write_cert,
 };
@@ -105,16 +105,7 @@ pub(crate) fn advice_below(
     ensures bounded { IfOk result (λ advice. IsBoundedBy advice.answer.cost advice.answer.bound) }
 {
     let room = Room::new(alloc, programme, nodes)?;
-    let mut proposed = Proposals::new(alloc, programme, nodes)?;
-    let answer = search(
-        programme,
-        setting.shapes,
-        root,
-        budget,
-        nodes,
-        room,
-        &mut proposed,
-    );
+    let answer = search(programme, setting.shapes, root, budget, nodes, room);
     shown_bounds();
     has_all_flags(&answer.config);
     Ok(Advice {
