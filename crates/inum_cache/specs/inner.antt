@@ -1,6 +1,4 @@
 -- What retells the loops of the code; nothing above this crate cites it.
-pub mod Cells
+pub mod Costing
 pub mod Keeping
-pub mod Passes
-pub mod Tops
 pub mod Pricing
