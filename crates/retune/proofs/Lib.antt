@@ -1,15 +1,6 @@
 pub mod CacheLemmas
-pub mod Grown
-pub mod Marks
 pub mod Moving
-pub mod Numbering
 pub mod PartWeights
-pub mod PutOver
-pub mod Renewed
-pub mod Renumbered
 pub mod Reweighed
-pub mod Shapes
 pub mod Steps
-pub mod Untouched
 pub mod UpkeepWeights
-pub mod Without

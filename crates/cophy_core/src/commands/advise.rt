@@ -14,8 +14,8 @@ ghost use Rattle.cophy_core.specs.Endings.{plain_puts};
 ghost use Rattle.cophy_core.specs.Stops.{StopsAt, LacksProgramme};
 ghost use Rattle.cophy_core.specs.commands.Advise as spec;
 
-use crate::programmes::programme_of;
 use crate::stop::Stop;
+use crate::tuned::programme_of;
 use crate::worked::{FilePut, Worked, one_put};
 use adv_base::limits::MOST_CANDIDATES;
 use adv_base::{Config, List, NoMemory, Setting};

@@ -8,7 +8,7 @@ ghost use Rattle.adv_base.specs.Settings.{the_setting};
 ghost use Rattle.edit_script.specs.Scripts as scripts;
 ghost use Rattle.edit_script.specs.declared.edit.TheConstants.{MOST_LINES};
 ghost use Rattle.programme_parts.specs.Combinations.{AreFew};
-ghost use Rattle.report.specs.Texts.{FitsSetting, FitsCatalogue};
+ghost use Rattle.report.specs.Texts.{FitsSetting, IsTuned};
 ghost use Rattle.cophy_core.specs.Causes.{IsBounded};
 ghost use Rattle.cophy_core.specs.Settings.{AreStatementsOf};
 ghost use Rattle.cophy_core.specs.Stops.{StopsAt, LacksProgramme};
@@ -38,7 +38,7 @@ fn one_statement<'a>(alloc: Global, line: u32, sql: &'a [u8]) -> Result<Parsed<'
     requires { length sql.now ≤ MOST_FILE_BYTES }
     ensures one { IfOk result (inner.IsOne sql.now) }
     ensures stop { IfErr result (λ stop. (cat : catalogues.Catalogue) (before : List statements.Statement) (weight : ℕ) →
-        StopsAt (inner.OnLine line (spec.IsAdditionFault cat before weight sql.now)) stop) }
+        StopsAt (inner.OnLine line (spec.IsAddFault cat before weight sql.now)) stop) }
 {
     match read_workload(alloc, sql) {
         Ok(parsed) => {
@@ -84,7 +84,7 @@ fn addition(
     ensures addition { IfOk result (spec.IsAddition cat.now weight sql.now) }
     ensures named { IfOk result (λ statement. NamesWork cat.now statement.work) }
     ensures stop { IfErr result (λ stop. (before : List statements.Statement) →
-        StopsAt (inner.OnLine line (spec.IsAdditionFault cat.now before weight sql.now)) stop) }
+        StopsAt (inner.OnLine line (spec.IsAddFault cat.now before weight sql.now)) stop) }
 {
     let parsed = one_statement(alloc, line, sql)?;
     match bind(alloc, cat, &parsed) {
@@ -126,7 +126,7 @@ fn add(
     ensures taken { OnOk result (spec.IsAdded cat.now session.old.statements weight sql.now session.new.statements) }
     ensures few { OnOk result (AreFew cat.now session.new.statements) }
     ensures cat { OnOk result (session.new.cat ≡ cat.now) }
-    ensures stop { IfErr result (StopsAt (inner.OnLine line (spec.IsAdditionFault cat.now session.old.statements weight sql.now))) }
+    ensures stop { IfErr result (StopsAt (inner.OnLine line (spec.IsAddFault cat.now session.old.statements weight sql.now))) }
 {
     let statement = addition(alloc, cat, line, weight, sql)?;
     match session.add(statement) {
@@ -141,7 +141,7 @@ fn remove(session: &mut Session<'_>, line: u32, number: u32) -> Result<(), Stop>
     ensures taken { OnOk result (spec.IsTaken session.old.cat session.old.statements (scripts.Remove number) session.new.statements) }
     ensures few { OnOk result (AreFew session.old.cat session.new.statements) }
     ensures cat { OnOk result (session.new.cat ≡ session.old.cat) }
-    ensures stop { IfErr result (StopsAt (inner.OnLine line (spec.IsMissing session.old.statements number))) }
+    ensures stop { IfErr result (StopsAt (inner.OnLine line (spec.IsNumberFault session.old.statements number))) }
 {
     match session.remove(number) {
         Ok(()) => Ok(()),
@@ -157,7 +157,7 @@ fn reweigh(session: &mut Session<'_>, line: u32, number: u32, weight: u32) -> Re
     ensures taken { OnOk result (spec.IsTaken session.old.cat session.old.statements (scripts.Weigh number weight) session.new.statements) }
     ensures few { OnOk result (AreFew session.old.cat session.new.statements) }
     ensures cat { OnOk result (session.new.cat ≡ session.old.cat) }
-    ensures stop { IfErr result (StopsAt (inner.OnLine line (spec.IsMissing session.old.statements number))) }
+    ensures stop { IfErr result (StopsAt (inner.OnLine line (spec.IsNumberFault session.old.statements number))) }
 {
     match session.reweigh(number, weight) {
         Ok(()) => Ok(()),
@@ -191,7 +191,7 @@ fn take(
 }
 
 /// Advice over the candidates of a session, with a copy of these.
-fn advice_over(
+fn tuned(
     alloc: Global,
     cat: &Catalogue,
     session: &Session<'_>,
@@ -204,7 +204,7 @@ fn advice_over(
     requires some { 1 ≤ nodes }
     requires nodes { nodes ≤ MOST_NODES }
     ensures tuned { IfOk result (spec.IsTunedOver cat.now budget nodes session.now.statements) }
-    ensures fits { IfOk result (FitsCatalogue cat.now) }
+    ensures fits { IfOk result (IsTuned cat.now) }
 {
     let found = session.candidates();
     let setting = Setting {
@@ -234,7 +234,7 @@ fn put_tuned(
     requires nodes { nodes ≤ MOST_NODES }
     ensures { OnOk result (inner.IsOneMore cat.now budget nodes session.now.statements all.old.items all.new.items) }
 {
-    all.push(advice_over(alloc, cat, session, budget, nodes)?)?;
+    all.push(tuned(alloc, cat, session, budget, nodes)?)?;
     Ok(())
 }
 
@@ -288,8 +288,8 @@ fn advices(
     requires budget { budget ≤ MOST_ROWS }
     requires some { 1 ≤ nodes }
     requires nodes { nodes ≤ MOST_NODES }
-    ensures tuned { IfOk result (λ tuned. spec.AreTunedOver cat.now budget nodes session.old.statements (map scripts.the_edit edits.now) tuned) }
-    ensures fits { IfOk result (λ tuned. All (FitsCatalogue cat.now) tuned) }
+    ensures tuned { IfOk result (λ tuned. spec.AreTuned cat.now budget nodes session.old.statements (map scripts.the_edit edits.now) tuned) }
+    ensures fits { IfOk result (λ tuned. All (IsTuned cat.now) tuned) }
     ensures stop { IfErr result (StopsAt (inner.OfEdit (spec.IsFirstFault cat.now session.old.statements 1 (map scripts.the_edit edits.now)))) }
 {
     let mut all = Vec::new(alloc);
@@ -329,12 +329,7 @@ fn session_of<'a>(alloc: Global, setting: &Setting<'a>, load: &[u8]) -> Result<S
         Err(RetuneFault::TooManyCombinations(number, count)) => {
             Err(Stop::Refused(Refusal::TooManyCombinations(number, count)))
         }
-        Err(RetuneFault::Memory) => Err(Stop::Memory),
-        Err(
-            RetuneFault::NoStatement(_)
-            | RetuneFault::TooManyStatements
-            | RetuneFault::TooManySlots,
-        ) => unreachable!(),
+        Err(_) => Err(Stop::Memory),
     }
 }
 

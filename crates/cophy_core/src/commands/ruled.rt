@@ -12,8 +12,8 @@ ghost use Rattle.cophy_core.specs.Stops.{StopsAt};
 ghost use Rattle.cophy_core.specs.commands.Ruled as spec;
 
 use crate::commands::advise::{advice_below, certified};
-use crate::programmes::programme_of;
 use crate::stop::Stop;
+use crate::tuned::programme_of;
 use crate::worked::Worked;
 use adv_base::Setting;
 use bip_model::Fix;

@@ -4,10 +4,9 @@ use Rattle.std.specs.List.{remove}
 use Rattle.adv_base.specs.declared.workload.Statement.{Statement}
 use Rattle.adv_base.specs.Limits.Settings.{SettingLimits}
 use Rattle.bip_model.proofs.Lists.{each-length}
-use Rattle.candidates.specs.Growing.{IsProposed}
 use Rattle.inum_cache.specs.declared.cache.Cache.{Cache}
 use Rattle.retune.specs.Sessions.{TheSession, IsTuned, the_session}
-use Rattle.programme_parts.specs.Caches.{IsCacheFor, AreCached}
+use Rattle.retune.specs.inner.Caches.{IsCacheFor, AreCached}
 use Rattle.retune.proofs.Moving.{at_end-length, front-left, last-gone, put-back}
 use Rattle.retune.proofs.Steps.{limits-less, cached-less}
 use Rattle.retune.proofs.session.Session.remove.Goals as goal
@@ -17,8 +16,8 @@ to_end-requires-2 c =
     let s = c.self.inside in
     omega (arith, c.in_ok-at.ensures.within, c.len.ensures, s.statements.ok.0, each-length (IsCacheFor s.cat.now) s.statements.items s.caches.items c.self.invariant.1)
 
-pub slice_bounds-narrow-end-2 : goal.slice_bounds-narrow-end-2
-slice_bounds-narrow-end-2 c =
+pub slice_bounds-tuned-end-2 : goal.slice_bounds-tuned-end-2
+slice_bounds-tuned-end-2 c =
     let s = c.self.inside in
     let at = c.in_ok-at.at in
     let within : at < length s.statements.items = omega (arith, c.in_ok-at.ensures.within, c.len.ensures, s.statements.ok.0) in
@@ -28,8 +27,8 @@ slice_bounds-narrow-end-2 c =
     ap length (c.as_slice-2.ensures.value ∙ c.to_end-2.ensures) ∙ at_end-length s.caches.items at (omega (arith, within, long)) in
     simp length-take (omega (arith, within, long, first, second, c.len-count.ensures, c.to_end.new.items.ok.0))
 
-pub narrow-requires-clause-limits : goal.narrow-requires-clause-limits
-narrow-requires-clause-limits c =
+pub tuned-requires-clause-limits : goal.tuned-requires-clause-limits
+tuned-requires-clause-limits c =
     let s = c.self.inside in
     let xs = s.statements.items in
     let at = c.in_ok-at.at in
@@ -40,8 +39,8 @@ narrow-requires-clause-limits c =
     (sym (front-left xs c.as_slice.result.now at (c.len-count.result - 1) within (c.as_slice.ensures.value ∙ c.to_end.ensures) counted))
     (limits-less s.cat.now xs s.candidates.list at c.self.invariant.0.limits within)
 
-pub narrow-requires-clause-cached : goal.narrow-requires-clause-cached
-narrow-requires-clause-cached c =
+pub tuned-requires-clause-cached : goal.tuned-requires-clause-cached
+tuned-requires-clause-cached c =
     let s = c.self.inside in
     let xs = s.statements.items in
     let ys = s.caches.items in
@@ -70,10 +69,9 @@ invariant_of-self c =
     let left = front-left xs c.as_slice.result.now at count within (c.as_slice.ensures.value ∙ c.to_end.ensures) counted in
     let shrunk = last-gone xs c.to_end.new.items.items c.shrink.new.statements.items at within c.to_end.ensures c.shrink.ensures.statements in
     let kept = last-gone ys c.to_end-2.new.items.items c.shrink.new.caches.items at (omega (arith, within, long)) c.to_end-2.ensures c.shrink.ensures.caches in (
-      subst (λ (zs : List Statement). IsTuned (the_session s.cat.now zs c.in-Ok.candidates c.narrow.new.programme)) (left ∙ sym shrunk) c.in-Ok.ensures.after,
+      subst (λ (zs : List Statement). IsTuned (the_session s.cat.now zs c.in-Ok.candidates c.in-Ok.programme)) (left ∙ sym shrunk) c.in-Ok.ensures,
       subst (λ (caches : List (Option Cache)). AreCached s.cat.now c.shrink.new.statements.items caches) (sym kept)
           (subst (λ (zs : List Statement). AreCached s.cat.now zs (remove ys at)) (sym shrunk) (cached-less s.cat.now xs ys at c.self.invariant.1 within)),
-      subst (λ (zs : List Statement). IsProposed s.cat.now zs c.in-Ok.proposed) (left ∙ sym shrunk) c.in-Ok.ensures.proposed,
     )
 
 pub from_end-requires-in-Err : goal.from_end-requires-in-Err
@@ -98,7 +96,6 @@ invariant_of-self-in-Err c =
       subst (λ (zs : List Statement). IsTuned (the_session s.cat.now zs s.candidates s.programme)) (sym same) c.self.invariant.0,
       subst (λ (caches : List (Option Cache)). AreCached s.cat.now c.from_end.new.items.items caches) (sym kept)
           (subst (λ (zs : List Statement). AreCached s.cat.now zs ys) (sym same) c.self.invariant.1),
-      subst (λ (zs : List Statement). IsProposed s.cat.now zs s.proposed) (sym same) c.self.invariant.2,
     )
 
 pub returns-in-Ok-clause-statements : goal.returns-in-Ok-clause-statements
