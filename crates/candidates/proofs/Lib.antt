@@ -1,4 +1,5 @@
 pub mod ListLemmas
 pub mod KnownLemmas
 pub mod FreshLaws
+pub mod Once
 pub mod SoundLaws

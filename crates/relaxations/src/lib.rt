@@ -26,3 +26,4 @@ mod tree;
 mod trial;
 
 pub use proposals::{Proposals, Step};
+pub use tree::Numbers;
