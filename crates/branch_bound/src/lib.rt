@@ -11,7 +11,7 @@
 //! of a sequential page read, sizes in pages.
 //!
 //! The programme, the `Fix` that is the root and the `Answer` are `bip_model`'s; the `Room` has the memory of one
-//! search, and may recall an `Earlier` answer, which is looked at first.
+//! search.
 //!
 //! ```rust
 //! // Statements of weights 10 and 11, which cost 80000 each, and 13000 and 14000 with candidates 1 and 2, of 3 and 4
@@ -40,4 +40,4 @@ mod useful;
 mod walk;
 
 pub use best::search;
-pub use room::{Earlier, Room};
+pub use room::Room;

@@ -111,33 +111,6 @@ fn keep_others(
     }
 }
 
-/// The cheaper of a configuration that is known and of one that is proposed, once a plan is proposed for it.
-fn searched(task: &Task<'_>, nodes: u32, proposed: &mut Proposals, before: Costed) -> Costed
-    requires { climbs.IsSoundHere task.now.programme.now task.now.shapes.now task.now.budget task.now.root.now before }
-    ensures { climbs.IsSoundHere task.now.programme.now task.now.shapes.now task.now.budget task.now.root.now result }
-{
-    let found = proposed.find(task.shapes, task.root, task.useful, task.budget);
-    let known = taken(task, before, found);
-    proposed.plan(known.cost, nodes, task.most);
-    known
-}
-
-/// The same by what is recalled of an earlier answer, where a plan along that closes.
-fn recalled(task: &Task<'_>, nodes: u32, proposed: &mut Proposals) -> Costed
-    ensures { climbs.IsSoundHere task.now.programme.now task.now.shapes.now task.now.budget task.now.root.now result }
-{
-    match proposed.find_again(task.shapes, task.root, task.useful, task.budget) {
-        None => searched(task, nodes, proposed, task.bare),
-        Some(found) => {
-            let known = taken(task, task.bare, found);
-            if proposed.plan_again(known.cost, nodes, task.most) {
-                return known;
-            }
-            searched(task, nodes, proposed, known)
-        }
-    }
-}
-
 /// Has a configuration, sets and a plan proposed, and takes what is sound of the first two.
 pub(crate) fn propose(
     task: &Task<'_>,
@@ -160,7 +133,9 @@ pub(crate) fn propose(
         spare,
         others,
     } = spares;
-    let known = recalled(task, nodes, proposed);
+    let found = proposed.find(task.shapes, task.root, task.useful, task.budget);
+    let known = taken(task, task.bare, found);
+    proposed.plan(known.cost, nodes, task.most);
     keep_first(task, proposed, first, spare, sets);
     keep_others(task, proposed, others, sets);
     known

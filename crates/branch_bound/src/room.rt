@@ -10,9 +10,9 @@ use crate::ledgers::Ledgers;
 use crate::proposing::Spares;
 use adv_base::NoMemory;
 use adv_base::limits::{MOST_ENTRIES, MOST_SETS};
-use bip_model::{Answer, Multipliers, Node, Programme, grant_count};
+use bip_model::{Multipliers, Node, Programme, grant_count};
 use lagrange_bound::{CheaperParts, Ledger, PriceRows};
-use relaxations::{Numbers, Proposals};
+use relaxations::Proposals;
 use std::alloc::Global;
 
 /// All the memory that a search takes, in bytes: 4 for each node of its budget; 8 for each grant of the programme in
@@ -31,16 +31,6 @@ pub struct Room {
     pub(crate) proposed: Proposals,
     pub(crate) cheaper: CheaperParts,
     pub(crate) ledgers: Ledgers,
-}
-
-/// The answer of an earlier search, and the numbers that its candidates have now, by those that they had, both from 1: 0 for one
-/// that has gone; and for each grant of the programme now where its rent stands in the answer's sets, past their ends where it
-/// isn't there.
-#[derive(Clone, Copy)]
-pub struct Earlier<'a> {
-    pub answer: &'a Answer,
-    pub numbers: &'a Numbers,
-    pub places: &'a [u32],
 }
 
 /// How many sets of multipliers a search of a programme may keep: 16, or fewer where these were more rents than an
@@ -155,21 +145,5 @@ impl Room {
             cheaper,
             ledgers,
         })
-    }
-
-    /// The same, of a search that looks first at what the answer to another programme comes to here, which may save it most of
-    /// its work where they differ in little. It keeps a tree of at most 4096 nodes beside its own.
-    pub fn after(
-        alloc: Global,
-        programme: &Programme,
-        nodes: u32,
-        earlier: Earlier<'_>,
-    ) -> Result<Room, NoMemory>
-        ensures { IfOk result (IsRoomFor programme.now nodes) }
-    {
-        let mut room = Room::new(alloc, programme, nodes)?;
-        room.proposed
-            .recall(alloc, earlier.answer, earlier.numbers, earlier.places)?;
-        Ok(room)
     }
 }

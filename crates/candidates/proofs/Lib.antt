@@ -1,5 +1,4 @@
 pub mod ListLemmas
 pub mod KnownLemmas
 pub mod FreshLaws
-pub mod Once
 pub mod SoundLaws

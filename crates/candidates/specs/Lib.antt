@@ -1,5 +1,4 @@
 pub mod Columns
 pub mod Proposals
 pub mod Candidates
-pub mod Growing
 pub mod inner

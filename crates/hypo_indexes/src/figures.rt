@@ -33,8 +33,8 @@ fn sizes_of(alloc: Global, setting: &Setting<'_>) -> Result<List<u64>, NoMemory>
     Ok(List { items: sizes })
 }
 
-/// The upkeep of an index, summed over the statements by weight.
-pub fn weighted_upkeep(setting: &Setting<'_>, shape: &IndexShape) -> u128
+/// The sum of weight times upkeep of an index.
+fn weighted_upkeep(setting: &Setting<'_>, shape: &IndexShape) -> u128
     requires { NamesShape setting.now.cat.now shape.now }
     ensures exact { result ≡ write.weighted_upkeep (the_setting setting.now) shape.now }
     ensures most { result ≤ MOST_STATEMENTS * (MOST_WEIGHT * MOST_UPKEEP) }

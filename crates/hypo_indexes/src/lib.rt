@@ -23,6 +23,6 @@ mod size;
 mod writes;
 
 pub use budget::{config_pages, fits};
-pub use figures::{Figures, weighted_upkeep};
+pub use figures::Figures;
 pub use size::{index_pages, pages};
 pub use writes::{config_upkeep, kept_upkeep, upkeep};

@@ -61,10 +61,6 @@ pub named-block : (setting : TheSetting) (at : ℕ) (statement : Statement) (blo
 named-block setting at statement block limits found is =
     named-of setting.cat statement.work block (All-some (λ (s : Statement). NamesWork setting.cat s.work) setting.statements at statement limits.statements_named found) is
 
--- and what a statement among them names
-pub named-statement : (setting : TheSetting) (at : ℕ) (statement : Statement) → KeepsLimits setting → slice_get setting.statements at ≡ Some statement → NamesWork setting.cat statement.work
-named-statement setting at statement limits found = All-some (λ (s : Statement). NamesWork setting.cat s.work) setting.statements at statement limits.statements_named found
-
 -- ## Parts
 
 pub parts-none : (setting : TheSetting) → ArePartsBelow setting 0 []

@@ -23,8 +23,6 @@ const LEAST_PAGE: f64 = 1e-12;
 const FIRST_DIVES: u32 = 3;
 
 const LATER_DIVES: u32 = 16;
-/// So many nodes are visited near a configuration that is known.
-const FEW_VISITS: usize = 2;
 
 /// The cheapest configuration that was found, whether no other is cheaper, and the bound of the root.
 #[derive(Clone, Copy)]
@@ -336,30 +334,11 @@ impl Finder {
     /// Searches for the cheapest configuration below a root. Where the root's relaxation can't be solved, its rounding is taken.
     pub(crate) fn find(&mut self, matrix: &Matrix, root: &Fix, budget: i64) -> Found {
         self.best = self.rounding.begin(matrix, root, budget);
-        self.look(matrix, root, budget, MOST_NODES)
-    }
-
-    /// The same near a configuration that is known, with few visits.
-    pub(crate) fn find_near(
-        &mut self,
-        matrix: &Matrix,
-        root: &Fix,
-        budget: i64,
-        on: &Chosen,
-    ) -> Found {
-        self.best = self.rounding.begin(matrix, root, budget);
-        self.rounding
-            .recall(matrix, root, on, budget, &mut self.best);
-        self.look(matrix, root, budget, FEW_VISITS)
-    }
-
-    /// Searches below a root with at most so many visits.
-    fn look(&mut self, matrix: &Matrix, root: &Fix, budget: i64, visits: usize) -> Found {
         self.tree.begin(root);
         self.root_bound = f64::NEG_INFINITY;
         let mut dive = None;
         let mut turns = 0u32;
-        for _visit in 0..visits {
+        for _visit in 0..MOST_NODES {
             let next = match dive {
                 Some(place) => Some(place),
                 None => self.tree.least(),

@@ -26,4 +26,3 @@ mod tree;
 mod trial;
 
 pub use proposals::{Proposals, Step};
-pub use tree::Numbers;

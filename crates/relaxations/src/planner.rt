@@ -15,9 +15,6 @@ pub(crate) const MOST_SETS: usize = 17;
 /// In place of a set at a leaf where two clash that are in.
 pub(crate) const OVERFULL: u8 = u8::MAX;
 
-/// More than sets are ever asked.
-const ASKED_OUT: u64 = u64::MAX / 4;
-
 /// A node of the plan: the candidate of its branch, from 1, or 0 at a leaf; there the set that closes it, or the best one
 /// where none does and it is open.
 #[derive(Clone, Copy)]
@@ -89,8 +86,6 @@ pub(crate) struct Planner {
     pub turns: Vec<(usize, usize)>,
     pub spans: Vec<(usize, usize)>,
     pub lifting: Lifting,
-    /// Whether one open leaf is enough to ask no more.
-    pub stops_open: bool,
     is_heavy: bool,
     values: [i128; MOST_SETS],
     /// The values where what clashes is left out.
@@ -118,7 +113,6 @@ impl Planner {
             turns: Vec::with_capacity(alloc, 257)?,
             spans: Vec::with_capacity(alloc, 512)?,
             lifting: Lifting::new(alloc, matrix)?,
-            stops_open: false,
             is_heavy: false,
             values: [0; MOST_SETS],
             promised: [0; MOST_SETS],
@@ -242,9 +236,6 @@ impl Planner {
 
     /// Appends a leaf.
     pub(crate) fn put_leaf(&mut self, best: Best, is_open: bool) {
-        if is_open && self.stops_open {
-            self.asked = ASKED_OUT;
-        }
         let _ = self.plan.push(PlanNode {
             candidate: 0,
             set: (best.set & 255) as u8,

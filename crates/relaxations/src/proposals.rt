@@ -4,31 +4,20 @@ ghost use Rattle.adv_base.specs.declared.limits.TheConstants.{MOST_RENT};
 ghost use Rattle.bip_model.specs.Views.{AreMultipliers};
 
 use crate::clashing::{groups_of, settle};
-use crate::configuration::Chosen;
 use crate::entering::matrix_of;
 use crate::finding::Finder;
 use crate::planner::{MOST_SETS, OVERFULL, PlanNode, Planner, Task};
 use crate::splitting::Splitter;
-use crate::tree::{Numbers, Tree};
 use adv_base::limits::{MOST_PAGE_PRICE, MOST_RENT};
 use adv_base::{Config, IndexShape, NoMemory};
-use bip_model::{Answer, Fix, Multipliers, Programme, State};
-use interior_point::{Matrix, at, put};
+use bip_model::{Fix, Multipliers, Programme, State};
+use interior_point::{Matrix, at};
 use std::alloc::Global;
-use std::mem;
 
 /// The nodes that trials have, one time after the other while something is left open.
 const TRIALS: [usize; 3] = [80, 640, 5120];
-/// The nodes that trials have along a tree that is recalled.
-const TRIAL_AGAIN: usize = 80;
-/// So often sets are asked then at most.
-const MOST_ASKED_AGAIN: u64 = 24_000;
-/// So many sets are made beside those that are recalled.
-const FRESH_SETS: usize = 3;
 /// Sets are asked so often at most.
 const MOST_ASKED: u64 = 1_500_000;
-/// The most branches of a tree above a node.
-const MOST_DEPTH: usize = 257;
 /// The most of a cost that is looked at, 2^100.
 const MOST_COST: u128 = 1_267_650_600_228_229_401_496_703_205_376;
 
@@ -40,15 +29,6 @@ pub struct Step {
     pub candidate: u16,
     pub set: u8,
     pub outside: u32,
-}
-
-/// What is recalled of an answer: its configuration, its tree, and how many of its sets stand in the ledgers from the second
-/// one behind zeros on.
-#[derive(Drop)]
-struct Recalled {
-    on: Chosen,
-    tree: Tree,
-    sets: usize,
 }
 
 /// All memory of proposals for one programme, and what was proposed last.
@@ -64,7 +44,6 @@ pub struct Proposals {
     waiting: Vec<(usize, usize)>,
     root: Fix,
     budget: i64,
-    recalled: Option<Recalled>,
 }
 
 impl Proposals {
@@ -88,51 +67,7 @@ impl Proposals {
             waiting,
             root: Fix::free(),
             budget: 0,
-            recalled: None,
         })
-    }
-
-    /// Recalls the answer to a programme that differs in little, whose candidates had other numbers. `places` has for each grant
-    /// where its rent stands in the answer's sets, past their ends where it isn't there. Want of memory is the one error.
-    pub fn recall(
-        &mut self,
-        alloc: Global,
-        answer: &Answer,
-        numbers: &Numbers,
-        places: &[u32],
-    ) -> Result<(), NoMemory> {
-        let mut tree = Tree::new(alloc)?;
-        let mut waiting = Vec::with_capacity(alloc, MOST_DEPTH)?;
-        tree.recall(answer.tree.as_slice(), numbers, &mut waiting);
-        let mut on = [false; 256];
-        for (number, new) in numbers.iter().enumerate() {
-            let old = number.wrapping_sub(1);
-            if *new > 0 && at(&answer.config.on, old, false) {
-                put(&mut on, (*new as usize).wrapping_sub(1), true);
-            }
-        }
-        let mut sets = 0usize;
-        for set in answer.sets.as_slice() {
-            if self.recall_set(sets.wrapping_add(2), set, places) {
-                sets = sets.wrapping_add(1);
-            }
-        }
-        self.recalled = Some(Recalled { on, tree, sets });
-        Ok(())
-    }
-
-    /// Writes a set into the ledger at a place, if there is one.
-    fn recall_set(&mut self, place: usize, set: &Multipliers, places: &[u32]) -> bool {
-        if place >= self.planner.ledgers.len() {
-            return false;
-        }
-        let ledger = &mut self.planner.ledgers[place];
-        ledger.page = set.mu.min(MOST_PAGE_PRICE) as i128;
-        for (rent, link) in ledger.rents.iter_mut().zip(self.matrix.links.iter()) {
-            let old = at(places, link.rent, u32::MAX) as usize;
-            *rent = at(set.lambda.as_slice(), old, 0).min(MOST_RENT) as i64;
-        }
-        true
     }
 
     /// The cheapest configuration that is found below a root for a space budget in pages, of candidates of these shapes that may
@@ -144,38 +79,6 @@ impl Proposals {
         useful: &[bool; 256],
         budget: u64,
     ) -> Config {
-        let settled = self.begin(shapes, root, useful, budget);
-        let found = self.finder.find(&self.matrix, &settled, self.budget);
-        let on = found.on;
-        Config { on }
-    }
-
-    /// The cheapest configuration that is found in the same way near one that is recalled, if any is.
-    pub fn find_again(
-        &mut self,
-        shapes: &[IndexShape],
-        root: &Fix,
-        useful: &[bool; 256],
-        budget: u64,
-    ) -> Option<Config> {
-        let recalled = self.recalled.take()?;
-        let settled = self.begin(shapes, root, useful, budget);
-        let found = self
-            .finder
-            .find_near(&self.matrix, &settled, self.budget, &recalled.on);
-        self.recalled = Some(recalled);
-        let on = found.on;
-        Some(Config { on })
-    }
-
-    /// Begins with a root; what is in and out there.
-    fn begin(
-        &mut self,
-        shapes: &[IndexShape],
-        root: &Fix,
-        useful: &[bool; 256],
-        budget: u64,
-    ) -> Fix {
         self.matrix.groups = groups_of(shapes);
         self.root = *root;
         self.budget = budget.min(i64::MAX as u64) as i64;
@@ -186,54 +89,9 @@ impl Proposals {
         }
         let mut settled = self.root;
         let _ = settle(&self.matrix, &mut settled);
-        settled
-    }
-
-    /// Plans along the tree that is recalled, with its sets and few others; whether that shows that no configuration below the
-    /// root of `find_again` is cheaper than a cost. It is recalled once.
-    pub fn plan_again(&mut self, cost: u128, nodes: u32, most: usize) -> bool {
-        let Some(recalled) = self.recalled.take() else {
-            return false;
-        };
-        let whole = cost.min(MOST_COST) as i128;
-        let task = Task {
-            matrix: &self.matrix,
-            budget: self.budget,
-            cost: whole,
-            target: whole.wrapping_sub(1).wrapping_mul(65536),
-            nodes: nodes as usize,
-            most_sets: most.saturating_add(1),
-            most_asked: MOST_ASKED_AGAIN,
-        };
-        let Recalled { tree, sets, .. } = recalled;
-        let _ = mem::replace(&mut self.finder.tree, tree);
-        self.planner.begin(&task, &self.root);
-        if self.planner.has_room(&task) {
-            let _ = self.planner.add_own(&task, &mut self.finder);
-        }
-        for set in 0..sets {
-            let place = set.wrapping_add(2);
-            if place >= self.planner.ledgers.len()
-                || self.planner.count != place
-                || place.saturating_add(FRESH_SETS) > most
-            {
-                break;
-            }
-            let page = self.planner.ledgers[place].page;
-            self.planner.add(&task, page);
-        }
-        self.planner.stops_open = true;
-        let is_closed = self
-            .planner
-            .plan_along(&task, &mut self.finder, TRIAL_AGAIN);
-        self.planner.stops_open = false;
-        if is_closed {
-            self.splitter.read(self.planner.plan.as_slice());
-            self.splitter.split(&task, &mut self.planner);
-            let numbers = self.keep_sets();
-            self.write_steps(&numbers);
-        }
-        is_closed
+        let found = self.finder.find(&self.matrix, &settled, self.budget);
+        let on = found.on;
+        Config { on }
     }
 
     /// Makes at most so many sets, and with them a plan of at most so many nodes that is to show that no configuration below

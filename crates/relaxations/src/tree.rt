@@ -1,8 +1,8 @@
 //! The tree of the search for a configuration, kept for the plan.
 
 use adv_base::NoMemory;
-use bip_model::{Fix, Node, State};
-use interior_point::{append, at};
+use bip_model::{Fix, State};
+use interior_point::append;
 use std::alloc::Global;
 
 /// The most nodes.
@@ -23,20 +23,6 @@ fn mark(marks: &mut Marks, candidate: usize) {
 /// Whether a candidate is marked.
 pub(crate) fn is_marked(marks: &Marks, candidate: usize) -> bool {
     marks[(candidate / 64) % 4] & (1u64 << (candidate % 64)) != 0
-}
-
-/// The numbers that candidates have, by those that they had, both from 1: 0 for one that has gone.
-pub type Numbers = [u16; 257];
-
-/// In place of a candidate that has gone.
-const GONE: u16 = 256;
-
-/// The candidate of a branch, counted from 0, by the number that it had.
-fn branch_behind(candidate: u16, numbers: &Numbers) -> u16 {
-    match at(numbers, candidate as usize, 0).checked_sub(1) {
-        Some(branch) => branch,
-        None => GONE,
-    }
 }
 
 /// The number of a place.
@@ -104,38 +90,6 @@ pub(crate) struct Tree {
 }
 
 impl Tree {
-    /// Becomes the tree of an answer to a programme whose candidates had other numbers: what is in and out at its nodes, beside
-    /// their branches, isn't told. Of a branch on a candidate that has gone the outer side is what counts.
-    pub(crate) fn recall(&mut self, nodes: &[Node], numbers: &Numbers, waiting: &mut Vec<usize>) {
-        self.nodes.clear();
-        waiting.clear();
-        for (place, node) in nodes.iter().enumerate() {
-            if place >= MOST_NODES {
-                break;
-            }
-            let mut own = TreeNode::new(&Fix::free(), f64::NEG_INFINITY, NO_NODE);
-            match node {
-                Node::Branch(candidate) => {
-                    own.branch = branch_behind(*candidate, numbers);
-                    own.sides[0] = number_of(place.wrapping_add(1));
-                    let _ = waiting.push(place);
-                }
-                _ => self.go_outside(waiting.pop(), place.wrapping_add(1)),
-            }
-            append(&mut self.nodes, own);
-        }
-    }
-
-    /// Puts the outer side of a branch at a place.
-    fn go_outside(&mut self, above: Option<usize>, place: usize) {
-        match above {
-            Some(above) if above < self.nodes.len() => {
-                self.nodes[above].sides[1] = number_of(place);
-            }
-            _ => (),
-        }
-    }
-
     /// All memory of a tree. Want of memory is the one error.
     pub(crate) fn new(alloc: Global) -> Result<Tree, NoMemory> {
         Ok(Tree {

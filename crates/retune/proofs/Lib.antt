@@ -1,9 +1,6 @@
 pub mod CacheLemmas
 pub mod Moving
-pub mod Narrowing
 pub mod PartWeights
 pub mod Reweighed
 pub mod Steps
-pub mod Untouched
 pub mod UpkeepWeights
-pub mod Widening

@@ -20,7 +20,7 @@ use Rattle.candidates.specs.Proposals.{Proposal, proposals, work_proposals}
 use Rattle.plan_model.specs.Totals.{block_of}
 use Rattle.inum_cache.specs.declared.cache.Cache.{Cache}
 use Rattle.retune.specs.Steps.{AreReweighed, slots_in_all}
-use Rattle.programme_parts.specs.Caches.{HoldsCache, AreCached}
+use Rattle.retune.specs.inner.Caches.{HoldsCache, AreCached}
 use Rattle.retune.proofs.Steps.{slots-cons}
 
 -- ## The same but for weights

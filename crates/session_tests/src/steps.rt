@@ -2,9 +2,9 @@
 ghost use Rattle.std.specs.Prelude.{◌≡◌, ◌≤◌, ◌*◌, IfSome, IsSome, length};
 ghost use Rattle.adv_base.specs.Named.{NamesWork};
 
-use crate::opened::{catalogue_of, proposed, statement_of, statements_of, wide_catalogue};
+use crate::opened::{catalogue_of, proposed, statement_of, statements_of};
 use crate::texts::{CAT, HUB, STAR, STATEMENTS};
-use adv_base::{Catalogue, List, Setting, Statement};
+use adv_base::{Catalogue, List, Setting};
 use bip_model::Programme;
 use candidates::Candidates;
 use retune::{RetuneFault, Session};
@@ -146,45 +146,6 @@ fn a_thousand_steps(rt: HostRuntime) {
             compare(&rt, alloc, &cat, &session);
         }
     }
-}
-
-/// A statement over the wide table, of columns that are drawn.
-fn wide_statement(rt: &impl Abort, alloc: Global, cat: &Catalogue, drawn: u64) -> Statement
-    ensures { NamesWork cat.now result.work }
-{
-    let [a, b, c, d] = [
-        drawn >> 20 & 31,
-        drawn >> 26 & 31,
-        drawn >> 32 & 31,
-        drawn >> 38 & 31,
-    ];
-    let text = format!(in alloc;
-        "SELECT c{a} FROM w WHERE c{b} = 1 AND c{c} > 5 ORDER BY c{d};"
-    ).expect(rt, "memory");
-    statement_of(rt, alloc, cat, text.as_str())
-}
-
-#[test]
-fn more_proposals_than_candidates(rt: HostRuntime) {
-    let alloc = rt.alloc();
-    let cat = wide_catalogue(&rt, alloc);
-    let mut session = Session::new(alloc, &cat, List::new(alloc))
-        .ok()
-        .expect(&rt, "a session");
-    let mut drawn = 3;
-    for turn in 0..240 {
-        drawn = next(drawn);
-        let answer = if turn < 150 || turn % 3 == 0 {
-            session.add(wide_statement(&rt, alloc, &cat, drawn))
-        } else {
-            session.remove(((drawn >> 40) % 90) as u32 + 1)
-        };
-        assert_eq!(rt; answer, Ok(()));
-        if turn % 12 == 11 {
-            compare(&rt, alloc, &cat, &session);
-        }
-    }
-    assert!(rt; session.candidates().left_over > 0);
 }
 
 #[test]

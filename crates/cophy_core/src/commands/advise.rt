@@ -3,7 +3,6 @@ ghost use Rattle.std.specs.Prelude.{◌≡◌, ◌≤◌, length, replicate, opt
 ghost use Rattle.adv_base.specs.declared.limits.TheConstants.{MOST_CANDIDATES, MOST_NODES, MOST_ROWS};
 ghost use Rattle.bip_model.specs.StandsFor.{StandsFor};
 ghost use Rattle.bip_model.specs.Views.{node_of};
-ghost use Rattle.branch_bound.specs.Rooms.{IsRoomFor};
 ghost use Rattle.branch_bound.specs.Sides.{IsRoot};
 ghost use Rattle.adv_base.specs.Settings.{the_setting};
 ghost use Rattle.report.specs.Texts.{FitsSetting, IsBoundedBy};
@@ -15,13 +14,13 @@ ghost use Rattle.cophy_core.specs.Endings.{plain_puts};
 ghost use Rattle.cophy_core.specs.Stops.{StopsAt, LacksProgramme};
 ghost use Rattle.cophy_core.specs.commands.Advise as spec;
 
-use crate::programmes::programme_of;
 use crate::stop::Stop;
+use crate::tuned::programme_of;
 use crate::worked::{FilePut, Worked, one_put};
 use adv_base::limits::MOST_CANDIDATES;
 use adv_base::{Config, List, NoMemory, Setting};
 use bip_model::{Answer, Fix, Programme, State, shown_bounds};
-use branch_bound::{Earlier, Room, search};
+use branch_bound::{Room, search};
 use certificate::{
     best_answers_keep_limits, standing_programmes_are_in_order, version_of, write_cert,
 };
@@ -83,21 +82,6 @@ pub(crate) fn certified(
     }
 }
 
-/// The room of a search, which recalls an earlier answer where there is one.
-fn room_of(
-    alloc: Global,
-    programme: &Programme,
-    nodes: u32,
-    earlier: Option<Earlier<'_>>,
-) -> Result<Room, NoMemory>
-    ensures { IfOk result (IsRoomFor programme.now nodes) }
-{
-    match earlier {
-        None => Room::new(alloc, programme, nodes),
-        Some(earlier) => Room::after(alloc, programme, nodes, earlier),
-    }
-}
-
 /// A best set of candidates below a root that together take at most `budget` pages, found by a search of at most so many
 /// nodes (branch and bound over CoPhy's programme, which is the setting's), with what the workload costs under it and a bound
 /// that no such set undercuts; both are the same unless the nodes were spent. `left_over` proposed indexes are no candidates.
@@ -109,7 +93,6 @@ pub(crate) fn advice_below(
     left_over: u64,
     budget: u64,
     nodes: u32,
-    earlier: Option<Earlier<'_>>,
 ) -> Result<Advice, NoMemory>
     requires found { AreCandidates setting.now.cat.now setting.now.statements.now setting.now.shapes.now left_over }
     requires stands { StandsFor (the_setting setting.now) programme.now }
@@ -121,7 +104,7 @@ pub(crate) fn advice_below(
     ensures advice { IfOk result (spec.IsAdviceFrom (node_of root.now) budget nodes (the_setting setting.now)) }
     ensures bounded { IfOk result (λ advice. IsBoundedBy advice.answer.cost advice.answer.bound) }
 {
-    let room = room_of(alloc, programme, nodes, earlier)?;
+    let room = Room::new(alloc, programme, nodes)?;
     let answer = search(programme, setting.shapes, root, budget, nodes, room);
     shown_bounds();
     has_all_flags(&answer.config);
@@ -141,7 +124,6 @@ pub(crate) fn best_advice(
     left_over: u64,
     budget: u64,
     nodes: u32,
-    earlier: Option<Earlier<'_>>,
 ) -> Result<Advice, NoMemory>
     requires found { AreCandidates setting.now.cat.now setting.now.statements.now setting.now.shapes.now left_over }
     requires stands { StandsFor (the_setting setting.now) programme.now }
@@ -153,9 +135,7 @@ pub(crate) fn best_advice(
     ensures bounded { IfOk result (λ advice. IsBoundedBy advice.answer.cost advice.answer.bound) }
 {
     let root = free_root();
-    let advice = advice_below(
-        alloc, setting, programme, &root, left_over, budget, nodes, earlier,
-    )?;
+    let advice = advice_below(alloc, setting, programme, &root, left_over, budget, nodes)?;
     Ok(advice)
 }
 
@@ -176,7 +156,7 @@ pub(crate) fn advice_on(
     ensures stop { IfErr result (StopsAt (LacksProgramme (the_setting setting.now))) }
 {
     let programme = programme_of(alloc, setting)?;
-    let advice = best_advice(alloc, setting, &programme, left_over, budget, nodes, None)?;
+    let advice = best_advice(alloc, setting, &programme, left_over, budget, nodes)?;
     Ok(advice)
 }
 
@@ -200,7 +180,7 @@ pub(crate) fn advise(
     ensures stop { IfErr result (StopsAt (LacksProgramme (the_setting setting.now))) }
 {
     let programme = programme_of(alloc, setting)?;
-    let advice = best_advice(alloc, setting, &programme, left_over, budget, nodes, None)?;
+    let advice = best_advice(alloc, setting, &programme, left_over, budget, nodes)?;
     best_answers_keep_limits();
     standing_programmes_are_in_order();
     let puts = certified(alloc, setting, &programme, budget, &advice.answer, cert)?;

@@ -8,7 +8,7 @@ ghost use Rattle.adv_base.specs.Settings.{the_setting};
 ghost use Rattle.edit_script.specs.Scripts as scripts;
 ghost use Rattle.edit_script.specs.declared.edit.TheConstants.{MOST_LINES};
 ghost use Rattle.programme_parts.specs.Combinations.{AreFew};
-ghost use Rattle.report.specs.Texts.{FitsSetting, FitsCatalogue};
+ghost use Rattle.report.specs.Texts.{FitsSetting, IsTuned};
 ghost use Rattle.cophy_core.specs.Causes.{IsBounded};
 ghost use Rattle.cophy_core.specs.Settings.{AreStatementsOf};
 ghost use Rattle.cophy_core.specs.Stops.{StopsAt, LacksProgramme};
@@ -17,14 +17,12 @@ ghost use Rattle.cophy_core.specs.inner.Retuning as inner;
 
 use crate::commands::advise::best_advice;
 use crate::commands::list_candidates::copies;
-use crate::commands::remembered::Remembered;
 use crate::stop::Stop;
-use adv_base::{Catalogue, IndexShape, List, NoMemory, Setting, Statement};
+use adv_base::{Catalogue, List, NoMemory, Setting, Statement};
 use binder::{BindFault, bind};
-use branch_bound::Earlier;
 use edit_script::{Edit, Edits, ScriptFault, read_edits};
 use report::{Done, EditFault, Refusal, Tuned};
-use retune::{RetuneFault, Session, place_of_shape};
+use retune::{RetuneFault, Session};
 use sql_reader::{Parsed, SqlFault, read_workload};
 use std::alloc::Global;
 
@@ -40,7 +38,7 @@ fn one_statement<'a>(alloc: Global, line: u32, sql: &'a [u8]) -> Result<Parsed<'
     requires { length sql.now ≤ MOST_FILE_BYTES }
     ensures one { IfOk result (inner.IsOne sql.now) }
     ensures stop { IfErr result (λ stop. (cat : catalogues.Catalogue) (before : List statements.Statement) (weight : ℕ) →
-        StopsAt (inner.OnLine line (spec.IsAdditionFault cat before weight sql.now)) stop) }
+        StopsAt (inner.OnLine line (spec.IsAddFault cat before weight sql.now)) stop) }
 {
     match read_workload(alloc, sql) {
         Ok(parsed) => {
@@ -86,7 +84,7 @@ fn addition(
     ensures addition { IfOk result (spec.IsAddition cat.now weight sql.now) }
     ensures named { IfOk result (λ statement. NamesWork cat.now statement.work) }
     ensures stop { IfErr result (λ stop. (before : List statements.Statement) →
-        StopsAt (inner.OnLine line (spec.IsAdditionFault cat.now before weight sql.now)) stop) }
+        StopsAt (inner.OnLine line (spec.IsAddFault cat.now before weight sql.now)) stop) }
 {
     let parsed = one_statement(alloc, line, sql)?;
     match bind(alloc, cat, &parsed) {
@@ -128,7 +126,7 @@ fn add(
     ensures taken { OnOk result (spec.IsAdded cat.now session.old.statements weight sql.now session.new.statements) }
     ensures few { OnOk result (AreFew cat.now session.new.statements) }
     ensures cat { OnOk result (session.new.cat ≡ cat.now) }
-    ensures stop { IfErr result (StopsAt (inner.OnLine line (spec.IsAdditionFault cat.now session.old.statements weight sql.now))) }
+    ensures stop { IfErr result (StopsAt (inner.OnLine line (spec.IsAddFault cat.now session.old.statements weight sql.now))) }
 {
     let statement = addition(alloc, cat, line, weight, sql)?;
     match session.add(statement) {
@@ -143,7 +141,7 @@ fn remove(session: &mut Session<'_>, line: u32, number: u32) -> Result<(), Stop>
     ensures taken { OnOk result (spec.IsTaken session.old.cat session.old.statements (scripts.Remove number) session.new.statements) }
     ensures few { OnOk result (AreFew session.old.cat session.new.statements) }
     ensures cat { OnOk result (session.new.cat ≡ session.old.cat) }
-    ensures stop { IfErr result (StopsAt (inner.OnLine line (spec.IsMissing session.old.statements number))) }
+    ensures stop { IfErr result (StopsAt (inner.OnLine line (spec.IsNumberFault session.old.statements number))) }
 {
     match session.remove(number) {
         Ok(()) => Ok(()),
@@ -159,7 +157,7 @@ fn reweigh(session: &mut Session<'_>, line: u32, number: u32, weight: u32) -> Re
     ensures taken { OnOk result (spec.IsTaken session.old.cat session.old.statements (scripts.Weigh number weight) session.new.statements) }
     ensures few { OnOk result (AreFew session.old.cat session.new.statements) }
     ensures cat { OnOk result (session.new.cat ≡ session.old.cat) }
-    ensures stop { IfErr result (StopsAt (inner.OnLine line (spec.IsMissing session.old.statements number))) }
+    ensures stop { IfErr result (StopsAt (inner.OnLine line (spec.IsNumberFault session.old.statements number))) }
 {
     match session.reweigh(number, weight) {
         Ok(()) => Ok(()),
@@ -192,32 +190,13 @@ fn take(
     }
 }
 
-/// The number of a shape among others, from 1; 0 where it isn't there.
-fn number_among(shapes: &[IndexShape], shape: &IndexShape) -> u16 {
-    match place_of_shape(shapes, shape) {
-        Some(at) => at.wrapping_add(1).min(256) as u16,
-        None => 0,
-    }
-}
-
-/// The numbers that candidates have now, by those that they had.
-fn numbers_now(old: &[IndexShape], new: &[IndexShape]) -> [u16; 257] {
-    let mut numbers = [0; 257];
-    for at in 0..old.len().min(256) {
-        numbers[at + 1] = number_among(new, &old[at]);
-    }
-    numbers
-}
-
-/// Advice over the candidates of a session, with a copy of these. What was told last is looked at first.
-fn advice_over(
+/// Advice over the candidates of a session, with a copy of these.
+fn tuned(
     alloc: Global,
     cat: &Catalogue,
     session: &Session<'_>,
     budget: u64,
     nodes: u32,
-    last: Option<&Tuned>,
-    remembered: &Remembered,
 ) -> Result<Tuned, NoMemory>
     requires cat { session.now.cat ≡ cat.now }
     requires few { AreFew cat.now session.now.statements }
@@ -225,7 +204,7 @@ fn advice_over(
     requires some { 1 ≤ nodes }
     requires nodes { nodes ≤ MOST_NODES }
     ensures tuned { IfOk result (spec.IsTunedOver cat.now budget nodes session.now.statements) }
-    ensures fits { IfOk result (FitsCatalogue cat.now) }
+    ensures fits { IfOk result (IsTuned cat.now) }
 {
     let found = session.candidates();
     let setting = Setting {
@@ -235,28 +214,7 @@ fn advice_over(
     };
     let shapes = copies(alloc, setting.shapes)?;
     let programme = session.programme();
-    let numbers = match last {
-        None => [0; 257],
-        Some(last) => numbers_now(last.shapes.as_slice(), setting.shapes),
-    };
-    let places = remembered.places(alloc, programme, &numbers)?;
-    let earlier = match last {
-        None => None,
-        Some(last) => Some(Earlier {
-            answer: &last.advice.answer,
-            numbers: &numbers,
-            places: places.as_slice(),
-        }),
-    };
-    let advice = best_advice(
-        alloc,
-        &setting,
-        programme,
-        found.left_over,
-        budget,
-        nodes,
-        earlier,
-    )?;
+    let advice = best_advice(alloc, &setting, programme, found.left_over, budget, nodes)?;
     Ok(Tuned { shapes, advice })
 }
 
@@ -267,7 +225,6 @@ fn put_tuned(
     session: &Session<'_>,
     budget: u64,
     nodes: u32,
-    remembered: &mut Remembered,
     all: &mut Vec<Tuned>,
 ) -> Result<(), NoMemory>
     requires cat { session.now.cat ≡ cat.now }
@@ -277,10 +234,7 @@ fn put_tuned(
     requires nodes { nodes ≤ MOST_NODES }
     ensures { OnOk result (inner.IsOneMore cat.now budget nodes session.now.statements all.old.items all.new.items) }
 {
-    let last = all.as_slice().last();
-    let tuned = advice_over(alloc, cat, session, budget, nodes, last, remembered)?;
-    *remembered = Remembered::of(alloc, session.programme(), session.statements().len())?;
-    all.push(tuned)?;
+    all.push(tuned(alloc, cat, session, budget, nodes)?)?;
     Ok(())
 }
 
@@ -302,7 +256,6 @@ fn put_asked(
     edit: Edit<'_>,
     budget: u64,
     nodes: u32,
-    remembered: &mut Remembered,
     all: &mut Vec<Tuned>,
 ) -> Result<(), NoMemory>
     requires cat { session.now.cat ≡ cat.now }
@@ -313,7 +266,7 @@ fn put_asked(
     ensures { OnOk result (inner.IsTold cat.now budget nodes session.now.statements (scripts.is_advise (scripts.the_edit edit.entry)) all.old.items all.new.items) }
 {
     if asks(edit) {
-        return put_tuned(alloc, cat, session, budget, nodes, remembered, all);
+        return put_tuned(alloc, cat, session, budget, nodes, all);
     }
     Ok(())
 }
@@ -335,26 +288,15 @@ fn advices(
     requires budget { budget ≤ MOST_ROWS }
     requires some { 1 ≤ nodes }
     requires nodes { nodes ≤ MOST_NODES }
-    ensures tuned { IfOk result (λ tuned. spec.AreTunedOver cat.now budget nodes session.old.statements (map scripts.the_edit edits.now) tuned) }
-    ensures fits { IfOk result (λ tuned. All (FitsCatalogue cat.now) tuned) }
+    ensures tuned { IfOk result (λ tuned. spec.AreTuned cat.now budget nodes session.old.statements (map scripts.the_edit edits.now) tuned) }
+    ensures fits { IfOk result (λ tuned. All (IsTuned cat.now) tuned) }
     ensures stop { IfErr result (StopsAt (inner.OfEdit (spec.IsFirstFault cat.now session.old.statements 1 (map scripts.the_edit edits.now)))) }
 {
     let mut all = Vec::new(alloc);
-    let mut remembered = Remembered::nothing(alloc);
     'edits: for at in 0..edits.len() {
         let edit = edits[at];
         take(alloc, cat, session, at as u32 + 1, edit)?;
-        remembered.follow(edit);
-        put_asked(
-            alloc,
-            cat,
-            session,
-            edit,
-            budget,
-            nodes,
-            &mut remembered,
-            &mut all,
-        )?;
+        put_asked(alloc, cat, session, edit, budget, nodes, &mut all)?;
     }
     Ok(List { items: all })
 }
@@ -387,12 +329,7 @@ fn session_of<'a>(alloc: Global, setting: &Setting<'a>, load: &[u8]) -> Result<S
         Err(RetuneFault::TooManyCombinations(number, count)) => {
             Err(Stop::Refused(Refusal::TooManyCombinations(number, count)))
         }
-        Err(RetuneFault::Memory) => Err(Stop::Memory),
-        Err(
-            RetuneFault::NoStatement(_)
-            | RetuneFault::TooManyStatements
-            | RetuneFault::TooManySlots,
-        ) => unreachable!(),
+        Err(_) => Err(Stop::Memory),
     }
 }
 

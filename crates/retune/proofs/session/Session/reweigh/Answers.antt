@@ -11,5 +11,5 @@ invariant_of-self c =
     let ys = c.set_weight.new.statements.items in
     let number : ℕ = c.in_ok-at.at + 1 in (
       c.reweigh.ensures ys (subst (λ (zs : List Statement). AreReweighed zs number c.args.weight ys) (sym c.as_slice.ensures.value) c.set_weight.ensures),
-      alike-cached s.cat.now xs ys s.caches.items (alike xs ys number c.args.weight c.set_weight.ensures) c.self.invariant.1.0,
+      alike-cached s.cat.now xs ys s.caches.items (alike xs ys number c.args.weight c.set_weight.ensures) c.self.invariant.1,
     )

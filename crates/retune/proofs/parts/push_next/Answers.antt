@@ -1,7 +1,7 @@
 use Rattle.std.proofs.Common.{sym}
 use Rattle.adv_base.specs.Settings.{the_setting}
 use Rattle.programme_parts.proofs.Statements.{parts-same}
-use Rattle.programme_parts.proofs.parts.push_statement.Goals as goal
+use Rattle.retune.proofs.parts.push_next.Goals as goal
 
 pub returns-in-None : goal.returns-in-None
 returns-in-None c =
