@@ -88,7 +88,7 @@ def price(way: Path, budget: int) -> Fraction:
 
 
 def least_sum(classes: Classes, budget: int, page: Fraction) -> int:
-    """A sum of costs that no choice within the budget undercuts, at any price of a page that isn't negative."""
+    """A sum of costs that no choice that fits the budget undercuts, at any price of a page that isn't negative."""
     over, under = page.numerator, page.denominator
     total = sum(min(it.cost * under + over * it.pages for it in items) for items in classes) - over * budget
     return -(-total // under)

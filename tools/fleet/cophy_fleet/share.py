@@ -36,7 +36,7 @@ class Sweep:
 
 @dataclass(frozen=True)
 class Shares:
-    """A budget, the point that each database gets, and a cost that no picks within the budget undercut."""
+    """A budget, the point that each database gets, and a cost that no picks that fit the budget undercut."""
 
     budget: int
     sweeps: tuple[Sweep, ...]

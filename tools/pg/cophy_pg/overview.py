@@ -120,10 +120,10 @@ def end_of(document: dict[str, Any]) -> str:
     """What the bound says of the advice."""
     cost = document["cost"]
     if cost["after"] == cost["bound"]:
-        return "by our model no other indexes within the budget cost less"
+        return "by our model no other indexes that fit the budget cost less"
     if cost["finished"]:
         how = "without rules, and with" if document["rules"] else "with"
-        return f"by our model no indexes within the budget cost less than the bound; {how} what was left out, it is reached"
+        return f"by our model no indexes that fit the budget cost less than the bound; {how} what was left out, it is reached"
     return "the search was stopped before its cost reached the bound: a higher --nodes may find better"
 
 

@@ -136,14 +136,8 @@ def _make(made: Made) -> list[str]:
         lines += ["SET lock_timeout TO :'patient';", state, *_refuse_other(made)]
         lines += ["\\if :is_there", "    \\echo 'it is there already'", "\\else", "    \\if :is_invalid"]
         lines += ["        \\echo 'an earlier run left it INVALID, so it is dropped first'"]
-        lines += [f"        DROP INDEX CONCURRENTLY {index.shown()};", "    \\endif", "    \\set ON_ERROR_STOP off"]
-        lines += [
-            f"    {index.statement()}",
-            "    \\set ON_ERROR_STOP on",
-            f"    {state}",
-            "    \\if :is_there",
-            "    \\else",
-        ]
+        lines += [f"        DROP INDEX CONCURRENTLY {index.shown()};", "    \\endif"]
+        lines += _tried(index.statement(), state, "is_there")
         lines += ["        \\if :is_invalid"]
         lines += [
             "            \\warn 'it is left INVALID: it serves no query, and each write pays for it'",
@@ -159,19 +153,18 @@ def _make(made: Made) -> list[str]:
 
 def _lay(made: Made, laid: Laid, told: list[str]) -> list[str]:
     """Lays the rows of a table in the order of its index, unless they are."""
-    cluster, analyse = laid.statements()
-    lines = [_is_laid(laid), "\\if :is_laid", "    \\echo 'its table is clustered by it already'", "\\else"]
+    (cluster, analyse), asked = laid.statements(), _is_laid(laid)
+    lines = [asked, "\\if :is_laid", "    \\echo 'its table is clustered by it already'", "\\else"]
     lines += [f"    -- {it}" for it in told[1:]]
-    lines += [f"    \\echo '{told[0]}'", "    SET lock_timeout TO :'brief';", "    \\set ON_ERROR_STOP off"]
-    lines += [
-        f"    {cluster}",
-        "    \\set ON_ERROR_STOP on",
-        f"    {_is_laid(laid)}",
-        "    \\if :is_laid",
-        "    \\else",
-    ]
+    lines += [f"    \\echo '{told[0]}'", "    SET lock_timeout TO :'brief';", *_tried(cluster, asked, "is_laid")]
     lines += [f"        {_fail(made, 'does not cluster its table yet: run the script again, or with -v undo=1')}"]
     return [*lines, "    \\endif", "\\endif", "SET lock_timeout TO :'patient';", analyse]
+
+
+def _tried(statement: str, asked: str, flag: str) -> list[str]:
+    """Tries a statement that may fail, asks what came of it, and begins what is said where it failed."""
+    tried = ["\\set ON_ERROR_STOP off", statement, "\\set ON_ERROR_STOP on", asked, f"\\if :{flag}", "\\else"]
+    return [f"    {it}" for it in tried]
 
 
 def _is_laid(laid: Laid) -> str:
