@@ -1,14 +1,10 @@
 -- Members of configurations that clash.
 use Rattle.std.proofs.Common.{◌≡◌, ℕ, zero, suc, ◌+◌, ◌-◌, ◌<◌, ◌≤◌, Bool, true, false, not, ◌&&◌, ◌==◌, List, [], ◌∷◌, length, Option, Some, None, slice_get, slice_index_or, inl, inr, refl, sym, ap, subst, ◌∙◌, eqb-true, eq-eqb, arith}
 use Rattle.std.specs.Option.{option_map_or}
-use Rattle.std.proofs.lemmas.Bool.{cases_lt}
+use Rattle.std.proofs.lemmas.Bool.{and_parts, cases_lt}
 use Rattle.adv_base.specs.declared.catalogue.index.IndexShape.{IndexShape}
 use Rattle.adv_base.specs.declared.setting.Config.{Config}
 use Rattle.adv_base.specs.Configs.{has_candidate, are_clashing, is_clash, clashes, Clashes, IsApart, IsFirstClash}
-
-both : (a b : Bool) → (a && b) ≡ true → (a ≡ true) × (b ≡ true)
-both true b e = (refl, e)
-both false b e = absurd cc
 
 -- a test of what is found holds only where something is
 some-passes : {X : Type 0} (passes : X → Bool) (found : Option X) → option_map_or passes found false ≡ true → (x : X) × (found ≡ Some x) × (passes x ≡ true)
@@ -20,7 +16,7 @@ member-within : (config : Config) (n b : ℕ) → length config.on ≡ n → has
 member-within config n zero long has = omega arith
 member-within config n (suc b) long has =
     let back : suc b - 1 ≡ b = omega arith in
-    let flag : slice_index_or config.on b false ≡ true = ap (λ (k : ℕ). slice_index_or config.on k false) (sym back) ∙ (both (not (suc b == 0)) (slice_index_or config.on (suc b - 1) false) has).1 in
+    let flag : slice_index_or config.on b false ≡ true = ap (λ (k : ℕ). slice_index_or config.on k false) (sym back) ∙ (and_parts (not (suc b == 0)) (slice_index_or config.on (suc b - 1) false) has).1 in
     let within = on-within config.on b flag in
     omega (arith, within, long)
   where
@@ -55,8 +51,8 @@ none_more shapes config n none here a b less h = elim (cases_lt b n) [
 
 pub none_at_all : (shapes : List IndexShape) (config : Config) (n : ℕ) → length config.on < n → NoneBefore shapes config n → IsApart shapes config
 none_at_all shapes config n past none a b h =
-    let members = (both (has_candidate config a && has_candidate config b) (is_clash shapes a b) h.clash).0 in
-    let within = member-within config (length config.on) b refl (both (has_candidate config a) (has_candidate config b) members).1 in
+    let members = (and_parts (has_candidate config a && has_candidate config b) (is_clash shapes a b) h.clash).0 in
+    let within = member-within config (length config.on) b refl (and_parts (has_candidate config a) (has_candidate config b) members).1 in
     none a b (omega (arith, within, past)) h
 
 -- no member is 0
@@ -85,8 +81,8 @@ pair-of : (shapes : List IndexShape) (a b : ℕ) → is_clash shapes a b ≡ tru
 pair-of shapes a b e =
     let one = some-passes (λ (one : IndexShape). option_map_or (are_clashing one) (slice_get shapes (b - 1)) false) (slice_get shapes (a - 1)) e in
     let other = some-passes (are_clashing one.0) (slice_get shapes (b - 1)) one.2 in
-    let parts = both (one.0.clustered && other.0.clustered) (one.0.table == other.0.table) other.2 in
-    let flags = both one.0.clustered other.0.clustered parts.0 in
+    let parts = and_parts (one.0.clustered && other.0.clustered) (one.0.table == other.0.table) other.2 in
+    let flags = and_parts one.0.clustered other.0.clustered parts.0 in
     record { one = one.0; other = other.0; one_found = one.1; other_found = other.1; clustered = flags.0; also = flags.1; table = eqb-true one.0.table other.0.table parts.1 }
 
 -- two that clash with a third clash with each other
@@ -102,10 +98,10 @@ meet shapes a c b x y =
 -- of two that clash with the first clashing one, the lesser would clash with the greater
 not-below : (shapes : List IndexShape) (config : Config) (a c b : ℕ) → IsFirstClash shapes config a b → Clashes shapes config c b → a < c → ⊥
 not-below shapes config a c b h k less =
-    let mine = both (has_candidate config a && has_candidate config b) (is_clash shapes a b) h.is.clash in
-    let yours = both (has_candidate config c && has_candidate config b) (is_clash shapes c b) k.clash in
-    let has = (both (has_candidate config a) (has_candidate config b) mine.0).0 in
-    let also = (both (has_candidate config c) (has_candidate config b) yours.0).0 in
+    let mine = and_parts (has_candidate config a && has_candidate config b) (is_clash shapes a b) h.is.clash in
+    let yours = and_parts (has_candidate config c && has_candidate config b) (is_clash shapes c b) k.clash in
+    let has = (and_parts (has_candidate config a) (has_candidate config b) mine.0).0 in
+    let also = (and_parts (has_candidate config c) (has_candidate config b) yours.0).0 in
     let clash = meet shapes a c b (pair-of shapes a b mine.1) (pair-of shapes c b yours.1) in
     let earlier = h.least a c (record { ordered = less; clash = all-three (has_candidate config a) (has_candidate config c) (is_clash shapes a c) has also clash }) in
     omega (arith, earlier, k.ordered)
@@ -134,8 +130,8 @@ second-clustered shapes a b e =
 pub unclustered-apart : (shapes : List IndexShape) (config : Config) (b : ℕ) → (option_map_or (λ shape. shape.clustered) (slice_get shapes (b - 1)) false && has_candidate config b) ≡ false →
     (a : ℕ) → Clashes shapes config a b → ⊥
 unclustered-apart shapes config b none a h =
-    let parts = both (has_candidate config a && has_candidate config b) (is_clash shapes a b) h.clash in
-    let has = (both (has_candidate config a) (has_candidate config b) parts.0).1 in
+    let parts = and_parts (has_candidate config a && has_candidate config b) (is_clash shapes a b) h.clash in
+    let has = (and_parts (has_candidate config a) (has_candidate config b) parts.0).1 in
     let flag = second-clustered shapes a b parts.1 in
     not-both (option_map_or (λ shape. shape.clustered) (slice_get shapes (b - 1)) false) (has_candidate config b) flag has none
   where
@@ -149,8 +145,8 @@ unclustered-apart shapes config b none a h =
 -- no two of fewer candidates clash where no two of more do
 pub fewer-apart : (shapes : List IndexShape) (few many : Config) → ((a : ℕ) → has_candidate few a ≡ true → has_candidate many a ≡ true) → IsApart shapes many → IsApart shapes few
 fewer-apart shapes few many more apart a b h =
-    let parts = both (has_candidate few a && has_candidate few b) (is_clash shapes a b) h.clash in
-    let members = both (has_candidate few a) (has_candidate few b) parts.0 in
+    let parts = and_parts (has_candidate few a && has_candidate few b) (is_clash shapes a b) h.clash in
+    let members = and_parts (has_candidate few a) (has_candidate few b) parts.0 in
     apart a b (record {
       ordered = h.ordered;
       clash = all-three (has_candidate many a) (has_candidate many b) (is_clash shapes a b) (more a members.0) (more b members.1) parts.1;

@@ -14,7 +14,7 @@ pub record Node : Type 0 where
 abbrev pub is_free : Node → ℕ → Bool
 is_free node a = not (has_candidate node.inside a) && not (has_candidate node.outside a)
 
--- a free candidate is open where it fits together with those that are in
+-- a free candidate is open where its pages and those of what is in are within the budget, whether it clashes or not
 abbrev pub is_open_in : Space → Node → ℕ → Bool
 is_open_in space node a = is_free node a && fits_beside space node.inside a
 

@@ -1,9 +1,10 @@
 //! Nodes of a search, as what each makes of each candidate.
-ghost use Rattle.std.specs.Prelude.{◌≡◌, ◌≤◌, true, map};
+ghost use Rattle.std.specs.Prelude.{◌≡◌, ◌≤◌, true, map, replicate};
 ghost use Rattle.adv_base.specs.Configs as configs;
 ghost use Rattle.adv_base.specs.Nodes as nodes;
 ghost use Rattle.adv_base.specs.declared.limits.TheConstants.{MOST_CANDIDATES};
 ghost use Rattle.bip_model.specs.Proves.{free_node};
+ghost use Rattle.bip_model.specs.declared.fix.State.TheVariants.{Free};
 ghost use Rattle.bip_model.specs.Trees as trees;
 ghost use Rattle.bip_model.specs.Views as views;
 
@@ -51,7 +52,8 @@ fn is_out(state: State) -> bool
 impl Fix {
     /// The node at which each candidate is free.
     pub fn free() -> Fix
-        ensures { views.node_of result ≡ free_node }
+        ensures node { views.node_of result ≡ free_node }
+        ensures states { result.state ≡ replicate MOST_CANDIDATES Free }
     {
         Fix {
             state: [State::Free; MOST_CANDIDATES],

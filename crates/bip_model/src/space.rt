@@ -86,7 +86,7 @@ impl Space<'_> {
         self.pages(&fix.inside())
     }
 
-    /// Whether a candidate fits beside what is in at a node, which has so many pages.
+    /// Whether a candidate's pages fit beside those of what is in at a node.
     pub fn fits_beside(&self, fix: &Fix, inside: u64, number: u16) -> bool
         requires exact { inside ≡ configs.pages_in self.now.sizes.now (views.node_of fix.now).inside }
         requires most { inside ≤ MOST_CANDIDATES * MOST_INDEX_PAGES }
@@ -95,7 +95,7 @@ impl Space<'_> {
         inside + self.size(number) <= self.budget
     }
 
-    /// Whether a candidate is open at a node: it is free there, and fits beside what is in.
+    /// Whether a candidate is open at a node: it is free there, and its pages fit beside what is in.
     pub fn is_open(&self, fix: &Fix, number: u16) -> bool
         ensures { result ≡ nodes.is_open_in (views.the_space self.now) (views.node_of fix.now) number }
     {

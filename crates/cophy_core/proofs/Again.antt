@@ -1,6 +1,6 @@
 -- A certificate that is read once more: where its file is told it is the same one; else what is told is so of some bytes that
 -- the file may have held.
-use Rattle.std.proofs.Common.{◌≡◌, ◌≢◌, ◌∙◌, ℕ, suc, ◌+◌, ◌≤◌, List, [], ◌∷◌, ◌++◌, length, map, drop, Option, None, Some, refl, sym, ap, subst, arith, length-append, append_assoc}
+use Rattle.std.proofs.Common.{◌≡◌, ◌≢◌, ◌∙◌, ℕ, ◌+◌, ◌≤◌, List, [], ◌∷◌, ◌++◌, length, map, drop, Option, None, Some, refl, sym, ap, subst, arith, length-append, append_assoc}
 use Rattle.std.specs.Prelude.{MatchOption, decimal, ◌/◌, ◌%◌}
 use Rattle.std.specs.List.{AllByRecursion}
 use Rattle.std.proofs.lemmas.Fmt.{decimal_nonempty, decimal_step, length-decimal-le_wide}
@@ -12,7 +12,7 @@ use Rattle.adv_shelf.specs.Shelf.{Files, IsFile}
 use Rattle.bip_model.specs.declared.answer.Node.{Node}
 use Rattle.bip_model.specs.Laws.{ProofsBound}
 use Rattle.certificate.specs.Certificates.{IsCertificate, IsLine, BreaksAt, TextsFit}
-use Rattle.certificate.specs.Heads.{IsHeadOf, HeadLimits, HeadsKeepLimits, lines_before, tree_text}
+use Rattle.certificate.specs.Heads.{IsHeadOf, HeadLimits, HeadsKeepLimits, lines_before}
 use Rattle.certificate.specs.Limits.{CertLimits}
 use Rattle.certificate.specs.Texts.{text_of, title_line, budget_line, config_line, cost_line, bound_line, sets_line, sets_lines, head_lines, tree_line, tree_lines, node_line, end_line, cert_lines, cert_text}
 use Rattle.certificate.specs.declared.cert.Cert.{Cert}

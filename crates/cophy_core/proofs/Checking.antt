@@ -1,7 +1,6 @@
 -- What a file proves below a root.
-use Rattle.std.proofs.Common.{◌≡◌, inr, ℕ, List, Option, Result, Ok, Err, sym, ap, subst, ◌∙◌}
+use Rattle.std.proofs.Common.{◌≡◌, inr, ℕ, List, Option, Result, Ok, Err, ap, subst}
 use Rattle.std.specs.Prelude.{IfOk, IfErr}
-use Rattle.adv_base.specs.declared.setting.Config.{Config}
 use Rattle.adv_base.specs.Nodes as nodes
 use Rattle.adv_base.specs.Settings.{TheSetting}
 use Rattle.adv_shelf.specs.Shelf.{Files}

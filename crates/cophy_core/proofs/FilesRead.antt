@@ -1,8 +1,7 @@
 -- Files read in a row.
-use Rattle.std.proofs.Common.{◌≡◌, inl, inr, ℕ, ◌<◌, ◌≤◌, List, [], ◌∷◌, ◌++◌, length, Option, Some, refl, subst, arith}
+use Rattle.std.proofs.Common.{◌≡◌, ℕ, ◌<◌, ◌≤◌, List, [], ◌∷◌, ◌++◌, length, Option, Some, refl, subst, arith}
 use Rattle.std.specs.FinMap.{get}
 use Rattle.adv_shelf.proofs.CallerLemmas.{told_fact, rose_later}
-use Rattle.adv_shelf.specs.Faults.{Rose}
 use Rattle.adv_shelf.specs.Shelf.{Files, HasFile}
 use Rattle.report.specs.declared.done.Refusal.TheVariants.{TooLong}
 use Rattle.cophy_core.specs.declared.stop.Stop.{Stop}

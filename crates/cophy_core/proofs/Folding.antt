@@ -1,5 +1,5 @@
 -- The one text of a folded workload, and what it speaks of.
-use Rattle.std.proofs.Common.{◌≡◌, ◌∙◌, ℕ, ◌≤◌, ◌<◌, ◌^◌, List, length, refl, sym, ap, subst, arith}
+use Rattle.std.proofs.Common.{◌≡◌, ◌∙◌, ℕ, ◌≤◌, List, length, refl, sym, ap, subst, arith}
 use Rattle.adv_base.specs.declared.limits.TheConstants.{MOST_FILE_BYTES}
 use Rattle.adv_base.specs.Settings.{TheSetting}
 use Rattle.report.specs.declared.done.FoldDone.{FoldDone}
@@ -7,7 +7,7 @@ use Rattle.sql_reader.proofs.Unique.{one_workload}
 use Rattle.sql_reader.specs.declared.parsed.ParsedStatement.{ParsedStatement}
 use Rattle.workload_fold.specs.Laws.{FoldingKeepsLeftOver, FoldingKeepsTotals}
 use Rattle.workload_fold.specs.ReadingBack.{text_of_groups, ReadsBack, FoldedTextsReadBack}
-use Rattle.cophy_core.specs.Settings.{AreStatementsOf, IsSetting}
+use Rattle.cophy_core.specs.Settings.{AreStatementsOf}
 use Rattle.cophy_core.specs.commands.Fold.{the_groups, IsFoldedText, IsFolding, IsFoldTooLong, SpeaksOfWhole}
 
 -- a workload has one such text

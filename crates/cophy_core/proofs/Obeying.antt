@@ -1,5 +1,5 @@
 -- The root that rules make, and the one fault that they have.
-use Rattle.std.proofs.Common.{◌≡◌, ◌∙◌, ◌⊎◌, inl, inr, ℕ, ◌≤◌, List, length, map, Ok, Err, refl, sym, subst, arith}
+use Rattle.std.proofs.Common.{◌≡◌, ◌∙◌, ◌⊎◌, inl, inr, ℕ, List, length, Ok, Err, refl, sym, subst, arith}
 use Rattle.std.proofs.lemmas.List.{length-map}
 use Rattle.adv_base.specs.Configs.{Fits}
 use Rattle.adv_base.specs.Settings.{TheSetting}

@@ -1,5 +1,5 @@
 -- A script of edits over a workload has one end: a fault of one edit, or advice wherever it asks for it.
-use Rattle.std.proofs.Common.{◌≡◌, ◌≢◌, ◌⊎◌, inl, inr, ℕ, suc, ◌+◌, ◌-◌, List, [], ◌∷◌, map, length, slice_get, Option, Some, Ok, Err, Result, refl, sym, ap, subst, ◌∙◌, arith}
+use Rattle.std.proofs.Common.{◌≡◌, ◌⊎◌, inl, inr, ℕ, suc, ◌-◌, List, [], ◌∷◌, length, slice_get, Option, Some, Ok, Err, refl, sym, ap, subst, ◌∙◌, arith}
 use Rattle.std.specs.Prelude.{slice_set}
 use denote.Struct.Props.{props}
 use mathlib.Core.HLevel.{is_prop→PathP}
@@ -12,9 +12,8 @@ use Rattle.adv_base.specs.Settings.{TheSetting}
 use Rattle.binder.specs.Plain.{plain_statement, plain_statements}
 use Rattle.binder.specs.Statements.{statements_of}
 use Rattle.binder.specs.declared.fault.BindFault.{BindFault}
-use Rattle.edit_script.specs.Scripts.{TheEdit, Add, Remove, Weigh, Advise, IsScript, IsBadLine}
+use Rattle.edit_script.specs.Scripts.{TheEdit, Add, Remove, Weigh, Advise, IsBadLine}
 use Rattle.edit_script.proofs.Unique.{one_script, one_bad_line, no_bad_line}
-use Rattle.plan_model.specs.Totals.{block_of}
 use Rattle.programme_parts.specs.Combinations.{HasCombinations, HasFew, IsBeyond}
 use Rattle.programme_parts.proofs.Counting.{one-count}
 use Rattle.report.specs.declared.done.EditFault.{EditFault}
@@ -22,10 +21,10 @@ use Rattle.report.specs.declared.done.EditFault.TheVariants.{BadLine, Sql, Bind,
 use Rattle.report.specs.declared.done.Refusal.{Refusal}
 use Rattle.report.specs.declared.done.Refusal.TheVariants.{Edit, TooManyCombinations as TooManyOfWorkload}
 use Rattle.report.specs.declared.done.Tuned.{Tuned}
-use Rattle.retune.specs.Steps.{added, AreReweighed, IsNumber, HasRoom, HasSlots}
+use Rattle.retune.specs.Steps.{added, AreReweighed, IsNumber, HasSlots}
 use Rattle.sql_reader.proofs.Unique.{one_workload, workload_or_fault, one_sql_fault}
 use Rattle.sql_reader.specs.declared.parsed.ParsedStatement.{ParsedStatement}
-use Rattle.cophy_core.specs.commands.Retune.{IsAddition, IsAdded, IsTaken, AreTuned, IsRetuned, IsMisnamed, IsTooRich, IsAddFault, IsNumberFault, IsEditFault, IsFirstFault, IsUntaken, IsTooRichWorkload, Refuses}
+use Rattle.cophy_core.specs.commands.Retune.{IsAddition, IsAdded, IsTaken, AreTuned, IsRetuned, IsMisnamed, IsAddFault, IsNumberFault, IsEditFault, IsFirstFault, IsUntaken, IsTooRichWorkload, Refuses}
 use Rattle.cophy_core.proofs.Combinations.{none_beyond, one_beyond}
 use Rattle.cophy_core.proofs.OneSetting.{same_statement}
 

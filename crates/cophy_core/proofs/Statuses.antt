@@ -1,5 +1,5 @@
 -- The exit status of the advice of a script.
-use Rattle.std.proofs.Common.{◌≡◌, ℕ, zero, suc, Bool, true, false, List, [], ◌∷◌, map, refl, sym, ap, ◌∙◌, arith}
+use Rattle.std.proofs.Common.{◌≡◌, ℕ, Bool, true, false, List, [], ◌∷◌, map, refl, ◌∙◌, arith}
 use Rattle.std.specs.Prelude.{not, max, if◌then◌else◌}
 use Rattle.std.specs.List.{list_any}
 use Rattle.report.specs.Sweeps.{has_no_gap}

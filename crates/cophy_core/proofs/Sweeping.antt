@@ -1,5 +1,5 @@
 -- The certificates of a sweep, and the files that they are put into.
-use Rattle.std.proofs.Common.{◌≡◌, ◌∙◌, ℕ, zero, suc, ◌+◌, List, [], ◌∷◌, ◌++◌, length, map, refl, sym, ap, subst, arith}
+use Rattle.std.proofs.Common.{◌≡◌, ℕ, suc, ◌+◌, List, [], ◌∷◌, ◌++◌, length, map, refl, subst, arith}
 use Rattle.std.specs.Prelude.{decimal}
 use Rattle.adv_base.specs.Settings.{TheSetting}
 use Rattle.bip_model.specs.declared.point.Point.{Point}

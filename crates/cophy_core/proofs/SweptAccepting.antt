@@ -1,5 +1,5 @@
 -- `check` accepts the certificates of a sweep.
-use Rattle.std.proofs.Common.{◌≡◌, ◌≢◌, ◌∙◌, ℕ, zero, suc, ◌+◌, ◌^◌, ◌<◌, ◌≤◌, List, [], ◌∷◌, ◌++◌, length, Option, None, Some, refl, sym, ap, subst, arith}
+use Rattle.std.proofs.Common.{◌≡◌, ◌≢◌, ◌∙◌, ℕ, zero, suc, ◌+◌, ◌^◌, ◌<◌, ◌≤◌, List, [], ◌∷◌, ◌++◌, length, Option, Some, refl, sym, ap, subst, arith}
 use Rattle.std.specs.Prelude.{◌↔◌, decimal, slice_get}
 use Rattle.std.specs.FinMap.{insert}
 use Rattle.std.proofs.lemmas.Fmt.{decimal_injective}
@@ -7,7 +7,7 @@ use Rattle.std.proofs.lemmas.List.{append_cancel_left}
 use Rattle.adv_base.specs.Settings.{TheSetting}
 use Rattle.adv_base.specs.declared.limits.TheConstants.{MOST_CERTIFICATE_BYTES}
 use Rattle.adv_shelf.proofs.CallerLemmas.{put_is_there}
-use Rattle.adv_shelf.specs.Shelf.{Files, put_file}
+use Rattle.adv_shelf.specs.Shelf.{Files}
 use Rattle.bip_model.specs.Proves.{free_node}
 use Rattle.bip_model.specs.declared.point.Point.{Point}
 use Rattle.certificate.specs.Answers.{answer_cert, version_of}

@@ -1,14 +1,13 @@
 -- What edits leave of a workload, and how long an added text may be.
-use Rattle.std.proofs.Common.{◌≡◌, inl, inr, ℕ, zero, suc, ◌+◌, ◌-◌, ◌<◌, ◌≤◌, List, [], ◌∷◌, ◌++◌, length, map, take, drop, decimal, codes, Some, slice_get, slice_index_or, append_assoc, append-nil, Result, Ok, Err, refl, sym, ap, subst, ◌∙◌, arith}
+use Rattle.std.proofs.Common.{◌≡◌, inl, inr, ℕ, zero, suc, ◌+◌, ◌-◌, ◌<◌, ◌≤◌, List, [], ◌∷◌, ◌++◌, length, map, take, drop, decimal, codes, slice_index_or, append_assoc, append-nil, Result, Ok, Err, refl, sym, ap, subst, ◌∙◌, arith}
 use Rattle.std.specs.Prelude.{All}
 use Rattle.std.proofs.lemmas.List.{length-append}
 use Rattle.std.proofs.lemmas.List.Elements.{All-nil, All-cons, All-head, All-tail, All-push, All-append, All-take, All-drop, All-set}
 use Rattle.adv_base.specs.declared.catalogue.Catalogue.{Catalogue}
 use Rattle.adv_base.specs.declared.limits.TheConstants.{MOST_FILE_BYTES}
 use Rattle.adv_base.specs.declared.workload.Statement.{Statement}
-use Rattle.adv_base.specs.declared.workload.block.Block.{Block}
 use Rattle.bip_model.proofs.Lists.{All-some}
-use Rattle.edit_script.specs.Scripts.{TheEdit, Add, Remove, Weigh, Advise, is_advise, edit_text, script_text, IsInRange, IsEdit, IsScript}
+use Rattle.edit_script.specs.Scripts.{TheEdit, Add, Remove, Weigh, Advise, is_advise, edit_text, script_text, IsInRange, IsEdit}
 use Rattle.plan_model.specs.declared.plan.TheConstants.{MOST_TOTAL}
 use Rattle.plan_model.specs.Totals.{block_of}
 use Rattle.report.specs.Advices.{EachAdvice}

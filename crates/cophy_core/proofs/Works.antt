@@ -14,7 +14,7 @@ use Rattle.cophy_core.specs.Answers.{GivesOver, PutsOver}
 use Rattle.cophy_core.specs.Endings.{Put}
 use Rattle.command_line.specs.CommandLine.{PlainCommand, Ruled, Check, CheckRuled}
 use Rattle.cophy_core.specs.Files.{InputFile, IsInput, SomeInput, AreInputs, ReadCounts, input, input_file, setting_files, ruled_files, files_of}
-use Rattle.cophy_core.specs.Inputs.{HasInputs, HasWhole, HasRead}
+use Rattle.cophy_core.specs.Inputs.{HasInputs, HasRead}
 use Rattle.cophy_core.specs.Reading.{IsUnreadFile, StopsReading, StopsAtFiles}
 use Rattle.cophy_core.specs.Settings.{IsSetting, IsSettingRefusal}
 use Rattle.command_line.specs.Spellings.{IsInRange}
@@ -23,7 +23,7 @@ use Rattle.cophy_core.specs.declared.files.Inputs.{Inputs}
 use Rattle.cophy_core.specs.commands.CheckRuled as check_ruled
 use Rattle.cophy_core.specs.declared.stop.Stop.{Stop}
 use Rattle.cophy_core.specs.declared.stop.Stop.TheVariants.{Memory, Failed, Refused}
-use Rattle.cophy_core.specs.inner.Work.{GivesRead, StopsUnderRules, StopsWork}
+use Rattle.cophy_core.specs.inner.Work.{GivesRead, StopsWork}
 use Rattle.cophy_core.proofs.Answered.{second_short, reading_stops, setting_stops, work_stops}
 use Rattle.cophy_core.proofs.FilesRead.{first_stops}
 

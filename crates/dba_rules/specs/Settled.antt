@@ -1,7 +1,5 @@
 -- Whether the candidates that rules make in can be, and what obeys rules. Candidates are numbered from 1.
-use Rattle.std.specs.Prelude.{◌≡◌, ℕ, ◌<◌, ◌≤◌, ◌-◌, ◌==◌, Bool, true, false, not, ◌&&◌, ◌||◌, List, slice_get}
-use Rattle.std.specs.Option.{option_map_or}
-use Rattle.adv_base.specs.declared.catalogue.index.IndexShape.{IndexShape}
+use Rattle.std.specs.Prelude.{◌≡◌, ℕ, ◌<◌, ◌≤◌, ◌-◌, Bool, true, false, not, ◌&&◌, ◌||◌}
 use Rattle.adv_base.specs.declared.setting.Config.{Config}
 use Rattle.adv_base.specs.Configs.{has_candidate, config_pages, IsFirstClash}
 use Rattle.adv_base.specs.Nodes as nodes

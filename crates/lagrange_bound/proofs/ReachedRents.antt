@@ -1,5 +1,5 @@
 -- A bound that is at least that of rent multipliers, as what it says of each setting for which the programme stands.
-use Rattle.std.proofs.Common.{◌≡◌, ◌^◌, ◌<◌, ◌≤◌, ℕ, zero, suc, ℤ, refl, subst, arith}
+use Rattle.std.proofs.Common.{◌^◌, ◌<◌, ◌≤◌, ℕ, zero, suc, ℤ, refl, subst, arith}
 use Rattle.std.specs.Prelude.{◌≤ℤ◌}
 use Rattle.std.proofs.Math.Pow.{pow_mono}
 use Rattle.adv_base.specs.declared.limits.TheConstants.{MOST_PAGE_PRICE}

@@ -1,5 +1,5 @@
 -- Statements that do the same are alike.
-use Rattle.std.proofs.Common.{◌≡◌, ℕ, ◌==◌, Bool, true, false, ◌&&◌, List, [], ◌∷◌, map, Option, Some, None, refl, sym, ap, ◌∙◌, subst, arith}
+use Rattle.std.proofs.Common.{◌≡◌, ℕ, ◌==◌, Bool, true, false, List, [], ◌∷◌, Option, Some, None, refl, sym, ap, ◌∙◌, arith}
 use Rattle.std.specs.Prelude.{nat_eq, slice_get, option_and_then}
 use Rattle.std.specs.Bool.{beq}
 use Rattle.std.specs.Cmp.Lexicographic.{pointwise}
@@ -19,7 +19,7 @@ use Rattle.adv_base.specs.Items.{is_same_item}
 use Rattle.adv_base.specs.Lookups.{table_at, slot_table}
 use Rattle.adv_base.specs.Parts.{pred_part, table_pred_part, column_test_part}
 use Rattle.adv_base.proofs.ItemLaws.{item_same}
-use Rattle.binder.specs.Plain.{PlainPred, PlainEdge, PlainBlock, PlainWork, Select, Update, Delete, Insert, plain_pred, plain_edge, plain_preds, plain_edges, plain_block, plain_work}
+use Rattle.binder.specs.Plain.{PlainPred, PlainEdge, PlainBlock, Select, Update, Delete, Insert, plain_pred, plain_edge, plain_preds, plain_edges, plain_block, plain_work}
 use Rattle.workload_fold.specs.Alike.{test_number, alike_slots, alike_edges, alike_preds, alike_groups, alike_blocks, is_alike}
 
 pub same_head : {X : Type 0} (x y : X) (xs ys : List X) → x ∷ xs ≡ y ∷ ys → x ≡ y

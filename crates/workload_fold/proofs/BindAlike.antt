@@ -1,7 +1,6 @@
 -- Names, items and conditions of two texts that are the same but for places mean the same.
-use Rattle.std.proofs.Common.{◌≡◌, ℕ, zero, suc, ◌+◌, Bool, true, false, not, cond, List, [], ◌∷◌, ◌++◌, length, Option, Some, None, Result, Ok, Err, sym, refl, ap, ◌∙◌, subst}
-use Rattle.std.specs.Prelude.{nat_lt, slice_get, option_map, unwrap_or}
-use Rattle.std.specs.List.{position_from}
+use Rattle.std.proofs.Common.{◌≡◌, ℕ, ◌+◌, not, List, [], ◌∷◌, ◌++◌, length, Option, Some, None, Ok, refl, ap, subst}
+use Rattle.std.specs.Prelude.{nat_lt, option_map, unwrap_or}
 use Rattle.sql_tokens.specs.declared.token.Span.{Span}
 use Rattle.adv_base.specs.declared.catalogue.Catalogue.{Catalogue}
 use Rattle.adv_base.specs.declared.catalogue.column.Kind.{Kind}
@@ -9,31 +8,27 @@ use Rattle.adv_base.specs.declared.catalogue.column.Kind.TheVariants as kinds
 use Rattle.adv_base.specs.declared.limits.TheConstants.{MOST_SLOTS}
 use Rattle.adv_base.specs.declared.workload.predicate.Test.{Test}
 use Rattle.adv_base.specs.declared.workload.predicate.Test.TheVariants as tests
-use Rattle.adv_base.specs.declared.workload.predicate.Value.{Value}
 use Rattle.adv_base.specs.Days.{day_number}
 use Rattle.adv_base.specs.Readings.{◌>>=◌, or_fault, where_holds}
-use Rattle.sql_reader.specs.declared.parsed.Compare.{Compare}
 use Rattle.sql_reader.specs.declared.parsed.Condition.{Condition}
 use Rattle.sql_reader.specs.declared.parsed.Literal.{Literal}
 use Rattle.sql_reader.specs.declared.parsed.NameUse.{NameUse}
 use Rattle.sql_reader.specs.declared.parsed.ParsedItem.{ParsedItem}
 use Rattle.sql_reader.specs.declared.parsed.ParsedItem.TheVariants as parsed
 use Rattle.sql_reader.specs.declared.parsed.Source.{Source}
-use Rattle.binder.specs.declared.fault.BindFault.{BindFault}
 use Rattle.binder.specs.declared.fault.BindFault.TheVariants.{NoTable, NoColumn, TwoAliases, TooManySlots}
-use Rattle.binder.specs.declared.gathered.BoundItem.{BoundItem}
 use Rattle.binder.specs.declared.gathered.BoundItem.TheVariants.{SlotStar, Made}
 use Rattle.binder.specs.declared.gathered.SlotColumn.{SlotColumn}
 use Rattle.binder.specs.declared.scope.Visible.{Visible}
 use Rattle.binder.specs.Conditions.{PlainTests, no_tests, with_test, with_equality, compare_test, kind_of, literal_value, with_condition, tests_of}
 use Rattle.binder.specs.Items.{columns_of, item_of, items_of}
-use Rattle.binder.specs.Lookups.{table_number, column_of}
+use Rattle.binder.specs.Lookups.{table_number}
 use Rattle.binder.specs.Names.{unquoted, name_in, folded, word_in, place}
 use Rattle.binder.specs.Scopes.{Names, slot_column, source_number, column_in, owners, the_one, source_meant, qualified, unqualified, by_qualifier, meaning}
 use Rattle.binder.specs.Sources.{table_meant, visible, is_taken, put_source, with_source, sources_of}
 use Rattle.binder.specs.Values.{day_value, int_value, date_value, value_of}
 use Rattle.workload_fold.specs.Pairs.{Pairs}
-use Rattle.workload_fold.specs.Places.{Texts, SameSpan, SameMaybe, SameName, SameNames, SameSource, SameLiteral, SameCondition, SameExpr, SameItem}
+use Rattle.workload_fold.specs.Places.{Texts, SameSpan, SameMaybe, SameName, SameNames, SameSource, SameLiteral, SameCondition, SameItem}
 use Rattle.workload_fold.proofs.Agreeing.{SameOk, ok_equal, ok_bind, ok_fault, ok_where, ok_in_turn, ok_each}
 use Rattle.workload_fold.proofs.ByForms.{by_literals, by_conditions}
 

@@ -1,10 +1,10 @@
 -- Statements of two texts that are the same but for places mean the same.
-use Rattle.std.proofs.Common.{◌≡◌, ℕ, zero, suc, ◌+◌, Bool, true, false, cond, ◌||◌, List, [], ◌∷◌, ◌++◌, length, Option, Some, None, Result, Ok, Err, sym, refl, ap, ◌∙◌, subst}
+use Rattle.std.proofs.Common.{◌≡◌, ℕ, zero, suc, ◌+◌, Bool, true, false, cond, ◌||◌, List, [], ◌∷◌, ◌++◌, length, Option, Some, None, Ok, refl, ap, ◌∙◌, subst}
 use Rattle.std.specs.Prelude.{slice_get}
 use Rattle.std.specs.List.{position_from, list_any}
 use Rattle.sql_tokens.specs.declared.token.Span.{Span}
 use Rattle.adv_base.specs.declared.catalogue.Catalogue.{Catalogue}
-use Rattle.adv_base.specs.Readings.{◌>>=◌, or_fault, where_holds}
+use Rattle.adv_base.specs.Readings.{◌>>=◌, where_holds}
 use Rattle.sql_reader.specs.declared.parsed.Body.{Body}
 use Rattle.sql_reader.specs.declared.parsed.Body.TheVariants as bodies
 use Rattle.sql_reader.specs.declared.parsed.Condition.{Condition}
@@ -15,26 +15,24 @@ use Rattle.sql_reader.specs.declared.parsed.ParsedItem.TheVariants as parsed
 use Rattle.sql_reader.specs.declared.parsed.ParsedOrder.{ParsedOrder}
 use Rattle.sql_reader.specs.declared.parsed.ParsedSelect.{ParsedSelect}
 use Rattle.sql_reader.specs.declared.parsed.Source.{Source}
-use Rattle.binder.specs.declared.fault.BindFault.{BindFault}
 use Rattle.binder.specs.declared.fault.BindFault.TheVariants.{NoColumn, Unjoined}
 use Rattle.binder.specs.declared.gathered.BoundItem.{BoundItem}
 use Rattle.binder.specs.declared.gathered.SlotColumn.{SlotColumn}
-use Rattle.binder.specs.declared.gathered.SortKey.{SortKey}
 use Rattle.binder.specs.declared.gathered.SortKeys.{SortKeys}
 use Rattle.binder.specs.declared.gathered.Term.{Term}
 use Rattle.binder.specs.declared.gathered.Term.TheVariants as terms
 use Rattle.binder.specs.declared.scope.Visible.{Visible}
-use Rattle.binder.specs.Blocks.{PlainClauses, sorted_of, sort_keys_of, clauses_of, joined_clauses, clause_mentions, select_block, select_of, change_block, changed_block, one_source, written_column, written_columns, delete_of}
-use Rattle.binder.specs.Conditions.{PlainTests, tests_of}
+use Rattle.binder.specs.Blocks.{PlainClauses, sort_keys_of, clauses_of, joined_clauses, clause_mentions, select_block, select_of, change_block, changed_block, written_column, written_columns, delete_of}
+use Rattle.binder.specs.Conditions.{tests_of}
 use Rattle.binder.specs.Faults.{both}
 use Rattle.binder.specs.Items.{columns_of, items_of, is_alias, has_alias, aliased, has_aggregate}
 use Rattle.binder.specs.Joins.{is_joined}
-use Rattle.binder.specs.Lists.{aggregates, group_list, order_list}
+use Rattle.binder.specs.Lists.{group_list, order_list}
 use Rattle.binder.specs.Lookups.{goes_by, column_of}
-use Rattle.binder.specs.Names.{name_in, word_in, place}
+use Rattle.binder.specs.Names.{word_in, place}
 use Rattle.binder.specs.Needed.{slots_from}
-use Rattle.binder.specs.Orders.{SelectList, alias_meant, alias_or_column, term_of, with_mention, mention, mentions_from, term_column, ordinal_column, sorted_by_name, sorted_by_made, sorted_as, sorted_by, order_item, with_order, orders_from}
-use Rattle.binder.specs.Plain.{PlainBlock, PlainWork, Select, Update, Delete, Insert}
+use Rattle.binder.specs.Orders.{SelectList, alias_meant, alias_or_column, term_of, with_mention, mention, mentions_from, term_column, ordinal_column, sorted_by_name, sorted_as, sorted_by, order_item, with_order, orders_from}
+use Rattle.binder.specs.Plain.{PlainBlock, Select, Update, Delete, Insert}
 use Rattle.binder.specs.Scopes.{Names, meaning}
 use Rattle.binder.specs.Sources.{table_meant, visible, sources_of}
 use Rattle.binder.specs.Statements.{first_table, without_names, update_of, insert_of, work_of}

@@ -1,5 +1,5 @@
 -- Statements bound one by one, and the groups of those that were bound.
-use Rattle.std.proofs.Common.{◌≡◌, ℕ, zero, suc, ◌+◌, ◌-◌, ◌<◌, ◌≤◌, Bool, true, false, ◌&&◌, if◌then◌else◌, List, [], ◌∷◌, ◌++◌, length, map, Option, Some, None, Result, Ok, Err, refl, sym, ap, ◌∙◌, subst, append_assoc, append-nil, arith}
+use Rattle.std.proofs.Common.{◌≡◌, ℕ, ◌+◌, ◌-◌, ◌≤◌, Bool, true, false, if◌then◌else◌, List, [], ◌∷◌, ◌++◌, length, Result, Ok, refl, sym, ap, ◌∙◌, append_assoc, append-nil, arith}
 use Rattle.std.specs.Prelude.{nat_le, fold, slice_get}
 use Rattle.std.specs.List.{enumerate_from}
 use Rattle.std.proofs.lemmas.Bool.{and_parts, leb-true}
@@ -11,11 +11,11 @@ use Rattle.adv_base.specs.Readings.{◌>>=◌, where_holds, in_turn}
 use Rattle.sql_reader.specs.declared.parsed.ParsedStatement.{ParsedStatement}
 use Rattle.binder.specs.declared.fault.BindFault.{BindFault}
 use Rattle.binder.specs.declared.fault.BindFault.TheVariants.{TooManySlotsInAll}
-use Rattle.binder.specs.Plain.{PlainWork, PlainStatement, plain_work, plain_statement, plain_statements}
-use Rattle.binder.specs.Statements.{work_of, PlainBound, slot_count, counted_work, with_statement, bound_of, statements_of}
+use Rattle.binder.specs.Plain.{PlainWork, PlainStatement, plain_work, plain_statements}
+use Rattle.binder.specs.Statements.{work_of, PlainBound, slot_count, counted_work, with_statement}
 use Rattle.binder.proofs.Readings.{bind_ok, where_ok, ok_is}
 use Rattle.workload_fold.specs.Alike.{is_alike}
-use Rattle.workload_fold.specs.Groups.{Group, takes, heavier, begun, joined, groups_of}
+use Rattle.workload_fold.specs.Groups.{Group, takes, heavier, joined, groups_of}
 use Rattle.workload_fold.specs.Pairs.{Pairs}
 use Rattle.workload_fold.proofs.Numbered.{AreNumbered, all_numbered}
 use Rattle.workload_fold.proofs.TokensAhead.{Each}

@@ -1,8 +1,7 @@
 -- What holds of literals, conditions, items and bodies of one form holds of those that are the same but for places.
-use Rattle.std.proofs.Common.{◌≡◌, ℕ, ℤ, List, Option, subst}
+use Rattle.std.proofs.Common.{ℕ, ℤ, subst}
 use Rattle.sql_tokens.specs.declared.token.Span.{Span}
 use Rattle.sql_reader.specs.declared.parsed.NameUse.{NameUse}
-use Rattle.sql_reader.specs.declared.parsed.Expr.{Expr}
 use Rattle.sql_reader.specs.declared.parsed.Compare.{Compare}
 use Rattle.sql_reader.specs.declared.parsed.Literal.{Literal}
 use Rattle.sql_reader.specs.declared.parsed.Literal.TheVariants as literals

@@ -1,5 +1,5 @@
 -- Tokens that are written behind one another are read again.
-use Rattle.std.proofs.Common.{◌≡◌, ℕ, zero, suc, ◌+◌, ◌-◌, ◌<◌, ◌≤◌, ◌^◌, ◌/◌, ◌%◌, Bool, true, false, ◌&&◌, List, [], ◌∷◌, ◌++◌, length, drop, Option, Some, None, Ok, refl, ap, sym, ◌∙◌, subst, append_assoc, append-nil, arith}
+use Rattle.std.proofs.Common.{◌≡◌, ℕ, ◌+◌, ◌-◌, ◌<◌, ◌≤◌, ◌^◌, ◌%◌, Bool, true, ◌&&◌, List, [], ◌∷◌, ◌++◌, length, drop, Option, Some, Ok, refl, ap, sym, ◌∙◌, subst, append_assoc, append-nil, arith}
 use Rattle.std.specs.Prelude.{codes, decimal}
 use Rattle.std.specs.List.{prefix_len, list_all}
 use Rattle.std.proofs.lemmas.Bool.{and_parts}
@@ -10,7 +10,7 @@ use Rattle.std.proofs.lemmas.List.Folds.{list_all-append}
 use Rattle.sql_tokens.specs.Byte.{is_digit, is_line_byte}
 use Rattle.sql_tokens.specs.Form.{IsToken}
 use Rattle.sql_tokens.specs.Front.{front, lexeme}
-use Rattle.sql_tokens.specs.Weight.{HoldsWeight, weight_length, weight_word}
+use Rattle.sql_tokens.specs.Weight.{weight_length, weight_word}
 use Rattle.sql_tokens.specs.Cut.{AreTokens, token_at, weight_token}
 use Rattle.sql_tokens.specs.Ahead.{Ahead, nothing, behind_tokens, ahead, Tells}
 use Rattle.sql_tokens.specs.declared.token.Token.{Token}

@@ -1,11 +1,11 @@
 -- The text of a folded workload reads back and binds as its groups.
-use Rattle.std.proofs.Common.{◌≡◌, ℕ, zero, suc, ◌+◌, ◌-◌, ◌<◌, ◌≤◌, ◌^◌, Bool, true, false, if◌then◌else◌, List, [], ◌∷◌, ◌++◌, length, map, drop, Option, Some, None, Result, Ok, Err, refl, sym, ap, ◌∙◌, subst, append-nil, arith}
+use Rattle.std.proofs.Common.{◌≡◌, ℕ, zero, suc, ◌+◌, ◌-◌, ◌<◌, ◌≤◌, ◌^◌, Bool, true, false, if◌then◌else◌, List, [], ◌∷◌, ◌++◌, length, map, Option, Some, None, Result, Ok, refl, sym, ap, ◌∙◌, subst, append-nil, arith}
 use Rattle.std.specs.Prelude.{nat_lt, option_map, slice_get}
 use Rattle.std.specs.Option.{option_map_or}
 use Rattle.adv_base.specs.declared.catalogue.Catalogue.{Catalogue}
-use Rattle.adv_base.specs.declared.limits.TheConstants.{MOST_WEIGHT, MOST_SLOTS_IN_ALL}
+use Rattle.adv_base.specs.declared.limits.TheConstants.{MOST_SLOTS_IN_ALL}
 use Rattle.adv_base.specs.declared.workload.Statement.{Statement}
-use Rattle.adv_base.specs.Readings.{◌>>=◌, in_turn}
+use Rattle.adv_base.specs.Readings.{◌>>=◌}
 use Rattle.sql_tokens.specs.Ahead.{Ahead}
 use Rattle.sql_tokens.specs.Cut.{AreTokens}
 use Rattle.sql_tokens.specs.Span.{LiesIn}
@@ -15,25 +15,24 @@ use Rattle.sql_reader.specs.declared.terminal.Terminal.{Terminal}
 use Rattle.sql_reader.specs.declared.parsed.ParsedStatement.{ParsedStatement}
 use Rattle.sql_reader.specs.declared.parsed.SqlFault.{SqlFault}
 use Rattle.sql_reader.specs.declared.parsed.SqlFault.TheVariants as faults
-use Rattle.sql_reader.specs.declared.parts.Progress.{Progress}
 use Rattle.sql_reader.specs.Grammar.{levels}
 use Rattle.sql_reader.specs.Printed as printed
 use Rattle.sql_reader.specs.Rule.{IsNested}
-use Rattle.sql_reader.specs.Terminals.{AreTerminals, no_mark, bad_weight, start_behind, starts_in}
+use Rattle.sql_reader.specs.Terminals.{AreTerminals, no_mark, bad_weight, start_behind}
 use Rattle.sql_reader.specs.Values.{no_statements}
 use Rattle.sql_reader.specs.Workload.{place_of_fault, earlier, GrammarSays, MeansStatements, IsWorkload}
 use Rattle.sql_reader.specs.inner.Ahead.{tokens_in, terminals_in}
 use Rattle.sql_reader.proofs.Ahead.{are_terminals}
 use Rattle.binder.specs.declared.fault.BindFault.{BindFault}
 use Rattle.binder.specs.Plain.{PlainStatement, plain_work, plain_statement, plain_statements}
-use Rattle.binder.specs.Statements.{work_of, PlainBound, bound_of, statements_of, with_statement}
+use Rattle.binder.specs.Statements.{work_of, PlainBound, bound_of, statements_of}
 use Rattle.binder.proofs.Readings.{bind_ok}
-use Rattle.workload_fold.specs.Groups.{Group, groups_of, StandFor, IsFolded}
+use Rattle.workload_fold.specs.Groups.{Group, groups_of, StandFor}
 use Rattle.workload_fold.specs.Pairs.{Pairs}
 use Rattle.workload_fold.specs.Places.{Texts}
 use Rattle.workload_fold.specs.Readings.{StatementsReadAlike}
 use Rattle.workload_fold.specs.ReadingBack.{text_of_groups, ReadsBack, statements_of_groups}
-use Rattle.workload_fold.specs.Texts.{statement_tokens, group_text, place_of_number, folded_text}
+use Rattle.workload_fold.specs.Texts.{statement_tokens, group_text, place_of_number}
 use Rattle.workload_fold.proofs.AlikePlain.{alike_plain, same_head, same_tail}
 use Rattle.workload_fold.proofs.BindStatements.{works_alike}
 use Rattle.workload_fold.proofs.BoundGroups.{Means, slots_in, all_bound, all_given, IsWeighted, group_slots, good_groups}

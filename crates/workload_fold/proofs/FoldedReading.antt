@@ -1,5 +1,5 @@
 -- A folded text is read as the statements of its groups.
-use Rattle.std.proofs.Common.{◌≡◌, ℕ, zero, suc, ◌+◌, ◌<◌, ◌≤◌, Bool, true, false, if◌then◌else◌, List, [], ◌∷◌, ◌++◌, length, Option, Some, None, refl, sym, ap, ◌∙◌, subst, ◌⊎◌, inl, inr, append_assoc, append-nil, arith}
+use Rattle.std.proofs.Common.{◌≡◌, ℕ, zero, suc, ◌+◌, ◌≤◌, Bool, true, false, if◌then◌else◌, List, [], ◌∷◌, ◌++◌, length, Some, None, refl, sym, ap, ◌∙◌, subst, inl, inr, append_assoc, append-nil, arith}
 use Rattle.std.specs.Prelude.{nat_lt, option_map}
 use Rattle.std.proofs.lemmas.Bool.Decides.{nat_tests}
 use Rattle.sql_tokens.specs.Cut.{AreTokens}
@@ -11,7 +11,6 @@ use Rattle.sql_reader.specs.declared.terminal.Mark.{Mark}
 use Rattle.sql_reader.specs.declared.parsed.Body.{Body}
 use Rattle.sql_reader.specs.declared.parsed.Body.TheVariants as bodies
 use Rattle.sql_reader.specs.declared.parsed.ParsedStatement.{ParsedStatement}
-use Rattle.sql_reader.specs.declared.parsed.SqlFault.{SqlFault}
 use Rattle.sql_reader.specs.declared.parsed.SqlFault.TheVariants as faults
 use Rattle.sql_reader.specs.declared.parts.Progress.{Progress}
 use Rattle.sql_reader.specs.Grammar.{levels, starts}
@@ -20,14 +19,14 @@ use Rattle.sql_reader.specs.Printed as printed
 use Rattle.sql_reader.specs.Rule.{IsOver, IsNested, Turns}
 use Rattle.sql_reader.specs.Terminals.{AreTerminals, no_mark, bad_weight, starts_in, places_of, start_behind}
 use Rattle.sql_reader.specs.Values.{place_of, weight_of, with_statement, no_statements, insert_body, update_body}
-use Rattle.sql_reader.specs.Workload.{earlier, first_fault, MeansStatements, Says, IsWorkload}
+use Rattle.sql_reader.specs.Workload.{earlier, MeansStatements, IsWorkload}
 use Rattle.sql_reader.proofs.Begun.{begin_at_starts}
 use Rattle.workload_fold.specs.Pairs.{Pairs}
 use Rattle.workload_fold.specs.Places.{Texts, SameTerminal, SameBody}
 use Rattle.workload_fold.specs.Readings.{StatementsReadAlike}
 use Rattle.workload_fold.proofs.TokensAhead.{Each}
 use Rattle.workload_fold.proofs.StatementParts.{Deeper, IsStatement, ends, another, statement_read}
-use Rattle.workload_fold.proofs.FoldedTerminals.{Piece, IsPiece, group_mark, IsGroupRead, AreRead}
+use Rattle.workload_fold.proofs.FoldedTerminals.{Piece, IsPiece, group_mark, AreRead}
 
 abbrev d : Deeper
 d = IsNested printed.grammar levels

@@ -1,6 +1,6 @@
 -- The terminals of a folded text are those of its groups' first statements.
-use Rattle.std.proofs.Common.{◌≡◌, ℕ, zero, suc, ◌+◌, ◌-◌, ◌<◌, ◌≤◌, ◌^◌, Bool, true, false, ◌&&◌, if◌then◌else◌, List, [], ◌∷◌, ◌++◌, length, get_or, drop, Option, Some, None, refl, sym, ap, ◌∙◌, subst, arith}
-use Rattle.std.specs.Prelude.{codes, decimal, nat_le, nat_lt, slice_range}
+use Rattle.std.proofs.Common.{◌≡◌, ℕ, zero, suc, ◌+◌, ◌-◌, ◌<◌, ◌≤◌, ◌^◌, Bool, true, false, if◌then◌else◌, List, [], ◌∷◌, ◌++◌, length, get_or, Option, Some, None, refl, sym, ap, ◌∙◌, subst, arith}
+use Rattle.std.specs.Prelude.{codes, decimal, nat_le}
 use Rattle.std.specs.Char.{is_ascii_digit}
 use Rattle.std.specs.List.{list_all}
 use Rattle.std.specs.Str.Parse.{digits_value}
@@ -27,7 +27,7 @@ use Rattle.sql_reader.proofs.Digits.{are_last}
 use Rattle.binder.specs.Names.{span_bytes}
 use Rattle.workload_fold.specs.Pairs.{Pairs}
 use Rattle.workload_fold.specs.Places.{Texts, SameTerminal}
-use Rattle.workload_fold.specs.FoldedTokens.{SameToken, IsGroup, weight_comment}
+use Rattle.workload_fold.specs.FoldedTokens.{SameToken, weight_comment}
 use Rattle.workload_fold.proofs.TokensAhead.{Each}
 use Rattle.workload_fold.proofs.CopiedTokens.{IsOwn, Before, Entry, IsCopy, AreCopies, digits_decimal}
 use Rattle.workload_fold.proofs.StatementParts.{IsStatement, ends}

@@ -1,10 +1,9 @@
 -- Reading follows: terminals that agree are read alike.
 use Rattle.std.proofs.Common.{◌≡◌, ℕ, zero, suc, true, List, [], ◌∷◌, ◌++◌, sym, refl, subst, inl, inr}
 use Rattle.sql_reader.specs.declared.kind.TerminalKind.{TerminalKind}
-use Rattle.sql_reader.specs.declared.kind.TerminalKind.TheVariants as kinds
 use Rattle.sql_reader.specs.declared.terminal.Terminal.{Terminal}
 use Rattle.sql_reader.specs.Kinds.{has}
-use Rattle.sql_reader.specs.Rule.{Nesting, State, Rule, Give, Take, Then, Use, Either, Many, Nest, Meaning, Turns, IsOver}
+use Rattle.sql_reader.specs.Rule.{Nesting, State, Rule, Give, Take, Then, Use, Either, Many, Meaning, Turns, IsOver}
 use Rattle.sql_reader.specs.Printed as printed
 use Rattle.workload_fold.specs.Pairs.{Pairs}
 

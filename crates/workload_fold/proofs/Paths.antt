@@ -1,5 +1,5 @@
 -- Alike blocks have the same offers under every configuration.
-use Rattle.std.proofs.Common.{◌≡◌, ℕ, ◌+◌, ◌*◌, ◌==◌, Bool, not, ◌&&◌, List, ◌++◌, length, map, take, drop, Option, Some, None, refl, sym, ap, ◌∙◌}
+use Rattle.std.proofs.Common.{◌≡◌, ℕ, ◌+◌, ◌*◌, ◌==◌, Bool, not, ◌&&◌, List, ◌++◌, length, map, take, drop, Option, Some, None, refl, ap, ◌∙◌}
 use Rattle.std.proofs.Math.Path.{fun_ext}
 use Rattle.std.specs.Prelude.{filter, fold, take_while, if◌then◌else◌}
 use Rattle.std.specs.List.{list_any, list_all, flat_map}
@@ -10,11 +10,10 @@ use Rattle.adv_base.specs.declared.setting.Config.{Config}
 use Rattle.adv_base.specs.declared.workload.block.Block.{Block}
 use Rattle.adv_base.specs.declared.workload.parts.Item.TheVariants.{Up}
 use Rattle.adv_base.specs.declared.workload.parts.Slot.{Slot}
-use Rattle.adv_base.specs.declared.workload.predicate.Pred.{Pred}
 use Rattle.adv_base.specs.declared.limits.TheConstants.{WHOLE}
 use Rattle.adv_base.specs.Access.{point_keys, range_keys, matched_preds, matched_part, finds_one_row, matched_rows, covers_slot, fetch_cost, index_price, index_order}
 use Rattle.adv_base.specs.Lookups.{table_at}
-use Rattle.adv_base.specs.Offers.{Path, Heap, Existing, Candidate, paths_on, path_offer, offers_on, offers_of, offers, Offer}
+use Rattle.adv_base.specs.Offers.{Path, Heap, Existing, Candidate, paths_on, path_offer, offers_on, offers_of, offers}
 use Rattle.adv_base.specs.Parts.{pred_part}
 use Rattle.adv_base.specs.Predicates.{is_point, is_range, preds_on, is_bound, has_pred}
 use Rattle.adv_base.specs.Rows.{table_rows, table_pages}

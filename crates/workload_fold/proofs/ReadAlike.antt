@@ -1,6 +1,5 @@
 -- Names, values, expressions and conditions of two texts are read alike.
-use Rattle.std.proofs.Common.{◌≡◌, ℕ, ◌+◌, ◌||◌, ℤ, pos, neg_ℤ, List, [], ◌∷◌, ◌++◌, Option, Some, None, refl, sym, ap, ◌∙◌, subst}
-use Rattle.sql_tokens.specs.declared.token.Span.{Span}
+use Rattle.std.proofs.Common.{◌≡◌, ℕ, ◌+◌, ◌||◌, ℤ, pos, [], ◌∷◌, ◌++◌, Option, Some, None, refl, ap, subst}
 use Rattle.sql_reader.specs.declared.kind.TerminalKind.{TerminalKind}
 use Rattle.sql_reader.specs.declared.kind.TerminalKind.TheVariants as kinds
 use Rattle.sql_reader.specs.declared.terminal.Terminal.{Terminal}
@@ -8,14 +7,12 @@ use Rattle.sql_reader.specs.declared.seen.ExprForm.TheVariants as forms
 use Rattle.sql_reader.specs.declared.seen.Seen.{Seen}
 use Rattle.sql_reader.specs.declared.parsed.NameUse.{NameUse}
 use Rattle.sql_reader.specs.declared.parsed.Literal.{Literal}
-use Rattle.sql_reader.specs.declared.parsed.Literal.TheVariants as literals
-use Rattle.sql_reader.specs.declared.parsed.Condition.{Condition}
 use Rattle.sql_reader.specs.Rule.{Nesting, State, Nest, Conditions, Parenthesis, Call, Signed, Meaning}
 use Rattle.sql_reader.specs.Values.{with_form, number_or, whole_literal, literal_of, literal_of_kind, negative, signed, compare_of, turned, literal_form, is_aggregate, is_column, ordinal_of, expr_of}
 use Rattle.sql_reader.specs.Grammar.{after_name, column, null_test}
 use Rattle.sql_reader.specs.Printed as printed
 use Rattle.workload_fold.specs.Pairs.{Pairs}
-use Rattle.workload_fold.specs.Places.{Texts, SameSpan, SameMaybe, SameTerminal, SameName, SameNames, SameSource, SameLiteral, SameCondition, SameExpr, SameSeen}
+use Rattle.workload_fold.specs.Places.{Texts, SameSpan, SameMaybe, SameTerminal, SameName, SameSource, SameLiteral, SameCondition, SameExpr, SameSeen}
 use Rattle.workload_fold.proofs.ByForms.{by_literals}
 use Rattle.workload_fold.proofs.Following.{Kin, Any, Follows, pairs_push, give_follows, take_follows, then_follows, use_follows, either_follows, many_follows, word_follows, maybe_follows, commas_follow, behind_follows}
 

@@ -1,21 +1,14 @@
 -- Statements of two texts are read alike.
-use Rattle.std.proofs.Common.{◌≡◌, ℕ, zero, suc, ◌+◌, List, [], ◌∷◌, ◌++◌, Option, Some, None, refl, sym, ap, ◌∙◌}
-use Rattle.sql_reader.specs.declared.kind.TerminalKind.{TerminalKind}
-use Rattle.sql_reader.specs.declared.terminal.Terminal.{Terminal}
-use Rattle.sql_reader.specs.declared.seen.Seen.{Seen}
-use Rattle.sql_reader.specs.declared.parsed.NameUse.{NameUse}
+use Rattle.std.proofs.Common.{ℕ, zero, suc, ◌+◌, List, None, refl, ap}
 use Rattle.sql_reader.specs.declared.parsed.ParsedItem.{ParsedItem}
 use Rattle.sql_reader.specs.declared.parsed.ParsedSelect.{ParsedSelect}
-use Rattle.sql_reader.specs.declared.parsed.Body.{Body}
-use Rattle.sql_reader.specs.declared.parts.InsertParts.{InsertParts}
-use Rattle.sql_reader.specs.declared.parts.UpdateParts.{UpdateParts}
-use Rattle.sql_reader.specs.Rule.{Nesting, State, Rule, Nest, Conditions, Parenthesis, Call, Signed, Meaning, IsOver, IsNested}
-use Rattle.sql_reader.specs.Values.{expr_of, with_source}
+use Rattle.sql_reader.specs.Rule.{Nesting, State, Nest, Conditions, Parenthesis, Call, Signed, Meaning, IsNested}
+use Rattle.sql_reader.specs.Values.{with_source}
 use Rattle.sql_reader.specs.Grammar.{quantifier, group_part, column_list, one_column, more_columns, another_column, direction, limit_part, offset_part, insert_table, insert_columns, name_list, name_as_column, more_names, another_name, set_column}
 use Rattle.sql_reader.specs.Printed as printed
 use Rattle.workload_fold.specs.Pairs.{Pairs}
 use Rattle.workload_fold.specs.Readings.{StatementsReadAlike}
-use Rattle.workload_fold.specs.Places.{Texts, SameSpan, SameMaybe, SameTerminal, SameName, SameNames, SameSource, SameCondition, SameExpr, SameSeen, SameItem, SameOrder, SameSelect, SameInsert, SameUpdate, SameBody}
+use Rattle.workload_fold.specs.Places.{Texts, SameSpan, SameMaybe, SameName, SameNames, SameSource, SameCondition, SameSeen, SameItem, SameOrder, SameSelect, SameInsert, SameUpdate, SameBody}
 use Rattle.workload_fold.proofs.Following.{Kin, Any, Follows, pairs_push, give_follows, take_follows, then_follows, use_follows, either_follows, many_follows, word_follows, maybe_follows, commas_follow, behind_follows}
 use Rattle.workload_fold.proofs.ReadAlike.{terminals_of, NestedFollow, same_expr_of, column_follows, alias_follows, source_follows, expr_follows, call_follows, parenthesis_follows, signed_follows, conds_follow, nested_conds_follow, where_conds_follow}
 

@@ -1,11 +1,10 @@
 -- Alike blocks have the same rows, and one task.
-use Rattle.std.proofs.Common.{◌≡◌, ℕ, zero, suc, ◌*◌, ◌^◌, ◌==◌, min, List, [], length, map, Option, Some, None, refl, sym, ap, ◌∙◌}
+use Rattle.std.proofs.Common.{◌≡◌, ℕ, zero, suc, ◌*◌, ◌^◌, ◌==◌, min, List, [], length, map, Option, Some, None, refl, ap, ◌∙◌}
 use Rattle.std.proofs.Math.Path.{fun_ext}
-use Rattle.std.specs.Prelude.{Bool, filter, fold, unwrap_or, if◌then◌else◌}
+use Rattle.std.specs.Prelude.{Bool, fold, unwrap_or, if◌then◌else◌}
 use Rattle.std.specs.List.{range_with_len}
 use Rattle.std.specs.Option.{option_map_or}
 use Rattle.adv_base.specs.declared.catalogue.Catalogue.{Catalogue}
-use Rattle.adv_base.specs.declared.catalogue.table.Table.{Table}
 use Rattle.adv_base.specs.declared.workload.block.Block.{Block}
 use Rattle.adv_base.specs.declared.workload.parts.Edge.{Edge}
 use Rattle.adv_base.specs.declared.workload.parts.Item.{Item}
@@ -14,7 +13,6 @@ use Rattle.adv_base.specs.Parts.{pred_part, edge_part}
 use Rattle.adv_base.specs.Rows.{table_rows, slot_preds, filtered_rows, ties_back, edges_back, rows_below, set_rows, item_distinct, group_product, group_rows}
 use Rattle.adv_base.specs.Sets.{all_slots, has_slot}
 use Rattle.adv_base.specs.Sums.{times_part, capped}
-use Rattle.plan_model.specs.declared.edge.TaskEdge.{TaskEdge}
 use Rattle.plan_model.specs.declared.task.Task.{Task}
 use Rattle.plan_model.specs.BlockTask.{need, task_edge, IsTaskOf}
 use Rattle.workload_fold.proofs.Pairs.{Pairs, pairs_filter, pairs_map}

@@ -1,5 +1,5 @@
 -- A folded workload costs what the whole costs.
-use Rattle.std.proofs.Common.{◌≡◌, ◌↔◌, ℕ, ◌+◌, ◌*◌, Bool, true, false, if◌then◌else◌, ◌&&◌, List, [], ◌∷◌, refl, sym, ap, ◌∙◌, add-mul, arith}
+use Rattle.std.proofs.Common.{◌≡◌, ◌↔◌, ℕ, ◌+◌, ◌*◌, Bool, true, false, if◌then◌else◌, List, [], ◌∷◌, refl, sym, ap, add-mul, arith}
 use Rattle.std.specs.Prelude.{nat_le, fold}
 use Rattle.std.specs.List.{enumerate_from}
 use Rattle.std.proofs.lemmas.Bool.{and_parts}
@@ -11,7 +11,7 @@ use Rattle.adv_base.specs.declared.workload.Statement.{Statement}
 use Rattle.plan_model.specs.Totals.{IsCost, AreCosts, weighted_sum, IsTotal}
 use Rattle.plan_model.proofs.Unique.{one-cost}
 use Rattle.workload_fold.specs.Alike.{is_alike}
-use Rattle.workload_fold.specs.Groups.{Group, takes, heavier, begun, joined, groups_of, StandFor, IsFolded}
+use Rattle.workload_fold.specs.Groups.{Group, takes, heavier, joined, groups_of, StandFor, IsFolded}
 use Rattle.workload_fold.proofs.Costing.{same_cost}
 
 module _ (cat : Catalogue) (shapes : List IndexShape) (config : Config) where

@@ -1,6 +1,6 @@
 -- What `check-ruled` answers: what a certificate proves below the root that an administrator's rules make, or the first place at
 -- which it proves nothing.
-use Rattle.std.specs.Prelude.{◌≡◌, ◌≢◌, ℕ, List, Result, Ok, Err}
+use Rattle.std.specs.Prelude.{◌≡◌, ◌≢◌, ℕ, List, Ok, Err}
 use Rattle.adv_base.specs.Settings.{TheSetting}
 use Rattle.bip_model.specs.declared.fix.Fix.{Fix}
 use Rattle.bip_model.specs.Views.{node_of}

@@ -1,5 +1,5 @@
 //! `advise`: which candidates to make within a budget of pages.
-ghost use Rattle.std.specs.Prelude.{◌≡◌, ◌≤◌, length, replicate, option_map, IfOk, IfErr, Some};
+ghost use Rattle.std.specs.Prelude.{◌≡◌, ◌≤◌, length, option_map, IfOk, IfErr, Some};
 ghost use Rattle.adv_base.specs.declared.limits.TheConstants.{MOST_CANDIDATES, MOST_NODES, MOST_ROWS};
 ghost use Rattle.bip_model.specs.StandsFor.{StandsFor};
 ghost use Rattle.bip_model.specs.Views.{node_of};
@@ -17,24 +17,14 @@ ghost use Rattle.cophy_core.specs.commands.Advise as spec;
 use crate::stop::Stop;
 use crate::tuned::programme_of;
 use crate::worked::{FilePut, Worked, one_put};
-use adv_base::limits::MOST_CANDIDATES;
 use adv_base::{Config, List, NoMemory, Setting};
-use bip_model::{Answer, Fix, Programme, State, shown_bounds};
+use bip_model::{Answer, Fix, Programme, shown_bounds};
 use branch_bound::{Room, search};
 use certificate::{
     best_answers_keep_limits, standing_programmes_are_in_order, version_of, write_cert,
 };
 use report::{Advice, Done};
 use std::alloc::Global;
-
-/// The root of a search that leaves each candidate free.
-fn free_root() -> Fix
-    ensures { result.state ≡ replicate MOST_CANDIDATES State.Free }
-{
-    Fix {
-        state: [State::Free; MOST_CANDIDATES],
-    }
-}
 
 /// A configuration has a flag for each candidate that there may be.
 pub(crate) fn has_all_flags(config: &Config)
@@ -134,7 +124,7 @@ pub(crate) fn best_advice(
     ensures advice { IfOk result (spec.IsAdvice budget nodes (the_setting setting.now)) }
     ensures bounded { IfOk result (λ advice. IsBoundedBy advice.answer.cost advice.answer.bound) }
 {
-    let root = free_root();
+    let root = Fix::free();
     let advice = advice_below(alloc, setting, programme, &root, left_over, budget, nodes)?;
     Ok(advice)
 }

@@ -27,7 +27,7 @@ returns-in_err-judge_claims-clause-fault c =
     let cert = c.args.cert.now in
     let is : IsJudgeOf judge setting free_node cert = record {
       setting_is = ap the_setting c.in_ok-judge.ensures.setting;
-      root_is = ap (λ (f : Fix). node_of f) c.in_ok-judge.ensures.root ∙ c.free-root.ensures;
+      root_is = ap (λ (f : Fix). node_of f) c.in_ok-judge.ensures.root ∙ c.free-root.ensures.node;
       cert_is = ap (λ (x : Claims). cert_with x cert.tree) c.in_ok-judge.ensures.claims ∙ c.of_cert.ensures.same;
     } in
     let p = err_from_is_err_and c.from_residual-in_err-judge_claims.result c.from_residual-in_err-judge_claims.ensures.1 in
@@ -42,7 +42,7 @@ returns-in_err-judge_claims-clause-proved c = λ proof.
     let cert = c.args.cert.now in
     let is : IsJudgeOf judge setting free_node cert = record {
       setting_is = ap the_setting c.in_ok-judge.ensures.setting;
-      root_is = ap (λ (f : Fix). node_of f) c.in_ok-judge.ensures.root ∙ c.free-root.ensures;
+      root_is = ap (λ (f : Fix). node_of f) c.in_ok-judge.ensures.root ∙ c.free-root.ensures.node;
       cert_is = ap (λ (x : Claims). cert_with x cert.tree) c.in_ok-judge.ensures.claims ∙ c.of_cert.ensures.same;
     } in
     let p = err_from_is_err_and c.from_residual-in_err-judge_claims.result c.from_residual-in_err-judge_claims.ensures.1 in
@@ -65,7 +65,7 @@ returns-in_err-judge_tree-clause-proved c = λ proof.
     let cert = c.args.cert.now in
     let is : IsJudgeOf judge setting free_node cert = record {
       setting_is = ap the_setting c.in_ok-judge.ensures.setting;
-      root_is = ap (λ (f : Fix). node_of f) c.in_ok-judge.ensures.root ∙ c.free-root.ensures;
+      root_is = ap (λ (f : Fix). node_of f) c.in_ok-judge.ensures.root ∙ c.free-root.ensures.node;
       cert_is = ap (λ (x : Claims). cert_with x cert.tree) c.in_ok-judge.ensures.claims ∙ c.of_cert.ensures.same;
     } in
     let p = err_from_is_err_and c.from_residual-in_err-judge_tree.result c.from_residual-in_err-judge_tree.ensures.1 in
@@ -81,7 +81,7 @@ returns-clause-bounds c =
     let cert = c.args.cert.now in
     let is : IsJudgeOf judge setting free_node cert = record {
       setting_is = ap the_setting c.in_ok-judge.ensures.setting;
-      root_is = ap (λ (f : Fix). node_of f) c.in_ok-judge.ensures.root ∙ c.free-root.ensures;
+      root_is = ap (λ (f : Fix). node_of f) c.in_ok-judge.ensures.root ∙ c.free-root.ensures.node;
       cert_is = ap (λ (x : Claims). cert_with x cert.tree) c.in_ok-judge.ensures.claims ∙ c.of_cert.ensures.same;
     } in
     let proof = subst (λ (tree : List Node). IsProof (setting_of judge) (root_of judge) (cert_of judge tree)) c.as_slice-2.ensures c.in_ok-judge_tree.ensures.proof in

@@ -1,4 +1,4 @@
-use Rattle.std.proofs.Common.{◌<◌, ℕ, arith, rules}
+use Rattle.std.proofs.Common.{arith, rules}
 use Rattle.std.specs.Prelude.{◌≤ℤ◌}
 use Rattle.lagrange_bound.specs.Bounds.{lagrangian}
 use Rattle.lagrange_bound.specs.Rents.{rent_multipliers, tried_price}

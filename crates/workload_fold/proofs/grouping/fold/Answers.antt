@@ -1,4 +1,4 @@
-use Rattle.std.proofs.Common.{◌≡◌, ℕ, ◌+◌, ◌≤◌, List, length, map, ap, ◌∙◌, arith}
+use Rattle.std.proofs.Common.{◌≡◌, ◌+◌, ◌≤◌, List, length, map, ap, ◌∙◌, arith}
 use Rattle.workload_fold.specs.declared.gathered.Gathered.{Gathered}
 use Rattle.workload_fold.specs.Groups.{Group, joined, groups_of}
 use Rattle.workload_fold.specs.inner.Gathering.{plain_groups}

@@ -1,4 +1,4 @@
-use Rattle.std.proofs.Common.{◌≡◌, length, drop}
+use Rattle.std.proofs.Common.{◌≡◌, drop}
 use Rattle.std.specs.Cmp.Lexicographic.{pointwise}
 use Rattle.workload_fold.specs.Alike.{alike_edges}
 use Rattle.workload_fold.proofs.sameness.alike_edges.Given as goal

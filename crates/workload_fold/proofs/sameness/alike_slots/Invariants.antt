@@ -1,4 +1,4 @@
-use Rattle.std.proofs.Common.{◌≡◌, length, drop}
+use Rattle.std.proofs.Common.{◌≡◌, drop}
 use Rattle.std.specs.Cmp.Lexicographic.{pointwise}
 use Rattle.workload_fold.specs.Alike.{alike_slots}
 use Rattle.workload_fold.proofs.sameness.alike_slots.Given as goal

@@ -1,4 +1,4 @@
-use Rattle.std.proofs.Common.{◌≡◌, length, drop}
+use Rattle.std.proofs.Common.{◌≡◌, drop}
 use Rattle.std.specs.Cmp.Lexicographic.{pointwise}
 use Rattle.adv_base.specs.Items.{is_same_item}
 use Rattle.workload_fold.proofs.sameness.same_items.Given as goal

@@ -1,4 +1,3 @@
-use Rattle.std.proofs.Common.{◌≡◌, refl, ◌≤◌}
 use Rattle.branch_bound.proofs.room.Room.new.Goals as goal
 
 -- src/room.rt:129:5

@@ -1,4 +1,4 @@
-use Rattle.std.proofs.Common.{inl, inr}
+use Rattle.std.proofs.Common.{inl}
 use Rattle.std.proofs.lemmas.Result.{err_from_is_err_and}
 use Rattle.adv_base.specs.Settings.{the_setting}
 use Rattle.dba_rules.specs.declared.fault.RuleFault.TheVariants as rules

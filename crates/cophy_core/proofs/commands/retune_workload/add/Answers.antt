@@ -1,4 +1,4 @@
-use Rattle.std.proofs.Common.{◌≡◌, rules, sym, subst}
+use Rattle.std.proofs.Common.{rules, sym, subst}
 use Rattle.adv_base.specs.declared.catalogue.Catalogue.{Catalogue}
 use Rattle.programme_parts.specs.Combinations.{AreFew, HasFew}
 use Rattle.cophy_core.specs.Stops.{StopsAt}

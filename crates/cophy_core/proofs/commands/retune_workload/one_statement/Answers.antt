@@ -1,6 +1,5 @@
-use Rattle.std.proofs.Common.{◌≡◌, List, [], ◌∷◌, subst, sym, ◌∙◌}
+use Rattle.std.proofs.Common.{subst, sym, ◌∙◌}
 use Rattle.sql_reader.specs.Workload.{IsWorkload}
-use Rattle.sql_reader.specs.declared.parsed.ParsedStatement.{ParsedStatement}
 use Rattle.cophy_core.proofs.Taking.{single_of}
 use Rattle.cophy_core.proofs.commands.retune_workload.one_statement.Goals as goal
 

@@ -1,4 +1,4 @@
-use Rattle.std.proofs.Common.{◌≡◌, ◌≤◌, List, ℕ, map, length, ap, subst, sym, ◌∙◌}
+use Rattle.std.proofs.Common.{◌≤◌, List, ℕ, map, length, subst, sym}
 use Rattle.std.specs.Prelude.{All}
 use Rattle.adv_base.specs.declared.limits.TheConstants.{MOST_FILE_BYTES}
 use Rattle.edit_script.specs.Scripts.{the_edit, the_edits}

@@ -1,4 +1,4 @@
-use Rattle.std.proofs.Common.{◌≡◌, List, [], ◌∷◌, ◌++◌, sym, refl, ◌∙◌}
+use Rattle.std.proofs.Common.{sym, refl, ◌∙◌}
 use Rattle.cophy_core.proofs.Taking.{alone}
 use Rattle.cophy_core.proofs.commands.retune_workload.reweighed.Goals as goal
 

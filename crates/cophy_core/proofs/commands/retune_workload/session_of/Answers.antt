@@ -1,4 +1,4 @@
-use Rattle.std.proofs.Common.{◌≡◌, List, Ok, Err, subst, sym, ◌∙◌}
+use Rattle.std.proofs.Common.{◌≡◌, List, Ok, subst, sym, ◌∙◌}
 use Rattle.std.proofs.lemmas.Result.{err_from_is_err_and}
 use Rattle.adv_base.specs.Settings.{the_setting}
 use Rattle.adv_base.specs.declared.workload.Statement.{Statement}

@@ -1,4 +1,4 @@
-use Rattle.std.proofs.Common.{◌≡◌, length, drop}
+use Rattle.std.proofs.Common.{◌≡◌, drop}
 use Rattle.std.specs.Cmp.Lexicographic.{pointwise}
 use Rattle.workload_fold.specs.Alike.{alike_preds}
 use Rattle.workload_fold.proofs.sameness.Pair.alike_preds.Given as goal
