@@ -1,8 +1,13 @@
-pub mod Numbers
-pub mod Placing
 pub mod Testing
-pub mod Costing
 pub mod Kept
 pub mod Pricing
+pub mod Taking
+pub mod Fitting
+pub mod Thinning
+pub mod Passing
+pub mod Rowing
+pub mod Wanted
+pub mod Bounding
+pub mod Enough
 pub mod Made
 pub mod Cached

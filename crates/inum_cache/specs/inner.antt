@@ -1,4 +1,6 @@
 -- What retells the loops of the code; nothing above this crate cites it.
-pub mod Costing
+pub mod Cells
 pub mod Keeping
+pub mod Passes
+pub mod Tops
 pub mod Pricing

@@ -1,20 +1,23 @@
 //! How a cache is built.
-ghost use Rattle.std.specs.Prelude.{◌≡◌, ◌≤◌, ◌<◌, IfOk, IfErr, Err};
+ghost use Rattle.std.specs.Prelude.{◌≡◌, ◌≤◌, ◌<◌, All, IfOk, IfErr, Err};
 ghost use Rattle.adv_base.specs.declared.limits.TheConstants.{MOST_COMBINATIONS};
 ghost use Rattle.plan_model.specs.Orders as interesting;
 ghost use Rattle.inum_cache.specs.Numbering as numbering;
-ghost use Rattle.inum_cache.specs.inner.Costing as costing;
+ghost use Rattle.plan_model.specs.Combinations.{AreEnough, IsIn};
+ghost use Rattle.inum_cache.specs.Templates.{FitsOrders};
+ghost use Rattle.inum_cache.specs.inner.Cells.{IsThin};
 ghost use Rattle.inum_cache.specs.Caches as caches;
 
 use crate::cache::Cache;
 use crate::choices::Choices;
 use crate::fault::CacheFault;
-use crate::internals::internal_costs;
-use crate::keep::Costs;
+use crate::pass::Pass;
+use crate::top::enough_templates;
 use adv_base::limits::MOST_COMBINATIONS;
 use adv_base::{Item, List, NoMemory};
 use interesting_orders::{combinations, slot_orders};
 use plan_model::{Task, Template};
+use planner::ways_of;
 use std::alloc::Global;
 
 /// The interesting orders of each slot.
@@ -31,9 +34,7 @@ fn orders_of(alloc: Global, task: &Task) -> Result<List<List<List<Item>>>, NoMem
 
 /// The same, as what combinations choose from.
 fn choices_of(alloc: Global, task: &Task) -> Result<Choices, NoMemory>
-    requires { interesting.combinations task.now ≤ MOST_COMBINATIONS }
-    ensures orders { IfOk result (λ choices. numbering.AreOrders task.now choices.orders) }
-    ensures count { IfOk result (λ choices. numbering.count_of choices.orders ≡ interesting.combinations task.now) }
+    ensures { IfOk result (λ choices. numbering.AreOrders task.now choices.orders) }
 {
     let orders = orders_of(alloc, task)?;
     Ok(Choices { orders })
@@ -46,19 +47,18 @@ fn templates_of(
     choices: &Choices,
     count: usize,
 ) -> Result<List<Template>, NoMemory>
-    requires orders { numbering.AreOrders task.now choices.now.orders }
-    requires count { count ≡ numbering.count_of choices.now.orders }
-    ensures { IfOk result (λ templates. costing.AreTemplates task.now choices.now.orders templates) }
+    requires { numbering.AreOrders task.now choices.now.orders }
+    ensures enough { IfOk result (λ templates. AreEnough task.now (IsIn task.now templates)) }
+    ensures thin { IfOk result (λ templates. IsThin choices.now.orders templates) }
+    ensures fit { IfOk result (λ templates. All (FitsOrders choices.now.orders) templates) }
 {
-    let list = internal_costs(alloc, task, choices, count)?;
-    let costs = Costs { choices, list };
-    costs.kept(alloc)
+    let ways = ways_of(alloc, task)?;
+    let pass = Pass { ways, choices };
+    enough_templates(alloc, &pass, count)
 }
 
 /// The cache of a task of so many combinations.
 fn made(alloc: Global, task: &Task, count: usize) -> Result<Cache, NoMemory>
-    requires few { count ≤ MOST_COMBINATIONS }
-    requires count { count ≡ interesting.combinations task.now }
     ensures { IfOk result (λ cache. caches.IsCacheOf task.now cache) }
 {
     let choices = choices_of(alloc, task)?;
@@ -67,9 +67,10 @@ fn made(alloc: Global, task: &Task, count: usize) -> Result<Cache, NoMemory>
 }
 
 /// The cache of a task: one template for each combination of interesting orders that no weaker one replaces, where one
-/// is weaker if it asks of each slot for a front of what the other asks, and replaces it if it costs no more. Costs
-/// come from one search, whose table keeps the rows of the slots whose orders stay from one combination to the next
-/// (INUM's cache, over System R's interesting orders). Beside the cache it takes one number for each combination. `TooManyCombinations` comes where the task has more than
+/// is weaker if it asks of each slot for a front of what the other asks, and replaces it if it costs no more. Costs come
+/// from one pass over the sets of slots, which keeps for each set, and each front of an order that an operator above can
+/// want, templates that are enough (INUM's cache, over System R's interesting orders). Beside the cache it takes what the
+/// pass keeps, and one number for each combination. `TooManyCombinations` comes where the task has more than
 /// `MOST_COMBINATIONS`, with their number; `Memory` is want of memory.
 pub fn build(alloc: Global, task: &Task) -> Result<Cache, CacheFault>
     ensures made { IfOk result (λ cache. caches.IsCacheOf task.now cache) }

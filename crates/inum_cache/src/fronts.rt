@@ -11,10 +11,3 @@ pub(crate) fn begins(order: &[Item], front: &[Item]) -> bool
 {
     begins_with(order, front)
 }
-
-/// Whether it does and is longer.
-pub(crate) fn is_front(order: &[Item], front: &[Item]) -> bool
-    ensures { result ≡ keeping.is_front order.now front.now }
-{
-    front.len() < order.len() && begins(order, front)
-}

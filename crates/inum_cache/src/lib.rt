@@ -18,14 +18,14 @@
 
 mod building;
 mod cache;
+mod cell;
 mod choices;
 mod fault;
-mod free;
 mod fronts;
-mod internals;
-mod keep;
 mod lookup;
+mod pass;
 mod prices;
+mod top;
 
 pub use building::build;
 pub use cache::Cache;

@@ -140,7 +140,8 @@ needed_of item (x ∷ xs) h =
       | inr later ↦ let w = needed_of item xs later in record { number = suc w.number; edge = w.edge; found = w.found; needs = w.needs }
     ]
 
-front_wanted : (task : Task) (fronts : List Front) (f : ℕ) (x : Front) → slice_index_or fronts f Any ≡ x → f < length fronts → AreNeeded task.edges fronts → ¬ (x ≡ Any) → IsWantedList task (front_order (listed task) x)
+-- a front that asks for something asks for a wanted list
+pub front_wanted : (task : Task) (fronts : List Front) (f : ℕ) (x : Front) → slice_index_or fronts f Any ≡ x → f < length fronts → AreNeeded task.edges fronts → ¬ (x ≡ Any) → IsWantedList task (front_order (listed task) x)
 front_wanted task fronts f Any is within needed some = absurd (some refl)
 front_wanted task fronts f Listed is within needed some = inl refl
 front_wanted task fronts f (Need item) is within needed some = inr (item, refl, needed_of item task.edges (needed.each f item within is))

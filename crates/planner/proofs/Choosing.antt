@@ -13,7 +13,7 @@ use Rattle.planner.specs.declared.cut.Merge.{Merge}
 use Rattle.planner.specs.declared.ways.Ways.{Ways}
 use Rattle.planner.specs.Fronts.{begins_test, listed}
 use Rattle.planner.specs.Cuts.{cut_at, merge_at}
-use Rattle.planner.specs.Choices.{IsMerged, IsMergedBy}
+use Rattle.planner.specs.Choices.{IsMergedBy}
 use Rattle.planner.specs.Rows.{width, sets_of, cuts_of, merges_in}
 use Rattle.planner.specs.inner.Built.{GivesOffer, IsChosen, IsCutChoice, IsJoinChoice}
 use Rattle.planner.proofs.Reading.{begins_from_test, test_from_begins}

@@ -1,9 +1,9 @@
 -- The list of cuts, as it is made.
-use Rattle.std.proofs.Common.{◌≡◌, ℕ, ◌+◌, ◌-◌, ◌^◌, ◌<◌, ◌≤◌, inl, inr, Bool, true, false, cond, List, [], ◌∷◌, ◌++◌, length, take, drop, bit_and, ◌==◌, ◌&&◌, slice_index, slice_index_or, refl, sym, ap, ◌∙◌, subst, append_assoc, arith}
+use Rattle.std.proofs.Common.{◌≡◌, ℕ, ◌+◌, ◌-◌, ◌^◌, ◌<◌, ◌≤◌, inl, inr, Bool, true, false, cond, List, [], ◌∷◌, ◌++◌, length, take, drop, bit_and, ◌==◌, ◌&&◌, slice_index, refl, sym, ap, ◌∙◌, subst, append_assoc, arith}
 use Rattle.std.specs.List.{slice_range}
 use Rattle.std.proofs.lemmas.Bool.{false≢true, cases_lt, and_parts, eqb-true, eq-eqb}
 use Rattle.std.proofs.lemmas.Nat.{and_comm}
-use Rattle.std.proofs.lemmas.List.{get_or_append_left, get_or-append_right, get_or_push, length_push, take-append-le, drop-append-le, drop_at, take_all, length-append, length-drop, append-nil, drop_more, drop_all}
+use Rattle.std.proofs.lemmas.List.{get_or_append_left, get_or-append_right, get_or_push, length_push, take-append-le, drop-append-le, drop_at, take_all, length-append, length-drop, append-nil}
 use Rattle.plan_model.specs.declared.task.Task.{Task}
 use Rattle.planner.specs.declared.front.Link.{Link}
 use Rattle.planner.specs.declared.cut.Cut.{Cut}

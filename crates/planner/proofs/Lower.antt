@@ -20,7 +20,7 @@ use Rattle.planner.specs.declared.ways.Ways.{Ways}
 use Rattle.planner.specs.Fronts.{asked, listed, first_item}
 use Rattle.planner.specs.Cells.{blank, cell_at, cost_at, any_at}
 use Rattle.planner.specs.Cuts.{cut_at, is_covered, may_cut, merges_of, IsCutOf}
-use Rattle.planner.specs.Rows.{width, cuts_of, merges_in, sets_of, NoneLess, AreRows}
+use Rattle.planner.specs.Rows.{width, cuts_of, merges_in, sets_of, NoneLess, AreRows, AreLowRows}
 use Rattle.planner.proofs.Merging.{merge_low, some_merge, crossing_of}
 use Rattle.planner.proofs.Fronting.{nothing_asked}
 
@@ -38,7 +38,7 @@ pub record IsLow (task : Task) (table : OfferTable) (list : Order) (fronts : Lis
 pub record AreBlank (ways : Ways) (rows : ℕ → List Cell) : Type 0 where
   pub each : (s : ℕ) → s < sets_of ways → is_covered ways.covered.items s ≡ false → (f : ℕ) → cell_at (rows s) f ≡ blank
 
-module _ (ways : Ways) (table : OfferTable) (rows : ℕ → List Cell) (closed : AreRows ways table rows (sets_of ways)) (blanks : AreBlank ways rows) where
+module _ (ways : Ways) (table : OfferTable) (rows : ℕ → List Cell) (closed : AreLowRows ways table rows) (blanks : AreBlank ways rows) where
   nothing : asked (listed ways.task.now) ways.fronts.items 0 ≡ []
   nothing = nothing_asked ways
 
@@ -69,7 +69,7 @@ module _ (ways : Ways) (table : OfferTable) (rows : ℕ → List Cell) (closed :
     cost = cost_at (rows set) f
 
     capped : cost_at (rows set) f ≤ IMPOSSIBLE
-    capped = (closed.each set within).capped.cost f
+    capped = (closed.each set within).capped f
 
     merge_bound : (edge : ℕ) (left right : Plan) → IsValid true ways.task.now table left → IsValid true ways.task.now table right → covers left + covers right ≡ set → bit_and (covers left) (covers right) ≡ 0 → Merges ways.task.now edge (covers left) (covers right) (delivers table left) (delivers table right) → BeginsWith (delivers table left) (asked (listed ways.task.now) ways.fronts.items f) → cost_at (rows set) f ≤ plan_cost ways.task.now table left + plan_cost ways.task.now table right + merge_of ways.task.now (covers left) (covers right)
     merge_bound edge left right left_valid right_valid sum apart m begins =
@@ -175,6 +175,15 @@ module _ (ways : Ways) (table : OfferTable) (rows : ℕ → List Cell) (closed :
   low_below (suc n) s below within =
       low_at s within (λ t less. low_below n t (omega arith) (omega arith))
 
-  -- the rows of a closed table are at most the cost of each plan
-  pub rows_low : (s : ℕ) → s < sets_of ways → IsLow ways.task.now table (listed ways.task.now) ways.fronts.items s (rows s)
-  rows_low s within = low_below (suc s) s (omega arith) within
+  -- rows that bound plans are at most the cost of each plan
+  pub all_low : (s : ℕ) → s < sets_of ways → IsLow ways.task.now table (listed ways.task.now) ways.fronts.items s (rows s)
+  all_low s within = low_below (suc s) s (omega arith) within
+
+-- the rows of a closed table are at most the cost of each plan
+pub rows_low : (ways : Ways) (table : OfferTable) (rows : ℕ → List Cell) → AreRows ways table rows (sets_of ways) → AreBlank ways rows → (s : ℕ) → s < sets_of ways → IsLow ways.task.now table (listed ways.task.now) ways.fronts.items s (rows s)
+rows_low ways table rows closed =
+    all_low ways table rows (record {
+      each = λ s within.
+          let row = closed.each s within in
+          record { capped = row.capped.cost; reads = row.reads; joins = row.joins; without = row.without; with_sort = row.with_sort };
+    })

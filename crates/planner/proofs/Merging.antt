@@ -27,11 +27,11 @@ use Rattle.planner.proofs.Begins.{IsShort, longer_serves, longer_asks, longer_in
 use Rattle.adv_base.proofs.Begins.{begins_self}
 
 -- a merge of a link of the list that has an end in each of two sets
-record ComesFrom (links : List Link) (a b : ℕ) (merge : Merge) : Type 0 where
-  link : ℕ
-  link_in : link < length links
-  crossing : crosses_link a b (link_at links link) ≡ true
-  is : merge ≡ link_merge (link_at links link) a b
+pub record ComesFrom (links : List Link) (a b : ℕ) (merge : Merge) : Type 0 where
+  pub link : ℕ
+  pub link_in : link < length links
+  pub crossing : crosses_link a b (link_at links link) ≡ true
+  pub is : merge ≡ link_merge (link_at links link) a b
 
 comes_later : (x : Link) (xs : List Link) (a b : ℕ) (merge : Merge) → ComesFrom xs a b merge → ComesFrom (x ∷ xs) a b merge
 comes_later x xs a b merge w =
@@ -45,7 +45,7 @@ comes_split x xs a b (suc j) true e within later =
 comes_split x xs a b j false e within later =
     comes_later x xs a b (merge_at (merges_of xs a b) j) (later j within)
 
-comes_from : (links : List Link) (a b j : ℕ) → j < length (merges_of links a b) → ComesFrom links a b (merge_at (merges_of links a b) j)
+pub comes_from : (links : List Link) (a b j : ℕ) → j < length (merges_of links a b) → ComesFrom links a b (merge_at (merges_of links a b) j)
 comes_from [] a b j within = absurd (omega arith)
 comes_from (x ∷ xs) a b j within =
     comes_split x xs a b j (crosses_link a b x) refl within (comes_from xs a b)

@@ -193,7 +193,7 @@ module _ (task : Task) (table : OfferTable) (fronts : List Front) (row : List Ce
   none_costs : task.group ≡ None → (whole : Whole) → whole_cost task table whole ≡ plan_cost task table whole.body + group_cost task.rates whole.group (rows_in task (covers whole.body)) + cond whole.final_sort (sort_cost task.rates (final_rows task None (rows_in task (covers whole.body)))) 0
   none_costs e whole = ap (λ (g : Option Order). plan_cost task table whole.body + group_cost task.rates whole.group (rows_in task (covers whole.body)) + cond whole.final_sort (sort_cost task.rates (final_rows task g (rows_in task (covers whole.body)))) 0) e
 
-  none_bound : (e : task.group ≡ None) (list_is : listed task ≡ task.order) (whole : Whole) → IsWhole task table whole → (cost_at row 0 ≤ whole_cost task table whole) × ((cost_at row 1 ≤ whole_cost task table whole) ⊎ (cost_at row 0 + sort_cost task.rates (rows_in task (all_slots task.slots)) ≤ whole_cost task table whole))
+  pub none_bound : (e : task.group ≡ None) (list_is : listed task ≡ task.order) (whole : Whole) → IsWhole task table whole → (cost_at row 0 ≤ whole_cost task table whole) × ((cost_at row 1 ≤ whole_cost task table whole) ⊎ (cost_at row 0 + sort_cost task.rates (rows_in task (all_slots task.slots)) ≤ whole_cost task table whole))
   none_bound e list_is whole w =
       subst (λ (t : ℕ). (cost_at row 0 ≤ t) × ((cost_at row 1 ≤ t) ⊎ (cost_at row 0 + sort_cost task.rates (rows_in task (all_slots task.slots)) ≤ t))) (sym (none_costs e whole)) (ungrouped_bound task table (listed task) fronts row wide nothing all_list low list_is whole.body whole.group whole.final_sort w.body_valid w.covers_all (subst (λ (g : Option Order). FitsGroup g whole.group (delivers table whole.body)) e w.group_fits) (subst (λ (g : Option Order). BeginsWith (cond whole.final_sort task.order (group_order g whole.group (delivers table whole.body))) task.order) e w.ordered))
 
@@ -236,7 +236,7 @@ module _ (task : Task) (table : OfferTable) (fronts : List Front) (row : List Ce
       let sort = sort_most task (rows_in task (all_slots task.slots)) few in
       none_split e list_is sort (is_nil task.order) refl
 
-  some_bound : (group : Order) (e : task.group ≡ Some group) (list_is : listed task ≡ group) (whole : Whole) → IsWhole task table whole → ((sorted_shape task group row (rows_in task (all_slots task.slots))).cost ≤ whole_cost task table whole) ⊎ ((hashed_shape task row (rows_in task (all_slots task.slots))).cost ≤ whole_cost task table whole)
+  pub some_bound : (group : Order) (e : task.group ≡ Some group) (list_is : listed task ≡ group) (whole : Whole) → IsWhole task table whole → ((sorted_shape task group row (rows_in task (all_slots task.slots))).cost ≤ whole_cost task table whole) ⊎ ((hashed_shape task row (rows_in task (all_slots task.slots))).cost ≤ whole_cost task table whole)
   some_bound group e list_is whole w =
       let costs : whole_cost task table whole ≡ plan_cost task table whole.body + group_cost task.rates whole.group (rows_in task (covers whole.body)) + cond whole.final_sort (sort_cost task.rates (final_rows task (Some group) (rows_in task (covers whole.body)))) 0 = ap (λ (g : Option Order). plan_cost task table whole.body + group_cost task.rates whole.group (rows_in task (covers whole.body)) + cond whole.final_sort (sort_cost task.rates (final_rows task g (rows_in task (covers whole.body)))) 0) e in
       subst (λ (t : ℕ). ((sorted_shape task group row (rows_in task (all_slots task.slots))).cost ≤ t) ⊎ ((hashed_shape task row (rows_in task (all_slots task.slots))).cost ≤ t)) (sym costs) (grouped_bound task table (listed task) fronts row wide nothing all_list low group list_is whole.body whole.group whole.final_sort w.body_valid w.covers_all (subst (λ (g : Option Order). FitsGroup g whole.group (delivers table whole.body)) e w.group_fits) (subst (λ (g : Option Order). BeginsWith (cond whole.final_sort task.order (group_order g whole.group (delivers table whole.body))) task.order) e w.ordered))

@@ -81,6 +81,18 @@ pub record IsRow (ways : Ways) (table : OfferTable) (rows : ℕ → List Cell) (
   pub without : (f : ℕ) → f < width ways → any_at row f ≤ cost_at row f
   pub with_sort : (f : ℕ) → f < width ways → All (λ item. is_column_of set item ≡ true) (order_of ways f) → any_at row f ≤ cost_at row 0 + sort_cost ways.task.now.rates (rows_in ways.task.now set)
 
+-- A row bounds plans: no cost is above what each offer, each join and each sort gives.
+pub record IsLowRow (ways : Ways) (table : OfferTable) (rows : ℕ → List Cell) (set : ℕ) (row : List Cell) : Type 0 where
+  pub capped : (f : ℕ) → cost_at row f ≤ IMPOSSIBLE
+  pub reads : (f : ℕ) → f < width ways → OffersBound ways.task.now table (order_of ways f) set (cost_at row f)
+  pub joins : (k : ℕ) → k < length (cuts_of ways set) → (f : ℕ) → f < width ways → CutBound ways rows (cut_at (cuts_of ways set) k) f (cost_at row f)
+  pub without : (f : ℕ) → f < width ways → any_at row f ≤ cost_at row f
+  pub with_sort : (f : ℕ) → f < width ways → All (λ item. is_column_of set item ≡ true) (order_of ways f) → any_at row f ≤ cost_at row 0 + sort_cost ways.task.now.rates (rows_in ways.task.now set)
+
+-- the rows of all sets do
+pub record AreLowRows (ways : Ways) (table : OfferTable) (rows : ℕ → List Cell) : Type 0 where
+  pub each : (s : ℕ) → s < sets_of ways → IsLowRow ways table rows s (rows s)
+
 -- the table has a row for each set, and those of sets that no plan covers are blank
 pub record IsTable (ways : Ways) (cells : List Cell) : Type 0 where
   pub whole : length cells ≡ sets_of ways * width ways

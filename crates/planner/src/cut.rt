@@ -3,7 +3,7 @@
 /// A cut of a set in two parts that some edge crosses and that plans cover, with what joining them costs. Its merges
 /// stand from `from` to before `to` in the list of all.
 #[derive(Clone, Copy)]
-pub(crate) struct Cut {
+pub struct Cut {
     pub left: usize,
     pub right: usize,
     /// Hashing the right part and looking up the left.
@@ -16,7 +16,7 @@ pub(crate) struct Cut {
 
 /// A merge of two parts on an edge: the front that asks for the need of the left one, and that of the right one.
 #[derive(Clone, Copy)]
-pub(crate) struct Merge {
+pub struct Merge {
     pub edge: u32,
     pub left_need: usize,
     pub right_front: usize,

@@ -10,7 +10,7 @@ use plan_model::{begins_with, is_column_of};
 
 /// How an order is to begin.
 #[derive(Clone, Copy, PartialEq, Eq)]
-pub(crate) enum Front {
+pub enum Front {
     /// In any way.
     Any,
     /// With the list to group by; where the task doesn't group, with the list to order by.
@@ -22,7 +22,7 @@ pub(crate) enum Front {
 /// Two slots that an edge joins, each as a set of its own, and the numbers of the fronts that ask for its needs. Edges alike
 /// in all of these, either way round, have one link, with the number of the first of them.
 #[derive(Clone, Copy)]
-pub(crate) struct Link {
+pub struct Link {
     pub edge: u32,
     pub left: usize,
     pub right: usize,
@@ -47,7 +47,7 @@ impl Link {
 
 /// Of a need's front `x` and a front `f`, given by their first items, the one that asks for more; none where no order
 /// begins as both ask.
-pub(crate) fn longer(need: Option<Item>, head: Option<Item>, x: usize, f: usize) -> Option<usize>
+pub fn longer(need: Option<Item>, head: Option<Item>, x: usize, f: usize) -> Option<usize>
     ensures { result ≡ order_fronts.longer_front need head x f }
 {
     match (need, head) {
@@ -93,7 +93,7 @@ pub(crate) fn begins(order: &[Item], list: &[Item]) -> bool
 }
 
 /// Whether an order begins as a front asks; `list` is what `Listed` stands for.
-pub(crate) fn serves(order: &[Item], front: Front, list: &[Item]) -> bool
+pub fn serves(order: &[Item], front: Front, list: &[Item]) -> bool
     ensures { result ≡ order_fronts.begins_test order.now (order_fronts.front_order list.now front) }
 {
     match front {
@@ -116,7 +116,7 @@ fn are_columns(set: usize, order: &[Item]) -> bool
 }
 
 /// Whether the set can be sorted by what a front asks for.
-pub(crate) fn can_sort(set: usize, front: Front, list: &[Item]) -> bool
+pub fn can_sort(set: usize, front: Front, list: &[Item]) -> bool
     ensures { result ≡ list_all (plans.is_column_of set) (order_fronts.front_order list.now front) }
 {
     match front {

@@ -34,5 +34,10 @@ mod search;
 mod ways;
 mod whole;
 
+pub use cut::{Cut, Merge};
 pub use found::{Found, least};
+pub use front::{Front, Link, can_sort, longer, serves};
+pub use make::ways_of;
+pub use row::{cuts_at, merges_at};
 pub use search::Search;
+pub use ways::Ways;

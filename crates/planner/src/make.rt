@@ -8,7 +8,7 @@ use plan_model::Task;
 use std::alloc::{AllocError, Global};
 
 /// The fronts, links and cuts of a task.
-pub(crate) fn ways_of<'a>(alloc: Global, task: &'a Task) -> Result<Ways<'a>, AllocError>
+pub fn ways_of<'a>(alloc: Global, task: &'a Task) -> Result<Ways<'a>, AllocError>
     ensures { IfOk result (λ ways. ways.task.now ≡ task.now) }
 {
     let needs = needs_of(alloc, task)?;

@@ -47,7 +47,7 @@ pub(crate) fn row_in<'a>(ways: &Ways, cells: &'a [Cell], set: usize) -> &'a [Cel
 }
 
 /// The cuts of a set.
-pub(crate) fn cuts_at<'a>(ways: &'a Ways, set: usize) -> &'a [Cut]
+pub fn cuts_at<'a>(ways: &'a Ways, set: usize) -> &'a [Cut]
     requires { set < set_rows.sets_of ways.now }
     ensures { result.now ≡ set_rows.cuts_of ways.now set }
 {
@@ -55,7 +55,7 @@ pub(crate) fn cuts_at<'a>(ways: &'a Ways, set: usize) -> &'a [Cut]
 }
 
 /// The merges of a set's cut.
-pub(crate) fn merges_at<'a>(ways: &'a Ways, cut: &Cut) -> &'a [Merge]
+pub fn merges_at<'a>(ways: &'a Ways, cut: &Cut) -> &'a [Merge]
     requires from { cut.now.from ≤ cut.now.to }
     requires to { cut.now.to ≤ length ways.now.merges.items }
     ensures { result.now ≡ set_rows.merges_in ways.now cut.now }

@@ -9,7 +9,7 @@ use plan_model::Task;
 /// The fronts of a task with the first item of what each asks for, its links, and the cuts of all sets: those of set s
 /// stand from `starts[s]` to before `starts[s + 1]`. `covered` tells the sets that plans can cover.
 #[derive(Drop)]
-pub(crate) struct Ways<'a> {
+pub struct Ways<'a> {
     pub task: &'a Task,
     pub fronts: Vec<Front>,
     pub heads: Vec<Option<Item>>,

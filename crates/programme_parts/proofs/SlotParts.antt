@@ -1,5 +1,5 @@
 -- What makes the part of a statement.
-use Rattle.std.proofs.Common.{◌≡◌, ◌∙◌, inl, inr, ℕ, ◌+◌, ◌<◌, ◌≤◌, List, [], ◌∷◌, ◌++◌, length, get_or, All, map, refl, sym, ap, subst, arith, length-append}
+use Rattle.std.proofs.Common.{◌≡◌, ◌∙◌, ◌⊎◌, inl, inr, ℕ, zero, suc, ◌+◌, ◌<◌, ◌≤◌, List, [], ◌∷◌, ◌++◌, length, get_or, All, map, refl, sym, ap, subst, arith, length-append}
 use Rattle.std.specs.Prelude.{Some, slice_get}
 use Rattle.std.proofs.lemmas.Bool.{cases_eq}
 use Rattle.std.proofs.lemmas.List.{length-map}
@@ -18,7 +18,6 @@ use Rattle.inum_cache.specs.declared.cache.Cache.{Cache}
 use Rattle.inum_cache.specs.Caches.{IsCacheOf, orders_of}
 use Rattle.inum_cache.specs.Numbering.{size_in}
 use Rattle.inum_cache.specs.Templates.{FitsOrders}
-use Rattle.inum_cache.proofs.Testing.{push-cases}
 use Rattle.bip_model.specs.declared.slot_part.SlotPart.{SlotPart}
 use Rattle.bip_model.specs.Limits.Parts.{TemplateLimits}
 use Rattle.bip_model.specs.Values.{need}
@@ -28,6 +27,17 @@ use Rattle.programme_parts.specs.Kept.{AsksNothingPast}
 use Rattle.programme_parts.specs.inner.Prices.{ArePriced, IsGrantOf, IsSlotPriced}
 
 -- ## The slots' prices
+
+-- what stands in a list to which one was added stood there before, or is the last
+push-cases : {A : Type 0} (xs : List A) (x y : A) (i : ℕ) → slice_get (xs ++ y ∷ []) i ≡ Some x → (slice_get xs i ≡ Some x) ⊎ ((i ≡ length xs) × (x ≡ y))
+push-cases [] x y zero e = inr (refl, cc)
+push-cases [] x y (suc i) e = cc
+push-cases (z ∷ zs) x y zero e = inl e
+push-cases (z ∷ zs) x y (suc i) e =
+    elim (push-cases zs x y i e) [
+      | inl before ↦ inl before
+      | inr last ↦ inr (ap suc last.0, last.1)
+    ]
 
 pub priced-none : (setting : TheSetting) (block : Block) (cache : Cache) → ArePriced setting block cache 0 []
 priced-none setting block cache = record { count = refl; each = λ s own found. absurd (cc) }

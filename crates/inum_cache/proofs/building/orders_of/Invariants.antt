@@ -1,4 +1,4 @@
-use Rattle.inum_cache.specs.inner.Costing.{AreOrdersBelow}
+use Rattle.inum_cache.specs.Numbering.{AreOrdersBelow}
 use Rattle.inum_cache.proofs.building.orders_of.Given as goal
 
 abbrev pub invariant-loop-slot : goal.invariant-loop-slot
