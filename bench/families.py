@@ -89,6 +89,8 @@ def main() -> None:
     parser.add_argument("--most", type=float, default=MOST_SECONDS, help="seconds that a solver may take (default: 60)")
     parser.add_argument("--no-solvers", action="store_true", help="leave the solvers out")
     options = parser.parse_args()
+    if options.plain:
+        parser.error("the plain program reads no files")
     names = options.shapes.split() if options.shapes else list(SHAPES)[:3] if options.quick else list(SHAPES)
     seeds = options.seeds or ("1 3" if options.may_cluster else "2 4")
     rows: list[Row] = []

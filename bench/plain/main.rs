@@ -43,7 +43,8 @@ fn statement(tables: u64, d: &mut Draws) -> Statement {
     Statement { weight, work }
 }
 fn price(p: &Option<u64>) -> String { p.map_or(" -".into(), |p| format!(" {p}")) }
-fn print(p: &Programme) {
+fn print(p: &Programme, shapes: &[IndexShape]) {
+    println!("clustered{}", shapes.iter().map(|x| if x.clustered { format!(" {}", x.table) } else { " -".into() }).collect::<String>());
     println!("kept {}", p.kept);
     println!("sizes{}", p.sizes.as_slice().iter().map(|x| format!(" {x}")).collect::<String>());
     println!("upkeep{}", p.upkeep.as_slice().iter().map(|x| format!(" {x}")).collect::<String>());
@@ -75,9 +76,9 @@ fn budget_of(p: &Programme, word: &str) -> u64 {
     let share: u64 = word.parse().unwrap();
     if share >= 100 { 1_000_000_000_000 } else { useful_pages(p) / 100 * share }
 }
-fn searched(p: &Programme, budget: u64, nodes: u32) -> Answer {
+fn searched(p: &Programme, shapes: &[IndexShape], budget: u64, nodes: u32) -> Answer {
     let room = Room::new(Global, p, nodes).ok().unwrap();
-    search(p, &free(), budget, nodes, room)
+    search(p, shapes, &free(), budget, nodes, room)
 }
 /// Nanoseconds of a call: the fastest of some rounds of so many calls.
 fn fastest(rounds: u64, mut calls: impl FnMut() -> u32) -> u128 {
@@ -111,9 +112,9 @@ fn programme(setting: &Setting, rounds: u64) {
     println!("{}", counts(setting, p));
     println!("programme {made} bound {b} lists {l} opened {o} terms {t} carry {c} total {s} carried {k} improve {i}");
 }
-fn print_search(p: &Programme, budget: u64, nodes: u32) {
+fn print_search(p: &Programme, shapes: &[IndexShape], budget: u64, nodes: u32) {
     let t = Instant::now();
-    let a = searched(p, budget, nodes);
+    let a = searched(p, shapes, budget, nodes);
     let time = micros(t);
     let chosen: String = a.config.on.iter().enumerate().filter(|x| *x.1).map(|x| format!(" {}", x.0 + 1)).collect();
     println!("budget {budget} cost {} bound {} nodes {} sets {} useful {} microseconds {time} chosen{chosen}", a.cost, a.bound, a.tree.len(), a.sets.len(), a.useful);
@@ -121,8 +122,8 @@ fn print_search(p: &Programme, budget: u64, nodes: u32) {
 /// The way of `advise --cert`, from the candidates on, and that of `check`, from the certificate's bytes on.
 fn check(setting: &Setting, p: &Programme, made: u128, budget: u64, nodes: u32) {
     let t = Instant::now();
-    let a = searched(p, budget, nodes);
-    let bytes = certificate::write_cert(Global, p, budget, &a).ok().unwrap();
+    let a = searched(p, setting.shapes, budget, nodes);
+    let bytes = certificate::write_cert(Global, p, 1, budget, &a).ok().unwrap();
     let advise = made + micros(t);
     let t = Instant::now();
     let cert = certificate::read_cert(Global, bytes.as_slice()).unwrap();
@@ -145,12 +146,12 @@ fn main() {
     let p = tuning::programme(Global, &setting).ok().unwrap();
     let made = micros(t);
     match words[1].as_str() {
-        "print" => print(&p),
+        "print" => print(&p, setting.shapes),
         command => {
             if command == "search" { println!("{} microseconds {made}", counts(&setting, &p)); }
             for word in &words[6..] {
                 let budget = budget_of(&p, word);
-                if command == "search" { print_search(&p, budget, number(5) as u32) } else { check(&setting, &p, made, budget, number(5) as u32) }
+                if command == "search" { print_search(&p, setting.shapes, budget, number(5) as u32) } else { check(&setting, &p, made, budget, number(5) as u32) }
             }
         }
     }

@@ -16,6 +16,7 @@ impl<T> Vec<T> {
     pub fn new(_: Global) -> Vec<T> { Vec(std::vec::Vec::new()) }
     pub fn with_capacity(_: Global, n: usize) -> Result<Vec<T>, AllocError> { Ok(Vec(std::vec::Vec::with_capacity(n))) }
     #[inline(always)] pub fn push(&mut self, x: T) -> Result<(), AllocFailed<T>> { self.0.push(x); Ok(()) }
+    pub fn insert(&mut self, at: usize, x: T) -> Result<(), AllocFailed<T>> { self.0.insert(at, x); Ok(()) }
     pub fn reserve(&mut self, n: usize) -> Result<(), AllocError> { self.0.reserve(n); Ok(()) }
     pub fn from_slice(_: Global, s: &[T]) -> Result<Vec<T>, AllocError> where T: Clone { Ok(Vec(s.to_vec())) }
     pub fn extend_from_slice(&mut self, s: &[T]) -> Result<(), AllocError> where T: Clone { self.0.extend_from_slice(s); Ok(()) }

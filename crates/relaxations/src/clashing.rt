@@ -27,34 +27,72 @@ pub(crate) fn groups_of(shapes: &[IndexShape]) -> [u8; 256] {
     groups
 }
 
+/// How many of each group are in, and how many of these are too many.
+#[derive(Clone, Copy)]
+pub(crate) struct Members {
+    counts: [u16; 256],
+    pub clashes: usize,
+}
+
+impl Members {
+    pub(crate) const BLANK: Members = Members {
+        counts: [0; 256],
+        clashes: 0,
+    };
+
+    /// Counts one of a group that comes in.
+    pub(crate) fn enter(&mut self, group: u8) {
+        if group != 0 {
+            let count = self.counts[group as usize];
+            self.counts[group as usize] = count.saturating_add(1);
+            if count > 0 {
+                self.clashes = self.clashes.saturating_add(1);
+            }
+        }
+    }
+
+    /// Counts one of a group that is in no more.
+    pub(crate) fn leave(&mut self, group: u8) {
+        if group != 0 {
+            let count = self.counts[group as usize].saturating_sub(1);
+            self.counts[group as usize] = count;
+            if count > 0 {
+                self.clashes = self.clashes.saturating_sub(1);
+            }
+        }
+    }
+
+    /// Whether one of a group is in.
+    pub(crate) fn has(&self, group: u8) -> bool {
+        group != 0 && self.counts[group as usize] > 0
+    }
+}
+
 /// Leaves out what clashes with what is in; whether no two of this clash.
-pub(crate) fn settle(matrix: &Matrix, fix: &mut Fix) -> bool {
-    let mut is_taken = [false; 256];
-    let mut is_apart = true;
+pub(crate) fn leave_out_clashing(matrix: &Matrix, fix: &mut Fix) -> bool {
+    let mut members = Members::BLANK;
     for a in 0..256 {
-        let group = matrix.groups[a] as usize;
-        if group != 0 && fix.state[a] == State::In {
-            is_apart = is_apart && !is_taken[group];
-            is_taken[group] = true;
+        if fix.state[a] == State::In {
+            members.enter(matrix.groups[a]);
         }
     }
     for a in 0..256 {
-        if is_taken[matrix.groups[a] as usize] && fix.state[a] == State::Free {
+        if members.has(matrix.groups[a]) && fix.state[a] == State::Free {
             fix.state[a] = State::Out;
         }
     }
-    is_apart
+    members.clashes == 0
 }
 
 /// What a relaxation takes of each group in all, and what the value rises by where all of it is left out, one by one.
 #[derive(Clone, Copy)]
-pub(crate) struct Crowds {
+pub(crate) struct GroupShares {
     shares: [f64; 256],
     losses: [f64; 256],
 }
 
-impl Crowds {
-    pub(crate) const BLANK: Crowds = Crowds {
+impl GroupShares {
+    pub(crate) const BLANK: GroupShares = GroupShares {
         shares: [0.0; 256],
         losses: [0.0; 256],
     };

@@ -1,5 +1,6 @@
 //! Configurations with what they cost in whole numbers, and moves of one candidate or a few.
 
+use crate::clashing::Members;
 use adv_base::NoMemory;
 use bip_model::{Fix, State};
 use interior_point::{Matrix, at, float_of, put};
@@ -46,7 +47,7 @@ pub(crate) struct Configuration {
     pub cost: i128,
     pub left: i64,
     stays: Chosen,
-    members: [u16; 256],
+    members: Members,
     costs: Vec<i64>,
     changes: [Option<f64>; 256],
 }
@@ -59,7 +60,7 @@ impl Configuration {
             cost: 0,
             left: 0,
             stays: [false; 256],
-            members: [0; 256],
+            members: Members::BLANK,
             costs: vec![in alloc; 0; matrix.parts.len()]?,
             changes: [None; 256],
         })
@@ -80,12 +81,12 @@ impl Configuration {
         self.cost = matrix.kept;
         self.left = budget;
         self.changes = [None; 256];
-        self.members = [0; 256];
+        self.members = Members::BLANK;
         for a in 0..256 {
             if on[a] {
                 self.cost = self.cost.wrapping_add(matrix.upkeep[a]);
                 self.left = self.left.wrapping_sub(matrix.sizes[a]);
-                self.count(matrix.groups[a], true);
+                self.members.enter(matrix.groups[a]);
             }
         }
         for part in 0..matrix.parts.len() {
@@ -108,20 +109,9 @@ impl Configuration {
         }
     }
 
-    /// Counts a member of a group that came or went.
-    fn count(&mut self, group: u8, is_on: bool) {
-        let count = self.members[group as usize];
-        self.members[group as usize] = if is_on {
-            count.wrapping_add(1)
-        } else {
-            count.wrapping_sub(1)
-        };
-    }
-
     /// Whether a candidate clashes with one that the configuration has.
     fn clashes(&self, matrix: &Matrix, candidate: usize) -> bool {
-        let group = at(&matrix.groups, candidate, 0);
-        group != 0 && self.members[group as usize] > 0
+        self.members.has(at(&matrix.groups, candidate, 0))
     }
 
     /// By how much the cost would change if a candidate came or went.
@@ -167,11 +157,12 @@ impl Configuration {
         if self.on[a] {
             self.cost = self.cost.wrapping_add(upkeep);
             self.left = self.left.wrapping_sub(size);
+            self.members.enter(matrix.groups[a]);
         } else {
             self.cost = self.cost.wrapping_sub(upkeep);
             self.left = self.left.wrapping_add(size);
+            self.members.leave(matrix.groups[a]);
         }
-        self.count(matrix.groups[a], self.on[a]);
         self.changes[a] = None;
         for place in matrix.touches[a].of(matrix.touched.as_slice()) {
             let part = *place as usize;

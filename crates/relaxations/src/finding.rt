@@ -1,6 +1,6 @@
 //! The search for the cheapest configuration: best bound first, over linear relaxations, with fixings and roundings.
 
-use crate::clashing::{Crowds, settle};
+use crate::clashing::{GroupShares, leave_out_clashing};
 use crate::configuration::{Chosen, Incumbent};
 use crate::rounding::{Rounding, Shared, view_node};
 use crate::tree::{MOST_NODES, Tree};
@@ -17,6 +17,8 @@ const MOST_PASSES: u32 = 4;
 const MANY_FIXED: usize = 3;
 /// A candidate whose share is nearer to a whole number than this is branched on last.
 const LEAST_PART: f64 = 1e-4;
+/// A rise on both sides of a branch on a candidate of a group is worth so many times its pages in doubt.
+const WORTH: f64 = 24.0;
 /// The least price of a page by which what rises is told in pages.
 const LEAST_PAGE: f64 = 1e-12;
 /// So often at first, and then once in so many times, the search goes on to a side of the branch that it made.
@@ -190,7 +192,8 @@ impl Finder {
                 return;
             }
             let count = self.fix(visit);
-            visit.is_closed = !settle(matrix, &mut visit.fix) || pages(matrix, &visit.fix) > budget;
+            visit.is_closed = !leave_out_clashing(matrix, &mut visit.fix)
+                || pages(matrix, &visit.fix) > budget;
             if visit.is_closed {
                 return;
             }
@@ -202,37 +205,37 @@ impl Finder {
     }
 
     /// What the groups of the view have.
-    fn crowds(&self, matrix: &Matrix) -> Crowds {
-        let mut crowds = Crowds::BLANK;
+    fn group_shares(&self, matrix: &Matrix) -> GroupShares {
+        let mut found = GroupShares::BLANK;
         for (number, candidate) in self.view.candidates.iter().enumerate() {
             let group = matrix.groups[*candidate as usize];
             if group != 0 {
                 let rises = self.losses.best_rises(&self.view, &self.lagrangian, number);
-                crowds.add(group, self.shares[*candidate as usize], rises.outside);
+                found.add(group, self.shares[*candidate as usize], rises.outside);
             }
         }
-        crowds
+        found
     }
 
-    /// What a branch on a candidate of a group promises, of which a relaxation takes more than one: so many pages are worth
-    /// what the value rises by on both sides.
-    fn promise(&self, crowds: &Crowds, group: u8, number: usize) -> f64 {
+    /// What a branch on a candidate of a group promises, of which a relaxation takes more than one, in pages, by what the value
+    /// rises by on both sides.
+    fn promise(&self, shares: &GroupShares, group: u8, number: usize) -> f64 {
         let rises = self.losses.best_rises(&self.view, &self.lagrangian, number);
-        let inside = crowds.inside(group, rises.inside.max(0.0), rises.outside);
+        let inside = shares.inside(group, rises.inside.max(0.0), rises.outside);
         let missing = (self.target() - self.lagrangian.value).max(1.0);
         let rise = inside.min(rises.outside).min(missing);
-        rise.max(0.0) / self.lagrangian.page.max(LEAST_PAGE)
+        WORTH * rise.max(0.0) / self.lagrangian.page.max(LEAST_PAGE)
     }
 
     /// The candidate of the view, by its number there, on which to branch: the one with the most pages in doubt.
     fn choice(&self, matrix: &Matrix) -> usize {
-        let crowds = self.crowds(matrix);
+        let shares = self.group_shares(matrix);
         let mut best = 0;
         let mut most = f64::NEG_INFINITY;
         for (number, candidate) in self.view.candidates.iter().enumerate() {
             let share = self.shares[*candidate as usize];
             let group = matrix.groups[*candidate as usize];
-            let excess = crowds.excess(group, share);
+            let excess = shares.excess(group, share);
             let part = if excess > LEAST_PART {
                 excess.max(share.min(1.0 - share))
             } else {
@@ -244,7 +247,7 @@ impl Finder {
                 part * at(self.view.sizes.as_slice(), number, 0.0)
             };
             if excess > LEAST_PART {
-                doubt = doubt.max(self.promise(&crowds, group, number));
+                doubt = doubt.max(self.promise(&shares, group, number));
             }
             if doubt > most {
                 most = doubt;
@@ -373,7 +376,7 @@ impl Finder {
 fn sides(matrix: &Matrix, fix: &Fix, candidate: u8) -> [Fix; 2] {
     let mut sides = [*fix; 2];
     sides[0].state[candidate as usize] = State::In;
-    let _ = settle(matrix, &mut sides[0]);
+    let _ = leave_out_clashing(matrix, &mut sides[0]);
     sides[1].state[candidate as usize] = State::Out;
     sides
 }

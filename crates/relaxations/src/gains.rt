@@ -1,6 +1,6 @@
 //! By how much a Lagrangian value rises at least on either side of a branch, and which branch promises most.
 
-use crate::clashing::Crowds;
+use crate::clashing::GroupShares;
 use crate::ledger::{Each, Ledger};
 use crate::path::Path;
 use crate::tree::{TreeNode, is_marked};
@@ -75,24 +75,24 @@ impl Gains {
     }
 
     /// What the groups of the candidates have that may come in, where so much is needed.
-    fn crowds(&self, path: &Path, ledger: &Ledger, need: i128) -> Crowds {
-        let mut crowds = Crowds::BLANK;
+    fn group_shares(&self, path: &Path, ledger: &Ledger, need: i128) -> GroupShares {
+        let mut found = GroupShares::BLANK;
         for a in 0..256 {
             if path.group(a) != 0 && path.is_choice(a) {
                 let outside = part_of(self.outside[a], need);
-                crowds.add(path.group(a), ledger.shares[a], outside);
+                found.add(path.group(a), ledger.shares[a], outside);
             }
         }
-        crowds
+        found
     }
 
     /// What a branch on a candidate of a group promises, where so much is needed and a relaxation takes so much of the
     /// candidate.
-    fn promise(&self, a: usize, need: i128, share: f64, group: u8, crowds: &Crowds) -> f64 {
+    fn promise(&self, a: usize, need: i128, share: f64, group: u8, shares: &GroupShares) -> f64 {
         let outside = part_of(at(&self.outside, a, 0), need);
         let inside = part_of(at(&self.inside, a, 0), need);
-        let inside = crowds.inside(group, inside, outside).min(1.0);
-        let excess = crowds.excess(group, share);
+        let inside = shares.inside(group, inside, outside).min(1.0);
+        let excess = shares.excess(group, share);
         let doubt = share.min(1.0 - share).max(excess);
         20.0 * outside.min(inside) + 3.0 * outside.max(inside) + 120.0 * doubt
     }
@@ -119,14 +119,14 @@ impl Gains {
         need: i128,
         wanted: Option<&TreeNode>,
     ) -> Option<usize> {
-        let crowds = self.crowds(path, ledger, need);
+        let shares = self.group_shares(path, ledger, need);
         let mut best = None;
         let mut most = f64::NEG_INFINITY;
         for a in 0..256 {
             if !path.is_choice(a) {
                 continue;
             }
-            let mut promise = self.promise(a, need, ledger.shares[a], path.group(a), &crowds);
+            let mut promise = self.promise(a, need, ledger.shares[a], path.group(a), &shares);
             if let Some(node) = wanted {
                 if is_marked(&node.inside, a) {
                     promise = 1e7 + part_of(self.outside[a], need);

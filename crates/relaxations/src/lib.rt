@@ -5,6 +5,7 @@
 //! that they end and can't fail is proved.
 #![tactic(auto)]
 
+mod attempts;
 mod clashing;
 mod configuration;
 mod deepening;

@@ -1,5 +1,6 @@
 //! The way from a root to a node, one candidate after the other.
 
+use crate::clashing::Members;
 use crate::ledger::Each;
 use adv_base::NoMemory;
 use bip_model::{Fix, State};
@@ -25,16 +26,14 @@ const NO_STEP: PathStep = PathStep {
 };
 
 /// A node: what is in there, and what is free and fits into the pages that are left; all else is out. `root` is the node where
-/// the way began, and `gone` has the candidates that ceased to be open. `members` has how many of each group are in, and
-/// `clashes` how many of these too many.
+/// the way began, and `gone` has the candidates that ceased to be open.
 #[derive(Drop)]
 pub(crate) struct Path {
     pub fix: Fix,
     pub room: i64,
     pub root: Fix,
-    pub clashes: usize,
+    pub members: Members,
     groups: [u8; 256],
-    members: [u16; 256],
     steps: Vec<PathStep>,
     gone: Vec<u8>,
 }
@@ -46,9 +45,8 @@ impl Path {
             fix: Fix::free(),
             room: 0,
             root: Fix::free(),
-            clashes: 0,
+            members: Members::BLANK,
             groups: [0; 256],
-            members: [0; 256],
             steps: Vec::with_capacity(alloc, MOST_STEPS)?,
             gone: Vec::with_capacity(alloc, MOST_STEPS)?,
         })
@@ -60,14 +58,13 @@ impl Path {
         self.gone.clear();
         self.fix = *root;
         self.room = budget;
-        self.clashes = 0;
         self.groups = matrix.groups;
-        self.members = [0; 256];
+        self.members = Members::BLANK;
         for a in 0..256 {
             match root.state[a] {
                 State::In => {
                     self.room = self.room.saturating_sub(matrix.sizes[a]);
-                    self.enter(a);
+                    self.members.enter(matrix.groups[a]);
                 }
                 State::Free | State::Out => {}
             }
@@ -92,8 +89,7 @@ impl Path {
 
     /// Whether a candidate that isn't in clashes with one that is.
     pub(crate) fn is_clash(&self, candidate: usize) -> bool {
-        let group = self.group(candidate);
-        group != 0 && self.members[group as usize] > 0
+        self.members.has(self.group(candidate))
     }
 
     /// Whether a candidate may come in.
@@ -121,30 +117,6 @@ impl Path {
             }
         }
         lost
-    }
-
-    /// Counts a candidate that comes in.
-    fn enter(&mut self, candidate: usize) {
-        let group = self.group(candidate);
-        if group != 0 {
-            let count = self.members[group as usize];
-            self.members[group as usize] = count.saturating_add(1);
-            if count > 0 {
-                self.clashes = self.clashes.saturating_add(1);
-            }
-        }
-    }
-
-    /// Counts a candidate that comes in no more.
-    fn leave(&mut self, candidate: usize) {
-        let group = self.group(candidate);
-        if group != 0 {
-            let count = self.members[group as usize].saturating_sub(1);
-            self.members[group as usize] = count;
-            if count > 0 {
-                self.clashes = self.clashes.saturating_sub(1);
-            }
-        }
     }
 
     /// Whether a candidate is in.
@@ -187,7 +159,7 @@ impl Path {
         } else if candidate < 256 {
             self.fix.state[candidate] = State::In;
             self.room = self.room.saturating_sub(matrix.sizes[candidate]);
-            self.enter(candidate);
+            self.members.enter(at(&self.groups, candidate, 0));
             for a in 0..matrix.count.min(256) {
                 if matrix.sizes[a] > self.room && self.is_open(a) {
                     self.drop_out(a);
@@ -213,7 +185,7 @@ impl Path {
                 let candidate = step.candidate as usize;
                 self.fix.state[candidate] = State::Free;
                 self.room = self.room.saturating_add(matrix.sizes[candidate]);
-                self.leave(candidate);
+                self.members.leave(at(&self.groups, candidate, 0));
             }
         }
     }

@@ -10,8 +10,8 @@ use bip_model::Fix;
 use interior_point::{Matrix, at, put};
 use std::alloc::Global;
 
-/// The most sets that are kept, zeros among them.
-pub(crate) const MOST_SETS: usize = 17;
+/// The most sets with which a plan is made, zeros among them.
+pub(crate) const MOST_SETS: usize = 49;
 /// In place of a set at a leaf where two clash that are in.
 pub(crate) const OVERFULL: u8 = u8::MAX;
 
@@ -42,7 +42,7 @@ pub(crate) struct Best {
 }
 
 /// What is planned: a value above `target` closes a node, in parts of 65536 as `cost` is in whole numbers; at most so many
-/// nodes and sets, zeros among these.
+/// nodes and sets, zeros among these. A brief attempt ends where a leaf is left open.
 #[derive(Clone, Copy)]
 pub(crate) struct Task<'a> {
     pub matrix: &'a Matrix,
@@ -52,6 +52,7 @@ pub(crate) struct Task<'a> {
     pub nodes: usize,
     pub most_sets: usize,
     pub most_asked: u64,
+    pub is_brief: bool,
 }
 
 /// Where a subtree begins: in the plan, among the fixings, and on the path.
@@ -71,7 +72,7 @@ pub(crate) enum Settled {
 
 /// What a plan is made with: the sets, of which `count` stand, the path to the node that is worked on, the plan so far, and
 /// the nodes that it will have beside those; the branches of the present nodes of which one side is closed; which set closed
-/// the last leaf; and how often a set was asked.
+/// the last leaf; how often a set was asked; whether a leaf was left open; and of each leaf the marks of the sets that close it.
 #[derive(Drop)]
 pub(crate) struct Planner {
     pub ledgers: Vec<Ledger>,
@@ -83,6 +84,8 @@ pub(crate) struct Planner {
     pub gains: Gains,
     pub hint: usize,
     pub asked: u64,
+    pub has_open: bool,
+    pub covers: Vec<u64>,
     pub turns: Vec<(usize, usize)>,
     pub spans: Vec<(usize, usize)>,
     pub lifting: Lifting,
@@ -110,6 +113,8 @@ impl Planner {
             gains: Gains::BLANK,
             hint: 0,
             asked: 0,
+            has_open: false,
+            covers: Vec::with_capacity(alloc, nodes)?,
             turns: Vec::with_capacity(alloc, 257)?,
             spans: Vec::with_capacity(alloc, 512)?,
             lifting: Lifting::new(alloc, matrix)?,
@@ -126,9 +131,9 @@ impl Planner {
         self.path.begin(task.matrix, root, task.budget);
         self.count = 0;
         self.asked = 0;
-        self.is_heavy = false;
-        self.add(task, 0);
         self.begin_anew();
+        self.add(task, 0);
+        self.hint = 0;
     }
 
     /// Begins a plan anew with the sets that there are.
@@ -136,6 +141,8 @@ impl Planner {
         self.plan.clear();
         self.fixings.clear();
         self.pending = 0;
+        self.has_open = false;
+        self.is_heavy = false;
         self.hint = self.count.saturating_sub(1).min(1);
     }
 
@@ -236,6 +243,7 @@ impl Planner {
 
     /// Appends a leaf.
     pub(crate) fn put_leaf(&mut self, best: Best, is_open: bool) {
+        self.has_open = self.has_open || is_open;
         let _ = self.plan.push(PlanNode {
             candidate: 0,
             set: (best.set & 255) as u8,

@@ -32,9 +32,14 @@ fn is_inner(node: &TreeNode) -> bool {
 }
 
 impl Planner {
-    /// Whether sets have been asked as often as may be.
+    /// Whether a leaf is left open in a brief attempt.
+    fn is_lost(&self, task: &Task<'_>) -> bool {
+        self.has_open && task.is_brief
+    }
+
+    /// Whether sets have been asked as often as may be, or the attempt is lost.
     pub(crate) fn is_spent(&self, task: &Task<'_>) -> bool {
-        self.asked >= task.most_asked
+        self.asked >= task.most_asked || self.is_lost(task)
     }
 
     /// Whether the best set is far from the bound of an inner node of the tree, and there is room for another.
@@ -175,6 +180,9 @@ impl Planner {
         nodes: usize,
         levels: usize,
     ) {
+        if self.is_lost(task) {
+            return;
+        }
         let start = self.start();
         let mut node = from;
         match self.settle_along(task, finder, &mut node) {

@@ -3,7 +3,7 @@ ghost use Rattle.std.specs.Prelude.{◌≡◌, ◌≤◌, All, length};
 ghost use Rattle.adv_base.specs.declared.limits.TheConstants.{MOST_RENT};
 ghost use Rattle.bip_model.specs.Views.{AreMultipliers};
 
-use crate::clashing::{groups_of, settle};
+use crate::clashing::{groups_of, leave_out_clashing};
 use crate::entering::matrix_of;
 use crate::finding::Finder;
 use crate::planner::{MOST_SETS, OVERFULL, PlanNode, Planner, Task};
@@ -14,10 +14,6 @@ use bip_model::{Fix, Multipliers, Programme, State};
 use interior_point::{Matrix, at};
 use std::alloc::Global;
 
-/// The nodes that trials have, one time after the other while something is left open.
-const TRIALS: [usize; 3] = [80, 640, 5120];
-/// Sets are asked so often at most.
-const MOST_ASKED: u64 = 1_500_000;
 /// The most of a cost that is looked at, 2^100.
 const MOST_COST: u128 = 1_267_650_600_228_229_401_496_703_205_376;
 
@@ -88,7 +84,7 @@ impl Proposals {
             }
         }
         let mut settled = self.root;
-        let _ = settle(&self.matrix, &mut settled);
+        let _ = leave_out_clashing(&self.matrix, &mut settled);
         let found = self.finder.find(&self.matrix, &settled, self.budget);
         let on = found.on;
         Config { on }
@@ -105,37 +101,29 @@ impl Proposals {
             target: whole.wrapping_sub(1).wrapping_mul(65536),
             nodes: nodes as usize,
             most_sets: most.saturating_add(1),
-            most_asked: MOST_ASKED,
+            most_asked: 0,
+            is_brief: false,
         };
         self.planner.begin(&task, &self.root);
         if self.planner.has_room(&task) {
             let _ = self.planner.add_own(&task, &mut self.finder);
         }
-        let first = self.planner.count;
-        for trial in TRIALS {
-            self.planner.count = first;
-            if self.planner.plan_along(&task, &mut self.finder, trial)
-                || self.planner.is_spent(&task)
-            {
-                break;
-            }
-        }
+        self.planner.attempt(&task, &mut self.finder);
         self.splitter.read(self.planner.plan.as_slice());
         self.splitter.split(&task, &mut self.planner);
         let numbers = self.keep_sets();
         self.write_steps(&numbers);
     }
 
-    /// Keeps the sets that leaves name, and answers the number of each. Where there are groups the root's is the first: that is
-    /// compared with others at the root, so none that serves elsewhere is to stand in its place.
+    /// Keeps the sets that leaves name, and answers the number of each. The root's is the first: that is compared with others at
+    /// the root, so none that serves elsewhere is to stand in its place.
     fn keep_sets(&mut self) -> [u8; MOST_SETS] {
         let mut numbers = [0; MOST_SETS];
-        let is_grouped = self.matrix.groups.iter().any(|group| *group != 0);
         self.kept.clear();
         for set in 1..MOST_SETS {
             for own in self.splitter.nodes.iter() {
                 if own.node.candidate == 0 && own.node.set as usize == set {
-                    if is_grouped && set > 1 && self.kept.is_empty() {
+                    if set > 1 && self.kept.is_empty() {
                         let _ = self.kept.push(1);
                     }
                     let _ = self.kept.push(set);

@@ -16,7 +16,7 @@ const NO_FIXING: Fixing = Fixing {
     is_kept: false,
 };
 
-const NO_NODE: PlanNode = PlanNode {
+pub(crate) const NO_NODE: PlanNode = PlanNode {
     candidate: 0,
     set: 0,
     is_open: true,
@@ -24,9 +24,9 @@ const NO_NODE: PlanNode = PlanNode {
 
 impl Planner {
     /// Whether a set closes the node, or two that are in clash where this is said in its place.
-    fn closes(&mut self, task: &Task<'_>, set: u8) -> bool {
+    pub(crate) fn closes(&mut self, task: &Task<'_>, set: u8) -> bool {
         if set == OVERFULL {
-            return self.path.clashes > 0;
+            return self.path.members.clashes > 0;
         }
         let asked = self.asked;
         let value = self.ask(task, set as usize);
@@ -35,7 +35,7 @@ impl Planner {
     }
 
     /// Takes the outer side of the last branch whose inner side was left.
-    fn turn(&mut self, task: &Task<'_>) {
+    pub(crate) fn turn(&mut self, task: &Task<'_>) {
         if let Some((candidate, depth)) = self.turns.pop() {
             self.go_back(task, depth);
             self.path.go(task.matrix, candidate, false);
