@@ -55,7 +55,7 @@ fn cert_of(rt: &impl Abort, alloc: Global, text: &str) -> Cert
 }
 
 /// What a certificate proves of a workload over a catalogue.
-pub(crate) fn judged(
+fn judged(
     rt: &impl Abort,
     alloc: Global,
     cat: &str,
@@ -67,251 +67,107 @@ pub(crate) fn judged(
     check(alloc, &opened.setting(), &cert)
 }
 
-/// What it proves with a piece replaced.
-fn changed(
-    rt: &impl Abort,
-    alloc: Global,
-    load: &str,
-    text: &str,
-    old: &str,
-    new: &str,
-) -> Result<Checked, CheckFault> {
-    let text = text.replacen(alloc, old, new, 1).expect(rt, "memory");
-    judged(rt, alloc, TWO, load, text.as_str())
+/// What `BEST` proves with a text in the place of another: in the claims and in the tree. Both indexes don't fit, which only a leaf
+/// that says so may use. A text is `end` for itself where nothing is replaced; `~` stands for a line feed here and below.
+const CLAIMS: &str = "end|end|Ok(Checked { budget: 4, cost: 954000, bound: 954000 })
+certificate 1|certificate 2|Ok(Checked { budget: 4, cost: 954000, bound: 954000 })
+bound 954000|bound -7|Ok(Checked { budget: 4, cost: 954000, bound: -7 })
+config 2|config 3|Err(BadConfig(3))
+config 2|config 1 2 5 9|Err(BadConfig(5))
+budget 4|budget 3|Err(OverBudget(4, 3))
+config 2|config 1 2|Err(OverBudget(7, 4))
+cost 954000|cost 954001|Err(CostDiffers(954001, 954000))
+cost 954000|cost 953999|Err(CostDiffers(953999, 954000))
+config 2|config|Err(CostDiffers(954000, 1680000))
+config 2|config 1|Err(CostDiffers(954000, 1010000))";
+
+const TREES: &str = "B 1|B 3|Err(BadBranch(1))
+3~B 1~|5~B 1~B 1~L 0~|Err(BadBranch(2))
+3~B 1~L 0~|5~B 1~L 0~B 1~L 0~|Err(BadBranch(3))
+bound 954000|bound 954001|Err(LeafBelow(3, 954000, 954001))
+bound 954000|bound 1010001|Err(LeafBelow(2, 1010000, 1010001))
+3~B 1~L 0~L 0|1~L 0|Err(LeafBelow(1, 284000, 954000))
+3~B 1~L 0~L 0|1~X|Err(NotInfeasible(1, 0))
+B 1~L 0|B 1~X|Err(NotInfeasible(2, 3))
+3~B 1~|5~B 1~B 2~X~|Ok(Checked { budget: 4, cost: 954000, bound: 954000 })
+3~B 1~|5~B 1~B 2~L 0~|Err(LeafBelow(3, 284000, 954000))";
+
+/// What `RENTED` proves so. With a rent of 40000 the first plan costs 6790 more, and the first index earns 400000 - 393216 = 6784
+/// beyond its price. A price of a page alone takes it for each page of the budget; parts of a thousandth are rounded up.
+const SETS: &str = "end|end|Ok(Checked { budget: 4, cost: 954000, bound: 677204 })
+bound 677204|bound 677205|Err(LeafBelow(1, 677204, 677205))
+L 1|L 0|Err(LeafBelow(1, 284000, 677204))
+1~set|2~set 0 0~set|Err(LeafBelow(1, 284000, 677204))
+677204~sets 1~set 8589934592 2~1 1 1 39321|677211~sets 1~set 8589934592 2~1 1 1 40000|Err(LeafBelow(1, 677210, 677211))
+1 1 1|1 2 1|Err(BadPair(1, 1))
+1 1 1|1 1 2|Err(BadPair(1, 1))
+2 1 2|2 1 1|Err(BadPair(1, 2))
+2 1 2|2 1 3|Err(BadPair(1, 2))
+2 1 2|3 1 2|Err(BadPair(1, 2))
+1~set 8589934592 2~1 1 1|2~set 0 0~set 8589934592 2~1 1 2|Err(BadPair(2, 1))
+677204~sets 1~set 8589934592 2~1 1 1 39321~2 1 2 47662|283996~sets 1~set 65536 0|Ok(Checked { budget: 4, cost: 954000, bound: 283996 })
+677204~sets 1~set 8589934592 2~1 1 1 39321~2 1 2 47662|283997~sets 1~set 65536 0|Err(LeafBelow(1, 283996, 283997))
+677204~sets 1~set 8589934592 2~1 1 1 39321~2 1 2 47662|284000~sets 1~set 1 0|Ok(Checked { budget: 4, cost: 954000, bound: 284000 })
+677204~sets 1~set 8589934592 2~1 1 1 39321~2 1 2 47662|284001~sets 1~set 1 0|Err(LeafBelow(1, 284000, 284001))";
+
+/// What `SPLIT` proves so.
+const SIDES: &str = "end|end|Ok(Checked { budget: 4, cost: 954000, bound: 878928 })
+bound 878928|bound 878929|Err(LeafBelow(2, 878928, 878929))
+B 1~L 1|B 1~L 0|Ok(Checked { budget: 4, cost: 954000, bound: 878928 })
+B 1|B 2|Err(LeafBelow(3, 878922, 878928))";
+
+/// What `BEST` proves so of the lighter workload.
+const WEIGHTS: &str = "end|end|Err(CostDiffers(954000, 874000))
+cost 954000~bound 954000|cost 874000~bound 874001|Err(LeafBelow(3, 874000, 874001))";
+
+/// What `KEPT` proves so of the UPDATE. With the index in: 13000 + 30000 + 16020000.
+const UPKEEP: &str = "end|end|Ok(Checked { budget: 10, cost: 110000, bound: 110000 })
+67000|66999|Err(LeafBelow(1, 109999, 110000))
+L 1|L 0|Err(LeafBelow(1, 43000, 110000))
+1~L 1|3~B 1~L 1~L 1|Ok(Checked { budget: 10, cost: 110000, bound: 110000 })
+110000~sets 1~set 0 1~1 1 1 67000~tree 1~L 1|16063001~sets 0~tree 3~B 1~L 0~L 0|Err(LeafBelow(2, 16063000, 16063001))";
+
+/// What `NONE_FITS` proves so of the INSERT, which has no slot; no candidate that doesn't fit is available.
+const INSERTS: &str = "end|end|Ok(Checked { budget: 0, cost: 80000, bound: 80000 })
+1 1 1 5|2 1 1 5|Err(BadPair(1, 1))
+budget 0|budget 3|Err(LeafBelow(1, 13005, 80000))";
+
+/// What is answered, as `Debug` writes it.
+pub(crate) fn answer(rt: &impl Abort, alloc: Global, cat: &str, load: &str, text: &str) -> String {
+    let told = judged(rt, alloc, cat, load, text);
+    format!(in alloc; "{told:?}").expect(rt, "memory")
 }
 
-/// What is proved of a budget of 4 pages with the second index.
-fn proved(bound: i128) -> Result<Checked, CheckFault> {
-    Ok(Checked {
-        budget: 4,
-        cost: 954000,
-        bound,
-    })
-}
-
-#[test]
-fn claims(rt: HostRuntime) {
-    let alloc = rt.alloc();
-    for (old, new, wanted) in [
-        ("end", "end", proved(954000)),
-        ("certificate 1", "certificate 2", proved(954000)),
-        ("bound 954000", "bound -7", proved(-7)),
-        ("config 2", "config 3", Err(CheckFault::BadConfig(3))),
-        ("config 2", "config 1 2 5 9", Err(CheckFault::BadConfig(5))),
-        ("budget 4", "budget 3", Err(CheckFault::OverBudget(4, 3))),
-        ("config 2", "config 1 2", Err(CheckFault::OverBudget(7, 4))),
-        (
-            "cost 954000",
-            "cost 954001",
-            Err(CheckFault::CostDiffers(954001, 954000)),
-        ),
-        (
-            "cost 954000",
-            "cost 953999",
-            Err(CheckFault::CostDiffers(953999, 954000)),
-        ),
-        (
-            "config 2",
-            "config",
-            Err(CheckFault::CostDiffers(954000, 1680000)),
-        ),
-        (
-            "config 2",
-            "config 1",
-            Err(CheckFault::CostDiffers(954000, 1010000)),
-        ),
-    ] {
-        let answer = changed(&rt, alloc, LOAD, BEST, old, new);
-        assert_eq!(rt; answer, wanted, "{new}");
+/// Walks a table of what a certificate proves of a workload.
+fn walk(rt: &impl Abort, alloc: Global, load: &str, text: &str, table: &str) {
+    for case in table.lines() {
+        let (old, rest) = case.split_once('|').expect(rt, "a text");
+        let (new, wanted) = rest.split_once('|').expect(rt, "another");
+        let old = old.replace(alloc, "~", "\n").expect(rt, "memory");
+        let new = new.replace(alloc, "~", "\n").expect(rt, "memory");
+        let text = text
+            .replacen(alloc, old.as_str(), new.as_str(), 1)
+            .expect(rt, "memory");
+        let told = answer(rt, alloc, TWO, load, text.as_str());
+        assert!(rt; told.as_str() == wanted, "{case}");
     }
 }
 
 #[test]
-fn trees(rt: HostRuntime) {
-    let alloc = rt.alloc();
-    for (old, new, wanted) in [
-        ("B 1", "B 3", Err(CheckFault::BadBranch(1))),
-        (
-            "3\nB 1\n",
-            "5\nB 1\nB 1\nL 0\n",
-            Err(CheckFault::BadBranch(2)),
-        ),
-        (
-            "3\nB 1\nL 0\n",
-            "5\nB 1\nL 0\nB 1\nL 0\n",
-            Err(CheckFault::BadBranch(3)),
-        ),
-        (
-            "bound 954000",
-            "bound 954001",
-            Err(CheckFault::LeafBelow(3, 954000, 954001)),
-        ),
-        (
-            "bound 954000",
-            "bound 1010001",
-            Err(CheckFault::LeafBelow(2, 1010000, 1010001)),
-        ),
-        (
-            "3\nB 1\nL 0\nL 0",
-            "1\nL 0",
-            Err(CheckFault::LeafBelow(1, 284000, 954000)),
-        ),
-        (
-            "3\nB 1\nL 0\nL 0",
-            "1\nX",
-            Err(CheckFault::NotInfeasible(1, 0)),
-        ),
-        ("B 1\nL 0", "B 1\nX", Err(CheckFault::NotInfeasible(2, 3))),
-        // Both indexes don't fit, which only a leaf that says so may use.
-        ("3\nB 1\n", "5\nB 1\nB 2\nX\n", proved(954000)),
-        (
-            "3\nB 1\n",
-            "5\nB 1\nB 2\nL 0\n",
-            Err(CheckFault::LeafBelow(3, 284000, 954000)),
-        ),
-    ] {
-        let answer = changed(&rt, alloc, LOAD, BEST, old, new);
-        assert_eq!(rt; answer, wanted, "{new}");
-    }
+fn claims_and_trees(rt: HostRuntime) {
+    walk(&rt, rt.alloc(), LOAD, BEST, CLAIMS);
+    walk(&rt, rt.alloc(), LOAD, BEST, TREES);
+    walk(&rt, rt.alloc(), LIGHTER, BEST, WEIGHTS);
 }
 
 #[test]
-fn sets(rt: HostRuntime) {
-    let alloc = rt.alloc();
-    for (old, new, wanted) in [
-        ("end", "end", proved(677204)),
-        (
-            "bound 677204",
-            "bound 677205",
-            Err(CheckFault::LeafBelow(1, 677204, 677205)),
-        ),
-        ("L 1", "L 0", Err(CheckFault::LeafBelow(1, 284000, 677204))),
-        (
-            "1\nset",
-            "2\nset 0 0\nset",
-            Err(CheckFault::LeafBelow(1, 284000, 677204)),
-        ),
-        // The first plan costs 6790 more, and the first index earns 400000 - 393216 = 6784 beyond its price.
-        (
-            "677204\nsets 1\nset 8589934592 2\n1 1 1 39321",
-            "677211\nsets 1\nset 8589934592 2\n1 1 1 40000",
-            Err(CheckFault::LeafBelow(1, 677210, 677211)),
-        ),
-        ("1 1 1", "1 2 1", Err(CheckFault::BadPair(1, 1))),
-        ("1 1 1", "1 1 2", Err(CheckFault::BadPair(1, 1))),
-        ("2 1 2", "2 1 1", Err(CheckFault::BadPair(1, 2))),
-        ("2 1 2", "2 1 3", Err(CheckFault::BadPair(1, 2))),
-        ("2 1 2", "3 1 2", Err(CheckFault::BadPair(1, 2))),
-        (
-            "1\nset 8589934592 2\n1 1 1",
-            "2\nset 0 0\nset 8589934592 2\n1 1 2",
-            Err(CheckFault::BadPair(2, 1)),
-        ),
-    ] {
-        let answer = changed(&rt, alloc, LOAD, RENTED, old, new);
-        assert_eq!(rt; answer, wanted, "{new}");
-    }
-}
-
-/// A price of a page alone takes it for each page of the budget; parts of a thousandth are rounded up.
-#[test]
-fn prices(rt: HostRuntime) {
-    let alloc = rt.alloc();
-    let old = "677204\nsets 1\nset 8589934592 2\n1 1 1 39321\n2 1 2 47662";
-    for (new, wanted) in [
-        ("283996\nsets 1\nset 65536 0", proved(283996)),
-        (
-            "283997\nsets 1\nset 65536 0",
-            Err(CheckFault::LeafBelow(1, 283996, 283997)),
-        ),
-        ("284000\nsets 1\nset 1 0", proved(284000)),
-        (
-            "284001\nsets 1\nset 1 0",
-            Err(CheckFault::LeafBelow(1, 284000, 284001)),
-        ),
-    ] {
-        let answer = changed(&rt, alloc, LOAD, RENTED, old, new);
-        assert_eq!(rt; answer, wanted, "{new}");
-    }
+fn sets_and_their_sides(rt: HostRuntime) {
+    walk(&rt, rt.alloc(), LOAD, RENTED, SETS);
+    walk(&rt, rt.alloc(), LOAD, SPLIT, SIDES);
 }
 
 #[test]
-fn sides(rt: HostRuntime) {
-    let alloc = rt.alloc();
-    for (old, new, wanted) in [
-        ("end", "end", proved(878928)),
-        (
-            "bound 878928",
-            "bound 878929",
-            Err(CheckFault::LeafBelow(2, 878928, 878929)),
-        ),
-        ("B 1\nL 1", "B 1\nL 0", proved(878928)),
-        ("B 1", "B 2", Err(CheckFault::LeafBelow(3, 878922, 878928))),
-    ] {
-        let answer = changed(&rt, alloc, LOAD, SPLIT, old, new);
-        assert_eq!(rt; answer, wanted, "{new}");
-    }
-}
-
-#[test]
-fn weights(rt: HostRuntime) {
-    let alloc = rt.alloc();
-    let differ = changed(&rt, alloc, LIGHTER, BEST, "end", "end");
-    assert_eq!(rt; differ, Err(CheckFault::CostDiffers(954000, 874000)));
-    let old = "cost 954000\nbound 954000";
-    let new = "cost 874000\nbound 874001";
-    let below = changed(&rt, alloc, LIGHTER, BEST, old, new);
-    assert_eq!(rt; below, Err(CheckFault::LeafBelow(3, 874000, 874001)));
-}
-
-#[test]
-fn upkeep(rt: HostRuntime) {
-    let alloc = rt.alloc();
-    let kept = Ok(Checked {
-        budget: 10,
-        cost: 110000,
-        bound: 110000,
-    });
-    for (old, new, wanted) in [
-        ("end", "end", kept),
-        (
-            "67000",
-            "66999",
-            Err(CheckFault::LeafBelow(1, 109999, 110000)),
-        ),
-        ("L 1", "L 0", Err(CheckFault::LeafBelow(1, 43000, 110000))),
-        ("1\nL 1", "3\nB 1\nL 1\nL 1", kept),
-        // With the index in: 13000 + 30000 + 16020000.
-        (
-            "110000\nsets 1\nset 0 1\n1 1 1 67000\ntree 1\nL 1",
-            "16063001\nsets 0\ntree 3\nB 1\nL 0\nL 0",
-            Err(CheckFault::LeafBelow(2, 16063000, 16063001)),
-        ),
-    ] {
-        let answer = changed(&rt, alloc, UPDATED, KEPT, old, new);
-        assert_eq!(rt; answer, wanted, "{new}");
-    }
-}
-
-/// An INSERT has no slot, and no candidate that doesn't fit is available.
-#[test]
-fn inserts(rt: HostRuntime) {
-    let alloc = rt.alloc();
-    let none = Ok(Checked {
-        budget: 0,
-        cost: 80000,
-        bound: 80000,
-    });
-    for (old, new, wanted) in [
-        ("end", "end", none),
-        ("1 1 1 5", "2 1 1 5", Err(CheckFault::BadPair(1, 1))),
-        (
-            "budget 0",
-            "budget 3",
-            Err(CheckFault::LeafBelow(1, 13005, 80000)),
-        ),
-    ] {
-        let answer = changed(&rt, alloc, INSERTED, NONE_FITS, old, new);
-        assert_eq!(rt; answer, wanted, "{new}");
-    }
+fn upkeep_and_inserts(rt: HostRuntime) {
+    walk(&rt, rt.alloc(), UPDATED, KEPT, UPKEEP);
+    walk(&rt, rt.alloc(), INSERTED, NONE_FITS, INSERTS);
 }

@@ -1,6 +1,5 @@
 //! What is proposed on tables that may be clustered: cases as lines, in the form of `proposals`, by hand from the rules.
-use crate::opened::{candidates_of, catalogue_of};
-use crate::proposals::{all_orders, assert_cases, shown};
+use crate::proposals::{assert_cases, assert_first};
 
 /// Three tables that may be clustered and have no index; one that may and has a plain one; one that may and has a clustered one
 /// too; and one that may not.
@@ -81,13 +80,6 @@ fn proposals_by_hand(rt: HostRuntime) {
 
 #[test]
 fn the_first_256_of_1440(rt: HostRuntime) {
-    let alloc = rt.alloc();
-    let cat = catalogue_of(&rt, alloc, CATALOGUE.as_bytes());
-    let text = all_orders(alloc).expect(&rt, "memory");
-    let found = candidates_of(&rt, alloc, &cat, text.as_slice());
-    assert_eq!(rt; found.list.len(), 256);
-    assert_eq!(rt; found.left_over, 1184);
-    let line = shown(alloc, &cat, &found).expect(&rt, "memory");
-    assert!(rt; line.as_slice().starts_with(b"t(a,b,c) t(a,b,c)* t(a,b,d) "));
-    assert!(rt; line.as_slice().ends_with(b" t(b,h,j) t(b,h,j)*"));
+    let ends = ("t(a,b,c) t(a,b,c)* t(a,b,d) ", " t(b,h,j) t(b,h,j)*");
+    assert_first(&rt, rt.alloc(), CATALOGUE, 1184, ends);
 }

@@ -1,5 +1,5 @@
-//! Tests of the public calls of `candidates`, `hypo_indexes`, `access_paths`, `tuning`, `gap_checker` and `dba_rules`, apart
-//! from them, so that they aren't proved twice: what is said of catalogues and workloads that are written down. And a test of
+//! Tests of the public calls of `candidates`, `hypo_indexes`, `access_paths`, `tuning`, `gap_checker`, `dba_rules`, `retune` and `report`,
+//! apart from them, so that they aren't proved twice: what is said of catalogues and workloads that are written down. And a test of
 //! `lagrange_bound` on the programmes that `tuning` makes, against the planner.
 #![tactic(auto)]
 
@@ -28,7 +28,11 @@ mod proposals;
 #[cfg(test)]
 mod rented;
 #[cfg(test)]
+mod reports;
+#[cfg(test)]
 mod ruled;
+#[cfg(test)]
+mod sessions;
 #[cfg(test)]
 mod texts;
 #[cfg(test)]

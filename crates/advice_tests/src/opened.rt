@@ -59,8 +59,21 @@ pub(crate) fn statements_of(
     }
 }
 
+/// The one statement of a text.
+pub(crate) fn statement_of(rt: &impl Abort, alloc: Global, cat: &Catalogue, text: &str) -> Statement
+    ensures { NamesWork cat.now result.work }
+{
+    let mut list = statements_of(rt, alloc, cat, text.as_bytes()).items;
+    list.pop().expect(rt, "a statement")
+}
+
 /// What statements propose.
-fn proposed(rt: &impl Abort, alloc: Global, cat: &Catalogue, statements: &[Statement]) -> Candidates
+pub(crate) fn proposed(
+    rt: &impl Abort,
+    alloc: Global,
+    cat: &Catalogue,
+    statements: &[Statement],
+) -> Candidates
     requires { All (λ statement. NamesWork cat.now statement.work) statements.now }
     ensures few { length result.list ≤ MOST_CANDIDATES }
     ensures named { All (NamesShape cat.now) result.list }

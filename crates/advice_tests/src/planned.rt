@@ -94,7 +94,7 @@ fn compare(rt: &impl Abort, alloc: Global, opened: &Opened) {
         for some in [0, 1, count] {
             let config = candidates_between(from, some);
             let planned = planned_total(rt, alloc, &setting, &config);
-            assert_eq!(rt; value(&made, &config), planned, "{some} from {from}");
+            assert!(rt; value(&made, &config) == planned, "{some} from {from}");
         }
     }
 }

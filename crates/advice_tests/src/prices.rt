@@ -123,7 +123,7 @@ fn ways_to_read_by_hand(rt: HostRuntime) {
         for case in cases.lines() {
             let (wanted, text) = case.split_once('|').expect(&rt, "a bar");
             let line = ways_of(&rt, alloc, &cat, text.as_bytes(), *on);
-            assert_eq!(rt; line.as_slice(), wanted.as_bytes(), "in {text}");
+            assert!(rt; line.as_slice() == wanted.as_bytes(), "in {text}");
         }
     }
 }

@@ -2,6 +2,7 @@
 use crate::scene::spread;
 use adv_base::NoMemory;
 use std::alloc::Global;
+use std::process::Abort;
 
 /// Catalogues by name. A line `t NAME` stands for a table of 1000 rows and 20 pages, `c NAME` for a column of whole
 /// numbers of width 4 with 1000 values, `d NAME N` for the same with N values, `h NAME ENDS` for one with 1000 values and a
@@ -210,19 +211,19 @@ fn push_line(text: &mut String, line: &str) -> Result<(), NoMemory> {
 
 /// The text of the catalogue of a name, of the version that stands behind it, or of version 1; behind `=`, the name is the
 /// text, in which `~` stands for a line feed.
-pub fn catalogue(alloc: Global, name: &str) -> Result<Vec<u8>, NoMemory> {
+pub(crate) fn catalogue(rt: &impl Abort, alloc: Global, name: &str) -> Vec<u8> {
     if let Some(text) = name.strip_prefix("=") {
-        return spread(alloc, text);
+        return spread(rt, alloc, text);
     }
     let (name, version) = name.split_once(' ').unwrap_or((name, "1"));
-    let mut text = format!(in alloc; "version = {version}\n")?;
+    let mut text = format!(in alloc; "version = {version}\n").expect(rt, "memory");
     let mut inside = false;
     for line in CATALOGUES.lines() {
         if let Some(next) = line.strip_prefix("= ") {
             inside = next == name;
         } else if inside {
-            push_line(&mut text, line)?;
+            push_line(&mut text, line).expect(rt, "memory");
         }
     }
-    Ok(text.into_bytes())
+    text.into_bytes()
 }

@@ -29,18 +29,12 @@ const CLASHES: &str =
 5|ruled CAT LOAD 6 CONF|CLAB 2|SELECT * FROM t ORDER BY a; SELECT * FROM t ORDER BY b|must t(a) clustered~must t(b) clustered~|refused: rules clash on 2 and 5~"#;
 
 #[test]
-fn clustered_candidates_are_proposed(rt: HostRuntime) {
+fn clustered_candidates_are_proposed_and_clashes_told(rt: HostRuntime) {
     compare_all(&rt, rt.alloc(), CANDIDATES);
+    compare_all(&rt, rt.alloc(), CLASHES);
 }
 
 #[test]
 fn advice_has_one_clustered_index_a_table(rt: HostRuntime) {
-    for line in ADVICE.lines() {
-        compare_advice(&rt, rt.alloc(), line);
-    }
-}
-
-#[test]
-fn clashes_are_told(rt: HostRuntime) {
-    compare_all(&rt, rt.alloc(), CLASHES);
+    compare_advice(&rt, rt.alloc(), ADVICE);
 }

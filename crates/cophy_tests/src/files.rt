@@ -1,42 +1,42 @@
 //! The files of a case.
 use crate::catalogues::catalogue;
-use crate::scene::{shelf, spread};
-use adv_base::NoMemory;
-use adv_shelf::MemShelf;
+use crate::scene::spread;
+use adv_shelf::{MemShelf, Shelf};
 use std::alloc::Global;
+use std::process::Abort;
 
 /// What stands in the files CAT, LOAD and CONF: a catalogue by its name or, behind `=`, its text, and two texts. `~` stands
 /// for a line feed.
 #[derive(Clone, Copy)]
-pub struct Files<'a> {
-    pub cat: &'a str,
-    pub load: &'a str,
-    pub conf: &'a str,
+pub(crate) struct Files<'a> {
+    pub(crate) cat: &'a str,
+    pub(crate) load: &'a str,
+    pub(crate) conf: &'a str,
 }
 
 impl Files<'_> {
-    /// A shelf with the files.
-    pub fn shelf(&self, alloc: Global) -> Result<MemShelf, NoMemory> {
-        let cat = catalogue(alloc, self.cat)?;
-        let load = spread(alloc, self.load)?;
-        let conf = spread(alloc, self.conf)?;
-        shelf(alloc, cat.as_slice(), load.as_slice(), conf.as_slice())
+    /// The bytes of the three.
+    fn bytes(&self, rt: &impl Abort, alloc: Global) -> (Vec<u8>, Vec<u8>, Vec<u8>) {
+        let cat = catalogue(rt, alloc, self.cat);
+        let load = spread(rt, alloc, self.load);
+        (cat, load, spread(rt, alloc, self.conf))
     }
 
-    /// The name of the first of the files that a shelf no longer has as it was.
-    pub fn changed(
-        &self,
-        alloc: Global,
-        shelf: &MemShelf,
-    ) -> Result<Option<&'static str>, NoMemory> {
-        let cat = catalogue(alloc, self.cat)?;
-        let load = spread(alloc, self.load)?;
-        let conf = spread(alloc, self.conf)?;
+    /// A shelf with the files.
+    pub(crate) fn shelf(&self, rt: &impl Abort, alloc: Global) -> MemShelf {
+        let (cat, load, conf) = self.bytes(rt, alloc);
+        let mut shelf = MemShelf::new(alloc).expect(rt, "memory");
         for (name, bytes) in [("CAT", &cat), ("LOAD", &load), ("CONF", &conf)] {
-            if shelf.file(name) != Some(bytes.as_slice()) {
-                return Ok(Some(name));
-            }
+            shelf.put(name, bytes.as_slice()).expect(rt, "a put");
         }
-        Ok(None)
+        shelf
+    }
+
+    /// A shelf has the files as they were.
+    pub(crate) fn assert_kept(&self, rt: &impl Abort, alloc: Global, shelf: &MemShelf) {
+        let (cat, load, conf) = self.bytes(rt, alloc);
+        for (name, bytes) in [("CAT", &cat), ("LOAD", &load), ("CONF", &conf)] {
+            assert_eq!(rt; shelf.file(name), Some(bytes.as_slice()), "{name}");
+        }
     }
 }

@@ -1,25 +1,40 @@
-//! Tests of the program's public calls, from words and files in memory to a status and bytes. Cases are data: texts that
-//! one function walks. What they pin is what no clause says: that answers are found where there is memory, and that the
-//! definitions say what was meant.
+//! Tests of the program's public calls, from words and files in memory to a status, bytes and files. What they pin is what no
+//! clause says: that answers are found where there is memory, and that the definitions say what was meant.
 //!
-//! What is public serves other crates of tests, too: `Files` of a case, by the name of a `catalogue`, and the `answer` to a
-//! command line over them.
+//! Cases are data: tables, a case a line, and scripts of runs in which the parts of a line are filled in. `scene` plays them.
 #![tactic(auto)]
 
+#[cfg(test)]
+mod asserts;
+#[cfg(test)]
 mod catalogues;
 #[cfg(test)]
+mod certificates;
+#[cfg(test)]
+mod changing;
+#[cfg(test)]
 mod clustered;
+#[cfg(test)]
+mod faults;
+#[cfg(test)]
 mod files;
+#[cfg(test)]
+mod folded;
 #[cfg(test)]
 mod histograms;
 #[cfg(test)]
+mod large;
+#[cfg(test)]
 mod made;
 #[cfg(test)]
+mod obeying;
+#[cfg(test)]
+mod retuned;
+#[cfg(test)]
 mod runs;
+#[cfg(test)]
 mod scene;
 #[cfg(test)]
+mod swept;
+#[cfg(test)]
 mod words;
-
-pub use catalogues::catalogue;
-pub use files::Files;
-pub use scene::{answer, shelf, split, spread};

@@ -1,9 +1,6 @@
 //! Advice on made workloads.
 use crate::runs::compare_advice;
-use crate::scene::{answer, spread};
-use adv_shelf::MemShelf;
-use std::alloc::Global;
-use std::process::Abort;
+use crate::scene::walk;
 
 /// Advice on made workloads within no page, so that nothing can be picked. A second program, from what is said of the
 /// generator and of prices, made the same workloads, counted their slots and computed what they cost without an index; the
@@ -18,28 +15,20 @@ const MADE_TWICE: &str =
 bench 18446744073709551615 3 8 1000000000000|tables 3~statements 8~slots 11~budget 1000000000000~
 bench 7 20 500 0|tables 20~statements 500~slots 606~budget 0~candidates 180 left over 0~size 0~cost 568912639352~"#;
 
+/// Runs a line twice over no file it reads, and compares the two outputs and how they begin.
+const TWICE: &str = "files EMPTY||
+room 5000
+any $0$
+mark
+same $0$
+advice $1$";
+
 #[test]
 fn advice_on_made_workloads_is_best(rt: HostRuntime) {
-    for line in MADE.lines() {
-        compare_advice(&rt, rt.alloc(), line);
-    }
-}
-
-/// Runs a line twice over no file, and compares the two outputs and how they begin.
-fn compare_twice(rt: &impl Abort, alloc: Global, line: &str) {
-    let (words, front) = line.split_once('|').expect(rt, "words");
-    let front = spread(alloc, front).expect(rt, "memory");
-    let mut shelf = MemShelf::new(alloc).expect(rt, "memory");
-    let (status, first) = answer(alloc, words, &mut shelf, 5000).expect(rt, "memory");
-    let (again, second) = answer(alloc, words, &mut shelf, 5000).expect(rt, "memory");
-    let is_same = again == status && second.bytes() == first.bytes();
-    let holds = is_same && status <= 1 && first.bytes().starts_with(front.as_slice());
-    assert!(rt; holds, "{words}");
+    compare_advice(&rt, rt.alloc(), MADE);
 }
 
 #[test]
 fn a_seed_gives_the_same_advice_each_time(rt: HostRuntime) {
-    for line in MADE_TWICE.lines() {
-        compare_twice(&rt, rt.alloc(), line);
-    }
+    walk(&rt, rt.alloc(), TWICE, MADE_TWICE);
 }

@@ -2,8 +2,7 @@
 //!
 //! A line of a table is the exit status, the words, the name of the catalogue in CAT or, behind `=`, its text, the
 //! workload in LOAD, the configuration or the rules in CONF, and the output. `~` stands for a line feed.
-use crate::files::Files;
-use crate::scene::{answer, spread};
+use crate::scene::{play, walk};
 use std::alloc::Global;
 use std::process::Abort;
 
@@ -177,188 +176,62 @@ const WORDS: &str = r#"2||TI|||usage: no command~
 3|cost none LOAD|TI|||read fault: none~
 3|cost CAT none|TI|||read fault: none~"#;
 
-/// A line of a table.
-#[derive(Clone, Copy)]
-struct Case<'a> {
-    status: &'a str,
-    words: &'a str,
-    files: Files<'a>,
-    output: &'a str,
-}
-
-/// The parts of a line.
-fn case_of<'a>(rt: &impl Abort, line: &'a str) -> Case<'a> {
-    let (status, rest) = line.split_once('|').expect(rt, "a status");
-    let (words, rest) = rest.split_once('|').expect(rt, "words");
-    let (cat, rest) = rest.split_once('|').expect(rt, "a catalogue");
-    let (load, rest) = rest.split_once('|').expect(rt, "a workload");
-    let (conf, output) = rest.split_once('|').expect(rt, "a configuration");
-    Case {
-        status,
-        words,
-        files: Files { cat, load, conf },
-        output,
-    }
-}
-
-/// Runs the case of a line and compares the output and the status.
-fn compare_case(rt: &impl Abort, alloc: Global, case: &Case<'_>, line: &str) {
-    let mut shelf = case.files.shelf(alloc).expect(rt, "memory");
-    let (status, out) = answer(alloc, case.words, &mut shelf, 1000).expect(rt, "memory");
-    let output = spread(alloc, case.output).expect(rt, "memory");
-    let wanted = case.status.parse::<u8>().expect(rt, "a status");
-    assert_eq!(rt;
-        (status, out.bytes()),
-        (wanted, output.as_slice()),
-        "{line}"
-    );
-}
-
 /// Runs a line.
-fn compare(rt: &impl Abort, alloc: Global, line: &str) {
-    let case = case_of(rt, line);
-    compare_case(rt, alloc, &case, line);
-}
+const RUN: &str = "files $2$|$3$|$4$
+nodes $0$|$1$|$5$
+kept";
 
 /// Runs a line of `cost` as one of `whatif` under the empty configuration, whose size of 0 stands before the same prices.
-fn compare_unconfigured(rt: &impl Abort, alloc: Global, line: &str) {
-    let case = case_of(rt, line);
-    let output = format!(in alloc; "size 0~{}", case.output).expect(rt, "memory");
-    let unconfigured = Case {
-        words: "whatif CAT LOAD CONF",
-        files: Files {
-            conf: "",
-            ..case.files
-        },
-        output: output.as_str(),
-        ..case
-    };
-    compare_case(rt, alloc, &unconfigured, line);
-}
-
-/// Whether an output is the wanted one with an odd number from `least` to `most` in the place of `#`.
-fn has_nodes(
-    rt: &impl Abort,
-    alloc: Global,
-    out: &[u8],
-    want: &str,
-    (least, most): (u64, u64),
-) -> bool {
-    let (front, back) = want.split_once('#').expect(rt, "a number of nodes");
-    for nodes in least..most.saturating_add(1) {
-        let text = format!(in alloc; "{front}{nodes}{back}").expect(rt, "memory");
-        let text = spread(alloc, text.as_str()).expect(rt, "memory");
-        if nodes % 2 == 1 && text.as_slice() == out {
-            return true;
-        }
-    }
-    false
-}
-
-/// The two numbers with a dash between them.
-fn range(rt: &impl Abort, text: &str) -> (u64, u64) {
-    let (least, most) = text.split_once('-').expect(rt, "a range");
-    let least = least.parse::<u64>().expect(rt, "a number");
-    (least, most.parse::<u64>().expect(rt, "a number"))
-}
+const UNCONFIGURED: &str = "files $2$|$3$|
+run $0$|whatif CAT LOAD CONF|size 0~$5$
+kept";
 
 /// Advises on a line.
-pub(crate) fn compare_advice(rt: &impl Abort, alloc: Global, line: &str) {
-    let (nodes, rest) = line.split_once('|').expect(rt, "a range");
-    let nodes = range(rt, nodes);
-    let case = case_of(rt, rest);
-    let mut shelf = case.files.shelf(alloc).expect(rt, "memory");
-    let (status, out) = answer(alloc, case.words, &mut shelf, 1000).expect(rt, "memory");
-    let wanted = case.status.parse::<u8>().expect(rt, "a status");
-    let holds = status == wanted && has_nodes(rt, alloc, out.bytes(), case.output, nodes);
-    assert!(rt; holds, "{line}");
-}
+const ADVISE: &str = "files $3$|$4$|$5$
+nodes $1$|$2$|$6$
+odd $0$
+kept";
+
+/// Two candidates of which one fits, and no node to tell which: either may be picked. The bound is no less than that of the
+/// best rents, worked out by hand, and no more than the linear relaxation.
+const ONE_NODE: &str =
+    "files KNAP|-- weight 10~SELECT c FROM t ORDER BY c;~-- weight 11~SELECT d, e FROM v ORDER BY d, e;~|
+ends 1|advise CAT LOAD 4 --nodes 1|nodes 1 of 1~stopped~
+either cost |954000|1010000
+within bound |677204|828500";
 
 /// Walks a table.
 pub(crate) fn compare_all(rt: &impl Abort, alloc: Global, table: &str) {
-    for line in table.lines() {
-        compare(rt, alloc, line);
-    }
+    walk(rt, alloc, RUN, table);
+}
+
+/// Walks a table of advice.
+pub(crate) fn compare_advice(rt: &impl Abort, alloc: Global, table: &str) {
+    walk(rt, alloc, ADVISE, table);
 }
 
 #[test]
-fn statements_are_priced(rt: HostRuntime) {
+fn statements_are_priced_and_plans_explained(rt: HostRuntime) {
     compare_all(&rt, rt.alloc(), PRICES);
-}
-
-#[test]
-fn inputs_are_refused(rt: HostRuntime) {
-    compare_all(&rt, rt.alloc(), REFUSALS);
-}
-
-#[test]
-fn plans_are_explained(rt: HostRuntime) {
+    walk(&rt, rt.alloc(), UNCONFIGURED, PRICES);
     compare_all(&rt, rt.alloc(), PLANS);
-}
-
-#[test]
-fn configurations_are_priced(rt: HostRuntime) {
     compare_all(&rt, rt.alloc(), CONFIGURED);
 }
 
 #[test]
-fn no_candidate_changes_no_price(rt: HostRuntime) {
-    for line in PRICES.lines() {
-        compare_unconfigured(&rt, rt.alloc(), line);
-    }
+fn inputs_and_words_are_refused(rt: HostRuntime) {
+    compare_all(&rt, rt.alloc(), REFUSALS);
+    compare_all(&rt, rt.alloc(), WORDS);
 }
 
 #[test]
 fn advice_is_best(rt: HostRuntime) {
-    for line in ADVICE.lines() {
-        compare_advice(&rt, rt.alloc(), line);
-    }
-}
-
-/// The number on the line of an output that begins with a word.
-fn told(rt: &impl Abort, out: &[u8], word: &str) -> u64 {
-    for line in out.split(|byte| *byte == b'\n') {
-        if let Some(number) = line.strip_prefix(word.as_bytes()) {
-            let number = str::from_utf8(number).expect(rt, "a number");
-            return number.parse::<u64>().expect(rt, "a number");
-        }
-    }
-    panic!(rt; "no line begins with {word}")
-}
-
-/// Two candidates of which one fits, and no node to tell which: either may be picked. The bound is no less than that of the
-/// best rents, worked out by hand, and no more than the linear relaxation.
-#[test]
-fn one_node_is_not_enough(rt: HostRuntime) {
-    let alloc = rt.alloc();
-    let files = Files {
-        cat: "KNAP",
-        load: "-- weight 10~SELECT c FROM t ORDER BY c;~-- weight 11~SELECT d, e FROM v ORDER BY d, e;~",
-        conf: "",
-    };
-    let mut shelf = files.shelf(alloc).expect(&rt, "memory");
-    let words = "advise CAT LOAD 4 --nodes 1";
-    let (status, out) = answer(alloc, words, &mut shelf, 1000).expect(&rt, "memory");
-    let end = spread(alloc, "nodes 1 of 1~stopped~").expect(&rt, "memory");
-    let holds = status == 1 && out.bytes().ends_with(end.as_slice());
-    assert!(rt; holds);
-    let cost = told(&rt, out.bytes(), "cost ");
-    let bound = told(&rt, out.bytes(), "bound ");
-    assert!(rt; cost == 954000 || cost == 1010000, "{cost}");
-    assert!(rt; 677204 <= bound && bound <= 828500, "{bound}");
+    compare_advice(&rt, rt.alloc(), ADVICE);
+    play(&rt, rt.alloc(), ONE_NODE);
 }
 
 #[test]
-fn certificates_are_checked(rt: HostRuntime) {
+fn certificates_are_checked_and_candidates_listed(rt: HostRuntime) {
     compare_all(&rt, rt.alloc(), CHECKED);
-}
-
-#[test]
-fn candidates_are_listed(rt: HostRuntime) {
     compare_all(&rt, rt.alloc(), CANDIDATES);
-}
-
-#[test]
-fn words_decide_what_is_done(rt: HostRuntime) {
-    compare_all(&rt, rt.alloc(), WORDS);
 }

@@ -101,7 +101,7 @@ line 4|1~2~3~~\n\
 /// What is read of a command line.
 fn assert_words(rt: &impl Abort, alloc: Global, case: &str) {
     let (want, line) = case.split_once('|').expect(rt, "a bar");
-    let words = split(alloc, line).expect(rt, "memory");
+    let words = split(rt, alloc, line);
     let found = format!(in alloc; "{:?}", read_words(words.as_slice())).expect(rt, "memory");
     assert_eq!(rt; found.as_str(), want, "{line}");
 }
@@ -127,7 +127,7 @@ fn numbers(rt: &impl Abort, alloc: Global, config: &Config) -> String {
 /// What is read of a configuration file.
 fn assert_conf(rt: &impl Abort, alloc: Global, case: &str) {
     let (want, written) = case.split_once('|').expect(rt, "a bar");
-    let bytes = spread(alloc, written).expect(rt, "memory");
+    let bytes = spread(rt, alloc, written);
     let found = match read_conf(bytes.as_slice(), 3) {
         Err(line) => format!(in alloc; "line {line}").expect(rt, "memory"),
         Ok(config) => numbers(rt, alloc, &config),

@@ -4,7 +4,7 @@ ghost use Rattle.std.specs.Prelude.{◌<◌};
 use crate::least_plans::planned;
 use crate::made::{Draws, made_indexes, made_table, made_task};
 use crate::table::Table;
-use crate::tasks::{edge, star_edges, task, up};
+use crate::tasks::{edge, star, task, task_ahead};
 use adv_base::NoMemory;
 use inum_cache::{Cache, CacheFault, build};
 use plan_model::{Task, TaskEdge};
@@ -22,37 +22,37 @@ fn costs(
     Ok((found.cost, cache.cost(table)))
 }
 
-/// A cache has these templates: each with the places that it needs of the first two slots, and its internal cost.
-fn holds(rt: &impl Abort, alloc: Global, task: &Task, templates: &[(u8, u8, u128)]) {
-    let cache = build(alloc, task).expect(rt, "a cache");
-    assert_eq!(rt; cache.templates().len(), templates.len());
-    for (template, (first, second, internal)) in cache.templates().iter().zip(templates.iter()) {
-        assert_eq!(rt; template.needs, [*first, *second, 0, 0, 0, 0, 0, 0]);
-        assert_eq!(rt; template.internal, *internal);
-    }
-}
+/// Tasks with their templates: what each needs of the first two slots, and its internal cost. A table of 1000 rows in some order, or in
+/// none; and two such tables that are joined, where a merge wants both in the order of their columns, and one order alone is of no use.
+const TEMPLATES: &str = "|1 1000|-|a0|0 0 50000;1 0 0
+|1 1000|-||0 0 0
+a0b0|1 1000 1000 1000|-||0 0 34000;1 1 20000";
 
-/// A table of 1000 rows in some order, or in none; and two such tables that are joined, where a merge wants both in the
-/// order of their columns, and one order alone is of no use.
 #[test]
 fn templates_by_hand(rt: HostRuntime) {
     let alloc = rt.alloc();
-    let ordered = task(&rt, alloc, 1, &[], &[1, 1000], None, &[up(0, 0)]);
-    holds(&rt, alloc, &ordered, &[(0, 0, 50000), (1, 0, 0)]);
-    let plain = task(&rt, alloc, 1, &[], &[1, 1000], None, &[]);
-    holds(&rt, alloc, &plain, &[(0, 0, 0)]);
-    let edges = [edge(0, 0, 1, 0)];
-    let joined = task(&rt, alloc, 2, &edges, &[1, 1000, 1000, 1000], None, &[]);
-    holds(&rt, alloc, &joined, &[(0, 0, 34000), (1, 1, 20000)])
+    for case in TEMPLATES.lines() {
+        let (task, wanted) = task_ahead(&rt, alloc, case);
+        let cache = build(alloc, &task).expect(&rt, "a cache");
+        let mut found = String::new(alloc);
+        for template in cache.templates() {
+            let needs = template.needs;
+            let internal = template.internal;
+            let (first, second) = (needs[0], needs[1]);
+            assert!(rt; needs == [first, second, 0, 0, 0, 0, 0, 0]);
+            let stop = if found.is_empty() { "" } else { ";" };
+            write!(found, "{stop}{first} {second} {internal}").expect(&rt, "memory");
+        }
+        assert!(rt; found.as_str() == wanted, "{case}");
+    }
 }
 
 /// A star of five slots has 14 orders at its hub, four at three others and five at the last.
 #[test]
 fn too_many_combinations(rt: HostRuntime) {
-    let alloc = rt.alloc();
-    let star = task(&rt, alloc, 5, &star_edges(), &[1; 32], None, &[]);
-    let fault = build(alloc, &star).err();
-    assert_eq!(rt; fault, Some(CacheFault::TooManyCombinations(4480)));
+    let star = star(&rt, rt.alloc());
+    let fault = build(rt.alloc(), &star).err();
+    assert!(rt; fault == Some(CacheFault::TooManyCombinations(4480)));
 }
 
 /// The cost from the cache is that of the planner, over 300 tasks of at most three slots and four tables of offers each,
@@ -69,7 +69,7 @@ fn as_the_planner(rt: HostRuntime) {
         for raise in [0, 0, 1, 60_000] {
             let table = made_table(alloc, &mut draws, task.slots, raise).expect(&rt, "memory");
             let (planned, cached) = costs(alloc, &task, &cache, &table).expect(&rt, "memory");
-            assert_eq!(rt; cached, planned, "task {number}");
+            assert!(rt; cached == planned, "task {number}");
         }
     }
     assert!(rt; kept > 600);
@@ -95,7 +95,7 @@ fn agrees(rt: &impl Abort, alloc: Global, draws: &mut Draws, task: &Task, column
     for number in 0..12 {
         let table = made_indexes(alloc, draws, task.slots, columns).expect(rt, "memory");
         let (planned, cached) = costs(alloc, task, &cache, &table).expect(rt, "memory");
-        assert_eq!(rt; cached, planned, "table {number} of {columns} columns");
+        assert!(rt; cached == planned, "table {number} of {columns} columns");
     }
 }
 

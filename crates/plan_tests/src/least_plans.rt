@@ -9,9 +9,9 @@ use crate::least_plans::changed::Changed;
 use crate::least_plans::seen::Seen;
 use crate::least_plans::yardstick::least_by_trying;
 use crate::made::{Draws, made_table, made_task};
-use crate::table::{Table, heaps, indexed};
-use crate::tasks::{chain_of_four, edge, grouped_orders, task, up};
-use adv_base::{Item, NoMemory};
+use crate::table::{Table, table_of};
+use crate::tasks::task_ahead;
+use adv_base::NoMemory;
 use plan_model::{Task, plan_cost};
 use planner::{Found, Search, least};
 use std::alloc::Global;
@@ -36,87 +36,49 @@ fn searched(
     Ok((first, second, third))
 }
 
-/// The least plan of the task costs what is said, by the planner, by trying all plans, and by the plan that is given.
+/// Tasks with a table's prices and indexes, and what their least plans cost.
+///
+/// - A table of 1000 rows on 20 pages: read whole, sorted, read through an index that fetches each row, one that covers, or one in whose
+///   order the rows stand; and grouped by a column of 100 values.
+/// - Two tables of 1000 rows: joined on a column that leads an index of the first, in the index's order, which a merge keeps, or in one
+///   that the index doesn't give; and joined on the columns of two indexes, also by edges that are written again, or the other way round.
+/// - A chain of four tables whose ends are filtered to one row each, where the best plan that isn't bushy costs 137868; and customers,
+///   their orders and the orders' items, grouped by two columns of an order.
+const CASES: &str = "|1 1000|-||30000||30000
+|1 1000|-|a0|30000|4013000:0|80000
+|1 1000|-|a0|30000|13000:0|13000
+|1 1000|-|a0|30000|33000:0|33000
+|1 1000|a0 100|#1|30000||49500
+a0b0|1 1000 1000 1000|-|a0a1|30000 30000|14000:01|114000
+a0b0|1 1000 1000 1000|-|a0a1|30000 30000|14000:0|128000
+a0b0|1 1000 1000 1000|-||30000 30000||94000
+a0b0|1 1000 1000 1000|-||30000 30000|13000:0 13000:0|46000
+a0b0a0b0a0b1|1 1000 1000 1000|-||30000 30000|13000:0 13000:0|46000
+a0b0a0b0a0b1|1 1000 1000 1000|-||30000 30000|13000:0 13000:1|46000
+a0b0b0a0b1a0|1 1000 1000 1000|-||30000 30000|13000:0 13000:0|46000
+a0b0b0a0b1a0|1 1000 1000 1000|-||30000 30000|13000:0 13000:1|46000
+a1b0b1c0c1d0|1 1 1000 1 1000 1000 100000 100 1 1 1000 1 1 1 100 1|-||30000 30000 30000 30000||136082
+a0b1c0b0|1 3000 5224 1045 600000 1800000000 20898 4181|b0b2 4181|#1b2|550000 4500000 21000000||31347433";
+
+/// The least plan of a task costs what is said, by the planner, by trying all plans, and by the plan that is given.
 fn costs(rt: &impl Abort, alloc: Global, task: &Task, table: &Table, cost: u128) {
     let found = planned(alloc, task, table).expect(rt, "memory");
-    assert_eq!(rt; found.cost, cost);
-    assert_eq!(rt;
-        least_by_trying(alloc, task, table).expect(rt, "memory"),
-        cost
-    );
-    assert_eq!(rt; plan_cost(task, table, &found.plan), Some(cost));
+    let tried = least_by_trying(alloc, task, table).expect(rt, "memory");
+    assert!(rt; (found.cost, tried) == (cost, cost));
+    assert!(rt; plan_cost(task, table, &found.plan) == Some(cost));
 }
 
-/// A table of 1000 rows on 20 pages: read whole, sorted, read through an index that fetches each row, one that covers, or
-/// one in whose order the rows stand; and grouped by a column of 100 values.
 #[test]
-fn one_slot(rt: HostRuntime) {
+fn least_plans_by_hand(rt: HostRuntime) {
     let alloc = rt.alloc();
-    let rows = [1, 1000];
-    let heap = heaps(&rt, alloc, &[30000]);
-    let plain = task(&rt, alloc, 1, &[], &rows, None, &[]);
-    costs(&rt, alloc, &plain, &heap, 30000);
-    let ordered = task(&rt, alloc, 1, &[], &rows, None, &[up(0, 0)]);
-    for (index, cost) in [(4013000, 80000), (13000, 13000), (33000, 33000)] {
-        let table = indexed(&rt, alloc, &[30000], &[(index, &[0])]);
-        costs(&rt, alloc, &ordered, &table, cost);
+    for case in CASES.lines() {
+        let (task, rest) = task_ahead(&rt, alloc, case);
+        let (heaps, rest) = rest.split_once('|').expect(&rt, "prices");
+        let (indexes, cost) = rest.split_once('|').expect(&rt, "indexes");
+        let table = table_of(&rt, alloc, heaps, indexes);
+        let cost = cost.parse::<u64>().expect(&rt, "a cost");
+        costs(&rt, alloc, &task, &table, cost as u128);
     }
-    let grouped = task(
-        &rt,
-        alloc,
-        1,
-        &[],
-        &rows,
-        Some((&[up(0, 0)], 100)),
-        &[Item::Made(1)],
-    );
-    costs(&rt, alloc, &grouped, &heap, 49500)
-}
-
-/// Two tables of 1000 rows: joined on a column that leads an index of the first, in the index's order, which a merge keeps,
-/// or in one that the index doesn't give; and joined on the columns of two indexes, also by edges that are written again,
-/// or the other way round.
-#[test]
-fn two_slots(rt: HostRuntime) {
-    let alloc = rt.alloc();
-    let edges = [edge(0, 0, 1, 0)];
-    let rows = [1, 1000, 1000, 1000];
-    let ordered = task(&rt, alloc, 2, &edges, &rows, None, &[up(0, 0), up(0, 1)]);
-    let longer = indexed(&rt, alloc, &[30000, 30000], &[(14000, &[0, 1])]);
-    costs(&rt, alloc, &ordered, &longer, 114000);
-    let shorter = indexed(&rt, alloc, &[30000, 30000], &[(14000, &[0])]);
-    costs(&rt, alloc, &ordered, &shorter, 128000);
-    let plain = task(&rt, alloc, 2, &edges, &rows, None, &[]);
-    costs(
-        &rt,
-        alloc,
-        &plain,
-        &heaps(&rt, alloc, &[30000, 30000]),
-        94000,
-    );
-    let both = indexed(&rt, alloc, &[30000, 30000], &[(13000, &[0]), (13000, &[0])]);
-    costs(&rt, alloc, &plain, &both, 46000);
-    let other = indexed(&rt, alloc, &[30000, 30000], &[(13000, &[0]), (13000, &[1])]);
-    let again = [edge(0, 0, 1, 0), edge(0, 0, 1, 0), edge(0, 0, 1, 1)];
-    let turned = [edge(0, 0, 1, 0), edge(1, 0, 0, 0), edge(1, 1, 0, 0)];
-    for tied in [again, turned] {
-        let twice = task(&rt, alloc, 2, &tied, &rows, None, &[]);
-        costs(&rt, alloc, &twice, &both, 46000);
-        costs(&rt, alloc, &twice, &other, 46000)
-    }
-}
-
-/// A chain of four tables whose ends are filtered to one row each, where the best plan that isn't bushy costs 137868; and
-/// customers, their orders and the orders' items, grouped by two columns of an order.
-#[test]
-fn more_slots(rt: HostRuntime) {
-    let alloc = rt.alloc();
-    let chain = chain_of_four(&rt, alloc);
-    let table = heaps(&rt, alloc, &[30000, 30000, 30000, 30000]);
-    costs(&rt, alloc, &chain, &table, 136082);
-    let orders = grouped_orders(&rt, alloc);
-    let table = heaps(&rt, alloc, &[550000, 4500000, 21000000]);
-    costs(&rt, alloc, &orders, &table, 31347433)
 }
 
 /// No plan of any kind costs less than the one that is given, over 400 tasks of at most three slots, in whose least plans
@@ -131,14 +93,12 @@ fn none_is_cheaper(rt: HostRuntime) {
         let task = made_task(&rt, alloc, &mut draws);
         let table = made_table(alloc, &mut draws, task.slots, 0).expect(&rt, "memory");
         let found = planned(alloc, &task, &table).expect(&rt, "memory");
-        assert_eq!(rt;
-            found.cost,
-            least_by_trying(alloc, &task, &table).expect(&rt, "memory"),
+        assert!(rt;
+            found.cost == least_by_trying(alloc, &task, &table).expect(&rt, "memory"),
             "task {number}"
         );
-        assert_eq!(rt;
-            plan_cost(&task, &table, &found.plan),
-            Some(found.cost),
+        assert!(rt;
+            plan_cost(&task, &table, &found.plan) == Some(found.cost),
             "task {number}"
         );
         let other = made_table(alloc, &mut draws, task.slots, 0).expect(&rt, "memory");
@@ -149,9 +109,9 @@ fn none_is_cheaper(rt: HostRuntime) {
             slot,
         };
         let after = least_by_trying(alloc, &task, &changed).expect(&rt, "memory");
-        assert_eq!(rt;
-            searched(alloc, &task, &changed).expect(&rt, "memory"),
-            (found.cost, after, found.cost),
+        assert!(rt;
+            searched(alloc, &task, &changed).expect(&rt, "memory")
+                == (found.cost, after, found.cost),
             "task {number}"
         );
         seen.found(&found);

@@ -1,15 +1,13 @@
 //! The interesting orders of the slots of tasks that are written down.
-use crate::tasks::{star_edges, task, up};
+use crate::tasks::{star, task_of};
 use adv_base::Item;
 use interesting_orders::{combinations, slot_orders};
-use plan_model::{Task, TaskEdge};
+use plan_model::Task;
 use std::alloc::Global;
 use std::process::Abort;
 
 /// Tasks of one or two slots: the edges, the list to group by, a dash for none, and the one to order by; the orders of each
-/// slot, a stroke before each; their combinations; and what the case is about. An item is a letter for its slot, a capital
-/// where it goes down, and its column, or `#` and the number of a made item; an edge is two such, a capital where the column
-/// is bound.
+/// slot, a stroke before each; their combinations; and what the case is about.
 const CASES: &str = r#"a0b0b1a0a1b2|-||//a0/a1 //b0/b1/b2|12|repeated columns
 A0b0|-||/ //b0|2|a bound column
 a0b0|-|b2b1|//a0 //b0/b2b1|6|a list of one slot
@@ -20,84 +18,6 @@ a0b0|-|#1|//a0 //b0|4|a list of a made item
 a0b0|a2a0|b1|//a0/a2a0 //b0|6|a list to group by
 a0b0||b1|//a0 //b0|4|an empty list to group by
 |-||/|1|a table alone"#;
-
-/// The item of two bytes.
-fn item(kind: u8, number: u8) -> Item {
-    match kind {
-        b'a'..=b'd' => up(kind - b'a', number as u16),
-        b'A'..=b'D' => Item::Down {
-            slot: kind - b'A',
-            column: number as u16,
-        },
-        _ => Item::Made(number as u32),
-    }
-}
-
-/// The items of a text.
-fn items_of(rt: &impl Abort, alloc: Global, text: &str) -> Vec<Item> {
-    let bytes = text.as_bytes();
-    let mut items = Vec::new(alloc);
-    for at in 0..bytes.len() / 2 {
-        let next = item(bytes[2 * at], bytes[2 * at + 1] & 15);
-        items.push(next).expect(rt, "memory");
-    }
-    items
-}
-
-/// An end of an edge: its slot, its column, and the order that it wants.
-fn end(item: Item) -> (u8, u16, Option<Item>) {
-    match item {
-        Item::Up { slot, column } => (slot, column, Some(item)),
-        Item::Down { slot, column } => (slot, column, None),
-        Item::Made(_) => (0, 0, None),
-    }
-}
-
-/// The edges of a text.
-fn edges_of(rt: &impl Abort, alloc: Global, text: &str) -> Vec<TaskEdge> {
-    let ends = items_of(rt, alloc, text);
-    let mut edges = Vec::new(alloc);
-    for at in 0..ends.len() / 2 {
-        let (left, left_column, left_need) = end(ends[2 * at]);
-        let (right, right_column, right_need) = end(ends[2 * at + 1]);
-        let edge = TaskEdge {
-            left,
-            left_column,
-            left_need,
-            right,
-            right_column,
-            right_need,
-        };
-        edges.push(edge).expect(rt, "memory");
-    }
-    edges
-}
-
-/// The task of the lists of a case, of one slot where it has no edge, else of two.
-fn task_of(rt: &impl Abort, alloc: Global, edges: &str, group: &str, order: &str) -> Task {
-    let edges = edges_of(rt, alloc, edges);
-    let order = items_of(rt, alloc, order);
-    let items = items_of(rt, alloc, group);
-    let group = if group == "-" {
-        None
-    } else {
-        Some((items.as_slice(), 1))
-    };
-    let (slots, rows): (u8, &[u64]) = if edges.is_empty() {
-        (1, &[1; 2])
-    } else {
-        (2, &[1; 4])
-    };
-    task(
-        rt,
-        alloc,
-        slots,
-        edges.as_slice(),
-        rows,
-        group,
-        order.as_slice(),
-    )
-}
 
 fn push_item(rt: &impl Abort, text: &mut Vec<u8>, item: &Item) {
     let (slot, column) = match item {
@@ -129,16 +49,17 @@ fn has_orders(rt: &impl Abort, alloc: Global, case: &str) {
     let (order, rest) = rest.split_once('|').expect(rt, "a list to order by");
     let (orders, rest) = rest.split_once('|').expect(rt, "orders");
     let (count, _) = rest.split_once('|').expect(rt, "a count");
-    let task = task_of(rt, alloc, edges, group, order);
+    let rows = if edges.is_empty() { "1 1" } else { "1 1 1 1" };
+    let task = task_of(rt, alloc, edges, rows, group, order);
     let mut slot: u8 = 0;
     for wanted in orders.split(' ') {
         let text = told(rt, alloc, &task, slot);
-        assert_eq!(rt; text.as_slice(), wanted.as_bytes(), "{case}");
+        assert!(rt; text.as_slice() == wanted.as_bytes(), "{case}");
         slot = slot.wrapping_add(1);
     }
-    assert_eq!(rt; slot, task.slots, "{case}");
+    assert!(rt; slot == task.slots, "{case}");
     let count = count.parse::<u64>().expect(rt, "a number");
-    assert_eq!(rt; combinations(&task), count, "{case}");
+    assert!(rt; combinations(&task) == count, "{case}");
 }
 
 /// A column of an edge counts once, and one that is bound not at all. The list to order by counts where it is upwards and of
@@ -150,6 +71,6 @@ fn orders_of_slots(rt: HostRuntime) {
     for case in CASES.lines() {
         has_orders(&rt, alloc, case);
     }
-    let star = task(&rt, alloc, 5, &star_edges(), &[1; 32], None, &[]);
-    assert_eq!(rt; combinations(&star), 4480);
+    let star = star(&rt, alloc);
+    assert!(rt; combinations(&star) == 4480);
 }

@@ -117,24 +117,34 @@ pub struct Table {
     pub slots: Vec<Reads>,
 }
 
-/// Slots that are read whole at these prices.
-pub fn heaps(rt: &impl Abort, alloc: Global, prices: &[u32]) -> Table {
-    indexed(rt, alloc, prices, &[])
+/// The columns of a text, one digit each.
+fn columns_of(rt: &impl Abort, alloc: Global, text: &str) -> Vec<u16> {
+    let mut columns = Vec::new(alloc);
+    for byte in text.as_bytes() {
+        columns.push((*byte & 15) as u16).expect(rt, "memory");
+    }
+    columns
 }
 
-/// The same with an index on each of the first slots, at its price and of its columns.
-pub fn indexed(rt: &impl Abort, alloc: Global, prices: &[u32], indexes: &[(u64, &[u16])]) -> Table {
+/// Slots that are read whole at these prices; and with an index on each of the first slots, if it has some, whose columns stand
+/// behind its price and a colon.
+pub fn table_of(rt: &impl Abort, alloc: Global, heaps: &str, indexes: &str) -> Table {
     let mut slots = Vec::new(alloc);
     let mut slot: u8 = 0;
-    for heap in prices {
-        let whole: (u64, &[u16]) = (*heap as u64, &[]);
-        let (price, columns) = match indexes.get(slot as usize) {
-            None => whole,
-            Some(index) => *index,
+    for heap in heaps.split(' ') {
+        let heap = heap.parse::<u32>().expect(rt, "a price");
+        let index = indexes.split(' ').nth(slot as usize).unwrap_or("");
+        let (price, columns) = index.split_once(':').unwrap_or(("0", ""));
+        let price = price.parse::<u64>().expect(rt, "a price");
+        let columns = columns_of(rt, alloc, columns);
+        let whole: (u64, &[u16]) = (heap as u64, &[]);
+        let first = if columns.is_empty() {
+            whole
+        } else {
+            (price, columns.as_slice())
         };
-        assert!(rt; price <= MOST_PRICE);
-        let first = (price, columns);
-        let reads = Reads::new(alloc, slot, *heap, first, whole).expect(rt, "memory");
+        assert!(rt; first.0 <= MOST_PRICE);
+        let reads = Reads::new(alloc, slot, heap, first, whole).expect(rt, "memory");
         slots.push(reads).expect(rt, "memory");
         slot = slot.wrapping_add(1);
     }

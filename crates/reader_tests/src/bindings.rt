@@ -335,7 +335,7 @@ fn compare(rt: &impl Abort, alloc: Global, cases: &str) {
         let (wanted, case_text) = case.split_once('|').expect(rt, "a bar");
         let text = written(rt, alloc, case_text);
         let found = answer(rt, alloc, &cat, text.as_slice());
-        assert_eq!(rt; found.as_str(), wanted, "in {case_text}");
+        assert!(rt; found.as_str() == wanted, "in {case_text}");
     }
 }
 

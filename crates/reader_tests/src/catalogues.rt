@@ -131,19 +131,17 @@ no TOML document|version = 99999999999999999999~
 no TOML document|version = 1 # ^"#;
 
 /// How many tables there are, of how many columns and indexes each, of how many keys each, and what is answered.
-const LENGTHS: [(u32, u32, u32, u32, &str); 11] = [
-    (0, 0, 0, 0, "accepted"),
-    (1, 200, 1, 8, "accepted"),
-    (1, 201, 1, 8, "out of range 1 Table 0 Columns 0"),
-    (1, 0, 1, 8, "out of range 1 Table 0 Columns 0"),
-    (1, 9, 1, 9, "out of range 1 Index 1 Keys 0"),
-    (1, 9, 1, 0, "out of range 1 Index 1 Keys 0"),
-    (200, 1, 5, 1, "accepted"),
-    (201, 1, 0, 0, "out of range 0 Table 0 Itself 0"),
-    (3, 1, 333, 1, "accepted"),
-    (4, 1, 333, 1, "out of range 4 Index 2 Itself 0"),
-    (6, 1, 200, 1, "out of range 6 Index 1 Itself 0"),
-];
+const LENGTHS: &str = "0|0|0|0|accepted
+1|200|1|8|accepted
+1|201|1|8|out of range 1 Table 0 Columns 0
+1|0|1|8|out of range 1 Table 0 Columns 0
+1|9|1|9|out of range 1 Index 1 Keys 0
+1|9|1|0|out of range 1 Index 1 Keys 0
+200|1|5|1|accepted
+201|1|0|0|out of range 0 Table 0 Itself 0
+3|1|333|1|accepted
+4|1|333|1|out of range 4 Index 2 Itself 0
+6|1|200|1|out of range 6 Index 1 Itself 0";
 
 /// What is answered to a text.
 fn answer(rt: &impl Abort, alloc: Global, text: &str) -> String {
@@ -168,7 +166,7 @@ fn verdict(rt: &impl Abort, alloc: Global, text: &str) -> String {
 /// Compares the verdict on a text.
 fn judge(rt: &impl Abort, alloc: Global, text: &str, wanted: &str) {
     let found = verdict(rt, alloc, text);
-    assert_eq!(rt; found.as_str(), wanted, "in {text}");
+    assert!(rt; found.as_str() == wanted, "in {text}");
 }
 
 #[test]
@@ -176,7 +174,7 @@ fn what_texts_describe(rt: HostRuntime) {
     for case in TEXTS.lines() {
         let (wanted, text) = case.split_once('|').expect(&rt, "a bar");
         let found = answer(&rt, rt.alloc(), text);
-        assert_eq!(rt; found.as_str(), wanted, "in {text}");
+        assert!(rt; found.as_str() == wanted, "in {text}");
     }
 }
 
@@ -249,19 +247,23 @@ fn add_table(
     text.push_str("]~")
 }
 
+/// A number.
+fn number(rt: &impl Abort, text: &str) -> u32 {
+    text.parse::<u32>().expect(rt, "a number")
+}
+
 #[test]
 fn lengths_of_lists(rt: HostRuntime) {
-    for (tables, columns, indexes, keys, wanted) in LENGTHS {
+    for case in LENGTHS.lines() {
+        let (tables, columns, indexes, keys, wanted) = parts(case).expect(&rt, "five parts");
+        let columns = number(&rt, columns);
+        let indexes = number(&rt, indexes);
+        let keys = number(&rt, keys);
         let mut text = String::from_str(rt.alloc(), "version = 1~").expect(&rt, "memory");
-        for table in 0..tables {
+        for table in 0..number(&rt, tables) {
             add_table(&mut text, table, columns, indexes, keys).expect(&rt, "memory");
         }
-        let found = verdict(&rt, rt.alloc(), text.as_str());
-        assert_eq!(rt;
-            found.as_str(),
-            wanted,
-            "{tables} tables, {columns} columns, {indexes} indexes, {keys} keys"
-        );
+        judge(&rt, rt.alloc(), text.as_str(), wanted);
     }
 }
 

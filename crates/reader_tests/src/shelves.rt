@@ -11,7 +11,7 @@ use std::{env, fs, io, process};
 fn a_shelf_reads_from_a_place_on(rt: HostRuntime) {
     let alloc = rt.alloc();
     let mut shelf = MemShelf::new(alloc).expect(&rt, "memory");
-    assert_eq!(rt; shelf.file("a"), None);
+    assert!(rt; shelf.file("a") == None);
     let calls = [
         put("a", b"hallo", Ok(())),
         put("b", b"", Ok(())),
@@ -26,7 +26,7 @@ fn a_shelf_reads_from_a_place_on(rt: HostRuntime) {
         read_none("c"),
     ];
     answers(&rt, alloc, &mut shelf, &calls);
-    assert_eq!(rt; shelf.file("a"), Some(b"hello".as_slice()));
+    assert!(rt; shelf.file("a") == Some(b"hello".as_slice()));
 }
 
 #[test]
@@ -43,7 +43,7 @@ fn calls_of_a_shelf_are_counted_in_one_sequence(rt: HostRuntime) {
         put("a", b"new", Err(PutFault::Failed)),
     ];
     answers(&rt, alloc, &mut shelf, &first);
-    assert_eq!(rt; shelf.file("a"), Some(b"old".as_slice()));
+    assert!(rt; shelf.file("a") == Some(b"old".as_slice()));
     let then = [
         put("a", b"new", Ok(())),
         read("a", 0, Err(Failed)),
@@ -90,7 +90,7 @@ fn a_sink_takes_what_it_has_room_for(rt: HostRuntime) {
         Write::Once(b"", Ok(0)),
     ];
     takes(&rt, &mut sink, &writes);
-    assert_eq!(rt; sink.bytes(), b"abcdefg".as_slice());
+    assert!(rt; sink.bytes() == b"abcdefg".as_slice());
 }
 
 /// A folder is no file, and a file needs its folder.

@@ -86,151 +86,142 @@ fn one_by_one(rt: &impl Abort, alloc: Global, text: &[u8]) -> Answer {
     Answer { tokens: out, fault }
 }
 
-/// Each text, its tokens or those before its first fault, and that fault.
-const TABLE: &[(&[u8], &[u8], &str)] = &[
-    // Words, blanks and symbols.
-    (b"", b"", ""),
-    (b" \t\r\n", b"", ""),
-    (
-        b"SELECT a1,\n_b FROM t;",
-        b"w[SELECT]w[a1]s[,]w[_b]w[FROM]w[t]s[;]",
-        "",
-    ),
-    (
-        b"()*+-/%,.;?",
-        b"s[(]s[)]s[*]s[+]s[-]s[/]s[%]s[,]s[.]s[;]s[?]",
-        "",
-    ),
-    (b"a\x0bb", b"w[a]", "bad byte at 2"),
-    // The longest symbol stands.
-    (b"a<>b", b"w[a]s[<>]w[b]", ""),
-    (b"<=>=!=<><", b"s[<=]s[>=]s[!=]s[<>]s[<]", ""),
-    (b"=<>", b"s[=]s[<>]", ""),
-    (b"||||", b"s[||]s[||]", ""),
-    (b"|||", b"s[||]", "bad byte at 3"),
-    (b"a|b", b"w[a]", "bad byte at 2"),
-    (b"a !", b"w[a]", "bad byte at 3"),
-    (b"! =", b"", "bad byte at 1"),
-    (b"[a]", b"", "bad byte at 1"),
-    (b"a:b", b"w[a]", "bad byte at 2"),
-    // Numbers.
-    (b"0 007 12.5 .5 1.", b"n[0]n[007]d[12.5]d[.5]n[1]s[.]", ""),
-    (b"1.a", b"n[1]s[.]w[a]", ""),
-    (b"1..5", b"n[1]s[.]d[.5]", ""),
-    (b".5.5", b"d[.5]d[.5]", ""),
-    (b"1.5.5", b"d[1.5]d[.5]", ""),
-    (b"-1", b"s[-]n[1]", ""),
-    (b"1a", b"", "bad byte at 2"),
-    (b" 12_3", b"", "bad byte at 4"),
-    (b"1.5_", b"", "bad byte at 4"),
-    (b".5e3", b"", "bad byte at 3"),
-    (b"a1", b"w[a1]", ""),
-    // Numbered parameters.
-    (b"$1 $12a$3$4", b"s[$1]s[$12]w[a]s[$3]s[$4]", ""),
-    (b"$", b"", "bad byte at 1"),
-    (b"a$b", b"w[a]", "bad byte at 2"),
-    // Quoted names.
-    (b"\"a b\"\"c\"", b"q[\"a b\"]q[\"c\"]", ""),
-    (b"\"'--/*\"", b"q[\"'--/*\"]", ""),
-    (b"\"\"", b"", "bad byte at 2"),
-    (b"a \"\"\"", b"w[a]", "bad byte at 4"),
-    (b"\"", b"", "open text at 1"),
-    (b"a \"b\nc\"", b"w[a]", "open text at 3"),
-    (b"a\"b", b"w[a]", "open text at 2"),
-    // Texts.
-    (b"'' 'a'", b"t['']t['a']", ""),
-    (b"'a''b'c", b"t['a''b']w[c]", ""),
-    (b"''''", b"t['''']", ""),
-    (b"'a'''", b"t['a''']", ""),
-    (b"'a\n\"--/*'", b"t['a\n\"--/*']", ""),
-    (b"x'1'", b"w[x]t['1']", ""),
-    (b"SELECT 'ab", b"w[SELECT]", "open text at 8"),
-    (b"'", b"", "open text at 1"),
-    (b"'ab''", b"t['ab']", "open text at 5"),
-    (b"'a''b", b"t['a']", "open text at 4"),
-    (b"'''", b"t['']", "open text at 3"),
-    // Comments.
-    (b"a--b\nc", b"w[a]w[c]", ""),
-    (b"--", b"", ""),
-    (b"- -", b"s[-]s[-]", ""),
-    (b"a/*b\n--*/c", b"w[a]w[c]", ""),
-    (b"/**//***/", b"", ""),
-    (b"/*/*/a", b"w[a]", ""),
-    (b"/*a/*b*/c*/", b"w[c]s[*]s[/]", ""),
-    (b"--/*\na", b"w[a]", ""),
-    (b"/ *", b"s[/]s[*]", ""),
-    (b"/*/", b"", "open text at 1"),
-    (b"a /* b *", b"w[a]", "open text at 3"),
-    // Weights.
-    (b"-- weight 5", b"#[-- weight 5]", ""),
-    (
-        b"--WeIgHt\t \t0010 \t\r\na",
-        b"#[--WeIgHt\t \t0010]w[a]",
-        "",
-    ),
-    (
-        b"--\r\t weight 5\n-- weight 6",
-        b"#[--\r\t weight 5]#[-- weight 6]",
-        "",
-    ),
-    (b"SELECT -- weight 5\n1", b"w[SELECT]#[-- weight 5]n[1]", ""),
-    (b"---weight 5\n--- weight 5", b"", ""),
-    (b"-- weight5\n-- weight\n-- weight \n-- weights 5", b"", ""),
-    (
-        b"-- weight\r5\n-- weight 5x\n-- weight 5 6\n-- weight -5",
-        b"",
-        "",
-    ),
-    (b"-- weight 5.0\n-- a weight 5\n/* weight 5 */", b"", ""),
-    (b"weight 5", b"w[weight]n[5]", ""),
-    // Bytes outside ASCII.
-    (b"caf\xc3\xa9", b"w[caf]", "bad byte at 4"),
-    (b"\xff", b"", "bad byte at 1"),
-    (
-        b"'\xc3'\"\xa9\"--\xff\n/*\xff*/",
-        b"t['\xc3']q[\"\xa9\"]",
-        "",
-    ),
-    // The first fault counts, and the tokens before it.
-    (b"! 'ab", b"", "bad byte at 1"),
-    (b"'ab !", b"", "open text at 1"),
-    (b"a\n b 1x '", b"w[a]w[b]", "bad byte at 7"),
-    (b"-- weight 5\n!", b"#[-- weight 5]", "bad byte at 13"),
-    (b"a /* b */ \n'", b"w[a]", "open text at 12"),
-    (b"SELECT , !", b"w[SELECT]s[,]", "bad byte at 10"),
-];
+/// Each text, its tokens or those before its first fault, and that fault, with a backslash between them: words, symbols of which
+/// the longest stands, numbers, parameters, quoted names, texts, comments, weights, bytes outside ASCII, and several faults.
+const TABLE: &str = r#"\\
+ @`~\\
+SELECT a1,~_b FROM t;\w[SELECT]w[a1]s[,]w[_b]w[FROM]w[t]s[;]\
+()*+-/%,.;?\s[(]s[)]s[*]s[+]s[-]s[/]s[%]s[,]s[.]s[;]s[?]\
+a&b\w[a]\bad byte at 2
+a<>b\w[a]s[<>]w[b]\
+<=>=!=<><\s[<=]s[>=]s[!=]s[<>]s[<]\
+=<>\s[=]s[<>]\
+||||\s[||]s[||]\
+|||\s[||]\bad byte at 3
+a|b\w[a]\bad byte at 2
+a !\w[a]\bad byte at 3
+! =\\bad byte at 1
+[a]\\bad byte at 1
+a:b\w[a]\bad byte at 2
+0 007 12.5 .5 1.\n[0]n[007]d[12.5]d[.5]n[1]s[.]\
+1.a\n[1]s[.]w[a]\
+1..5\n[1]s[.]d[.5]\
+.5.5\d[.5]d[.5]\
+1.5.5\d[1.5]d[.5]\
+-1\s[-]n[1]\
+1a\\bad byte at 2
+ 12_3\\bad byte at 4
+1.5_\\bad byte at 4
+.5e3\\bad byte at 3
+a1\w[a1]\
+$1 $12a$3$4\s[$1]s[$12]w[a]s[$3]s[$4]\
+$\\bad byte at 1
+a$b\w[a]\bad byte at 2
+"a b""c"\q["a b"]q["c"]\
+"'--/*"\q["'--/*"]\
+""\\bad byte at 2
+a """\w[a]\bad byte at 4
+"\\open text at 1
+a "b~c"\w[a]\open text at 3
+a"b\w[a]\open text at 2
+'' 'a'\t['']t['a']\
+'a''b'c\t['a''b']w[c]\
+''''\t['''']\
+'a'''\t['a''']\
+'a~"--/*'\t['a~"--/*']\
+x'1'\w[x]t['1']\
+SELECT 'ab\w[SELECT]\open text at 8
+'\\open text at 1
+'ab''\t['ab']\open text at 5
+'a''b\t['a']\open text at 4
+'''\t['']\open text at 3
+a--b~c\w[a]w[c]\
+--\\
+- -\s[-]s[-]\
+a/*b~--*/c\w[a]w[c]\
+/**//***/\\
+/*/*/a\w[a]\
+/*a/*b*/c*/\w[c]s[*]s[/]\
+--/*~a\w[a]\
+/ *\s[/]s[*]\
+/*/\\open text at 1
+a /* b *\w[a]\open text at 3
+-- weight 5\#[-- weight 5]\
+--WeIgHt@ @0010 @`~a\#[--WeIgHt@ @0010]w[a]\
+--`@ weight 5~-- weight 6\#[--`@ weight 5]#[-- weight 6]\
+SELECT -- weight 5~1\w[SELECT]#[-- weight 5]n[1]\
+---weight 5~--- weight 5\\
+-- weight5~-- weight~-- weight ~-- weights 5\\
+-- weight`5~-- weight 5x~-- weight 5 6~-- weight -5\\
+-- weight 5.0~-- a weight 5~/* weight 5 */\\
+weight 5\w[weight]n[5]\
+caf{}\w[caf]\bad byte at 4
+^\\bad byte at 1
+'{'"}"--^~/*^*/\t['{']q["}"]\
+! 'ab\\bad byte at 1
+'ab !\\open text at 1
+a~ b 1x '\w[a]w[b]\bad byte at 7
+-- weight 5~!\#[-- weight 5]\bad byte at 13
+a /* b */ ~'\w[a]\open text at 12
+SELECT , !\w[SELECT]s[,]\bad byte at 10"#;
+
+/// The bytes of a text of the table: `~` stands for a line feed, `@` for a tab, `` ` `` for a carriage return, `&` for a vertical
+/// tab, `^` for the byte 255, and `{` and `}` for the two bytes of an é.
+fn bytes_of(rt: &impl Abort, alloc: Global, text: &str) -> Vec<u8> {
+    let mut bytes = Vec::new(alloc);
+    for byte in text.as_bytes() {
+        let byte = match *byte {
+            b'~' => b'\n',
+            b'@' => b'\t',
+            b'`' => b'\r',
+            b'&' => 11,
+            b'^' => 255,
+            b'{' => 195,
+            b'}' => 169,
+            other => other,
+        };
+        bytes.push(byte).expect(rt, "memory");
+    }
+    bytes
+}
+
+/// A text has these tokens all at once, or this fault; and these tokens before it one by one.
+fn judge(rt: &impl Abort, alloc: Global, text: &[u8], want: &[u8], fault: &str) {
+    let all = all_at_once(rt, alloc, text);
+    let want_of_all = if fault.is_empty() { want } else { b"" };
+    assert!(rt; all.tokens.as_slice() == want_of_all, "{text:?}");
+    assert!(rt; all.fault.as_str() == fault, "{text:?}");
+    let read = one_by_one(rt, alloc, text);
+    assert!(rt; read.tokens.as_slice() == want, "{text:?}");
+    assert!(rt; read.fault.as_str() == fault, "{text:?}");
+}
+
+/// Each front of a text gives the same one by one.
+fn judge_fronts(rt: &impl Abort, alloc: Global, text: &[u8]) {
+    for end in 0..text.len().saturating_add(1) {
+        let front = text.get(0..end).unwrap_or(b"outside");
+        let all = all_at_once(rt, alloc, front);
+        let read = one_by_one(rt, alloc, front);
+        assert!(rt; read.fault.as_str() == all.fault.as_str(), "{front:?}");
+        let same = read.tokens.as_slice() == all.tokens.as_slice();
+        assert!(rt; same || !all.fault.is_empty(), "{front:?}");
+    }
+}
+
+/// What a line of the table says is so.
+fn judge_line(rt: &impl Abort, alloc: Global, line: &str) {
+    let (text, rest) = line.split_once('\\').expect(rt, "a text");
+    let (want, fault) = rest.split_once('\\').expect(rt, "tokens");
+    let text = bytes_of(rt, alloc, text);
+    let want = bytes_of(rt, alloc, want);
+    judge(rt, alloc, text.as_slice(), want.as_slice(), fault);
+    judge_fronts(rt, alloc, text.as_slice());
+}
 
 #[test]
 fn each_text_has_its_tokens_or_its_fault(rt: HostRuntime) {
-    for (text, want, fault) in TABLE {
-        let all = all_at_once(&rt, rt.alloc(), text);
-        let none: &[u8] = b"";
-        let want_of_all = if fault.is_empty() { *want } else { none };
-        assert!(rt; all.tokens.as_slice() == want_of_all, "{text:?}");
-        assert!(rt; all.fault.as_str() == *fault, "{text:?}");
-    }
-}
-
-#[test]
-fn a_reader_gives_the_tokens_before_a_fault_too(rt: HostRuntime) {
-    for (text, want, fault) in TABLE {
-        let read = one_by_one(&rt, rt.alloc(), text);
-        assert!(rt; read.tokens.as_slice() == *want, "{text:?}");
-        assert!(rt; read.fault.as_str() == *fault, "{text:?}");
-    }
-}
-
-#[test]
-fn each_front_of_a_text_gives_the_same_one_by_one(rt: HostRuntime) {
-    for (text, _, _) in TABLE {
-        for end in 0..text.len().saturating_add(1) {
-            let front = text.get(0..end).unwrap_or(b"outside");
-            let all = all_at_once(&rt, rt.alloc(), front);
-            let read = one_by_one(&rt, rt.alloc(), front);
-            assert!(rt; read.fault.as_str() == all.fault.as_str(), "{front:?}");
-            let same = read.tokens.as_slice() == all.tokens.as_slice();
-            assert!(rt; same || !all.fault.is_empty(), "{front:?}");
-        }
+    for line in TABLE.lines() {
+        judge_line(&rt, rt.alloc(), line);
     }
 }
 
@@ -248,6 +239,6 @@ fn long_texts_are_cut_in_one_pass(rt: HostRuntime) {
         let mut text = Vec::new(rt.alloc());
         repeat(&rt, &mut text, part, *count);
         let length = tokens(rt.alloc(), &text).map(|found| found.list.len());
-        assert_eq!(rt; length.ok(), Some(*want));
+        assert!(rt; length.ok() == Some(*want));
     }
 }

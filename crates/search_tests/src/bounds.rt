@@ -15,18 +15,9 @@ use lagrange_bound::{
 use std::alloc::Global;
 use std::process::Abort;
 
-/// The node at which each candidate is free.
-pub(crate) fn free() -> Fix
-    ensures { result.state ≡ replicate 256 Free }
-{
-    Fix {
-        state: [State::Free; 256],
-    }
-}
-
 /// The node that says so much of the first four candidates; the others are free.
 fn node(states: [State; 4]) -> Fix {
-    let mut fix = free();
+    let mut fix = Fix::free();
     fix.state[0] = states[0];
     fix.state[1] = states[1];
     fix.state[2] = states[2];
@@ -80,11 +71,11 @@ pub(crate) fn no_terms(rt: &impl Abort, alloc: Global, programme: &Programme) ->
 fn knapsack_by_hand(rt: HostRuntime) {
     let programme = knapsack(&rt, rt.alloc());
     let mut multipliers = zero(&rt, rt.alloc(), &programme);
-    assert_eq!(rt; bound(&programme, 4, &free(), &multipliers), 284000);
-    assert_eq!(rt; bound(&programme, 4, &first_in(), &multipliers), 1010000);
+    assert!(rt; bound(&programme, 4, &Fix::free(), &multipliers) == 284000);
+    assert!(rt; bound(&programme, 4, &first_in(), &multipliers) == 1010000);
     rent(&programme, 8589934592, &mut multipliers);
-    assert_eq!(rt; multipliers.lambda.as_slice(), [39321u64, 47662].as_slice());
-    assert_eq!(rt; bound(&programme, 4, &free(), &multipliers), 677204);
+    assert!(rt; multipliers.lambda.as_slice() == [39321u64, 47662].as_slice());
+    assert!(rt; bound(&programme, 4, &Fix::free(), &multipliers) == 677204);
 }
 
 /// A programme with its prices in lists.
@@ -130,7 +121,7 @@ fn told(
         programme,
         cheaper,
         budget,
-        &free(),
+        &Fix::free(),
         multipliers,
         &mut ledger,
         &mut rows,
@@ -170,7 +161,7 @@ fn agree_within(rt: &impl Abort, listed: &Listed<'_>, budget: u64, multipliers: 
             multipliers,
         };
         let told = told(rt, listed, budget, &fix, multipliers);
-        assert_eq!(rt; told, [plain.value(); 3], "node {number} within {budget}");
+        assert!(rt; told == [plain.value(); 3], "node {number} within {budget}");
     }
 }
 
@@ -218,11 +209,11 @@ fn terms_are_carried(rt: HostRuntime) {
     let multipliers = zero(&rt, rt.alloc(), &programme);
     let mut above = no_terms(&rt, rt.alloc(), &programme);
     let mut below = no_terms(&rt, rt.alloc(), &programme);
-    let root = free();
+    let root = Fix::free();
     let inside = first_in();
     terms(&programme, 4, &root, &multipliers, &mut above);
-    assert_eq!(rt; above.least.as_slice(), [13000u128, 14000].as_slice());
-    assert_eq!(rt; total(&programme, 4, &root, &multipliers, &above), 284000);
+    assert!(rt; above.least.as_slice() == [13000u128, 14000].as_slice());
+    assert!(rt; total(&programme, 4, &root, &multipliers, &above) == 284000);
     carry(
         &programme,
         4,
@@ -232,11 +223,8 @@ fn terms_are_carried(rt: HostRuntime) {
         &above,
         &mut below,
     );
-    assert_eq!(rt; below.least.as_slice(), [13000u128, 80000].as_slice());
-    assert_eq!(rt;
-        total(&programme, 4, &inside, &multipliers, &below),
-        1010000
-    );
+    assert!(rt; below.least.as_slice() == [13000u128, 80000].as_slice());
+    assert!(rt; total(&programme, 4, &inside, &multipliers, &below) == 1010000);
 }
 
 /// The 35th price is 2^33.
@@ -245,6 +233,13 @@ fn multipliers_improve(rt: HostRuntime) {
     let programme = knapsack(&rt, rt.alloc());
     let mut multipliers = zero(&rt, rt.alloc(), &programme);
     let mut spare = zero(&rt, rt.alloc(), &programme);
-    improve(&programme, 4, &free(), &mut multipliers, &mut spare, 35);
-    assert!(rt; bound(&programme, 4, &free(), &multipliers) >= 677204);
+    improve(
+        &programme,
+        4,
+        &Fix::free(),
+        &mut multipliers,
+        &mut spare,
+        35,
+    );
+    assert!(rt; bound(&programme, 4, &Fix::free(), &multipliers) >= 677204);
 }

@@ -33,12 +33,11 @@ fn line_of(text: &[u8], offset: usize) -> u64 {
 /// A text breaks at a line, read as a whole and in pieces.
 fn breaks_at(rt: &impl Abort, alloc: Global, text: &[u8], want: u64, name: &str) {
     let whole = read_cert(alloc, text).err();
-    assert_eq!(rt; whole, Some(CertFault::Malformed(want)), "{name}");
+    assert!(rt; whole == Some(CertFault::Malformed(want)), "{name}");
     for size in [1, 7, 93] {
         let pieces = scanned(rt, alloc, text, size).err();
-        assert_eq!(rt;
-            pieces,
-            Some(CertFault::Malformed(want)),
+        assert!(rt;
+            pieces == Some(CertFault::Malformed(want)),
             "{name} by {size}"
         );
     }
@@ -47,19 +46,19 @@ fn breaks_at(rt: &impl Abort, alloc: Global, text: &[u8], want: u64, name: &str)
 #[test]
 fn a_certificate_is_read(rt: HostRuntime) {
     let cert = read_cert(rt.alloc(), CERTK.as_bytes()).expect(&rt, "a certificate");
-    assert_eq!(rt; cert.budget, 4);
-    assert_eq!(rt; cert.config.as_slice(), [2u16].as_slice());
-    assert_eq!(rt; cert.cost, 954000);
-    assert_eq!(rt; cert.bound, 954000);
-    assert_eq!(rt; cert.sets.len(), 0);
+    assert!(rt; cert.budget == 4);
+    assert!(rt; cert.config.as_slice() == [2u16].as_slice());
+    assert!(rt; cert.cost == 954000);
+    assert!(rt; cert.bound == 954000);
+    assert!(rt; cert.sets.len() == 0);
     let tree = [Node::Branch(1), Node::Bounded(0), Node::Bounded(0)];
-    assert_eq!(rt; cert.tree.as_slice(), tree.as_slice());
+    assert!(rt; cert.tree.as_slice() == tree.as_slice());
 }
 
 #[test]
 fn prefixes_break_at_their_last_line(rt: HostRuntime) {
     let text = CERTK.as_bytes();
-    assert_eq!(rt; text.len(), 93);
+    assert!(rt; text.len() == 93);
     for len in 0..93 {
         breaks_at(
             &rt,
@@ -95,92 +94,87 @@ fn every_other_byte_breaks_or_says_something_else(rt: HostRuntime) {
     let alloc = rt.alloc();
     let text = CERTK.as_bytes();
     let classes = CLASSES.as_bytes();
-    assert_eq!(rt; text.len(), 93);
-    assert_eq!(rt; classes.len(), 93);
+    assert!(rt; text.len() == 93);
+    assert!(rt; classes.len() == 93);
     for place in 0..93 {
         for number in 0..256usize {
             let byte = number as u8;
             if byte != text[place] {
                 let other = changed(&rt, alloc, text, place, byte);
                 let read = read_cert(alloc, other.as_slice()).is_ok();
-                assert_eq!(rt; read, may_stand(classes[place], byte), "{place} {byte}");
+                assert!(rt; read == may_stand(classes[place], byte), "{place} {byte}");
             }
         }
     }
 }
 
-/// What stands in the certificate, what stands there instead, and the line at which none goes on.
-const CHANGED: [(&str, &str, u64); 25] = [
-    ("end\n", "end\n\n", 12),
-    ("end\n", "end\nx", 12),
-    ("certificate 1", "certificate 10", 1),
-    ("certificate 1", "certificate 02", 1),
-    ("certificate 1", "certificate 1 ", 1),
-    ("budget 4", "budget 04", 2),
-    ("budget 4", "budget  4", 2),
-    ("budget 4", "budget 1000000000001", 2),
-    ("config 2", "config 2 2", 3),
-    ("config 2", "config 2 1", 3),
-    ("config 2", "config 0", 3),
-    ("config 2", "config 257", 3),
-    ("config 2", "config 2 ", 3),
-    (
-        "cost 954000",
-        "cost 170141183460469231731687303715884105728",
-        4,
-    ),
-    ("bound 954000", "bound -0", 5),
-    (
-        "bound 954000",
-        "bound -170141183460469231731687303715884105728",
-        5,
-    ),
-    ("sets 0", "sets 17", 6),
-    // An even count of nodes, then trees of too few and of too many lines.
-    ("tree 3", "tree 4", 7),
-    ("tree 3", "tree 1000001", 7),
-    ("tree 3", "tree 5", 10),
-    ("tree 3", "tree 1", 8),
-    ("B 1\n", "X\n", 8),
-    ("B 1\nL 0", "B 1\nB 2", 9),
-    ("B 1", "B 257", 8),
-    ("L 0\nend", "L 1\nend", 10),
-];
+/// What stands in the certificate, what stands there instead, and the line at which none goes on; `~` stands for a line feed. Among
+/// others an even count of nodes, and trees of too few and of too many lines.
+const CHANGED: &str = "end~|end~~|12
+end~|end~x|12
+certificate 1|certificate 10|1
+certificate 1|certificate 02|1
+certificate 1|certificate 1 |1
+budget 4|budget 04|2
+budget 4|budget  4|2
+budget 4|budget 1000000000001|2
+config 2|config 2 2|3
+config 2|config 2 1|3
+config 2|config 0|3
+config 2|config 257|3
+config 2|config 2 |3
+cost 954000|cost 170141183460469231731687303715884105728|4
+bound 954000|bound -0|5
+bound 954000|bound -170141183460469231731687303715884105728|5
+sets 0|sets 17|6
+tree 3|tree 4|7
+tree 3|tree 1000001|7
+tree 3|tree 5|10
+tree 3|tree 1|8
+B 1~|X~|8
+B 1~L 0|B 1~B 2|9
+B 1|B 257|8
+L 0~end|L 1~end|10";
 
-#[test]
-fn changed_lines_break(rt: HostRuntime) {
-    for (old, new, want) in CHANGED {
-        let text = CERTK
-            .replacen(rt.alloc(), old, new, 1)
-            .expect(&rt, "memory");
-        breaks_at(&rt, rt.alloc(), text.as_bytes(), want, new);
-    }
+/// The lines behind those of `TWO_SETS`, and the line at which none goes on. Among others entries behind the last one; of the last
+/// nothing breaks, but the text ends.
+const SETS: &str = "set 100000000000000000001 0~|7
+set 0 1500001~|7
+set 0 1~1 1 1 5~set 0 1500000~|9
+set 0 2~1000 8 256 1~|8
+set 0 3~1000 8 255 1~|8
+set 0 2~1 1 2 5~1 1 2 5~|9
+set 0 2~1 2 1 5~1 1 256 5~|9
+set 0 1~1 1 1 0~|8
+set 0 1~1 9 1 1~|8
+set 0 1~1001 1 1 1~|8
+set 0 1~1 1 1 1000000000000000001~|8
+set 0 1~1 1 1 1~1 1 2 1~|9
+set 0 0~tree 1~|8
+set 0 0~set 0 0~set 0 0~|9
+set 0 0~set 7 2~1 1 256 5~1 2 1 5~tree 1~L 3~|12
+set 0 0~set 7 2~1 1 256 5~1 2 1 5~tree 1~L 2~|13";
+
+/// A text with its line feeds breaks at a line.
+fn breaks(rt: &impl Abort, alloc: Global, text: &str, want: &str, name: &str) {
+    let text = text.replace(alloc, "~", "\n").expect(rt, "memory");
+    let want = want.parse::<u64>().expect(rt, "a number");
+    breaks_at(rt, alloc, text.as_bytes(), want, name);
 }
 
 #[test]
-fn sets_break(rt: HostRuntime) {
-    // The lines behind those of the head, and the line at which none goes on.
-    for (lines, want) in [
-        ("set 100000000000000000001 0\n", 7),
-        ("set 0 1500001\n", 7),
-        ("set 0 1\n1 1 1 5\nset 0 1500000\n", 9),
-        // No entry is behind the last one.
-        ("set 0 2\n1000 8 256 1\n", 8),
-        ("set 0 3\n1000 8 255 1\n", 8),
-        ("set 0 2\n1 1 2 5\n1 1 2 5\n", 9),
-        ("set 0 2\n1 2 1 5\n1 1 256 5\n", 9),
-        ("set 0 1\n1 1 1 0\n", 8),
-        ("set 0 1\n1 9 1 1\n", 8),
-        ("set 0 1\n1001 1 1 1\n", 8),
-        ("set 0 1\n1 1 1 1000000000000000001\n", 8),
-        ("set 0 1\n1 1 1 1\n1 1 2 1\n", 9),
-        ("set 0 0\ntree 1\n", 8),
-        ("set 0 0\nset 0 0\nset 0 0\n", 9),
-        ("set 0 0\nset 7 2\n1 1 256 5\n1 2 1 5\ntree 1\nL 3\n", 12),
-        // Nothing breaks; the text ends.
-        ("set 0 0\nset 7 2\n1 1 256 5\n1 2 1 5\ntree 1\nL 2\n", 13),
-    ] {
-        let text = format!(in rt.alloc(); "{TWO_SETS}{lines}").expect(&rt, "memory");
-        breaks_at(&rt, rt.alloc(), text.as_bytes(), want, lines);
+fn changed_lines_and_sets_break(rt: HostRuntime) {
+    let alloc = rt.alloc();
+    let whole = CERTK.replace(alloc, "\n", "~").expect(&rt, "memory");
+    for case in CHANGED.lines() {
+        let (old, rest) = case.split_once('|').expect(&rt, "a text");
+        let (new, want) = rest.split_once('|').expect(&rt, "another");
+        let text = whole.replacen(alloc, old, new, 1).expect(&rt, "memory");
+        breaks(&rt, alloc, text.as_str(), want, case);
+    }
+    for case in SETS.lines() {
+        let (lines, want) = case.split_once('|').expect(&rt, "lines");
+        let text = format!(in alloc; "{TWO_SETS}{lines}").expect(&rt, "memory");
+        breaks(&rt, alloc, text.as_str(), want, case);
     }
 }

@@ -5,7 +5,7 @@ ghost use Rattle.adv_base.specs.declared.limits.TheConstants.{MOST_PAGE_PRICE, M
 ghost use Rattle.bip_model.specs.Views.{AreMultipliers};
 ghost use Rattle.lagrange_bound.specs.Bounds as bounds;
 
-use crate::bounds::{agree, free, no_terms, numbered_node, with_lists, zero};
+use crate::bounds::{agree, no_terms, numbered_node, with_lists, zero};
 use crate::made::{Draws, knapsack, mixed, shared};
 use crate::problems::{configuration, pages};
 use adv_base::Config;
@@ -151,7 +151,7 @@ fn bounds_costs(
         let more = bounds_costs_at(rt, programme, budget, number, multipliers);
         pairs = pairs.saturating_add(more);
     }
-    assert_eq!(rt; pairs, fitting.saturating_mul(16));
+    assert!(rt; pairs == fitting.saturating_mul(16));
 }
 
 /// So it is under drawn multipliers. Of the 16 configurations of candidates of 3, 4, 2 and 9 pages the empty one fits
@@ -188,9 +188,9 @@ fn anew(
 {
     let mut made = no_terms(rt, alloc, programme);
     terms(programme, budget, fix, multipliers, &mut made);
-    assert_eq!(rt;
-        total(programme, budget, fix, multipliers, &made),
-        bound(programme, budget, fix, multipliers)
+    assert!(rt;
+        total(programme, budget, fix, multipliers, &made)
+            == bound(programme, budget, fix, multipliers)
     );
     made
 }
@@ -214,10 +214,10 @@ fn carried(
     let mut below = no_terms(rt, alloc, programme);
     carry(programme, budget, from, to, multipliers, above, &mut below);
     let made = anew(rt, alloc, programme, budget, to, multipliers);
-    assert_eq!(rt; below.least.as_slice(), made.least.as_slice());
-    assert_eq!(rt;
-        total(programme, budget, to, multipliers, &below),
-        bound(programme, budget, to, multipliers)
+    assert!(rt; below.least.as_slice() == made.least.as_slice());
+    assert!(rt;
+        total(programme, budget, to, multipliers, &below)
+            == bound(programme, budget, to, multipliers)
     );
     below
 }
@@ -247,7 +247,7 @@ fn carry_down(
     requires budget { budget ≤ 1000 }
     requires multipliers { AreMultipliers programme.now mult.now }
 {
-    let root = free();
+    let root = Fix::free();
     let first = branch(&root, 0, path);
     let second = branch(&first, 1, path);
     let third = branch(&second, 2, path);

@@ -1,10 +1,9 @@
 //! Searches of programmes that are made by hand or drawn, against a plain program that tries every configuration.
 ghost use Rattle.std.specs.Prelude.{◌≤◌};
 
-use crate::bounds::free;
 use crate::made::{Draws, drawn, mixed, ordered, part, shared, wide_programme, wide_slot};
 use crate::problems::{PLAIN, Problem, fits, least, shapes_of};
-use bip_model::{Answer, Programme, value};
+use bip_model::{Answer, Fix, Programme, value};
 use branch_bound::{Room, search};
 use std::alloc::Global;
 use std::process::Abort;
@@ -17,7 +16,7 @@ fn searched(rt: &impl Abort, alloc: Global, problem: &Problem<'_>, nodes: u32) -
 {
     let programme = problem.programme;
     let shapes = shapes_of(rt, alloc, problem.tables);
-    let root = free();
+    let root = Fix::free();
     let room = Room::new(alloc, programme, nodes).expect(rt, "memory");
     search(
         programme,
@@ -42,7 +41,7 @@ fn judge(rt: &impl Abort, alloc: Global, problem: &Problem<'_>, nodes: u32, best
 {
     let answer = searched(rt, alloc, problem, nodes);
     assert!(rt; fits(problem, &answer.config));
-    assert_eq!(rt; value(problem.programme, &answer.config), answer.cost);
+    assert!(rt; value(problem.programme, &answer.config) == answer.cost);
     assert!(rt; best <= answer.cost);
     assert!(rt; is_below(answer.bound, best.saturating_add(1)));
     let made = answer.tree.len();
@@ -52,7 +51,7 @@ fn judge(rt: &impl Abort, alloc: Global, problem: &Problem<'_>, nodes: u32, best
         assert!(rt; nodes < 127);
         assert!(rt; made == nodes || made.saturating_add(1) == nodes);
     } else {
-        assert_eq!(rt; answer.cost, best);
+        assert!(rt; answer.cost == best);
     }
 }
 
@@ -143,7 +142,7 @@ fn costs(
         budget,
     };
     let answer = searched(rt, alloc, &problem, 20000);
-    assert_eq!(rt; answer.cost, cost);
+    assert!(rt; answer.cost == cost);
     assert!(rt; !is_below(answer.bound, cost));
 }
 

@@ -19,12 +19,12 @@ fn is_point(
     cost: u32,
 ) {
     let cost = cost as u128 + 7;
-    assert_eq!(rt; point.budget, budget);
-    assert_eq!(rt; pages(programme, &point.answer.config), size);
-    assert_eq!(rt; point.answer.cost, cost);
+    assert!(rt; point.budget == budget);
+    assert!(rt; pages(programme, &point.answer.config) == size);
+    assert!(rt; point.answer.cost == cost);
     assert!(rt; !is_below(point.answer.bound, cost));
-    assert_eq!(rt; point.best, cost);
-    assert_eq!(rt; point.low, cost as i128);
+    assert!(rt; point.best == cost);
+    assert!(rt; point.low == cost as i128);
 }
 
 /// The knapsack at four budgets: nothing, the first index, the second, which saves more, and both.
@@ -33,7 +33,7 @@ fn knapsack_curve(rt: HostRuntime) {
     let alloc = rt.alloc();
     let programme = knapsack_programme(&rt, alloc);
     let shapes = shapes_of(&rt, alloc, PLAIN);
-    assert_eq!(&rt; programme.sizes.len(), 6);
+    assert!(&rt; programme.sizes.len() == 6);
     let curve = sweep(alloc, &programme, shapes.as_slice(), 0, 3, 4, 20000).expect(&rt, "memory");
     match curve.as_slice() {
         [none, first, second, both] => {
@@ -53,9 +53,9 @@ fn judge_curve(rt: &impl Abort, alloc: Global, programme: &Programme, nodes: u32
     requires most { nodes ≤ 20000 }
 {
     let shapes = shapes_of(rt, alloc, PLAIN);
-    assert_eq!(rt; programme.sizes.len(), 6);
+    assert!(rt; programme.sizes.len() == 6);
     let curve = sweep(alloc, programme, shapes.as_slice(), 2, 2, 8, nodes).expect(rt, "memory");
-    assert_eq!(rt; curve.len(), 8);
+    assert!(rt; curve.len() == 8);
     let mut budget = 2;
     let mut best = u128::MAX;
     let mut low = i128::MAX;
@@ -65,7 +65,7 @@ fn judge_curve(rt: &impl Abort, alloc: Global, programme: &Programme, nodes: u32
             tables: PLAIN,
             budget,
         });
-        assert_eq!(rt; point.budget, budget);
+        assert!(rt; point.budget == budget);
         assert!(rt; cost <= point.best && point.best <= best);
         assert!(rt; is_below(point.low, cost.saturating_add(1)) && point.low <= low);
         assert!(rt; !is_ample || point.best == cost && !is_below(point.low, cost));

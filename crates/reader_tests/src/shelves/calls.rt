@@ -107,7 +107,7 @@ pub fn answers<S: Shelf>(rt: &impl Abort, alloc: Global, shelf: &mut S, calls: &
                 ..
             } => reads(rt, shelf, name, from, &mut [], gives),
             Call::Put { name, bytes, gives } => {
-                assert_eq!(rt; shelf.put(name, bytes), gives, "{name}");
+                assert!(rt; shelf.put(name, bytes) == gives, "{name}");
             }
             Call::Whole { name, most, gives } => {
                 reads_whole(rt, alloc, shelf, name, most, gives);
@@ -129,8 +129,8 @@ pub enum Write<'a> {
 pub fn takes<O: Sink>(rt: &impl Abort, sink: &mut O, writes: &[Write<'_>]) {
     for write in writes {
         match *write {
-            Write::Once(piece, gives) => assert_eq!(rt; sink.write(piece), gives),
-            Write::All(bytes, gives) => assert_eq!(rt; write_all(sink, bytes), gives),
+            Write::Once(piece, gives) => assert!(rt; sink.write(piece) == gives),
+            Write::All(bytes, gives) => assert!(rt; write_all(sink, bytes) == gives),
         }
     }
 }

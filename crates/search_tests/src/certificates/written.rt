@@ -28,14 +28,14 @@ fn is_written(
     requires order { answers.InOrder prog.now }
 {
     let bytes = write_cert(alloc, prog, version, budget, answer).expect(rt, "memory");
-    assert_eq!(rt; bytes.as_slice(), want.as_bytes());
+    assert!(rt; bytes.as_slice() == want.as_bytes());
     let cert = read_cert(alloc, bytes.as_slice()).expect(rt, "a certificate");
-    assert_eq!(rt; cert.version, version);
-    assert_eq!(rt; cert.budget, budget);
-    assert_eq!(rt; cert.cost, answer.cost);
-    assert_eq!(rt; cert.bound, answer.bound);
-    assert_eq!(rt; cert.sets.len(), answer.sets.len());
-    assert_eq!(rt; cert.tree.as_slice(), answer.tree.as_slice());
+    assert!(rt; cert.version == version);
+    assert!(rt; cert.budget == budget);
+    assert!(rt; cert.cost == answer.cost);
+    assert!(rt; cert.bound == answer.bound);
+    assert!(rt; cert.sets.len() == answer.sets.len());
+    assert!(rt; cert.tree.as_slice() == answer.tree.as_slice());
 }
 
 /// Two statements: the second slot of the first has candidates 2 and 4, each other slot 1 and 256.

@@ -1,0 +1,6 @@
+use Rattle.std.proofs.Common.{◌≡◌}
+use Rattle.advice_tests.proofs.sessions.rows.Given as goal
+
+-- the session stays over its catalogue
+abbrev pub invariant-loop-step : goal.invariant-loop-step
+invariant-loop-step g l = l.session.cat ≡ l.initial.session.cat

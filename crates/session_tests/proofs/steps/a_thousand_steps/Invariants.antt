@@ -1,6 +1,0 @@
-use Rattle.std.proofs.Common.{◌≡◌}
-use Rattle.session_tests.proofs.steps.a_thousand_steps.Given as goal
-
--- the session stays over its catalogue
-abbrev pub invariant-loop-turn : goal.invariant-loop-turn
-invariant-loop-turn g l = l.session.cat ≡ l.initial.session.cat

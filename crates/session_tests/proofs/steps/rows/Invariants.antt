@@ -1,6 +1,0 @@
-use Rattle.std.proofs.Common.{◌≡◌}
-use Rattle.session_tests.proofs.steps.rows.Given as goal
-
--- the session stays over its catalogue
-abbrev pub invariant-loop-step : goal.invariant-loop-step
-invariant-loop-step g l = l.session.cat ≡ l.initial.session.cat
