@@ -135,6 +135,7 @@ class Advise(unittest.TestCase):
         self.assertEqual(
             total["statements"], ['CREATE INDEX CONCURRENTLY "sales_orders_total_idx" ON "sales"."orders" ("total");']
         )
+        self.assertEqual(found["owners"], ["cophy"])
         self.assertLess(found["server_cost"]["after"], found["server_cost"]["before"])
         self.assertEqual(found["server_cost"]["statements"], 4)
         second = found["statements"][1]
@@ -183,7 +184,7 @@ class Advise(unittest.TestCase):
         self.assertRegex(text, r"\n1\. CREATE INDEX CONCURRENTLY \"sales_orders_total_idx\" ON ")
         self.assertRegex(
             text,
-            r"\n +\d+\.\d % +\d+\.\d %  statement 1, 40 calls: SELECT id FROM sales\.orders WHERE total = 17\.75 ORDER BY id\n",
+            r"\n +[\d.]+ MB, saves +\d+\.\d % +\d+\.\d %  statement 1, 40 calls: SELECT id FROM sales\.orders WHERE total = 17\.75 ORDER BY id\n",
         )
         self.assertRegex(text, r"\nour model +[0-9,]+ +[0-9,]+ +\d+\.\d %  +[0-9,]+\nthe server's +[0-9,]+ +[0-9,]+ ")
         self.assertIn("statement 5: 42883 a function or an operator isn't there", text)
@@ -191,6 +192,8 @@ class Advise(unittest.TestCase):
         found = re.search(ends, text)
         assert found is not None
         self.assertEqual(found[1].replace(",", ""), found[2])
+        command = f"psql -X -U cophy -f {self.folder}/indexes.sql"
+        self.assertEqual(text.splitlines()[-1], f"to make them, let the owner of the tables run: {command}")
 
     def test_what_no_plan_takes_is_left_out(self) -> None:
         self.sql.write_text(QUERIES + "SELECT id FROM product WHERE stock > 0;\n")

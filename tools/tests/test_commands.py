@@ -1,6 +1,6 @@
 """Each command that a document shows in a block is run here, or its block is marked with what it needs.
 
-Marks stand behind the word `sh` of a block: `needs-root`, `needs-server` and `needs-kit`.
+Marks stand behind the word `sh` of a block: `needs-root`, `needs-server` and `needs-kit`; behind `sql` the second.
 """
 from __future__ import annotations
 
@@ -73,6 +73,14 @@ class Marks(unittest.TestCase):
                         self.assertFalse(mark.startswith("sh"), mark)
         self.assertGreater(found, 15)
 
+    def test_statements_are_those_of_the_examples_or_marked(self) -> None:
+        files = "".join(it.read_text() for it in (ROOT / "examples").rglob("*.sql"))
+        shown = [(document, mark, text) for document in documents() for mark, text in blocks(document)]
+        for document, mark, text in shown:
+            if mark.startswith("sql") and mark != "sql needs-server":
+                with self.subTest(document=document, text=text[:60]):
+                    self.assertIn(text, files)
+
     def test_all_that_is_to_be_run_is_in_a_document_whose_commands_are(self) -> None:
         run = {"README.md", "docs/POSTGRES.md", "examples/README.md"}
         self.assertLessEqual({it for it in documents() if [*commands(it)]}, run)
@@ -109,17 +117,36 @@ class OfTheProgram(unittest.TestCase):
             "edits.txt": "shop.edits",
         }
         text = "\n".join((ROOT / it).read_text() for it in ("README.md", "docs/POSTGRES.md"))
-        found = set(re.findall(r"(?:^|`)\./cophy ((?!--)[a-z]+ [^`#>\n]*)", text, re.MULTILINE))
-        self.assertGreater(len(found), 4)
+        found = set(re.findall(r"^\./cophy ([a-z][a-z-]* [^#>\n]*)", text, re.MULTILINE))
+        found |= {" ".join(it.split()) for it in re.findall(r"`\./cophy ([a-z][a-z-]*\s[^`]+)`", BLOCK.sub("", text))}
+        self.assertGreater(len(found), 6)
         with tempfile.TemporaryDirectory() as folder:
             (Path(folder) / "examples").symlink_to(ROOT / "examples")
+            shown = ("shop.toml", "shop.sql", "shop.rules")
+            catalogue, workload, rules = (str(ROOT / "examples" / it) for it in shown)
+            self.run_one(["ruled", catalogue, workload, "12800", rules, "--cert", f"{folder}/ruled.cert"], folder)
             for line in sorted(found):
                 words = line.split()
                 for at, word in enumerate(words):
-                    if word.split("/")[-1] in given:
-                        words[at] = str(ROOT / "examples" / given[word.split("/")[-1]])
+                    name = word.split("/")[-1]
+                    if name in given:
+                        words[at] = str(ROOT / "examples" / given[name])
+                    elif name == "ruled.cert":
+                        words[at] = name
                 with self.subTest(line=line):
                     self.run_one(words, folder)
+
+    def test_faulty_words_are_told_as_the_formats_say(self) -> None:
+        text = (ROOT / "docs" / "FORMATS.md").read_text()
+        rows = re.findall(r"^\| `(usage: [^`]+)` \| .* \| ([^|]+) \|$", text, re.MULTILINE)
+        self.assertGreater(len(rows), 6)
+        for told, shown in rows:
+            for words, number in re.findall(r"`cophy ?([^`]*)`(?: gives (?:word )?(\d+))?", shown):
+                with self.subTest(words=words):
+                    ran = subprocess.run(
+                        [str(COPHY), *words.split()], capture_output=True, text=True, check=False, timeout=LONG
+                    )
+                    self.assertEqual((ran.returncode, ran.stdout), (2, f"{told.replace('W', number)}\n"))
 
 
 @unittest.skipIf(MISSING, MISSING)

@@ -21,7 +21,16 @@ HEADING = re.compile(r"^#+ (.*)$", re.MULTILINE)
 PATH = re.compile(r"`((?:crates|tools|docs|bench|examples)/[\w./-]+)`")
 EVIDENCE = ROOT / "tools" / "docs" / "evidence"
 TABLE = re.compile(r"<!-- tools/docs/evidence -->\n(.*?)<!-- -->", re.DOTALL)
-MOST_WORDS = {"docs/ARCHITECTURE.md": 2500, "docs/PROOFS.md": 1500, "bench/README.md": 800}
+MOST_WORDS = {"docs/ARCHITECTURE.md": 2500, "docs/MYSQL.md": 600, "docs/PROOFS.md": 1500, "bench/README.md": 800}
+
+# What a newcomer asks, as the README has it; where that leads to; the end of the answer there.
+ASKED = (
+    ("the price of a hash join", "docs/MODEL.md#operators", "| hash join, of which the right input is hashed |"),
+    ("what proves that a bound is one", "docs/PROOFS.md#what-proves-that-a-bound-is-one", "exactly what is `IsProof`"),
+    ("where a new command goes", "docs/CHANGING.md#to-add-a-command", "ends with `0 failed`"),
+    ("advice for MySQL", "docs/MYSQL.md", "The rest is for looking up."),
+    ("what isn't proved", "docs/PROOFS.md#not-proved", "true of a database."),
+)
 
 
 def documents() -> list[Path]:
@@ -43,10 +52,10 @@ def anchors(text: str) -> set[str]:
     return {re.sub(r"[^\w -]", "", it.lower()).replace(" ", "-") for it in headings}
 
 
-def shown(document: str) -> list[tuple[list[str], str]]:
+def shown(document: Path) -> list[tuple[list[str], str]]:
     """The calls that a document shows, each with the output behind it."""
     found = []
-    for block in BLOCK.findall((ROOT / document).read_text()):
+    for block in BLOCK.findall(document.read_text()):
         parts = CALL.split(block)[1:]
         found += [(words.split(), output.lstrip("\n")) for words, output in zip(parts[::2], parts[1::2], strict=True)]
     return found
@@ -54,7 +63,7 @@ def shown(document: str) -> list[tuple[list[str], str]]:
 
 class Documents(unittest.TestCase):
     def test_the_stored_run_is_the_main_job_of_the_readme(self) -> None:
-        words, output = shown("README.md")[0]
+        words, output = shown(ROOT / "README.md")[0]
         self.assertEqual([Path(it).name for it in words], (STORED / "args").read_text().split())
         self.assertEqual(output, (STORED / "stdout").read_text())
         for name in ("shop.toml", "shop.sql"):
@@ -64,9 +73,9 @@ class Documents(unittest.TestCase):
     def test_the_program_prints_what_the_documents_show(self) -> None:
         with tempfile.TemporaryDirectory() as folder:
             os.symlink(ROOT / "examples", Path(folder) / "examples")
-            for document in ("README.md", "examples/README.md", "docs/FORMATS.md"):
+            for document in documents():
                 for words, output in shown(document):
-                    with self.subTest(document=document, words=words):
+                    with self.subTest(document=str(document.relative_to(ROOT)), words=words):
                         ran = subprocess.run(
                             [str(COPHY), *words], cwd=folder, capture_output=True, text=True, check=False, timeout=LONG
                         )
@@ -88,6 +97,28 @@ class Documents(unittest.TestCase):
         for mark, name in (("toml", "two.toml"), ("sql", "two.sql"), ("", "two.cert"), ("", "two.edits")):
             with self.subTest(name=name):
                 self.assertIn(f"```{mark}\n{(ROOT / 'examples' / name).read_text()}```\n", text)
+
+
+class ByHand(unittest.TestCase):
+    """MYSQL.md: what it shows of both files stands in them, and what it makes are the picks that it shows."""
+
+    def test_what_it_shows_of_the_files_stands_in_them(self) -> None:
+        text = (ROOT / "docs" / "MYSQL.md").read_text()
+        for mark, least in (("toml", 5), ("sql", 1)):
+            file = (ROOT / "examples" / f"mysql.{mark}").read_text()
+            blocks = re.findall(rf"^```{mark}\n(.*?)^```$", text, re.MULTILINE | re.DOTALL)
+            parts = [it.strip() for block in blocks for it in block.split("\n\n")]
+            self.assertGreaterEqual(len(parts), least)
+            for part in parts:
+                with self.subTest(part=part[:60]):
+                    self.assertIn(f"{part}\n", file)
+
+    def test_its_statements_make_what_was_picked(self) -> None:
+        text = (ROOT / "docs" / "MYSQL.md").read_text()
+        picks = re.findall(r"^pick \d+ (\w+)\((.*)\) \d+ pages$", text, re.MULTILINE)
+        made = re.findall(r"^CREATE INDEX \w+ ON (\w+) \((.*)\);$", text, re.MULTILINE)
+        self.assertTrue(made)
+        self.assertEqual(made, picks)
 
 
 @unittest.skipUnless(COPHY.exists(), "the program isn't built")
@@ -197,6 +228,30 @@ class Named(unittest.TestCase):
 
 
 class Short(unittest.TestCase):
+    def test_what_a_newcomer_asks_is_found_within_five_minutes(self) -> None:
+        readme = (ROOT / "README.md").read_text()
+        for asked, place, end in ASKED:
+            with self.subTest(asked=asked):
+                row = next(it for it in readme.splitlines() if it.startswith("|") and asked in it)
+                self.assertIn(f"({place})", row)
+                file, _, anchor = place.partition("#")
+                text = (ROOT / file).read_text()
+                heads = (it.start() for it in HEADING.finditer(text) if not anchor or anchor in anchors(it[0]))
+                rest = text[next(heads) :]
+                self.assertIn(end, rest)
+                words = f"{readme.partition(row)[0]}{row} {rest.partition(end)[0]}".split()
+                self.assertLess(len(words), 5 * 200)
+
+    def test_what_to_do_is_told_in_five_lines(self) -> None:
+        for document, heading in (("docs/CHANGING.md", "## To add a command\n"), ("docs/MYSQL.md", "")):
+            with self.subTest(document=document):
+                text = (ROOT / document).read_text().partition(heading)[2] if heading else (ROOT / document).read_text()
+                lines = re.findall(r"^\d\. (.*?)(?=^\d\. |^$)", text.partition("\n## ")[0], re.MULTILINE | re.DOTALL)
+                self.assertEqual(len(lines), 5)
+                self.assertEqual([it for it in lines if len(it.split()) > 25], [])
+        first = (ROOT / "docs/MYSQL.md").read_text().partition("\n## ")[0]
+        self.assertLessEqual(len(first.split()), 150)
+
     def test_documents_are_short_enough_to_be_read(self) -> None:
         self.assertLess(len((ROOT / "README.md").read_text().splitlines()), 150)
         for document, most in MOST_WORDS.items():

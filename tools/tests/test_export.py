@@ -237,19 +237,24 @@ class Export(OverShop):
         table = {
             "host=nohost.invalid": "the host's name ",
             f"{here}/none": "no server listens on that socket",
-            "host=127.0.0.1 port=1": "nothing listens there",
+            "host=127.0.0.1 port=1": "nothing listens there: look at PGHOST and PGPORT",
             "service=none": "there is no such service",
             "port=many": "the connection string can't be read",
             f"{here} user=nobody": "the server knows no such user, or it may not log in",
             f"{here} user=shut": "the server knows no such user, or it may not log in",
             f"{here} user=full": "the server has no connection left",
-            f"{here} dbname=none": "the server knows no such database",
+            f"{here} dbname=none": "the server knows no such database: look at PGDATABASE",
             f"{here} user=outside dbname=closed": "the user may not connect to the database",
         }
         for dsn, why in table.items():
             with self.subTest(dsn=dsn):
                 ran = called(self.server, "export", *map(str, self.files[:2]), "--dsn", dsn)
                 self.assertRegex(ran.stderr, rf"\Acophy-pg: {why}.*\n\Z")
+
+    def test_without_the_extension_it_says_who_makes_it(self) -> None:
+        ran = called(self.server, "export", *map(str, self.files[:2]), database="postgres")
+        self.assertEqual(ran.returncode, 1)
+        self.assertIn("let a superuser CREATE EXTENSION pg_stat_statements in this database, or give", ran.stderr)
 
     def test_odd_names_and_bytes_break_no_file(self) -> None:
         name = "odd \"'\\ \n[[table]] # \u00fc"

@@ -37,6 +37,14 @@ CREATE TABLE part (day date, kind int) PARTITION BY RANGE (day);
 CREATE TABLE part_1 PARTITION OF part FOR VALUES FROM ('2020-01-01') TO ('2030-01-01');
 CREATE INDEX part_day ON part (day); CREATE INDEX part_kind ON part (kind);
 INSERT INTO part SELECT date '2021-01-01' + i % 900, i % 7 FROM generate_series(1, 3000) i;
+CREATE TABLE part_2 PARTITION OF part FOR VALUES FROM ('2030-01-01') TO ('2040-01-01');
+CREATE INDEX part_both ON ONLY part (kind, day); CREATE INDEX part_1_both ON part_1 (kind, day);
+ALTER INDEX part_both ATTACH PARTITION part_1_both;
+CREATE TABLE letter (id int, city int REFERENCES city, at date) PARTITION BY RANGE (id);
+CREATE TABLE letter_1 PARTITION OF letter FOR VALUES FROM (0) TO (9999);
+INSERT INTO letter SELECT i, 1 + i % 90, date '2021-01-01' + i % 500 FROM generate_series(1, 3000) i;
+CREATE TABLE used AS SELECT i AS a, i % 9 AS b FROM generate_series(1, 3000) i;
+CREATE INDEX used_a ON used (a); CREATE INDEX used_ab ON used (a, b);
 CREATE TABLE wide AS SELECT i AS a, i % 300 AS b, i::numeric / 7 AS c, md5(i::text) AS d, repeat('y', 1 + i % 30) AS e,
     i::bigint * 7919 % 100003 AS f, i % 2 = 0 AS g FROM generate_series(1, 100000) i;
 CREATE INDEX w1 ON wide (a); CREATE INDEX w2 ON wide (b); CREATE INDEX w3 ON wide (c); CREATE INDEX w4 ON wide (d);
@@ -46,7 +54,8 @@ VACUUM ANALYZE;
 """
 SCANS = """SET enable_seqscan = off; SET enable_bitmapscan = off;
 SELECT count(*) FROM people WHERE boss = 3; SELECT count(*) FROM people WHERE name = 'Name 7' AND born = '1999-01-01';
-SELECT count(*) FROM part WHERE day = '2021-05-05';"""
+SELECT count(*) FROM part WHERE day = '2021-05-05';
+BEGIN; DROP INDEX used_ab; SELECT count(*) FROM used WHERE a = 7; ROLLBACK;"""
 
 
 class Stored(unittest.TestCase):
@@ -121,6 +130,8 @@ class Health(unittest.TestCase):
             "people_note": {"unused"},
             "people_key": {"duplicate"},
             "part_kind": {"unused"},
+            "part_both": {"unattached"},
+            "used_ab": {"unused"},
         }
         self.assertEqual({name: it for name, it in kinds.items() if it}, wanted)
         self.assertEqual(
@@ -130,6 +141,8 @@ class Health(unittest.TestCase):
         statements = {it["name"]: it["statement"] for it in self.found["indexes"]}
         self.assertEqual(statements['people "odd'], 'DROP INDEX CONCURRENTLY "public"."people ""odd";')
         self.assertEqual(statements["part_kind"], 'DROP INDEX "public"."part_kind";')
+        attached = 'ALTER INDEX "public"."part_both" ATTACH PARTITION INDEX_OF_THE_PARTITION;'
+        self.assertEqual(statements["part_both"], attached)
 
     def test_bloat_is_what_a_fresh_index_has_not(self) -> None:
         bloated = {name for name, it in self.reasons().items() if "bloated" in it}
@@ -151,10 +164,12 @@ class Health(unittest.TestCase):
                 self.assertLess(real, 1.3 * expected)
 
     def test_a_foreign_key_without_an_index(self) -> None:
-        self.assertEqual([it["name"] for it in self.found["foreign_keys"]], ["people_city_fkey"])
-        self.assertEqual(
-            self.found["foreign_keys"][0]["statement"], 'CREATE INDEX CONCURRENTLY ON "public"."people" ("city");'
-        )
+        statements = {it["name"]: it["statement"] for it in self.found["foreign_keys"]}
+        wanted = {
+            "people_city_fkey": 'CREATE INDEX CONCURRENTLY ON "public"."people" ("city");',
+            "letter_city_fkey": 'CREATE INDEX ON "public"."letter" ("city");',
+        }
+        self.assertEqual(statements, wanted)
 
     def test_the_text_is_all_comments(self) -> None:
         text = self.call(status=3).stdout

@@ -21,6 +21,7 @@ MISSING = next(
     (f"python3-{it} isn't installed" for it in ("pip", "setuptools", "pglast") if importlib.util.find_spec(it) is None),
     "",
 )
+LACKS = any(importlib.util.find_spec(it) is None for it in ("psycopg", "rich", "jinja2", "matplotlib"))
 PROGRAM = '#!/bin/sh\necho \'size 0\'; echo "statement 1 weight 1 cost ${FAKE_COST:-5}"; echo "total ${FAKE_COST:-5}"\n'
 ADVICE = "budget 0\nsize 0\ncost 5\nbound 5\ngap 0\nnodes 0 of 1\nfinished\n"
 
@@ -74,6 +75,13 @@ class Installed(unittest.TestCase):
         self.assertEqual(self.call("cophy-pg", "--version"), f"cophy-pg {VERSION}\n")
         self.assertEqual(self.call("cophy-lint", "--version"), f"cophy-lint {VERSION}\n")
         self.assertEqual(self.call("cophy-fleet", "--version"), f"cophy-fleet {VERSION}\n")
+
+    @unittest.skipIf(LACKS, "a package isn't installed")
+    def test_debians_packages_suffice(self) -> None:
+        words = "install --dry-run --quiet --no-index --no-build-isolation --break-system-packages".split()
+        command = [sys.executable, "-Im", "pip", *words, str(self.here / "tools")]
+        ran = subprocess.run(command, capture_output=True, text=True, check=False, timeout=LONG)
+        self.assertEqual(ran.returncode, 0, ran.stderr)
 
     def test_all_files_are_there(self) -> None:
         modules = [it.relative_to(TOOLS / "pg") for it in (TOOLS / "pg" / "cophy_pg").rglob("*") if it.is_file()]

@@ -1,4 +1,4 @@
-"""`tools/package`: what it packs, unpacked under another root and run there without anything of the checkout."""
+"""`tools/package`: what it packs, installed under another root and run there without anything of the checkout."""
 from __future__ import annotations
 
 import gzip
@@ -13,7 +13,7 @@ from fixtures import COPHY, ROOT
 from patience import LONG
 
 HAS_DPKG = all(map(shutil.which, ("dpkg-deb", "dpkg")))
-PARTS = ("tools/package", "CHANGELOG.md", "LICENSE-MIT", "docs/FORMATS.md")
+PARTS = ("tools/package", "CHANGELOG.md", "LICENSE-MIT", "docs/FORMATS.md", "docs/MYSQL.md")
 
 
 @unittest.skipUnless(HAS_DPKG, "dpkg isn't installed")
@@ -37,11 +37,22 @@ class Package(OverCopy):
         self.assertEqual(ran.returncode, status, ran.stderr)
         return ran
 
-    def unpacked(self, *words: str) -> Path:
-        """The root under which the package is unpacked."""
+    def dpkg(self, there: Path, *words: str) -> str:
+        """A call of dpkg that knows of nothing but what is under that root."""
+        how = ("--force-not-root", "--force-depends", "--path-include=/*", f"--log={self.copy.folder / 'log'}")
+        ran = subprocess.run(
+            ["dpkg", f"--root={there}", *how, *words], capture_output=True, text=True, check=True, timeout=600
+        )
+        return ran.stdout
+
+    def installed(self, *words: str) -> Path:
+        """The root under which the package is installed."""
         deb = self.package(*words).stdout.strip()
         there = self.copy.folder / "there"
-        subprocess.run(["dpkg-deb", "-x", deb, str(there)], check=True, timeout=600)
+        (there / "var/lib/dpkg").mkdir(parents=True)
+        (there / "var/lib/dpkg/status").touch()
+        self.dpkg(there, "--install", deb)
+        self.assertIn("\nStatus: install ok installed\n", self.dpkg(there, "--status", "cophy"))
         fields = subprocess.run(["dpkg-deb", "-f", deb], capture_output=True, text=True, check=True).stdout
         version = (ROOT / "CHANGELOG.md").read_text().split("## ", 1)[1].split(",")[0].split()[0]
         self.assertRegex(fields, rf"\nVersion: {version}(~\S+)?\n")
@@ -63,7 +74,7 @@ class Package(OverCopy):
     def test_it_packs_the_built_program_alone(self) -> None:
         self.assertIn("the program isn't built from these sources", self.package(status=1).stderr)
         self.copy.build()
-        there = self.unpacked()
+        there = self.installed()
         built = self.copy.root / "crates" / "cophy_cli" / "out" / "cophy_cli"
         self.assertEqual((there / "usr/lib/cophy/cophy").read_bytes(), built.read_bytes())
         (self.copy.root / "crates" / "adv_base" / "src" / "lib.rt").write_text("")
@@ -77,8 +88,8 @@ class Package(OverCopy):
 
     def test_help_and_manual_are_those_of_an_installed_program(self) -> None:
         self.copy.build()
-        there = self.unpacked()
-        self.assertEqual({oct(it.stat().st_mode & 0o7022) for it in there.rglob("*")}, {"0o0"})
+        there = self.installed()
+        self.assertEqual({oct(it.stat().st_mode & 0o7022) for it in (there / "usr").rglob("*")}, {"0o0"})
         manual = gzip.decompress((there / "usr/share/man/man1/cophy.1.gz").read_bytes()).decode()
         told = self.run_there(there, "--help")
         self.assertEqual((told.returncode, told.stderr), (0, ""))
@@ -94,10 +105,12 @@ class Package(OverCopy):
         self.assertEqual(self.run_there(there).stderr, told.stdout)
         completion = there / "usr/share/bash-completion/completions/cophy"
         subprocess.run(["bash", "-euc", f"source {completion}; complete -p cophy"], check=True, capture_output=True)
+        self.dpkg(there, "--purge", "cophy")
+        self.assertFalse((there / "usr").exists())
 
     @unittest.skipUnless(os.access(COPHY, os.X_OK), "the program isn't built")
     def test_the_program_runs_under_another_root(self) -> None:
-        there = self.unpacked("--program", str(COPHY.resolve()))
+        there = self.installed("--program", str(COPHY.resolve()))
         self.assertEqual((there / "usr/lib/cophy/cophy").read_bytes(), COPHY.read_bytes())
         ran = self.run_there(there, "cost", "examples/single.toml", "examples/single.sql")
         self.assertEqual((ran.returncode, ran.stdout), (0, "statement 1 weight 1 cost 80000\ntotal 80000\n"))

@@ -87,6 +87,7 @@ def document(folder: str) -> dict[str, Any]:
         "rewriting": ["3 statements, written as 2"],
         "rules": ["never t(c)"],
         "functions": [],
+        "owners": ["app"],
         "picks": [
             {
                 "number": 4,
@@ -165,9 +166,52 @@ class Page(unittest.TestCase):
 
         pick = self.document["picks"][0] | {"saves": {"ours": 0.4, "server": 0.0}}
         self.document["options"]["min_saving"] = 0
-        for count, text in ((1, "1 of these saves less"), (2, "2 of these save less")):
+        texts = ("1 of these saves less than 1 % and takes 0.2 MB", "2 of these save less than 1 % and take 0.3 MB")
+        for count, text in enumerate(texts, 1):
             self.document["picks"] = [pick] * count
-            self.assertIn(f"{text} than 1 %: --min-saving 1 leaves such out", lines_of(self.document))
+            self.assertIn(f"{text}: --min-saving 1 leaves such out", lines_of(self.document))
+
+    def test_the_summary_says_which_picks_another_serves_and_which_are_wide(self) -> None:
+        from cophy_pg.overview import lines_of
+
+        pick = self.document["picks"][0]
+        columns = (["b"], ["b", "c", "d", "e", "f"], ["c"])
+        self.document["picks"] = [pick | {"columns": it} for it in columns]
+        lines, hint = lines_of(self.document), "1 of these has 5 columns or more: --include"
+        self.assertEqual([it for it in lines if "begins with its" in it], ["   2 begins with its columns"])
+        self.assertTrue(any(it.startswith(hint) for it in lines), lines)
+        self.document["options"]["include"] = True
+        self.assertFalse(any(it.startswith(hint) for it in lines_of(self.document)))
+
+    def test_the_summary_counts_what_limits_leave_out_and_names_what_was_skipped(self) -> None:
+        from cophy_pg.overview import lines_of
+
+        left_out = self.document["left_out"][0]
+        asked = left_out | {"why": "it saves 0.1 % by our model, and 1 % are asked for"}
+        for count in (4, 5):
+            self.document["left_out"] = [left_out, *[asked] * count]
+            lines = lines_of(self.document)
+            self.assertIn("  t(c): no plan of the server takes it", lines)
+            self.assertEqual(lines.count(f"  t(c): {asked['why']}"), count if count == 4 else 0)
+        self.assertIn("  5 more by --min-saving or --most-per-table, which the report names", lines)
+        self.assertIn("  33.3 %: SHOW: SHOW x", lines)
+        self.document["statements"][2]["seconds"] = 0.1
+        self.assertFalse([it for it in lines_of(self.document) if it.startswith("skipped")])
+
+    def test_the_next_step_is_a_command_that_the_owner_may_take(self) -> None:
+        from cophy_pg.overview import next_of
+
+        head = "to make them, let"
+        for owners, text in (
+            (["app"], "the owner of the tables run: psql -X -U app -f /a/indexes.sql"),
+            (["a b; $(c)"], "the owner of the tables run: psql -X -U 'a b; $(c)' -f /a/indexes.sql"),
+            (["a", "b"], "a member of a and b, who own the tables, run: psql -X -U OWNER -f /a/indexes.sql"),
+            ([], "the owner of the tables run: psql -X -U OWNER -f /a/indexes.sql"),
+        ):
+            with self.subTest(owners=owners):
+                found = next_of(self.document | {"owners": owners}, "/a/indexes.sql")
+                self.assertEqual(found, [f"{head} {text}"])
+        self.assertEqual(next_of(self.document | {"picks": []}, "x"), [])
 
     def test_the_document_is_one_of_advise(self) -> None:
         self.assertEqual([*faults(self.document, SCHEMA, SCHEMA)], [])

@@ -23,7 +23,7 @@ from cophy_pg.folding import Folding
 from cophy_pg.included import searched_columns
 from cophy_pg.making import ddl_text
 from cophy_pg.outcomes import Verdict, outcomes
-from cophy_pg.overview import lines_of
+from cophy_pg.overview import lines_of, next_of
 from cophy_pg.page import NoReport, page_of
 from cophy_pg.picks import home_of
 from cophy_pg.plans import plans_of
@@ -41,7 +41,7 @@ from cophy_pg.server import Server, add_connection, connected, reading, version_
 from cophy_pg.snapshots import taken_of
 from cophy_pg.statistics import Found
 from cophy_pg.steps import Steps
-from cophy_pg.trust import refuse_powers
+from cophy_pg.trust import owners_of, refuse_powers
 from cophy_pg.verify import Judged, add_trust, advice_text, as_json, judge, look_up
 from cophy_pg.why import reasons
 from cophy_pg.workload import Workload, made
@@ -130,7 +130,8 @@ def advise(words: argparse.Namespace) -> int:
     files.check([kept.path(it) for it in (folder.CATALOGUE, folder.WORKLOAD, folder.RESULT)], given)
     with kept.unless_empty(), Steps(words.json).all() as steps:
         document = Run(words, kept, steps).document()
-    text = "\n".join([*lines_of(document), f"all files are in {files.shown(kept.name)}"]) + "\n"
+    last = [f"all files are in {files.shown(kept.name)}", *next_of(document, files.shown(kept.path(folder.DDL)))]
+    text = "\n".join([*lines_of(document), *last]) + "\n"
     kept.write({folder.RESULT: json.dumps(document, indent=2) + "\n", folder.SUMMARY: text})
     try:
         kept.write({folder.REPORT: page_of(kept)})
@@ -297,6 +298,9 @@ class Run:
             except NoCommand:
                 break
         assert best is not None
+        tables = {it.table for it in best[0].advice.picks}
+        with reading(server):
+            self.head["owners"] = owners_of(server, [it.oid for it in schema.tables.values() if it.shown in tables])
         return best
 
     def _settle(self, server: Server, schema: Schema, workload: Workload, choice: Choice) -> Judged:

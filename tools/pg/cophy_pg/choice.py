@@ -14,6 +14,8 @@ from cophy_pg.schema import Schema
 from cophy_pg.why import Reason, reasons
 
 UNTAKEN = "no plan of the server takes it"
+ASKED = "asked for"
+"""What each reason of a limit says."""
 
 
 @dataclass(frozen=True)
@@ -83,8 +85,8 @@ def _beyond(limits: Limits, reason: Reason, found: list[Reason], before: int, to
     """The limit that a pick is beyond, in words."""
     saves = 100 * (reason.total_without - total) / before if before else 0.0
     if saves < limits.min_saving:
-        return f"it saves {percent(saves)} by our model, and {limits.min_saving:g} % are asked for"
+        return f"it saves {percent(saves)} by our model, and {limits.min_saving:g} % are {ASKED}"
     most = limits.most_per_table
     if most is not None and sum(it.pick.table == reason.pick.table for it in found) > most:
-        return f"others of its table save more, and {most} a table are asked for at most"
+        return f"others of its table save more, and {most} a table are {ASKED} at most"
     return ""

@@ -36,7 +36,7 @@ LEFT JOIN pg_stats s ON s.schemaname = n.nspname AND s.tablename = c.relname AND
 WHERE a.attrelid = ANY(%s::oid[]) AND a.attnum > 0 AND NOT a.attisdropped
 GROUP BY 1, 2, 3, 4, 5, 6"""
 _KEYS = f"""
-SELECT k.conname::text, n.nspname::text, c.relname::text, c.oid::int8, s.nspname::text, r.relname::text,
+SELECT k.conname::text, n.nspname::text, c.relname::text, c.relkind::text, s.nspname::text, r.relname::text,
     ARRAY(SELECT a.attname::text FROM unnest(k.conkey) WITH ORDINALITY u(number, at)
         JOIN pg_attribute a ON a.attrelid = k.conrelid AND a.attnum = u.number ORDER BY u.at), c.reltuples::float8
 FROM pg_constraint k JOIN pg_class c ON c.oid = k.conrelid JOIN pg_namespace n ON n.oid = c.relnamespace
@@ -108,6 +108,7 @@ class Key:
     other: str
     columns: list[str]
     rows: float
+    is_partitioned: bool
 
 
 @dataclass
@@ -141,9 +142,9 @@ def read_everything(server: Server) -> Everything:
         column = Column(str(name), str(alignment), int(length), str(kind), *given)
         columns.setdefault(int(oid), {})[int(number)] = column
     keys = []
-    for name, schema, table, _, other_schema, other, listed, rows in server.rows(_KEYS):
+    for name, schema, table, kind, other_schema, other, listed, rows in server.rows(_KEYS):
         other_name = str(other) if other_schema == schema else f"{other_schema}.{other}"
-        keys.append(Key(str(name), str(schema), str(table), other_name, [*map(str, listed)], float(rows)))
+        keys.append(Key(str(name), str(schema), str(table), other_name, [*map(str, listed)], float(rows), kind == "p"))
     since, days = (server.rows(_SINCE) or [("", None)])[0]
     told = [f"{by_oid[oid].schema!a}.{by_oid[oid].name!a}: {fault.shown()}" for oid, fault in faults.items()]
     return Everything(indexes, columns, keys, str(since), _known(float, days), told)

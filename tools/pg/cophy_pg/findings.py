@@ -9,6 +9,8 @@ from cophy_pg.stored import ALIGNMENTS, LONG, NOT_SHARED, Part, pages
 BLOATED, LEAST_WASTE = 2.0, 128
 """An index is bloated that has this many times the pages of a fresh one, and so many pages more."""
 INVALID, DUPLICATE, PREFIX, UNUSED, BLOAT = "invalid", "duplicate", "prefix", "unused", "bloated"
+UNATTACHED = "unattached"
+"""Of a partitioned table an index that some partition has no part of. The others' parts go with it, so it may not go."""
 DROPPED = (INVALID, DUPLICATE, PREFIX, UNUSED)
 """The kinds of findings for which an index may go."""
 
@@ -35,7 +37,9 @@ def findings(found: Everything) -> list[Finding]:
     by_table: dict[int, list[Existing]] = {}
     for it in found.indexes:
         by_table.setdefault(it.table_oid, []).append(it)
-        if not it.is_valid:
+        if not it.is_valid and it.is_partitioned:
+            listed[it.oid].reasons[UNATTACHED] = "INVALID: some partition has no index that is attached to it"
+        elif not it.is_valid:
             listed[it.oid].reasons[INVALID] = "INVALID: no query takes it, and each write may pay for it"
     for several in by_table.values():
         valid = [it for it in several if it.is_valid]
@@ -45,7 +49,7 @@ def findings(found: Everything) -> list[Finding]:
         for it, other in _prefixes(others):
             listed[it.oid].reasons[PREFIX] = f"its columns are the first ones of {_name(other)}"
     for it in found.indexes:
-        if it.is_valid and it.scans == 0 and not it.is_bound and not it.is_unique:
+        if _is_unused(it):
             listed[it.oid].reasons[UNUSED] = "no scan was counted" + (
                 f" since {found.since} UTC" if found.since else ""
             )
@@ -57,6 +61,10 @@ def findings(found: Everything) -> list[Finding]:
 
 def _name(it: Existing) -> str:
     return f"{it.name!a}"
+
+
+def _is_unused(it: Existing) -> bool:
+    return it.is_valid and it.scans == 0 and not it.is_bound and not it.is_unique
 
 
 def _is_bloated(real: int, expected: int) -> bool:
@@ -77,12 +85,13 @@ def _duplicates(listed: list[Existing]) -> list[tuple[Existing, Existing]]:
 
 
 def _prefixes(listed: list[Existing]) -> list[tuple[Existing, Existing]]:
-    """Each index whose keys another one begins with, with that one."""
+    """Each index whose keys another one begins with, with that one. One that is scanned isn't given up for one that may go
+    itself."""
     found = []
     for it in listed:
         if it.method != "btree" or it.is_bound or it.is_unique or it.expressions:
             continue
-        for other in listed:
+        for other in (other for other in listed if _is_unused(it) or not _is_unused(other)):
             begins = other.parts[: it.keys] == it.parts and other.keys > it.keys
             holds = (
                 set(it.included()) <= set(other.columns) and other.predicate == it.predicate and not other.expressions

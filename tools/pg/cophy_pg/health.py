@@ -11,7 +11,7 @@ from cophy_pg import folder
 from cophy_pg.amounts import amount
 from cophy_pg.ddl import written_name
 from cophy_pg.existing import Everything, Existing, Key, read_everything
-from cophy_pg.findings import Finding, findings
+from cophy_pg.findings import UNATTACHED, Finding, findings
 from cophy_pg.folder import Folder
 from cophy_pg.program import Program, ProgramFault, add_program
 from cophy_pg.progress import Progress, say
@@ -93,15 +93,18 @@ def shown(it: Existing) -> str:
 
 
 def _statement(it: Finding) -> str:
-    """The statement that mends it. Of a partitioned table an index isn't dropped CONCURRENTLY."""
+    """The statement that mends it. Of a partitioned table an index is neither made nor dropped CONCURRENTLY."""
     if it.may_go():
         return f"DROP INDEX {'' if it.index.is_partitioned else 'CONCURRENTLY '}{shown(it.index)};"
+    if UNATTACHED in it.reasons:
+        return f"ALTER INDEX {shown(it.index)} ATTACH PARTITION INDEX_OF_THE_PARTITION;"
     return f"REINDEX INDEX CONCURRENTLY {shown(it.index)};"
 
 
 def _create(it: Key) -> str:
     columns = ", ".join(map(written_name, it.columns))
-    return f"CREATE INDEX CONCURRENTLY ON {written_name(it.schema)}.{written_name(it.table)} ({columns});"
+    how = "" if it.is_partitioned else "CONCURRENTLY "
+    return f"CREATE INDEX {how}ON {written_name(it.schema)}.{written_name(it.table)} ({columns});"
 
 
 def _lines(

@@ -48,7 +48,10 @@ def from_server(server: Server, warn: Callable[[str], None] = say, is_trusted: b
     """The statements of pg_stat_statements in the connected database, the longest time first."""
     found = view_of(server, EXTENSION)
     if found is None:
-        raise NoInput(f"the extension {EXTENSION} isn't there: give the statements by --sql or --log")
+        raise NoInput(
+            f"the extension {EXTENSION} isn't there: let a superuser CREATE EXTENSION {EXTENSION} in this database, "
+            "or give the statements by --sql or --log"
+        )
     where, number, others = found
     if others:
         who = (
@@ -59,7 +62,8 @@ def from_server(server: Server, warn: Callable[[str], None] = say, is_trusted: b
                 f"{who}, and its code would have this role's rights: tools/pg/advisor_role.sql makes a role with few; "
                 "or give the statements by --sql or --log, or the schema to a superuser"
             )
-        warn(f"{who}: what it says may be made up")
+        moved = f"ALTER EXTENSION {EXTENSION} SET SCHEMA one of a superuser"
+        warn(f"{who}: what it says may be made up; {moved} ends that")
     view = f"{quoted_name(where)}.{EXTENSION}"
     names = {
         str(it[0])

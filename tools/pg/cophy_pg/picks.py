@@ -54,7 +54,8 @@ def _hypopg(server: Server) -> tuple[str, list[str]]:
     found = callable_of(server, "hypopg", _CALLED)
     if found is None:
         raise ServerFault(
-            "the extension hypopg isn't there: tools/pg/advisor_role.sql makes it, and it changes nothing else"
+            "the extension hypopg isn't there: install it on the server (on Debian the package postgresql-15-hypopg), "
+            "then let a superuser run tools/pg/advisor_role.sql, which makes it"
         )
     return found
 

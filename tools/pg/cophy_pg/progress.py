@@ -2,6 +2,7 @@
 from __future__ import annotations
 
 import contextlib
+import functools
 import sys
 import time
 
@@ -24,3 +25,9 @@ def say(text: str) -> None:
     """Writes a line to the standard error, where somebody reads it."""
     with contextlib.suppress(BrokenPipeError):
         print(f"cophy-pg: {text}", file=sys.stderr, flush=True)
+
+
+@functools.cache
+def say_once(text: str) -> None:
+    """Writes a line that a call comes upon several times."""
+    say(text)

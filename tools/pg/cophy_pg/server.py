@@ -51,11 +51,14 @@ _WHERE_THERE = {
     "jit": "off",
 }
 _CONNECTION_FAULTS = (
-    ("password authentication failed", "the server refuses the user or the password"),
+    (
+        "password authentication failed",
+        "the server refuses the user or the password: look at PGUSER and at its line in ~/.pgpass",
+    ),
     ("no password supplied", "the server asks for a password: give it in ~/.pgpass, or another file by PGPASSFILE"),
     ("authentication failed", "the server refuses the user"),
     ("FATAL:  role", "the server knows no such user, or it may not log in"),
-    ("FATAL:  database", "the server knows no such database"),
+    ("FATAL:  database", "the server knows no such database: look at PGDATABASE"),
     ("permission denied for database", "the user may not connect to the database"),
     ("too many ", "the server has no connection left"),
     ("no pg_hba.conf entry", "the server's pg_hba.conf lets no such connection in"),
@@ -64,7 +67,7 @@ _CONNECTION_FAULTS = (
     ("No address associated", "the host's name isn't known"),
     ("name resolution", "the host's name can't be looked up"),
     ("could not translate host name", "the host's name isn't known"),
-    ("Connection refused", "nothing listens there"),
+    ("Connection refused", "nothing listens there: look at PGHOST and PGPORT"),
     ("is unreachable", "there is no way to the host"),
     ("No route to host", "there is no way to the host"),
     ("No such file or directory", "no server listens on that socket"),

@@ -17,7 +17,7 @@ from cophy_pg.outcomes import ORDINARY, Outcome, Verdict, outcomes, texts_in, un
 from cophy_pg.parameters import Columns
 from cophy_pg.picks import index_names, make, replaceable
 from cophy_pg.program import Program, ProgramFault, add_program
-from cophy_pg.progress import Progress, say
+from cophy_pg.progress import Progress, say, say_once
 from cophy_pg.schema import Schema
 from cophy_pg.selection import add_selection, selection_of
 from cophy_pg.server import Server, ServerFault, add_connection, connected, reading
@@ -95,7 +95,7 @@ def judge(
         tables, every = look_up(server, found, is_trusted)
         functions = functions_of_users(server, every, tables) + replaceable(server)
         if functions:
-            say(f"PostgreSQL may run these functions of users while it plans: {'; '.join(functions)}")
+            say_once(f"PostgreSQL may run these functions of users while it plans: {'; '.join(functions)}")
         explainer = Explainer(server, Columns.read(server, tables))
         for it in found:
             progress(f"explaining {it.shown()}")
