@@ -1,5 +1,4 @@
--- From events_statements_summary_by_digest: COUNT_STAR is the weight, at most 1000000, and DIGEST_TEXT is without its
--- backticks, with a literal range for `placed`.
+-- The shop's statements as MySQL counted them, in the words that the grammar takes: docs/MYSQL.md.
 -- weight 20000
 SELECT id, country FROM customers WHERE email = ?;
 -- weight 9000
