@@ -47,7 +47,7 @@ def statement(number: int, sql: str, calls: int, after: float, picks: list[int])
 
 def change(number: int, sql: str, ours: float, server: float) -> dict[str, Any]:
     """What a pick changes of a statement."""
-    return {"numbers": [number], "sql": sql, "calls": 9, "seconds": 1.5, "guess": False, "ours": ours, "server": server}
+    return {"numbers": [number], "sql": sql, "calls": 9, "ours": ours, "server": server}
 
 
 def document(folder: str) -> dict[str, Any]:
@@ -183,64 +183,20 @@ class Page(unittest.TestCase):
         self.document["options"]["include"] = True
         self.assertFalse(any(it.startswith(hint) for it in lines_of(self.document)))
 
-    def test_the_summary_counts_what_is_left_out_and_names_what_was_skipped(self) -> None:
+    def test_the_summary_counts_what_limits_leave_out_and_names_what_was_skipped(self) -> None:
         from cophy_pg.overview import lines_of
 
         left_out = self.document["left_out"][0]
         asked = left_out | {"why": "it saves 0.1 % by our model, and 1 % are asked for"}
-        self.document["left_out"] = [left_out, asked, asked, left_out | {"why": "it is there already"}]
-        text = "1 taken by no plan, 2 beyond limits, 1 more"
-        lines = lines_of(self.document)
-        self.assertIn(f"left out, see the report: {text}", lines)
+        for count in (4, 5):
+            self.document["left_out"] = [left_out, *[asked] * count]
+            lines = lines_of(self.document)
+            self.assertIn("  t(c): no plan of the server takes it", lines)
+            self.assertEqual(lines.count(f"  t(c): {asked['why']}"), count if count == 4 else 0)
+        self.assertIn("  5 more by --min-saving or --most-per-table, which the report names", lines)
         self.assertIn("  33.3 %: SHOW: SHOW x", lines)
         self.document["statements"][2]["seconds"] = 0.1
         self.assertFalse([it for it in lines_of(self.document) if it.startswith("skipped")])
-
-    def test_the_summary_has_the_measured_time_and_warns_of_guesses(self) -> None:
-        from cophy_pg.guesses import is_guessed
-        from cophy_pg.overview import lines_of
-
-        for text, found in (
-            ("SELECT a FROM t\nWHERE x.b >= ? AND c = ?", True),
-            ("SELECT a FROM t WHERE b BETWEEN ? AND ?", True),
-            ("SELECT a FROM t WHERE b > 7 AND c < ?", False),
-            ("SELECT a FROM t WHERE b <> ? AND a = ?", False),
-        ):
-            self.assertEqual(is_guessed(text, ["a", "B"]), found, text)
-        changes = self.document["picks"][0]["changes"]
-        changes[0] |= {"guess": True, "seconds": 0.02}
-        changes.insert(1, changes[0] | {"numbers": [7], "guess": False, "seconds": 0.01})
-        lines, warned = lines_of(self.document), "   rests on a guess, a bound that isn't known, and on 0.67 % of"
-        self.assertIn("2 of 3 statements with 66.7 % of the time (4.5 s); advised in 1.2 s", lines[0])
-        self.assertRegex(
-            lines[5], r"80\.0 % +88\.9 %  statement 1, 0\.02 s: SELECT .*\.\.\., 1 more, 0\.01 s; 1 loses\Z"
-        )
-        self.assertTrue(any(it.startswith(warned) for it in lines), lines)
-        self.assertIn("It rests on a guess, a bound", self.page_of_document())
-        for key, value in (("guess", False), ("seconds", 0.2), ("seconds", None)):
-            it = changes[0] | {key: value}
-            self.document["picks"][0]["changes"] = [it, *changes[1:]]
-            self.assertFalse([it for it in lines_of(self.document) if "rests on" in it])
-
-    def page_of_document(self) -> str:
-        """The page of the document as it is now."""
-        self.write()
-        return html.unescape(self.page())
-
-    def test_the_summary_of_five_picks_is_short(self) -> None:
-        from cophy_pg.overview import lines_of, next_of
-
-        pick = self.document["picks"][0]
-        plain = {"notes": [], "outcome": "taken", "unknown_for": [], "clustered": False}
-        changes = [change(at, "SELECT customer_name, count(*) FROM customer GROUP BY 1", 9.0, 9.0) for at in (1, 2)]
-        self.document["picks"] = [
-            pick | plain | {"columns": [*"abcde"[: at + 1]], "changes": changes, "table": f"t{at}"} for at in range(5)
-        ]
-        self.document["options"]["include"], self.document["warnings"] = True, []
-        skipped = self.document["statements"].pop()
-        self.assertTrue(skipped["skipped"])
-        lines = [*lines_of(self.document), *next_of(self.document, "/home/you/advice/indexes.sql")]
-        self.assertLessEqual(len(" ".join(lines).split()), 200)
 
     def test_the_next_step_is_a_command_that_the_owner_may_take(self) -> None:
         from cophy_pg.overview import next_of

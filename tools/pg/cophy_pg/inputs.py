@@ -62,8 +62,8 @@ def from_server(server: Server, warn: Callable[[str], None] = say, is_trusted: b
                 f"{who}, and its code would have this role's rights: tools/pg/advisor_role.sql makes a role with few; "
                 "or give the statements by --sql or --log, or the schema to a superuser"
             )
-        moved = f"CREATE SCHEMA counted; GRANT USAGE ON SCHEMA counted TO PUBLIC; ALTER EXTENSION {EXTENSION} SET SCHEMA counted;"
-        warn(f"{who}; to end that, let a superuser run: {moved}")
+        moved = f"ALTER EXTENSION {EXTENSION} SET SCHEMA one of a superuser"
+        warn(f"{who}: what it says may be made up; {moved} ends that")
     view = f"{quoted_name(where)}.{EXTENSION}"
     names = {
         str(it[0])

@@ -117,7 +117,7 @@ def ddl_text(
     schema: Schema, advice: Advice, speed: Speed = Speed(), is_script: bool = False, more: list[str] | None = None
 ) -> str:
     """The statements with comments on what they are of, or a script."""
-    end = "the bound is reached: no other choice costs less" if advice.is_finished else "these picks cost more than it"
+    end = "the bound is reached: no other choice costs less" if advice.is_finished else "the bound isn't reached"
     made = made_of(schema, advice)
     budget, size = both(advice.budget, None), both(advice.size, sum(stored_of(schema, it) for it in made))
     cost, bound, gap = map(grouped, (advice.cost, advice.bound, advice.gap))
@@ -125,7 +125,7 @@ def ddl_text(
     head.append(f"-- {UNIT}")
     left_out = [f"-- pick {it.pick.number} is left out, {_comment(it.why_not)}" for it in made if it.why_not]
     if is_script:
-        return script_text(schema, made, [*(more or []), *left_out], speed)
+        return script_text(schema, made, [*head, *left_out], speed)
     lines = [*head, *OWNERS]
     for it in made:
         lines += ["", f"-- pick {it.pick.number}: {both(it.pick.pages, stored_of(schema, it) or None)}"]

@@ -6,13 +6,10 @@ from typing import Any
 
 from cophy_text.answers import counted
 from cophy_text.shown import grouped, percent, share, short, space
-from cophy_pg.choice import ASKED, UNTAKEN
-from cophy_pg.guesses import gains, seconds_of, warning_of
+from cophy_pg.choice import ASKED
 
 MOST_CHANGES = 5
-SAVES = "size; saved by our model, by the server's planner; statement, measured time:"
-BRIEF = 30
-"""So many characters of a statement are shown beside what it saves."""
+SAVES = "what each saves of the workload's cost, by our model and by the server's planner:"
 LITTLE = 1
 """What an index has to save, in percent, so that nothing is said of that."""
 MUCH = 20
@@ -26,8 +23,7 @@ def lines_of(document: dict[str, Any]) -> list[str]:
     lines = [_head(document), *(f"warning: {it}" for it in document["warnings"])]
     lines += [SAVES, ""] if document["picks"] else [""]
     for at, it in enumerate(document["picks"], 1):
-        lines += [*_pick(at, it, document), *_longer(it, document["picks"])]
-    lines += [""] * bool(document["picks"])
+        lines += [*_pick(at, it), *_longer(it, document["picks"]), ""]
     lines += _hints(document)
     lines += [*_left_out(document["left_out"]), *_skipped(document)]
     unknown = [it for it in document["statements"] if it["not_explained"]]
@@ -51,12 +47,15 @@ def _longer(pick: dict[str, Any], picks: list[dict[str, Any]]) -> list[str]:
 
 
 def _left_out(left_out: list[dict[str, Any]]) -> list[str]:
-    """How many were left out, by the reasons; the report names each."""
-    untaken = sum(it["why"] == UNTAKEN for it in left_out)
-    asked = sum(ASKED in it["why"] for it in left_out)
-    counts = {"taken by no plan": untaken, "beyond limits": asked, "more": len(left_out) - untaken - asked}
-    shown = ", ".join(f"{count} {why}" for why, count in counts.items() if count)
-    return [f"left out, see the report: {shown}", ""] if left_out else []
+    """What was left out; of what the limits that were given leave out more than a few is counted alone."""
+    if not left_out:
+        return []
+    few = [it for it in left_out if ASKED not in it["why"]]
+    shown = left_out if len(left_out) - len(few) < MOST_CHANGES else few
+    lines = [f"  {named(it)}: {it['why']}" for it in shown]
+    if shown is few:
+        lines += [f"  {len(left_out) - len(few)} more by --min-saving or --most-per-table, which the report names"]
+    return ["left out of the advice:", *lines, ""]
 
 
 def _skipped(document: dict[str, Any]) -> list[str]:
@@ -113,9 +112,7 @@ def _head(document: dict[str, Any]) -> str:
     written = sum(bool(it["numbers"]) for it in document["statements"])
     size = f", {space(document['stored_pages'])} of {space(document['asked_pages'])}" if picks else ""
     what = f"database {document['database']!a}, {grouped(written)} of {counted(count, 'statement')}{_part(document)}"
-    whole = seconds_of(document["statements"])
-    measured = f" ({_seconds(whole)})" if whole else ""
-    return f"{headline(document)}{size}: {what}{measured}; advised in {sum(document['seconds'].values()):,.1f} s"
+    return f"{headline(document)}{size}: {what}, {sum(document['seconds'].values()):,.1f} s"
 
 
 def _part(document: dict[str, Any]) -> str:
@@ -133,44 +130,34 @@ def _measured(document: dict[str, Any]) -> str:
     return "calls" if any(it["seconds"] is None for it in document["statements"]) else "seconds"
 
 
-def _pick(at: int, pick: dict[str, Any], document: dict[str, Any]) -> list[str]:
+def _pick(at: int, pick: dict[str, Any]) -> list[str]:
+    saves, changes = pick["saves"], [it for it in pick["changes"] if is_seen(it)]
+    lines = [f"{at}. {it}" if n == 0 else f"   {it}" for n, it in enumerate(pick["statements"])]
     taken = {
         "taken": "",
         "unknown": "whether plans take it isn't known",
         "not taken": "a rule asks for it, no plan takes it",
     }[pick["outcome"]]
-    lines = [f"{at}. {named(pick)}", f"   {space(pick['stored_pages']):>9} {_both(pick['saves'])}  {_for(pick)}"]
+    size = f"   {space(pick['stored_pages']):>9}, saves "
+    is_one = len(changes) == 1 and _both(changes[0]) == _both(saves)
+    lines += [size + _both(saves) + (f"  {_changed(changes[0])}" if is_one else "")]
+    for it in [] if is_one else changes[:MOST_CHANGES]:
+        lines += [" " * len(size) + f"{_both(it)}  {_changed(it)}"]
+    left = len(changes) - MOST_CHANGES
+    lines += [] if changes else ["   by less than 0.1 % in each statement"]
+    lines += [f"   and {counted(left, 'statement')} more"] if left > 0 else []
     lines += [f"   {taken}"] if taken else []
-    lines += [f"   {it}"] if (it := warning_of(pick, document)) else []
     lines += [f"   unknown: {it}" for it in pick["unknown_for"]]
     lines += [f"   {pick['begins']} begins with its columns"] if pick["begins"] else []
     return lines + [f"   {it}" for it in pick["notes"]]
 
 
-def _for(pick: dict[str, Any]) -> str:
-    """The statement that gains the most by a pick, and how many others gain or lose."""
-    found = gains(pick)
-    if not found:
-        return "less than 0.1 % in each statement"
-    first, others = found[0], found[1:]
-    losing = sum(is_seen(it) for it in pick["changes"]) - len(others) - 1
-    more = f", {len(others)} more, {_measured_time(others)}" if others else ""
-    more += f"; {losing} lose{'s' * (losing == 1)}" if losing else ""
-    return f"{name_of(first)}, {_measured_time([first])}: {short(first['sql'], BRIEF)}{more}"
-
-
-def _measured_time(changes: list[dict[str, Any]]) -> str:
-    """What the server measured of statements, or else their calls."""
-    seconds = seconds_of(changes)
-    return _seconds(seconds) if seconds is not None else counted(sum(it["calls"] for it in changes), "call")
-
-
-def _seconds(number: float) -> str:
-    return f"{number:,.1f} s" if number >= 1 else f"{number:.2g} s"
-
-
 def _both(saves: dict[str, Any]) -> str:
     return f"{percent(saves['ours']):>8} {percent(saves['server']):>8}"
+
+
+def _changed(change: dict[str, Any]) -> str:
+    return f"{name_of(change)}, {counted(change['calls'], 'call')}: {change['sql']}"
 
 
 def is_seen(change: dict[str, Any]) -> bool:
@@ -220,5 +207,6 @@ def next_of(document: dict[str, Any], script: str) -> list[str]:
 
 
 def _end(document: dict[str, Any]) -> list[str]:
+    budget = f"of {counted(document['budget_pages'], 'page')} as our model counts them"
     unused = [document["unused"]] if document.get("unused") else []
-    return [end_of(document), *unused]
+    return [end_of(document), *unused, f"certificate, for a budget {budget}: {document['proved']}"]

@@ -13,7 +13,6 @@ from cophy_text.shown import grouped, percent, share, short, space
 from cophy_pg import folder
 from cophy_pg.curves import curve_of
 from cophy_pg.folder import Folder
-from cophy_pg.guesses import warning_of
 from cophy_pg.overview import end_of, headline, is_seen, name_of, named
 from cophy_pg.plan_text import plan_text
 from cophy_pg.progress import say
@@ -88,7 +87,7 @@ def page_text(document: dict[str, Any], plans: dict[str, Any], curve: dict[str, 
         it=document,
         end=end_of(document),
         headline=headline(document),
-        picks=[_pick(it, document) for it in document["picks"]],
+        picks=[_pick(it) for it in document["picks"]],
         left_out=[{"index": named(it), "pages": it["pages"], "why": it["why"]} for it in document["left_out"]],
         statements=_statements(document, plans),
         skipped=_skipped(document),
@@ -113,12 +112,9 @@ def _cost(number: float) -> str:
     return f"{number:,.1f}" if abs(number) < 1000 else grouped(float(number))
 
 
-def _pick(pick: dict[str, Any], document: dict[str, Any]) -> dict[str, Any]:
-    changes = [
-        {"seconds": None} | it | {"anchor": _anchor(it), "name": name_of(it)} for it in pick["changes"] if is_seen(it)
-    ]
-    warning = warning_of(pick, document)
-    return {"notes": [], **pick, "index": named(pick), "listed": changes, "warning": warning}
+def _pick(pick: dict[str, Any]) -> dict[str, Any]:
+    changes = [it | {"anchor": _anchor(it), "name": name_of(it)} for it in pick["changes"] if is_seen(it)]
+    return {"notes": [], **pick, "index": named(pick), "listed": changes}
 
 
 def _anchor(statement: dict[str, Any]) -> str:

@@ -9,7 +9,6 @@ from cophy_text.answers import Advice, Candidate, Prices
 from cophy_text.shown import short
 from cophy_pg.choice import Choice
 from cophy_pg.ddl import Made, create, taken_names
-from cophy_pg.guesses import is_guessed
 from cophy_pg.outcomes import ORDINARY
 from cophy_pg.plans import Plans
 from cophy_pg.schema import Schema
@@ -107,25 +106,14 @@ class Result:
         one."""
         before, server_before = self.prices[0].total, self.judged.sums()[1]
         found: dict[tuple[int, ...], dict[str, Any]] = {}
-        texts = [text for text, _ in self.workload.statements]
         for verdict in self.judged.verdicts:
             ours = sum(reason.changes.get(it, 0) for it in verdict.written)
             server = verdict.calls * self.plans.saved(reason.pick.number, verdict)
             change = found.setdefault(
                 tuple(verdict.written),
-                {
-                    "numbers": verdict.written,
-                    "sql": short(verdict.input.text),
-                    "calls": 0,
-                    "seconds": 0.0,
-                    "guess": any(is_guessed(texts[it - 1], reason.pick.columns) for it in verdict.written),
-                    "ours": ours,
-                    "server": 0.0,
-                },
+                {"numbers": verdict.written, "sql": short(verdict.input.text), "calls": 0, "ours": ours, "server": 0.0},
             )
             change["calls"] += verdict.calls
-            known = change["seconds"] is not None and verdict.input.seconds is not None
-            change["seconds"] = change["seconds"] + verdict.input.seconds if known else None
             change["server"] += server
         shares = [
             it | {"ours": _percent(it["ours"], before), "server": _percent(it["server"], server_before)}

@@ -2,7 +2,6 @@
 from __future__ import annotations
 
 from cophy_text import VERSION
-from cophy_text.answers import counted
 from cophy_text.shown import space
 from cophy_pg.ddl import Laid, Made, Named, written_path, written_text
 from cophy_pg.schema import Schema, Table
@@ -84,7 +83,8 @@ def script_text(schema: Schema, made: list[Made], head: list[str], speed: Speed)
     listed = [it for it in made if not it.why_not]
     prepared = [_PARTS] * any(_table(schema, it).is_partitioned for it in listed)
     prepared += [_LAID] * any(it.laid is not None for it in listed)
-    lines = [*_told(schema, listed, speed), *head, ""]
+    lines = [f"-- Made by cophy-pg {VERSION}. The owner of the tables runs it: psql -X -f FILE"]
+    lines += ["-- It may be run again after a fault. To drop what it made: psql -X -v undo=1 -f FILE", *head, ""]
     lines += [_HEAD + _refuse_powers(listed) + "".join(prepared) + "\\if :{?undo}"]
     for it in reversed(listed):
         lines += _undo(_table(schema, it), it)
@@ -99,21 +99,6 @@ def script_text(schema: Schema, made: list[Made], head: list[str], speed: Speed)
         if it.laid is not None:
             lines += _lay(it, it.laid, speed.told(table, len(it.indexes)))
     return "\n".join([*lines, "", "\\endif", "\\echo done", ""])
-
-
-def _told(schema: Schema, listed: list[Made], speed: Speed) -> list[str]:
-    """What the script makes, how long that takes, whom it locks out, and how to take it back, for who runs it."""
-    size = space(sum(stored_pages(schema, it.pick) or it.pick.pages for it in listed if it.indexes))
-    time = speed.of_indexes(_table(schema, it) for it in listed for _ in it.indexes)
-    lines = [f"-- Made by cophy-pg {VERSION}: {counted(len(listed), 'step')}, about {size} of indexes and {time}."]
-    lines += ["-- The owner of the tables runs it: psql -X -f FILE. It may be run again after a fault."]
-    lines += [
-        "-- Each index is made CONCURRENTLY: reads and writes go on. It waits for open transactions, 30 minutes at most."
-    ]
-    if any(it.laid is not None for it in listed):
-        lines += ["-- CLUSTER locks its table against all others, readers too."]
-    lines += ["-- To drop what it made: psql -X -v undo=1 -f FILE"]
-    return [*lines, *(f"-- {at}. {it.pick.shown()}" for at, it in enumerate(listed, 1))]
 
 
 def _refuse_powers(listed: list[Made]) -> str:

@@ -1,7 +1,6 @@
 """How long it takes to make an index and to write a table anew, by rates that were measured: tools/pg/README.md."""
 from __future__ import annotations
 
-from collections.abc import Iterable
 from dataclasses import dataclass
 
 from cophy_text.answers import counted
@@ -24,10 +23,6 @@ class Speed:
     def of_index(self, table: Table) -> str:
         """How long an index over a table takes."""
         return _seconds(table.rows / self.rows)
-
-    def of_indexes(self, tables: Iterable[Table]) -> str:
-        """How long indexes over these tables take one after the other."""
-        return _seconds(sum(it.rows / self.rows for it in tables))
 
     def of_rewrite(self, table: Table, new: int) -> str:
         """How long CLUSTER takes with the indexes that are there and so many new ones."""
