@@ -40,4 +40,5 @@ mod useful;
 mod walk;
 
 pub use best::search;
+pub use relaxations::{Earlier, Numbers, Proposals};
 pub use room::Room;

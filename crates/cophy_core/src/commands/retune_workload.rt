@@ -17,6 +17,7 @@ ghost use Rattle.cophy_core.specs.inner.Retuning as inner;
 
 use crate::commands::advise::best_advice;
 use crate::commands::list_candidates::copies;
+use crate::commands::remembered::{Remembered, earlier_of, numbers_now};
 use crate::stop::Stop;
 use adv_base::{Catalogue, List, NoMemory, Setting, Statement};
 use binder::{BindFault, bind};
@@ -190,13 +191,15 @@ fn take(
     }
 }
 
-/// Advice over the candidates of a session, with a copy of these.
+/// Advice over the candidates of a session, with a copy of these. What was told last is looked at first.
 fn tuned(
     alloc: Global,
     cat: &Catalogue,
     session: &Session<'_>,
     budget: u64,
     nodes: u32,
+    last: Option<&Tuned>,
+    remembered: &Remembered,
 ) -> Result<Tuned, NoMemory>
     requires cat { session.now.cat ≡ cat.now }
     requires few { AreFew cat.now session.now.statements }
@@ -214,7 +217,18 @@ fn tuned(
     };
     let shapes = copies(alloc, setting.shapes)?;
     let programme = session.programme();
-    let advice = best_advice(alloc, &setting, programme, found.left_over, budget, nodes)?;
+    let numbers = numbers_now(last, setting.shapes);
+    let places = remembered.places(alloc, programme, &numbers)?;
+    let earlier = earlier_of(last, &numbers, places.as_slice());
+    let advice = best_advice(
+        alloc,
+        &setting,
+        programme,
+        found.left_over,
+        budget,
+        nodes,
+        earlier.as_ref(),
+    )?;
     Ok(Tuned { shapes, advice })
 }
 
@@ -225,6 +239,7 @@ fn put_tuned(
     session: &Session<'_>,
     budget: u64,
     nodes: u32,
+    remembered: &mut Remembered,
     all: &mut Vec<Tuned>,
 ) -> Result<(), NoMemory>
     requires cat { session.now.cat ≡ cat.now }
@@ -234,7 +249,10 @@ fn put_tuned(
     requires nodes { nodes ≤ MOST_NODES }
     ensures { OnOk result (inner.IsOneMore cat.now budget nodes session.now.statements all.old.items all.new.items) }
 {
-    all.push(tuned(alloc, cat, session, budget, nodes)?)?;
+    let last = all.as_slice().last();
+    let advice = tuned(alloc, cat, session, budget, nodes, last, remembered)?;
+    *remembered = Remembered::of(alloc, session.programme(), session.statements().len())?;
+    all.push(advice)?;
     Ok(())
 }
 
@@ -256,6 +274,7 @@ fn put_asked(
     edit: Edit<'_>,
     budget: u64,
     nodes: u32,
+    remembered: &mut Remembered,
     all: &mut Vec<Tuned>,
 ) -> Result<(), NoMemory>
     requires cat { session.now.cat ≡ cat.now }
@@ -266,7 +285,7 @@ fn put_asked(
     ensures { OnOk result (inner.IsTold cat.now budget nodes session.now.statements (scripts.is_advise (scripts.the_edit edit.entry)) all.old.items all.new.items) }
 {
     if asks(edit) {
-        return put_tuned(alloc, cat, session, budget, nodes, all);
+        return put_tuned(alloc, cat, session, budget, nodes, remembered, all);
     }
     Ok(())
 }
@@ -293,10 +312,21 @@ fn advices(
     ensures stop { IfErr result (StopsAt (inner.OfEdit (spec.IsFirstFault cat.now session.old.statements 1 (map scripts.the_edit edits.now)))) }
 {
     let mut all = Vec::new(alloc);
+    let mut remembered = Remembered::nothing(alloc);
     'edits: for at in 0..edits.len() {
         let edit = edits[at];
         take(alloc, cat, session, at as u32 + 1, edit)?;
-        put_asked(alloc, cat, session, edit, budget, nodes, &mut all)?;
+        remembered.follow(edit);
+        put_asked(
+            alloc,
+            cat,
+            session,
+            edit,
+            budget,
+            nodes,
+            &mut remembered,
+            &mut all,
+        )?;
     }
     Ok(List { items: all })
 }
