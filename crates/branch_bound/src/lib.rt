@@ -40,5 +40,4 @@ mod useful;
 mod walk;
 
 pub use best::search;
-pub use relaxations::{Earlier, Numbers, Proposals};
 pub use room::Room;

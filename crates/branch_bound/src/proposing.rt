@@ -133,16 +133,9 @@ pub(crate) fn propose(
         spare,
         others,
     } = spares;
-    let found = proposed.find(
-        task.shapes,
-        task.root,
-        task.useful,
-        task.budget,
-        nodes,
-        task.most,
-    );
+    let found = proposed.find(task.shapes, task.root, task.useful, task.budget);
     let known = taken(task, task.bare, found);
-    proposed.plan(known.cost);
+    proposed.plan(known.cost, nodes, task.most);
     keep_first(task, proposed, first, spare, sets);
     keep_others(task, proposed, others, sets);
     known

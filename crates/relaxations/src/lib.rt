@@ -5,7 +5,6 @@
 //! that they end and can't fail is proved.
 #![tactic(auto)]
 
-mod again;
 mod attempts;
 mod clashing;
 mod configuration;
@@ -21,7 +20,6 @@ mod path;
 mod planner;
 mod planning;
 mod proposals;
-mod recalling;
 mod rounding;
 mod splitting;
 mod thinning;
@@ -29,4 +27,3 @@ mod tree;
 mod trial;
 
 pub use proposals::{Proposals, Step};
-pub use recalling::{Earlier, Numbers};

@@ -41,17 +41,18 @@ pub(crate) struct Best {
     pub value: i128,
 }
 
-/// What is planned: at most so many nodes and sets, zeros among these. A brief attempt ends where a leaf is left open, and one
-/// that rounds goes on with what is cheaper where rounding a relaxation finds that.
+/// What is planned: a value above `target` closes a node, in parts of 65536 as `cost` is in whole numbers; at most so many
+/// nodes and sets, zeros among these. A brief attempt ends where a leaf is left open.
 #[derive(Clone, Copy)]
 pub(crate) struct Task<'a> {
     pub matrix: &'a Matrix,
     pub budget: i64,
+    pub cost: i128,
+    pub target: i128,
     pub nodes: usize,
     pub most_sets: usize,
     pub most_asked: u64,
     pub is_brief: bool,
-    pub rounds: bool,
 }
 
 /// Where a subtree begins: in the plan, among the fixings, and on the path.
@@ -71,8 +72,7 @@ pub(crate) enum Settled {
 
 /// What a plan is made with: the sets, of which `count` stand, the path to the node that is worked on, the plan so far, and
 /// the nodes that it will have beside those; the branches of the present nodes of which one side is closed; which set closed
-/// the last leaf; how often a set was asked; whether a leaf was left open; the cost that nothing is to undercut, and the value above
-/// which a node is closed, in parts of 65536.
+/// the last leaf; how often a set was asked; whether a leaf was left open; and of each leaf the marks of the sets that close it.
 #[derive(Drop)]
 pub(crate) struct Planner {
     pub ledgers: Vec<Ledger>,
@@ -85,8 +85,7 @@ pub(crate) struct Planner {
     pub hint: usize,
     pub asked: u64,
     pub has_open: bool,
-    pub cost: i128,
-    pub target: i128,
+    pub covers: Vec<u64>,
     pub turns: Vec<(usize, usize)>,
     pub spans: Vec<(usize, usize)>,
     pub lifting: Lifting,
@@ -115,8 +114,7 @@ impl Planner {
             hint: 0,
             asked: 0,
             has_open: false,
-            cost: 0,
-            target: 0,
+            covers: Vec::with_capacity(alloc, nodes)?,
             turns: Vec::with_capacity(alloc, 257)?,
             spans: Vec::with_capacity(alloc, 512)?,
             lifting: Lifting::new(alloc, matrix)?,
@@ -125,12 +123,6 @@ impl Planner {
             promised: [0; MOST_SETS],
             most_nodes: nodes,
         })
-    }
-
-    /// Has the plan show that nothing undercuts a cost. A lower one leaves closed what is closed.
-    pub(crate) fn aim(&mut self, cost: i128) {
-        self.cost = cost;
-        self.target = cost.wrapping_sub(1).wrapping_mul(65536);
     }
 
     /// Begins at a root, with zeros as the one set.
@@ -242,7 +234,7 @@ impl Planner {
             if value > best.value {
                 best = Best { set, value };
             }
-            if value > self.target {
+            if value > task.target {
                 break;
             }
         }
@@ -306,7 +298,7 @@ impl Planner {
         if best.set >= self.ledgers.len() {
             return false;
         }
-        let need = self.target.wrapping_sub(best.value).wrapping_add(1);
+        let need = task.target.wrapping_sub(best.value).wrapping_add(1);
         let ledger = &mut self.ledgers[best.set];
         self.gains.write(task.matrix, &self.path, ledger);
         let mut is_any = false;
@@ -356,7 +348,7 @@ impl Planner {
     pub(crate) fn settle(&mut self, task: &Task<'_>, sets: usize, nodes: usize) -> Settled {
         for _pass in 0..256 {
             let best = self.best(task);
-            if best.value > self.target {
+            if best.value > task.target {
                 self.hint = best.set;
                 self.put_leaf(best, false);
                 return Settled::Closed;

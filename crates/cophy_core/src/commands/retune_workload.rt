@@ -17,7 +17,6 @@ ghost use Rattle.cophy_core.specs.inner.Retuning as inner;
 
 use crate::commands::advise::best_advice;
 use crate::commands::list_candidates::copies;
-use crate::commands::remembered::{Remembered, earlier_of, numbers_now};
 use crate::stop::Stop;
 use adv_base::{Catalogue, List, NoMemory, Setting, Statement};
 use binder::{BindFault, bind};
@@ -191,15 +190,13 @@ fn take(
     }
 }
 
-/// Advice over the candidates of a session, with a copy of these. What was told last is looked at first.
+/// Advice over the candidates of a session, with a copy of these.
 fn tuned(
     alloc: Global,
     cat: &Catalogue,
     session: &Session<'_>,
     budget: u64,
     nodes: u32,
-    last: Option<&Tuned>,
-    remembered: &Remembered,
 ) -> Result<Tuned, NoMemory>
     requires cat { session.now.cat ≡ cat.now }
     requires few { AreFew cat.now session.now.statements }
@@ -217,18 +214,7 @@ fn tuned(
     };
     let shapes = copies(alloc, setting.shapes)?;
     let programme = session.programme();
-    let numbers = numbers_now(last, setting.shapes);
-    let places = remembered.places(alloc, programme, &numbers)?;
-    let earlier = earlier_of(last, &numbers, places.as_slice());
-    let advice = best_advice(
-        alloc,
-        &setting,
-        programme,
-        found.left_over,
-        budget,
-        nodes,
-        earlier.as_ref(),
-    )?;
+    let advice = best_advice(alloc, &setting, programme, found.left_over, budget, nodes)?;
     Ok(Tuned { shapes, advice })
 }
 
@@ -239,7 +225,6 @@ fn put_tuned(
     session: &Session<'_>,
     budget: u64,
     nodes: u32,
-    remembered: &mut Remembered,
     all: &mut Vec<Tuned>,
 ) -> Result<(), NoMemory>
     requires cat { session.now.cat ≡ cat.now }
@@ -249,10 +234,7 @@ fn put_tuned(
     requires nodes { nodes ≤ MOST_NODES }
     ensures { OnOk result (inner.IsOneMore cat.now budget nodes session.now.statements all.old.items all.new.items) }
 {
-    let last = all.as_slice().last();
-    let advice = tuned(alloc, cat, session, budget, nodes, last, remembered)?;
-    *remembered = Remembered::of(alloc, session.programme(), session.statements().len())?;
-    all.push(advice)?;
+    all.push(tuned(alloc, cat, session, budget, nodes)?)?;
     Ok(())
 }
 
@@ -274,7 +256,6 @@ fn put_asked(
     edit: Edit<'_>,
     budget: u64,
     nodes: u32,
-    remembered: &mut Remembered,
     all: &mut Vec<Tuned>,
 ) -> Result<(), NoMemory>
     requires cat { session.now.cat ≡ cat.now }
@@ -285,7 +266,7 @@ fn put_asked(
     ensures { OnOk result (inner.IsTold cat.now budget nodes session.now.statements (scripts.is_advise (scripts.the_edit edit.entry)) all.old.items all.new.items) }
 {
     if asks(edit) {
-        return put_tuned(alloc, cat, session, budget, nodes, remembered, all);
+        return put_tuned(alloc, cat, session, budget, nodes, all);
     }
     Ok(())
 }
@@ -312,21 +293,10 @@ fn advices(
     ensures stop { IfErr result (StopsAt (inner.OfEdit (spec.IsFirstFault cat.now session.old.statements 1 (map scripts.the_edit edits.now)))) }
 {
     let mut all = Vec::new(alloc);
-    let mut remembered = Remembered::nothing(alloc);
     'edits: for at in 0..edits.len() {
         let edit = edits[at];
         take(alloc, cat, session, at as u32 + 1, edit)?;
-        remembered.follow(edit);
-        put_asked(
-            alloc,
-            cat,
-            session,
-            edit,
-            budget,
-            nodes,
-            &mut remembered,
-            &mut all,
-        )?;
+        put_asked(alloc, cat, session, edit, budget, nodes, &mut all)?;
     }
     Ok(List { items: all })
 }

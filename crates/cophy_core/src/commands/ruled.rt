@@ -67,9 +67,7 @@ pub(crate) fn ruled(
 {
     let root = settled_root(alloc, setting, rules, budget)?;
     let programme = programme_of(alloc, setting)?;
-    let advice = advice_below(
-        alloc, setting, &programme, &root, left_over, budget, nodes, None,
-    )?;
+    let advice = advice_below(alloc, setting, &programme, &root, left_over, budget, nodes)?;
     best_answers_keep_limits();
     standing_programmes_are_in_order();
     let puts = certified(alloc, setting, &programme, budget, &advice.answer, cert)?;
