@@ -10,7 +10,7 @@ from collections.abc import Sequence
 from pathlib import Path
 
 from cophy_text.answers import Candidate
-from fixtures import COPHY, ROOT
+from fixtures import COPHY, HERE, ROOT
 
 HAS_PARSER = importlib.util.find_spec("pglast") is not None
 if HAS_PARSER:
@@ -51,6 +51,7 @@ class Steps(unittest.TestCase):
             (9, {2}, (), {2, 3}),
             (9, {4, 2}, (3,), {2, 3}),
             (9, {4, 2}, (), {2, 3}),
+            (9, {4, 5}, (), {1}),
             (12, {5, 2}, (1,), {2, 3, 4}),
             (20, {5}, (), {1, 3, 4}),
             (2, set[int](), (), set[int]()),
@@ -94,6 +95,33 @@ class Steps(unittest.TestCase):
             self.assertIsNotNone(read_rule(line))
             rules = Rules([line])
             self.assertEqual([it.number for it in (*picks, clustered) if rules.speak_of(it)], numbers, line)
+
+
+@unittest.skipUnless(HAS_PARSER, "python3-pglast isn't installed")
+class OverTheStandIn(unittest.TestCase):
+    """Over the stand-in, whose pages of an index have nothing to do with how PostgreSQL stores it."""
+
+    def test_what_fits_alone_as_stored_is_found_whatever_the_model_takes_it_for(self) -> None:
+        column = '[[table.column]]\nname = "{0}"\nkind = "text"\nwidth = 8\ndistinct = 10\npostgres_type = "text"\n'
+        tables = "".join(
+            f'[[table]]\nname = "{name}"\nrows = {rows}\npages = {pages}\n' + column.format("a") + column.format("b")
+            for name, rows, pages in (("large", 20000, 40000), ("small", 16000, 40), ("other", 16000, 40))
+        )
+        texts = (
+            f"-- weight {w}\nselect a from {it}\nwhere b = ?;\n" for it, w in (("small", 1), ("other", 1), ("large", 9))
+        )
+        with tempfile.TemporaryDirectory() as name:
+            kept = Folder.made(str(Path(name) / "found"))
+            kept.write({folder.CATALOGUE: f"version = 2\n{tables}", folder.WORKLOAD: "".join(texts)})
+            program = Program(str(HERE / "stand_in.py"), kept.path(folder.CATALOGUE), kept.path(folder.WORKLOAD))
+            schema = read_schema(kept.read(folder.CATALOGUE))
+            sizes = {it.table: (it.pages, stored_size(schema, [it])) for it in program.advise(10**9).picks}
+            self.assertGreater(sizes["large"][0], 400 * sizes["large"][1])
+            asked = sizes["large"][1] + 1
+            self.assertLess(room_in(asked), sizes["large"][1] + sizes["small"][1])
+            advice, _ = Searches(program, kept, asked, (), Progress()).filling(schema, Rules())
+            self.assertEqual([it.table for it in advice.picks], ["large"])
+            self.assertGreaterEqual(advice.budget, sizes["large"][0])
 
 
 @unittest.skipUnless(HAS_PARSER and COPHY.exists(), "the program isn't built, or python3-pglast isn't installed")

@@ -21,23 +21,36 @@ class Exchange:
     fixed: Chosen = frozenset()
 
     def improved(self, chosen: Chosen, others: Iterable[int]) -> Chosen:
-        """Takes the step that saves the most, and again, until none saves anything: any candidate more, a pick less, or in the
-        place of a pick one of some others or of those that would save something beside all picks. Of steps that save as much
+        """Takes the step that saves the most, and again, until none saves anything: any candidate more, in the place of the
+        picks that it leaves no room for, a pick less, or one of some others in the place of a pick. Of steps that save as much
         the one that leaves more space is taken."""
         free, some = (sorted(frozenset(it) - self.fixed) for it in (self.pricing.candidates, others))
         for _ in range(MOST_STEPS):
-            now = self.pricing.cost(chosen), self.size(chosen)
             less = [chosen - {it} for it in sorted(chosen - self.fixed)]
-            more = {it: chosen | {it} for it in free if it not in chosen}
-            saving = [it for it, cost in zip(more, self.pricing.costs(chosen, [*more.values()])) if cost < now[0]]
-            exchanged = [base | {it} for it in sorted({*some, *saving} - chosen) for base in less]
-            steps = [it for it in (*less, *more.values(), *exchanged) if self.size(it) <= self.room]
+            more = self._more(chosen, [it for it in free if it not in chosen], less)
+            exchanged = [base | {it} for it in some if it not in chosen for base in less]
+            steps = [it for it in (*less, *more, *exchanged) if self.size(it) <= self.room]
+            now = self.pricing.cost(chosen), self.size(chosen)
             costs = self.pricing.costs(chosen, steps)
             best = min(((cost, self.size(it), sorted(it)) for cost, it in zip(costs, steps)), default=None)
             if best is None or best[:2] >= now:
                 break
             chosen = frozenset(best[2])
         return chosen
+
+    def _more(self, chosen: Chosen, free: list[int], less: list[Chosen]) -> list[Chosen]:
+        """A pick more, each without the others that save the least a page, as many as leave no room for it. So no candidate
+        that fits alone is left out for the pages that the model counts."""
+        now = self.pricing.cost(chosen)
+        saved = {it: cost - now for cost, base in zip(self.pricing.costs(chosen, less), less) for it in chosen - base}
+        order = sorted(saved, key=lambda it: (saved[it] / max(1, self.sizes[it]), it))
+        found = []
+        for number in free:
+            others = [*order]
+            while others and self.size(chosen - {*order} | {*others, number}) > self.room:
+                others.pop(0)
+            found.append(chosen - {*order} | {*others, number})
+        return found
 
     def size(self, chosen: Iterable[int]) -> int:
         """The pages of a set."""

@@ -124,7 +124,7 @@ class Searches:
     def unused(self, schema: Schema, rules: Rules, picks: list[Candidate], left_out: list[Candidate]) -> str | None:
         """What is said of space that is left, where it is much and nothing that fits and wasn't left out saves anything."""
         exchange, chosen = self._exchange(schema, rules), frozenset(it.number for it in picks)
-        exchange.fixed |= chosen | {it.number for it in left_out}
+        exchange.fixed |= {it.number for it in left_out}
         left = self.asked - exchange.size(chosen)
         if left <= self.asked * (1 - WELL_FILLED) or not exchange.improved(chosen, ()) <= chosen:
             return None
