@@ -3,7 +3,7 @@
 //! programme SEED TABLES STATEMENTS ROUNDS; search and check SEED TABLES STATEMENTS NODES SHARE..; print SEED TABLES STATEMENTS
 use adv_base::*;
 use bip_model::*;
-use branch_bound::{Room, search};
+use branch_bound::{Proposals, Room, search};
 use lagrange_bound::{CheaperParts, Ledger, PriceRows, Terms, bound, bound_by, carry, improve, open_ledger, rent, terms, total};
 use std::hint::black_box;
 use shim::{Global, Vec as V};
@@ -78,7 +78,8 @@ fn budget_of(p: &Programme, word: &str) -> u64 {
 }
 fn searched(p: &Programme, shapes: &[IndexShape], budget: u64, nodes: u32) -> Answer {
     let room = Room::new(Global, p, nodes).ok().unwrap();
-    search(p, shapes, &free(), budget, nodes, room)
+    let mut proposed = Proposals::new(Global, p, nodes).ok().unwrap();
+    search(p, shapes, &free(), budget, nodes, room, &mut proposed)
 }
 /// Nanoseconds of a call: the fastest of some rounds of so many calls.
 fn fastest(rounds: u64, mut calls: impl FnMut() -> u32) -> u128 {

@@ -18,6 +18,7 @@ use crate::useful::useful_of;
 use crate::walk::{Guidance, walked};
 use adv_base::{IndexShape, List};
 use bip_model::{Answer, Fix, Multipliers, Node, Programme, value};
+use relaxations::Proposals;
 
 /// What nothing that fits costs less than: the cost, or the least value of the leaves at which the search gave up.
 fn least_bound(cost: u128, low: i128) -> i128
@@ -75,7 +76,8 @@ fn answer(best: Costed, low: i128, sets: Vec<Multipliers>, tree: Vec<Node>, usef
 /// that are clustered on one table, by depth-first search over CoPhy's programme with Lagrangian bounds, of at most so
 /// many nodes. The programme stands for a setting whose candidates are the shapes. The answer holds the tree that shows
 /// that none costs less than the bound; where the nodes sufficed, the bound is the cost, and the configuration a best
-/// one. Costs are in thousandths of a page read. All memory is the room's.
+/// one. Costs are in thousandths of a page read. All memory is the room's and that of the proposals, with which a later
+/// search of the same programme may go on.
 pub fn search(
     programme: &Programme,
     shapes: &[IndexShape],
@@ -83,6 +85,7 @@ pub fn search(
     budget: u64,
     nodes: u32,
     room: Room,
+    proposed: &mut Proposals,
 ) -> Answer
     requires budget { budget ≤ MOST_ROWS }
     requires some_node { 1 ≤ nodes }
@@ -96,7 +99,6 @@ pub fn search(
         zeros,
         spares,
         mut sets,
-        mut proposed,
         cheaper,
         mut ledgers,
     } = room;
@@ -110,7 +112,7 @@ pub fn search(
         bare: bare(programme, shapes, budget, root),
         most: set_limit(programme),
     };
-    let known = propose(&task, nodes, &mut proposed, spares, &mut sets);
+    let known = propose(&task, nodes, proposed, spares, &mut sets);
     let guidance = Guidance {
         zeros: &zeros,
         sets: sets.as_slice(),

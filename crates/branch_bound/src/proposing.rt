@@ -133,9 +133,16 @@ pub(crate) fn propose(
         spare,
         others,
     } = spares;
-    let found = proposed.find(task.shapes, task.root, task.useful, task.budget);
+    let found = proposed.find(
+        task.shapes,
+        task.root,
+        task.useful,
+        task.budget,
+        nodes,
+        task.most,
+    );
     let known = taken(task, task.bare, found);
-    proposed.plan(known.cost, nodes, task.most);
+    proposed.plan(known.cost);
     keep_first(task, proposed, first, spare, sets);
     keep_others(task, proposed, others, sets);
     known

@@ -12,23 +12,21 @@ use adv_base::NoMemory;
 use adv_base::limits::{MOST_ENTRIES, MOST_SETS};
 use bip_model::{Multipliers, Node, Programme, grant_count};
 use lagrange_bound::{CheaperParts, Ledger, PriceRows};
-use relaxations::Proposals;
 use std::alloc::Global;
 
-/// All the memory that a search takes, in bytes: 4 for each node of its budget; 8 for each grant of the programme in
-/// each set of multipliers, of which there are zeros, one that is worked on and as many as `set_limit` says, so that
-/// these are at most 1500000 numbers or one set; 17 for each part and 5 thousand in each of 17 ledgers, and 16 thousand
-/// and 8 for each order of each slot for what they are priced in; 8 for each part and 256 thousand for the parts that
-/// each candidate can make cheaper, and for the lists of prices at most 16 for each slot and each order of it, 18 for
-/// each grant, and 32 for each price of a grant below what exists, and half as much again while they grow; and what
-/// `Proposals` says.
+/// All the memory that a search takes beside that of `Proposals`, in bytes: 4 for each node of its budget; 8 for each
+/// grant of the programme in each set of multipliers, of which there are zeros, one that is worked on and as many as
+/// `set_limit` says, so that these are at most 1500000 numbers or one set; 17 for each part and 5 thousand in each of
+/// 17 ledgers, and 16 thousand and 8 for each order of each slot for what they are priced in; 8 for each part and 256
+/// thousand for the parts that each candidate can make cheaper, and for the lists of prices at most 16 for each slot
+/// and each order of it, 18 for each grant, and 32 for each price of a grant below what exists, and half as much again
+/// while they grow.
 #[derive(Drop)]
 pub struct Room {
     pub(crate) tree: Vec<Node>,
     pub(crate) zeros: Multipliers,
     pub(crate) spares: Spares,
     pub(crate) sets: Vec<Multipliers>,
-    pub(crate) proposed: Proposals,
     pub(crate) cheaper: CheaperParts,
     pub(crate) ledgers: Ledgers,
 }
@@ -133,7 +131,6 @@ impl Room {
         let sets = Vec::with_capacity(alloc, MOST_SETS)?;
         let zeros = zero_set(alloc, programme)?;
         let spares = Spares::new(alloc, programme)?;
-        let proposed = Proposals::new(alloc, programme, nodes)?;
         let cheaper = CheaperParts::new(alloc, programme)?;
         let ledgers = Ledgers::new(alloc, programme, &cheaper)?;
         Ok(Room {
@@ -141,7 +138,6 @@ impl Room {
             zeros,
             spares,
             sets,
-            proposed,
             cheaper,
             ledgers,
         })

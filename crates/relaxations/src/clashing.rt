@@ -124,3 +124,23 @@ impl GroupShares {
         }
     }
 }
+
+/// The sides of a branch, where a candidate is in and what clashes with it out, and where it is out.
+pub(crate) fn sides(matrix: &Matrix, fix: &Fix, candidate: u8) -> [Fix; 2] {
+    let mut sides = [*fix; 2];
+    sides[0].state[candidate as usize] = State::In;
+    let _ = leave_out_clashing(matrix, &mut sides[0]);
+    sides[1].state[candidate as usize] = State::Out;
+    sides
+}
+
+/// The pages of what is in at a node.
+pub(crate) fn pages(matrix: &Matrix, fix: &Fix) -> i64 {
+    let mut sum = 0i64;
+    for a in 0..256 {
+        if fix.state[a] == State::In {
+            sum = sum.saturating_add(matrix.sizes[a]);
+        }
+    }
+    sum
+}

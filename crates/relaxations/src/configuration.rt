@@ -219,12 +219,12 @@ impl Configuration {
     }
 
     /// The candidate that loses least for each page that is missing, but for one.
-    fn least_loss(&mut self, matrix: &Matrix, keep: u8) -> Option<u8> {
+    fn least_loss(&mut self, matrix: &Matrix, keep: usize) -> Option<u8> {
         let mut best = None;
         let mut least = f64::INFINITY;
         let missing = 0i64.wrapping_sub(self.left);
         for a in 0..matrix.count.min(256) {
-            if self.on[a] && !self.stays[a] && a != keep as usize {
+            if self.on[a] && !self.stays[a] && a != keep {
                 let pages = nearest_i64_to_f64(matrix.sizes[a].min(missing)) + 1.0;
                 let rate = self.change(matrix, a as u8) / pages;
                 if rate < least {
@@ -237,7 +237,7 @@ impl Configuration {
     }
 
     /// Drops what loses least for each page until the rest fits, but for one.
-    fn repair(&mut self, matrix: &Matrix, keep: u8) {
+    fn repair(&mut self, matrix: &Matrix, keep: usize) {
         for _turn in 0..256 {
             if self.left >= 0 {
                 return;
@@ -247,6 +247,13 @@ impl Configuration {
                 None => return,
             }
         }
+    }
+
+    /// Drops what loses least for each page until the rest fits, and goes on from there with the allowed ones.
+    pub(crate) fn refit(&mut self, matrix: &Matrix, allowed: &Chosen) {
+        self.repair(matrix, usize::MAX);
+        self.fill(matrix, allowed);
+        self.prune(matrix);
     }
 
     /// Drops what clashes with a candidate that comes in.
@@ -271,7 +278,7 @@ impl Configuration {
         if was {
             others[candidate as usize] = false;
         } else {
-            self.repair(matrix, candidate);
+            self.repair(matrix, candidate as usize);
         }
         self.fill(matrix, &others);
         self.prune(matrix);

@@ -8,6 +8,8 @@ use std::num::nearest_i64_to_f64;
 pub(crate) const MOST_DEEPER: usize = 36;
 
 const LAST_LEVELS: usize = 24;
+/// The nodes of a trial before a set is made, where relaxations are rounded too.
+const TRIED_FIRST: usize = 60;
 /// Less than this is no doubt.
 const LEAST_DOUBT: f64 = 1e-3;
 
@@ -49,6 +51,9 @@ impl Planner {
             if is_first || own.is_some() || !self.has_room(task) || self.is_spent(task) {
                 break;
             }
+            if task.rounds && self.close(task, TRIED_FIRST, None) {
+                return None;
+            }
             own = Some(self.add_own(task, finder));
         }
         let best = self.best(task);
@@ -64,7 +69,7 @@ impl Planner {
     /// Ends a node of a leaf that is left open.
     pub(crate) fn leave_open(&mut self, task: &Task<'_>, start: Start) {
         let best = self.best(task);
-        self.put_leaf(best, best.value <= task.target);
+        self.put_leaf(best, best.value <= self.target);
         self.finish(task, start);
     }
 

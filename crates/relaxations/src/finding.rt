@@ -1,6 +1,6 @@
 //! The search for the cheapest configuration: best bound first, over linear relaxations, with fixings and roundings.
 
-use crate::clashing::{GroupShares, leave_out_clashing};
+use crate::clashing::{GroupShares, leave_out_clashing, pages, sides};
 use crate::configuration::{Chosen, Incumbent};
 use crate::rounding::{Rounding, Shared, view_node};
 use crate::tree::{MOST_NODES, Tree};
@@ -26,15 +26,6 @@ const FIRST_DIVES: u32 = 3;
 
 const LATER_DIVES: u32 = 16;
 
-/// The cheapest configuration that was found, whether no other is cheaper, and the bound of the root.
-#[derive(Clone, Copy)]
-pub(crate) struct Found {
-    pub on: Chosen,
-    pub cost: i128,
-    pub is_closed: bool,
-    pub root_bound: f64,
-}
-
 /// The visit of a node: its states and its bound, and a candidate on which both sides of a branch are closed.
 #[derive(Clone, Copy)]
 struct Visit {
@@ -54,7 +45,7 @@ pub(crate) struct Finder {
     pub tree: Tree,
     rounding: Rounding,
     losses: Losses,
-    best: Incumbent,
+    pub best: Incumbent,
     rents: Vec<f64>,
     own_rents: Vec<f64>,
     shares: [f64; 256],
@@ -107,7 +98,8 @@ impl Finder {
         let node = view_node(&visit.fix, budget);
         self.view.open(matrix, &node, float_of(self.best.cost));
         if self.view.candidates.is_empty() {
-            self.rounding
+            let _ = self
+                .rounding
                 .close(matrix, &visit.fix, budget, &mut self.best);
             visit.bound = visit.bound.max(self.view.constant);
             visit.is_closed = true;
@@ -334,11 +326,46 @@ impl Finder {
         }
     }
 
-    /// Searches for the cheapest configuration below a root. Where the root's relaxation can't be solved, its rounding is taken.
-    pub(crate) fn find(&mut self, matrix: &Matrix, root: &Fix, budget: i64) -> Found {
+    /// Begins at a root, with the cheaper of a greedy configuration and of one that is known from elsewhere.
+    pub(crate) fn begin(
+        &mut self,
+        matrix: &Matrix,
+        root: &Fix,
+        budget: i64,
+        known: Option<&Chosen>,
+    ) {
         self.best = self.rounding.begin(matrix, root, budget);
+        if let Some(known) = known {
+            self.rounding
+                .adopt(matrix, root, budget, known, &mut self.best);
+        }
         self.tree.begin(root);
         self.root_bound = f64::NEG_INFINITY;
+    }
+
+    /// Rounds the relaxation of a node that was solved last, or takes what is in there where nothing is open; whether that is
+    /// cheaper than the incumbent.
+    pub(crate) fn round(&mut self, matrix: &Matrix, fix: &Fix, budget: i64) -> bool {
+        if self.view.candidates.is_empty() {
+            return self.rounding.close(matrix, fix, budget, &mut self.best);
+        }
+        let node = Shared {
+            fix,
+            view: &self.view,
+            shares: self.relaxation.shares.as_slice(),
+            budget,
+        };
+        self.rounding.round(matrix, &node, false, &mut self.best)
+    }
+
+    /// Forces what is open at a node in or out of the incumbent; whether that is cheaper.
+    pub(crate) fn exchange(&mut self, matrix: &Matrix, fix: &Fix, budget: i64) -> bool {
+        self.rounding.exchange(matrix, fix, budget, &mut self.best)
+    }
+
+    /// Searches for the cheapest configuration from where it was begun. Where the root's relaxation can't be solved, its rounding
+    /// is taken.
+    pub(crate) fn find(&mut self, matrix: &Matrix, budget: i64) {
         let mut dive = None;
         let mut turns = 0u32;
         for _visit in 0..MOST_NODES {
@@ -363,31 +390,6 @@ impl Finder {
             dive = if is_dive { side } else { None };
         }
         let target = self.target();
-        Found {
-            on: self.best.on,
-            cost: self.best.cost,
-            is_closed: self.tree.close(target),
-            root_bound: self.root_bound,
-        }
+        self.tree.close(target);
     }
-}
-
-/// The sides of a branch, where a candidate is in and what clashes with it out, and where it is out.
-fn sides(matrix: &Matrix, fix: &Fix, candidate: u8) -> [Fix; 2] {
-    let mut sides = [*fix; 2];
-    sides[0].state[candidate as usize] = State::In;
-    let _ = leave_out_clashing(matrix, &mut sides[0]);
-    sides[1].state[candidate as usize] = State::Out;
-    sides
-}
-
-/// The pages of what is in at a node.
-fn pages(matrix: &Matrix, fix: &Fix) -> i64 {
-    let mut sum = 0i64;
-    for a in 0..256 {
-        if fix.state[a] == State::In {
-            sum = sum.saturating_add(matrix.sizes[a]);
-        }
-    }
-    sum
 }

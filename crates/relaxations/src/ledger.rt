@@ -6,8 +6,9 @@ use crate::least_plans::{
 use crate::path::{MOST_STEPS, Path};
 use adv_base::NoMemory;
 use bip_model::State;
-use interior_point::{Matrix, MatrixPart, at, put};
+use interior_point::{Matrix, MatrixPart, at, float_of, put};
 use std::alloc::Global;
+use std::num::nearest_i64_to_f64;
 
 /// A number for each candidate, in parts of 65536.
 pub(crate) type Each = [i128; 256];
@@ -112,6 +113,44 @@ impl Ledger {
                 self.terms[a] = self.terms[a].wrapping_sub(earned);
             }
         }
+    }
+
+    /// Chooses the price of a page anew that makes the value at the root of a path the greatest.
+    pub(crate) fn price(&mut self, matrix: &Matrix, path: &Path) {
+        self.page = 0;
+        self.write_terms(matrix);
+        let mut taken = [false; 256];
+        let mut left = path.room;
+        for _turn in 0..256 {
+            let Some(candidate) = self.most_earning(matrix, path, &taken) else {
+                return;
+            };
+            let a = candidate as usize;
+            taken[a] = true;
+            left = left.saturating_sub(matrix.sizes[a]);
+            if left < 0 {
+                let size = matrix.sizes[a].max(1) as i128;
+                self.page = 0i128.wrapping_sub(self.terms[a]).max(0) / size;
+                return;
+            }
+        }
+    }
+
+    /// The open candidate at the root of a path that earns most a page, but for some.
+    fn most_earning(&self, matrix: &Matrix, path: &Path, taken: &[bool; 256]) -> Option<u8> {
+        let mut best = None;
+        let mut most = 0.0;
+        for a in 0..256 {
+            if self.terms[a] < 0 && !taken[a] && path.root.state[a] == State::Free {
+                let pages = nearest_i64_to_f64(matrix.sizes[a].max(1));
+                let rate = 0.0 - float_of(self.terms[a]) / pages;
+                if rate > most {
+                    most = rate;
+                    best = Some((a & 255) as u8);
+                }
+            }
+        }
+        best
     }
 
     /// Goes to the root of a path, once rents and the price of a page are written.

@@ -5,6 +5,7 @@
 //! that they end and can't fail is proved.
 #![tactic(auto)]
 
+mod again;
 mod attempts;
 mod clashing;
 mod configuration;
@@ -20,6 +21,7 @@ mod path;
 mod planner;
 mod planning;
 mod proposals;
+mod recalling;
 mod rounding;
 mod splitting;
 mod thinning;
@@ -27,3 +29,4 @@ mod tree;
 mod trial;
 
 pub use proposals::{Proposals, Step};
+pub use recalling::{Earlier, NewNumbers};

@@ -17,7 +17,7 @@ impl Planner {
         if set >= self.ledgers.len() {
             return 0;
         }
-        let cost = float_of(task.cost);
+        let cost = float_of(self.cost);
         let fix = self.path.settled();
         let node = view_node(&fix, task.budget);
         finder.view.open(task.matrix, &node, cost);
@@ -39,6 +39,9 @@ impl Planner {
         }
         let rents = ledger.rents.as_mut_slice();
         self.lifting.lift(task.matrix, &fix, rents);
+        if task.rounds && finder.round(task.matrix, &fix, task.budget) {
+            self.aim(finder.best.cost);
+        }
         self.add(task, page);
         self.hint = set.min(self.count.saturating_sub(1));
         self.hint

@@ -41,18 +41,17 @@ pub(crate) struct Best {
     pub value: i128,
 }
 
-/// What is planned: a value above `target` closes a node, in parts of 65536 as `cost` is in whole numbers; at most so many
-/// nodes and sets, zeros among these. A brief attempt ends where a leaf is left open.
+/// What is planned: at most so many nodes and sets, zeros among these. A brief attempt ends where a leaf is left open, and one
+/// that rounds goes on with what is cheaper where rounding a relaxation finds that.
 #[derive(Clone, Copy)]
 pub(crate) struct Task<'a> {
     pub matrix: &'a Matrix,
     pub budget: i64,
-    pub cost: i128,
-    pub target: i128,
     pub nodes: usize,
     pub most_sets: usize,
     pub most_asked: u64,
     pub is_brief: bool,
+    pub rounds: bool,
 }
 
 /// Where a subtree begins: in the plan, among the fixings, and on the path.
@@ -72,7 +71,8 @@ pub(crate) enum Settled {
 
 /// What a plan is made with: the sets, of which `count` stand, the path to the node that is worked on, the plan so far, and
 /// the nodes that it will have beside those; the branches of the present nodes of which one side is closed; which set closed
-/// the last leaf; how often a set was asked; whether a leaf was left open; and of each leaf the marks of the sets that close it.
+/// the last leaf; how often a set was asked; whether a leaf was left open; of each leaf the marks of the sets that close it; the
+/// cost that nothing is to undercut, and the value above which a node is closed, in parts of 65536.
 #[derive(Drop)]
 pub(crate) struct Planner {
     pub ledgers: Vec<Ledger>,
@@ -86,6 +86,8 @@ pub(crate) struct Planner {
     pub asked: u64,
     pub has_open: bool,
     pub covers: Vec<u64>,
+    pub cost: i128,
+    pub target: i128,
     pub turns: Vec<(usize, usize)>,
     pub spans: Vec<(usize, usize)>,
     pub lifting: Lifting,
@@ -115,6 +117,8 @@ impl Planner {
             asked: 0,
             has_open: false,
             covers: Vec::with_capacity(alloc, nodes)?,
+            cost: 0,
+            target: 0,
             turns: Vec::with_capacity(alloc, 257)?,
             spans: Vec::with_capacity(alloc, 512)?,
             lifting: Lifting::new(alloc, matrix)?,
@@ -123,6 +127,12 @@ impl Planner {
             promised: [0; MOST_SETS],
             most_nodes: nodes,
         })
+    }
+
+    /// Has the plan show that nothing undercuts a cost. A lower one leaves closed what is closed.
+    pub(crate) fn aim(&mut self, cost: i128) {
+        self.cost = cost;
+        self.target = cost.wrapping_sub(1).wrapping_mul(65536);
     }
 
     /// Begins at a root, with zeros as the one set.
@@ -234,7 +244,7 @@ impl Planner {
             if value > best.value {
                 best = Best { set, value };
             }
-            if value > task.target {
+            if value > self.target {
                 break;
             }
         }
@@ -298,7 +308,7 @@ impl Planner {
         if best.set >= self.ledgers.len() {
             return false;
         }
-        let need = task.target.wrapping_sub(best.value).wrapping_add(1);
+        let need = self.target.wrapping_sub(best.value).wrapping_add(1);
         let ledger = &mut self.ledgers[best.set];
         self.gains.write(task.matrix, &self.path, ledger);
         let mut is_any = false;
@@ -348,7 +358,7 @@ impl Planner {
     pub(crate) fn settle(&mut self, task: &Task<'_>, sets: usize, nodes: usize) -> Settled {
         for _pass in 0..256 {
             let best = self.best(task);
-            if best.value > task.target {
+            if best.value > self.target {
                 self.hint = best.set;
                 self.put_leaf(best, false);
                 return Settled::Closed;

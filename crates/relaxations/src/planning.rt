@@ -50,8 +50,8 @@ impl Planner {
         {
             return false;
         }
-        let missing = float_of(task.target.wrapping_sub(best.value)) / 65536.0;
-        let own = (float_of(task.cost) - node.bound).max(1.0);
+        let missing = float_of(self.target.wrapping_sub(best.value)) / 65536.0;
+        let own = (float_of(self.cost) - node.bound).max(1.0);
         missing > FAR * own
     }
 
@@ -64,7 +64,7 @@ impl Planner {
         self.path.go(task.matrix, candidate, !is_inside);
         let best = self.best(task);
         self.go_back(task, depth);
-        if best.value <= task.target {
+        if best.value <= self.target {
             return false;
         }
         self.hint = best.set;

@@ -4,6 +4,7 @@ ghost use Rattle.adv_base.specs.declared.limits.TheConstants.{MOST_RENT};
 ghost use Rattle.bip_model.specs.Views.{AreMultipliers};
 
 use crate::clashing::{groups_of, leave_out_clashing};
+use crate::configuration::Chosen;
 use crate::entering::matrix_of;
 use crate::finding::Finder;
 use crate::planner::{MOST_SETS, OVERFULL, PlanNode, Planner, Task};
@@ -14,6 +15,8 @@ use bip_model::{Fix, Multipliers, Programme, State};
 use interior_point::{Matrix, at};
 use std::alloc::Global;
 
+/// Sets are asked so often at most before there is a search.
+const MOST_ASKED: u64 = 20_000;
 /// The most of a cost that is looked at, 2^100.
 const MOST_COST: u128 = 1_267_650_600_228_229_401_496_703_205_376;
 
@@ -27,19 +30,33 @@ pub struct Step {
     pub outside: u32,
 }
 
+/// A space budget, and the most nodes and sets of a plan, zeros among these.
+#[derive(Clone, Copy)]
+struct Limits {
+    budget: i64,
+    nodes: usize,
+    most_sets: usize,
+}
+
 /// All memory of proposals for one programme, and what was proposed last.
 #[derive(Drop)]
 pub struct Proposals {
-    matrix: Matrix,
+    pub(crate) matrix: Matrix,
     finder: Finder,
-    planner: Planner,
+    pub(crate) planner: Planner,
     splitter: Splitter,
     steps: Vec<Step>,
     /// The places of the sets that leaves name.
     kept: Vec<usize>,
     waiting: Vec<(usize, usize)>,
     root: Fix,
-    budget: i64,
+    limits: Limits,
+    /// The configuration that was found last, if there is one.
+    pub(crate) known: Option<Chosen>,
+    /// How many sets are recalled of elsewhere, zeros among them.
+    pub(crate) recalled: usize,
+    /// What the configuration costs for which the plan that stands was made along with it.
+    planned: Option<i128>,
 }
 
 impl Proposals {
@@ -62,22 +79,36 @@ impl Proposals {
             kept,
             waiting,
             root: Fix::free(),
-            budget: 0,
+            limits: Limits {
+                budget: 0,
+                nodes: most,
+                most_sets: 1,
+            },
+            known: None,
+            recalled: 0,
+            planned: None,
         })
     }
 
     /// The cheapest configuration that is found below a root for a space budget in pages, of candidates of these shapes that may
-    /// be useful.
+    /// be useful, for a plan of at most so many nodes and sets. What was found last is looked at first.
     pub fn find(
         &mut self,
         shapes: &[IndexShape],
         root: &Fix,
         useful: &[bool; 256],
         budget: u64,
+        nodes: u32,
+        most: usize,
     ) -> Config {
         self.matrix.groups = groups_of(shapes);
         self.root = *root;
-        self.budget = budget.min(i64::MAX as u64) as i64;
+        self.limits = Limits {
+            budget: budget.min(i64::MAX as u64) as i64,
+            nodes: nodes as usize,
+            most_sets: most.saturating_add(1),
+        };
+        self.planned = None;
         for a in 0..256 {
             if !useful[a] && self.root.state[a] == State::Free {
                 self.root.state[a] = State::Out;
@@ -85,30 +116,56 @@ impl Proposals {
         }
         let mut settled = self.root;
         let _ = leave_out_clashing(&self.matrix, &mut settled);
-        let found = self.finder.find(&self.matrix, &settled, self.budget);
-        let on = found.on;
+        let known = self.known;
+        self.finder
+            .begin(&self.matrix, &settled, self.limits.budget, known.as_ref());
+        if known.is_none() {
+            self.finder.find(&self.matrix, self.limits.budget);
+        } else if !self.find_again() {
+            self.find_anew(&settled);
+        }
+        let on = self.finder.best.on;
+        self.known = Some(on);
         Config { on }
     }
 
-    /// Makes at most so many sets, and with them a plan of at most so many nodes that is to show that no configuration below
-    /// the root of `find` is cheaper than a cost.
-    pub fn plan(&mut self, cost: u128, nodes: u32, most: usize) {
-        let whole = cost.min(MOST_COST) as i128;
+    /// Finds as if nothing were known, so that what is found then is never worse for what was known.
+    fn find_anew(&mut self, root: &Fix) {
+        self.finder
+            .begin(&self.matrix, root, self.limits.budget, None);
+        self.finder.find(&self.matrix, self.limits.budget);
+    }
+
+    /// Plans from the cheapest configuration that is known on, without a search; whether it is shown that nothing is cheaper.
+    fn find_again(&mut self) -> bool {
         let task = Task {
-            matrix: &self.matrix,
-            budget: self.budget,
-            cost: whole,
-            target: whole.wrapping_sub(1).wrapping_mul(65536),
-            nodes: nodes as usize,
-            most_sets: most.saturating_add(1),
-            most_asked: 0,
-            is_brief: false,
+            most_asked: MOST_ASKED,
+            is_brief: true,
+            rounds: true,
+            ..task_of(&self.matrix, &self.limits)
         };
-        self.planner.begin(&task, &self.root);
-        if self.planner.has_room(&task) {
-            let _ = self.planner.add_own(&task, &mut self.finder);
+        self.planner.aim(self.finder.best.cost);
+        self.planner.begin_again(&task, &self.root, self.recalled);
+        self.recalled = 0;
+        let is_closed = self.planner.plan_again(&task, &mut self.finder);
+        if is_closed {
+            self.planned = Some(self.planner.cost);
         }
-        self.planner.attempt(&task, &mut self.finder);
+        is_closed
+    }
+
+    /// Makes sets, and with them a plan that is to show that no configuration below the root of `find` is cheaper than a cost.
+    pub fn plan(&mut self, cost: u128) {
+        let whole = cost.min(MOST_COST) as i128;
+        let task = task_of(&self.matrix, &self.limits);
+        if self.planned != Some(whole) {
+            self.planner.aim(whole);
+            self.planner.begin(&task, &self.root);
+            if self.planner.has_room(&task) {
+                let _ = self.planner.add_own(&task, &mut self.finder);
+            }
+            self.planner.attempt_all(&task, &mut self.finder);
+        }
         self.splitter.read(self.planner.plan.as_slice());
         self.splitter.split(&task, &mut self.planner);
         let numbers = self.keep_sets();
@@ -188,6 +245,19 @@ impl Proposals {
             ledger.rents.as_slice(),
             into.lambda.items.as_mut_slice(),
         );
+    }
+}
+
+/// What is planned.
+fn task_of<'a>(matrix: &'a Matrix, limits: &Limits) -> Task<'a> {
+    Task {
+        matrix,
+        budget: limits.budget,
+        nodes: limits.nodes,
+        most_sets: limits.most_sets,
+        most_asked: 0,
+        is_brief: false,
+        rounds: false,
     }
 }
 

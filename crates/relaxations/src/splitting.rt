@@ -208,7 +208,7 @@ impl Splitter {
             return;
         }
         let best = planner.best(task);
-        let is_open = best.value <= task.target;
+        let is_open = best.value <= planner.target;
         if place >= self.nodes.len() {
             return;
         }

@@ -5,6 +5,8 @@ use interior_point::{at, put};
 
 /// The most nodes of a subtree whose fixings are thinned.
 const MOST_THINNED: usize = 200;
+/// The same where relaxations are rounded.
+const MOST_ROUNDED: usize = 60;
 /// The most spans of fixings that are tried.
 const MOST_SPANS: usize = 1024;
 
@@ -31,7 +33,7 @@ impl Planner {
         let asked = self.asked;
         let value = self.ask(task, set as usize);
         self.asked = asked;
-        value > task.target
+        value > self.target
     }
 
     /// Takes the outer side of the last branch whose inner side was left.
@@ -102,8 +104,13 @@ impl Planner {
     }
 
     /// Whether a subtree is small, and no leaf of it is open.
-    fn is_small(&self, place: usize) -> bool {
-        if self.plan.len().saturating_sub(place) > MOST_THINNED {
+    fn is_small(&self, task: &Task<'_>, place: usize) -> bool {
+        let most = if task.rounds {
+            MOST_ROUNDED
+        } else {
+            MOST_THINNED
+        };
+        if self.plan.len().saturating_sub(place) > most {
             return false;
         }
         for at_node in place..self.plan.len() {
@@ -116,7 +123,7 @@ impl Planner {
 
     /// Finds which fixings above a subtree are needed: all go, else by halves.
     fn thin(&mut self, task: &Task<'_>, start: Start) {
-        if self.fixings.len() <= start.fixings || !self.is_small(start.place) {
+        if self.fixings.len() <= start.fixings || !self.is_small(task, start.place) {
             return;
         }
         self.spans.clear();

@@ -160,15 +160,12 @@ impl Tree {
         inside as usize
     }
 
-    /// Closes the open nodes whose bound reaches a target; whether no node is open any more.
-    pub(crate) fn close(&mut self, target: f64) -> bool {
-        let mut is_done = true;
+    /// Closes the open nodes whose bound reaches a target.
+    pub(crate) fn close(&mut self, target: f64) {
         for node in self.nodes.iter_mut() {
             if node.branch == NO_BRANCH && !node.is_closed {
                 node.is_closed = node.bound >= target;
-                is_done = is_done && node.is_closed;
             }
         }
-        is_done
     }
 }

@@ -46,7 +46,7 @@ impl Planner {
         if best.set >= self.ledgers.len() {
             return None;
         }
-        let need = task.target.wrapping_sub(best.value).wrapping_add(1);
+        let need = self.target.wrapping_sub(best.value).wrapping_add(1);
         let ledger = &self.ledgers[best.set];
         self.gains.choice(&self.path, ledger, need, wanted)
     }

@@ -3,13 +3,24 @@ ghost use Rattle.std.specs.Prelude.{◌≤◌};
 
 use crate::made::{Draws, drawn, mixed, ordered, part, shared, wide_programme, wide_slot};
 use crate::problems::{PLAIN, Problem, fits, least, shapes_of};
-use bip_model::{Answer, Fix, Programme, value};
-use branch_bound::{Room, search};
+use bip_model::{Answer, Fix, Programme, grant_count, value};
+use branch_bound::{Earlier, Proposals, Room, search};
 use std::alloc::Global;
 use std::process::Abort;
 
-/// What a search answers.
-fn searched(rt: &impl Abort, alloc: Global, problem: &Problem<'_>, nodes: u32) -> Answer
+/// What a search works with beside its room, for at most 20000 nodes.
+fn proposals(rt: &impl Abort, alloc: Global, programme: &Programme) -> Proposals {
+    Proposals::new(alloc, programme, 20000).expect(rt, "memory")
+}
+
+/// What a search answers that goes on with what was proposed last.
+fn searched(
+    rt: &impl Abort,
+    alloc: Global,
+    problem: &Problem<'_>,
+    nodes: u32,
+    proposed: &mut Proposals,
+) -> Answer
     requires budget { problem.now.budget ≤ 1000 }
     requires some { 1 ≤ nodes }
     requires most { nodes ≤ 20000 }
@@ -25,6 +36,7 @@ fn searched(rt: &impl Abort, alloc: Global, problem: &Problem<'_>, nodes: u32) -
         problem.budget,
         nodes,
         room,
+        proposed,
     )
 }
 
@@ -33,30 +45,72 @@ pub(crate) fn is_below(bound: i128, cost: u128) -> bool {
     bound < 0 || (bound as u128) < cost
 }
 
-/// What a search answers is right beside the least cost, and it gives up only where its nodes are spent.
-fn judge(rt: &impl Abort, alloc: Global, problem: &Problem<'_>, nodes: u32, best: u128)
-    requires budget { problem.now.budget ≤ 1000 }
-    requires some { 1 ≤ nodes }
-    requires most { nodes ≤ 20000 }
-{
-    let answer = searched(rt, alloc, problem, nodes);
+/// An answer is right beside the least cost, and the search gave up only where its nodes were spent.
+fn judge_answer(rt: &impl Abort, problem: &Problem<'_>, nodes: usize, best: u128, answer: &Answer) {
     assert!(rt; fits(problem, &answer.config));
-    assert!(rt; value(problem.programme, &answer.config) == answer.cost);
+    assert_eq!(rt; value(problem.programme, &answer.config), answer.cost);
     assert!(rt; best <= answer.cost);
     assert!(rt; is_below(answer.bound, best.saturating_add(1)));
     let made = answer.tree.len();
-    let nodes = nodes as usize;
     assert!(rt; made <= nodes);
     if is_below(answer.bound, answer.cost) {
         assert!(rt; nodes < 127);
         assert!(rt; made == nodes || made.saturating_add(1) == nodes);
     } else {
-        assert!(rt; answer.cost == best);
+        assert_eq!(rt; answer.cost, best);
     }
 }
 
+/// What a search works with that recalls an answer to the same programme.
+fn recalled(rt: &impl Abort, alloc: Global, programme: &Programme, answer: &Answer) -> Proposals {
+    let mut numbers = [0u16; 257];
+    for number in 1..257 {
+        numbers[number] = number as u16;
+    }
+    let mut places = Vec::new(alloc);
+    for place in 0..grant_count(programme) {
+        places.push((place & 0xffff) as u32).expect(rt, "memory");
+    }
+    let earlier = Earlier {
+        answer,
+        numbers: &numbers,
+        places: places.as_slice(),
+    };
+    Proposals::after(alloc, programme, 20000, &earlier).expect(rt, "memory")
+}
+
+/// So is that of a search that begins anew, of one that recalls its answer, and of one that goes on.
+fn judge(
+    rt: &impl Abort,
+    alloc: Global,
+    problem: &Problem<'_>,
+    nodes: u32,
+    best: u128,
+    proposed: &mut Proposals,
+)
+    requires budget { problem.now.budget ≤ 1000 }
+    requires some { 1 ≤ nodes }
+    requires most { nodes ≤ 20000 }
+{
+    let mut fresh = proposals(rt, alloc, problem.programme);
+    let answer = searched(rt, alloc, problem, nodes, &mut fresh);
+    judge_answer(rt, problem, nodes as usize, best, &answer);
+    let mut known = recalled(rt, alloc, problem.programme, &answer);
+    let answer = searched(rt, alloc, problem, nodes, &mut known);
+    judge_answer(rt, problem, nodes as usize, best, &answer);
+    let answer = searched(rt, alloc, problem, nodes, proposed);
+    judge_answer(rt, problem, nodes as usize, best, &answer);
+}
+
 /// The same with few nodes and many.
-fn judge_all(rt: &impl Abort, alloc: Global, programme: &Programme, tables: [u16; 6], budget: u64)
+fn judge_all(
+    rt: &impl Abort,
+    alloc: Global,
+    programme: &Programme,
+    tables: [u16; 6],
+    budget: u64,
+    proposed: &mut Proposals,
+)
     requires budget { budget ≤ 1000 }
 {
     let problem = Problem {
@@ -65,10 +119,9 @@ fn judge_all(rt: &impl Abort, alloc: Global, programme: &Programme, tables: [u16
         budget,
     };
     let best = least(&problem);
-    judge(rt, alloc, &problem, 1, best);
-    judge(rt, alloc, &problem, 2, best);
-    judge(rt, alloc, &problem, 5, best);
-    judge(rt, alloc, &problem, 20000, best);
+    for nodes in [1u32, 2, 5, 20000] {
+        judge(rt, alloc, &problem, nodes, best, proposed);
+    }
 }
 
 /// Drawn programmes, under budgets from nothing to all, and where some of the candidates clash.
@@ -78,25 +131,34 @@ fn as_by_trying_all(rt: HostRuntime) {
     let mut draws = Draws::new(2007);
     for _ in 0..16 {
         let programme = drawn(&rt, alloc, &mut draws);
-        judge_all(&rt, alloc, &programme, PLAIN, 0);
-        judge_all(&rt, alloc, &programme, PLAIN, 8);
-        judge_all(&rt, alloc, &programme, PLAIN, 14);
-        judge_all(&rt, alloc, &programme, [1, 1, 2, 2, 2, 0], 14);
+        let mut proposed = proposals(&rt, alloc, &programme);
+        for budget in [14, 8, 0] {
+            judge_all(&rt, alloc, &programme, PLAIN, budget, &mut proposed);
+        }
+        let tables = [1, 1, 2, 2, 2, 0];
+        judge_all(&rt, alloc, &programme, tables, 14, &mut proposed);
     }
 }
 
 /// With 1 to 70 nodes, and many.
-fn judge_nodes(rt: &impl Abort, alloc: Global, problem: &Problem<'_>, best: u128)
+fn judge_nodes(
+    rt: &impl Abort,
+    alloc: Global,
+    problem: &Problem<'_>,
+    best: u128,
+    proposed: &mut Proposals,
+)
     requires budget { problem.now.budget ≤ 1000 }
 {
     for nodes in 1..71 {
-        judge(rt, alloc, problem, nodes, best);
+        judge(rt, alloc, problem, nodes, best, proposed);
     }
-    judge(rt, alloc, problem, 20000, best);
+    judge(rt, alloc, problem, 20000, best, proposed);
 }
 
 /// So where candidates are clustered on these tables, at each budget at which the least cost falls. All have 20 pages.
 fn judge_budgets(rt: &impl Abort, alloc: Global, programme: &Programme, tables: [u16; 6]) {
+    let mut proposed = proposals(rt, alloc, programme);
     let mut before = u128::MAX;
     for budget in 0..21 {
         let problem = Problem {
@@ -106,7 +168,7 @@ fn judge_budgets(rt: &impl Abort, alloc: Global, programme: &Programme, tables: 
         };
         let best = least(&problem);
         if best < before {
-            judge_nodes(rt, alloc, &problem, best);
+            judge_nodes(rt, alloc, &problem, best, &mut proposed);
         }
         before = best;
     }
@@ -141,8 +203,9 @@ fn costs(
         tables,
         budget,
     };
-    let answer = searched(rt, alloc, &problem, 20000);
-    assert!(rt; answer.cost == cost);
+    let mut proposed = proposals(rt, alloc, programme);
+    let answer = searched(rt, alloc, &problem, 20000, &mut proposed);
+    assert_eq!(rt; answer.cost, cost);
     assert!(rt; !is_below(answer.bound, cost));
 }
 
