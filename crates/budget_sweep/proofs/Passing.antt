@@ -1,5 +1,5 @@
 -- One point more, and one bound more.
-use Rattle.std.proofs.Common.{◌≡◌, ◌∙◌, inl, inr, ℕ, zero, suc, ◌+◌, ◌-◌, ◌<◌, ◌≤◌, List, [], ◌∷◌, ◌++◌, length, map, refl, sym, ap, subst, arith}
+use Rattle.std.proofs.Common.{◌≡◌, ◌∙◌, inl, inr, ℕ, zero, suc, ◌+◌, ◌-◌, ◌*◌, ◌<◌, ◌≤◌, List, [], ◌∷◌, ◌++◌, length, map, refl, sym, ap, subst, arith}
 use Rattle.std.specs.Prelude.{Some, slice_get, slice_index_or, slice_set, min, ℤ, ◌≤ℤ◌}
 use Rattle.std.specs.Int.{int_max}
 use Rattle.std.proofs.lemmas.Bool.{cases_lt}
@@ -14,7 +14,7 @@ use Rattle.bip_model.specs.Best.{IsBest}
 use Rattle.bip_model.specs.Proves.{free_node}
 use Rattle.bip_model.proofs.Lists.{front-of, back-of, either-of}
 use Rattle.budget_sweep.specs.Curves.{IsLeastCost, IsGreatestBound, IsCurveForEach, answers_of}
-use Rattle.budget_sweep.specs.inner.Passes.{IsAnswered, AreAnswered, AreLeast, AreGreatest, with_low, bare}
+use Rattle.budget_sweep.specs.inner.Passes.{IsFreeBest, AreBackward, IsAnswered, AreAnswered, AreLeast, AreGreatest, with_low, bare}
 use Rattle.budget_sweep.proofs.Points.{answer-of, set-here, set-behind, bare-set, same-answers, same-at}
 
 answer-count : (points : List Point) → length (answers_of points) ≡ length points
@@ -24,6 +24,30 @@ answer-count points = length-map points (λ point. point.answer)
 behind-one : {X : Type 0} (x y : X) (number : ℕ) → slice_get (x ∷ []) number ≡ Some y → (number ≡ 0) × (x ≡ y)
 behind-one x y zero found = (refl, same_Some x y found)
 behind-one x y (suc number) found = absurd (cc)
+
+-- ## Answers, from the last budget to the first
+
+pub backward-pushed : (programme : Programme) (shapes : List IndexShape) (first step count nodes : ℕ) (answers : List Answer) (answer : Answer) → AreBackward programme shapes first step count nodes answers →
+    IsFreeBest programme shapes (first + step * (count - 1 - length answers)) nodes answer → AreBackward programme shapes first step count nodes (answers ++ answer ∷ [])
+backward-pushed programme shapes first step count nodes answers answer best own k other found =
+    elim (either-of answers (answer ∷ []) k other found) [
+      | inl front ↦ best k other front
+      | inr back ↦
+          let one = behind-one answer other back.number back.found in
+          let place : length answers ≡ k = omega (arith, back.place, one.0) in
+          subst (λ (i : ℕ). IsFreeBest programme shapes (first + step * (count - 1 - i)) nodes other) place
+          (subst (IsFreeBest programme shapes (first + step * (count - 1 - length answers)) nodes) one.1 own)
+    ]
+
+pub backward-front : (programme : Programme) (shapes : List IndexShape) (first step count nodes : ℕ) (answers : List Answer) (last : Answer) →
+    AreBackward programme shapes first step count nodes (answers ++ last ∷ []) → AreBackward programme shapes first step count nodes answers
+backward-front programme shapes first step count nodes answers last best k other found = best k other (front-of answers (last ∷ []) k other found)
+
+pub backward-last : (programme : Programme) (shapes : List IndexShape) (first step count nodes : ℕ) (answers : List Answer) (last : Answer) →
+    AreBackward programme shapes first step count nodes (answers ++ last ∷ []) → IsFreeBest programme shapes (first + step * (count - 1 - length answers)) nodes last
+backward-last programme shapes first step count nodes answers last best =
+    let place : length answers + 0 ≡ length answers = omega arith in
+    best (length answers) last (subst (λ (k : ℕ). slice_get (answers ++ last ∷ []) k ≡ Some last) place (back-of answers (last ∷ []) 0 last refl))
 
 -- ## Forward
 

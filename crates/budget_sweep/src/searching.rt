@@ -5,16 +5,17 @@ ghost use Rattle.budget_sweep.specs.inner.Passes as passes;
 
 use adv_base::{IndexShape, NoMemory};
 use bip_model::{Answer, Fix, Programme};
-use branch_bound::{Room, search};
+use branch_bound::{Proposals, Room, search};
 use std::alloc::Global;
 
-/// A best answer for a budget.
+/// A best answer for a budget. The search goes on with what the one before found.
 pub(crate) fn searched(
     alloc: Global,
     programme: &Programme,
     shapes: &[IndexShape],
     budget: u64,
     nodes: u32,
+    proposed: &mut Proposals,
 ) -> Result<Answer, NoMemory>
     requires budget { budget ≤ MOST_ROWS }
     requires some_node { 1 ≤ nodes }
@@ -23,5 +24,5 @@ pub(crate) fn searched(
 {
     let root = Fix::free();
     let room = Room::new(alloc, programme, nodes)?;
-    Ok(search(programme, shapes, &root, budget, nodes, room))
+    Ok(search(programme, shapes, &root, budget, nodes, room, proposed))
 }

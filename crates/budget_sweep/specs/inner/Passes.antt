@@ -1,5 +1,5 @@
--- How the points of a sweep stand while it runs: forward over the budgets, then back.
-use Rattle.std.specs.Prelude.{◌≡◌, ℕ, ◌+◌, ◌*◌, ◌≤◌, List, [], ◌∷◌, ◌++◌, length, Some, slice_get, ℤ, pos}
+-- How a sweep stands while it runs: the answers from the last budget to the first; then the points, forward and back.
+use Rattle.std.specs.Prelude.{◌≡◌, ℕ, ◌+◌, ◌-◌, ◌*◌, ◌≤◌, List, [], ◌∷◌, ◌++◌, length, Some, slice_get, ℤ, pos}
 use Rattle.adv_base.specs.declared.catalogue.index.IndexShape.{IndexShape}
 use Rattle.adv_base.specs.Settings.{TheSetting, KeepsLimits}
 use Rattle.bip_model.specs.declared.answer.Answer.{Answer}
@@ -15,6 +15,11 @@ use Rattle.budget_sweep.specs.Curves.{IsLeastCost, IsGreatestBound, answers_of}
 abbrev pub IsFreeBest : Programme → List IndexShape → ℕ → ℕ → Answer → Type 0
 IsFreeBest programme shapes budget nodes answer =
     (setting : TheSetting) → KeepsLimits setting → StandsFor setting programme → setting.shapes ≡ shapes → IsBest setting budget nodes free_node answer
+
+-- such answers, number 0 that of the last of the budgets
+abbrev pub AreBackward : Programme → List IndexShape → ℕ → ℕ → ℕ → ℕ → List Answer → Type 0
+AreBackward programme shapes first step count nodes answers =
+    (k : ℕ) (answer : Answer) → slice_get answers k ≡ Some answer → IsFreeBest programme shapes (first + step * (count - 1 - k)) nodes answer
 
 -- a point has its budget, and such an answer
 pub record IsAnswered (programme : Programme) (shapes : List IndexShape) (first step nodes i : ℕ) (point : Point) : Type 0 where
