@@ -40,6 +40,21 @@ pub(crate) fn catalogue_of(rt: &impl Abort, alloc: Global, text: &[u8]) -> Catal
     }
 }
 
+/// The catalogue of a table of 32 columns.
+pub(crate) fn wide_catalogue(rt: &impl Abort, alloc: Global) -> Catalogue {
+    let mut text = String::new(alloc);
+    text.push_str("version = 1\n[[table]]\nname = \"w\"\nrows = 100000\npages = 2000\ncolumn = [")
+        .expect(rt, "memory");
+    for column in 0..32 {
+        let one = format!(in alloc;
+            "{{ name = \"c{column}\", kind = \"int\", width = 4, distinct = 1000 }}, "
+        ).expect(rt, "memory");
+        text.push_str(one.as_str()).expect(rt, "memory");
+    }
+    text.push_str("]\n").expect(rt, "memory");
+    catalogue_of(rt, alloc, text.as_bytes())
+}
+
 /// The statements of a workload.
 pub(crate) fn statements_of(
     rt: &impl Abort,

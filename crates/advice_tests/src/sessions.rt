@@ -4,9 +4,9 @@ ghost use Rattle.adv_base.specs.Named.{NamesWork};
 
 mod texts;
 
-use crate::opened::{catalogue_of, proposed, statement_of, statements_of};
+use crate::opened::{catalogue_of, proposed, statement_of, statements_of, wide_catalogue};
 use crate::sessions::texts::{CAT, HUB, STAR, STATEMENTS};
-use adv_base::{Catalogue, List, Setting};
+use adv_base::{Catalogue, List, Setting, Statement};
 use bip_model::Programme;
 use candidates::Candidates;
 use retune::{RetuneFault, Session};
@@ -148,6 +148,63 @@ fn a_thousand_steps(rt: HostRuntime) {
             compare(&rt, alloc, &cat, &session);
         }
     }
+}
+
+/// A statement over the wide table, of columns that are drawn.
+fn wide_statement(rt: &impl Abort, alloc: Global, cat: &Catalogue, drawn: u64) -> Statement
+    ensures { NamesWork cat.now result.work }
+{
+    let [a, b, c, d] = [
+        drawn >> 20 & 31,
+        drawn >> 26 & 31,
+        drawn >> 32 & 31,
+        drawn >> 38 & 31,
+    ];
+    let text = format!(in alloc;
+        "SELECT c{a} FROM w WHERE c{b} = 1 AND c{c} > 5 ORDER BY c{d};"
+    ).expect(rt, "memory");
+    statement_of(rt, alloc, cat, text.as_str())
+}
+
+/// Adds a statement over the wide table, or removes one.
+fn take_wide(
+    rt: &impl Abort,
+    alloc: Global,
+    cat: &Catalogue,
+    session: &mut Session<'_>,
+    adds: bool,
+    drawn: u64,
+) -> Result<(), RetuneFault>
+    requires { session.old.cat ≡ cat.now }
+    ensures { session.new.cat ≡ cat.now }
+{
+    if adds {
+        session.add(wide_statement(rt, alloc, cat, drawn))
+    } else {
+        session.remove(((drawn >> 40) % 50) as u32 + 1)
+    }
+}
+
+#[test]
+fn more_proposals_than_candidates(rt: HostRuntime) {
+    let alloc = rt.alloc();
+    let cat = wide_catalogue(&rt, alloc);
+    let mut session = Session::new(alloc, &cat, List::new(alloc))
+        .ok()
+        .expect(&rt, "a session");
+    let mut drawn = 3;
+    for turn in 0..126 {
+        drawn = next(drawn);
+        let adds = turn < 112 || turn % 3 == 0;
+        assert_eq!(rt;
+            take_wide(&rt, alloc, &cat, &mut session, adds, drawn),
+            Ok(())
+        );
+        if turn % 42 == 41 {
+            compare(&rt, alloc, &cat, &session);
+        }
+    }
+    assert!(rt; session.candidates().left_over > 0);
 }
 
 #[test]

@@ -153,12 +153,16 @@ existing-fits cat =
     (λ t table within. All-map Fits (λ (index : Index). plain_form index.shape) (get_or cat.tables t table).indexes
     (λ i index below. let shape = (get_or (get_or cat.tables t table).indexes i index).shape in record { some = shape.limits.some; few = shape.limits.few }))
 
+-- what is known once they are is what exists
+pub base-agrees : (cat : Catalogue) (base : List Proposal) → base ≡ fold (with_proposal []) [] (existing_indexes cat)
+    → (q : Proposal) → list_any (is_same q) base ≡ list_any (is_same q) (existing_indexes cat)
+base-agrees cat base first q = ap (list_any (is_same q)) first ∙ any-added q [] (existing_indexes cat) (existing-fits cat)
+
 -- behind the indexes that exist stand the fresh proposals
 pub known-fresh : (cat : Catalogue) (statements : List Statement) (base known : List Proposal) → base ≡ fold (with_proposal []) [] (existing_indexes cat)
     → known ≡ fold (with_proposal []) base (proposals cat statements) → known ≡ base ++ fresh_proposals cat statements
 unfolding fresh_proposals
 known-fresh cat statements base known first then =
-    let agrees : (q : Proposal) → list_any (is_same q) base ≡ list_any (is_same q) (existing_indexes cat)
-    = λ q. ap (list_any (is_same q)) first ∙ any-added q [] (existing_indexes cat) (existing-fits cat) in
+    let agrees = base-agrees cat base first in
     then ∙ ap (λ (b : List Proposal). fold (with_proposal []) b (proposals cat statements)) (sym (append-nil base))
     ∙ known-behind (existing_indexes cat) base [] (proposals cat statements) agrees

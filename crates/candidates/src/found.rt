@@ -1,5 +1,5 @@
 //! The candidates of a workload.
-ghost use Rattle.std.specs.Prelude.{◌≡◌, ◌<◌, ◌≤◌, ◌-◌, ◌+◌, [], IfOk, OnOk, map, take, drop, length, All};
+ghost use Rattle.std.specs.Prelude.{◌≡◌, ◌<◌, ◌≤◌, ◌-◌, ◌+◌, [], IfOk, OnOk, map, take, drop, fold, length, All};
 ghost use Rattle.std.specs.List.{flat_map};
 ghost use Rattle.adv_base.specs.declared.limits.TheConstants.{MOST_CANDIDATES};
 ghost use Rattle.adv_base.specs.Limits.Numbers.{KeyLimits};
@@ -91,7 +91,7 @@ fn shape_of(alloc: Global, proposal: &Proposal) -> Result<IndexShape, AllocError
 }
 
 /// The shapes of known proposals, from one place up to another.
-fn shapes_between(
+pub(crate) fn shapes_between(
     alloc: Global,
     known: &IndexSet<Proposal>,
     from: usize,
@@ -111,13 +111,14 @@ fn shapes_between(
 }
 
 /// The indexes that exist, how many there are, and behind them what the workload proposes.
-fn known_proposals(
+pub(crate) fn known_proposals(
     alloc: Global,
     cat: &Catalogue,
     statements: &[Statement],
 ) -> Result<(IndexSet<Proposal>, usize), AllocError>
     ensures fresh { IfOk result (λ r. drop r.1 (held.as_proposals r.0.keys) ≡ proposed.fresh_proposals cat.now statements.now) }
     ensures within { IfOk result (λ r. r.1 ≤ length r.0.keys) }
+    ensures existing { IfOk result (λ r. take r.1 (held.as_proposals r.0.keys) ≡ fold (proposed.with_proposal []) [] (proposed.existing_indexes cat.now)) }
 {
     let mut known: IndexSet<Proposal> = IndexSet::new(alloc);
     add_existing(alloc, &mut known, cat)?;

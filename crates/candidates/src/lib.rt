@@ -5,7 +5,8 @@
 //! joined, grouped or ordered by and needed, `specs/Proposals.antt` which key lists they make and whether each is proposed
 //! clustered too, and `specs/Candidates.antt` which proposals are left out. Whether a candidate helps is left to others.
 //!
-//! `Candidates` has them, as `adv_base`'s `IndexShape`s, and that number.
+//! `Candidates` has them, as `adv_base`'s `IndexShape`s, and that number. `Proposed` keeps what was proposed, so that one
+//! more statement only adds its own.
 //!
 //! ```rust
 //! // `SELECT b FROM t WHERE a = 1`, where a and b are columns 0 and 1 of t, which has no index.
@@ -22,6 +23,8 @@ mod columns;
 mod found;
 mod known;
 mod proposals;
+mod proposed;
 
 pub use answer::Candidates;
 pub use found::candidates;
+pub use proposed::Proposed;

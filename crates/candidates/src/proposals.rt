@@ -158,7 +158,7 @@ fn add_block(
 
 /// Adds what a statement proposes.
 #[tactic(auto, unfolding(crate::specs::Proposals::work_proposals))]
-fn add_work(
+pub(crate) fn add_work(
     alloc: Global,
     known: &mut IndexSet<Proposal>,
     cat: &Catalogue,

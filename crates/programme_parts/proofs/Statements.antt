@@ -47,7 +47,7 @@ blocked-few q (statement ∷ statements) =
     omega (arith, blocked-in-few q statement.weight (block_of statement.work) (blocked_from (suc q) statements), blocked-few (suc q) statements)
 
 -- the statements up to a number with the next one
-next-blocked : (statements : List Statement) (at : ℕ) (statement : Statement) → slice_get statements at ≡ Some statement →
+pub next-blocked : (statements : List Statement) (at : ℕ) (statement : Statement) → slice_get statements at ≡ Some statement →
     blocked_from 1 (take (at + 1) statements) ≡ blocked_from 1 (take at statements) ++ blocked_in (at + 1) statement.weight (block_of statement.work) []
 next-blocked statements at statement found =
     let within : at < length statements = slice_get_within statements at statement found in
@@ -60,6 +60,10 @@ next-blocked statements at statement found =
 pub named-block : (setting : TheSetting) (at : ℕ) (statement : Statement) (block : Block) → KeepsLimits setting → slice_get setting.statements at ≡ Some statement → block_of statement.work ≡ Some block → NamesBlock setting.cat block
 named-block setting at statement block limits found is =
     named-of setting.cat statement.work block (All-some (λ (s : Statement). NamesWork setting.cat s.work) setting.statements at statement limits.statements_named found) is
+
+-- and what a statement among them names
+pub named-statement : (setting : TheSetting) (at : ℕ) (statement : Statement) → KeepsLimits setting → slice_get setting.statements at ≡ Some statement → NamesWork setting.cat statement.work
+named-statement setting at statement limits found = All-some (λ (s : Statement). NamesWork setting.cat s.work) setting.statements at statement limits.statements_named found
 
 -- ## Parts
 

@@ -21,7 +21,7 @@ mod slot_reader;
 mod slots;
 mod whole;
 
-pub use caches::block_cache;
-pub use laws::blocks_have_one_count;
-pub use parts::{part, push_part};
+pub use caches::{block_cache, statement_cache};
+pub use laws::{blocks_have_one_count, programmes_are_one};
+pub use parts::{part, push_statement};
 pub use whole::programme_with_parts;

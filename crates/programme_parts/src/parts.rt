@@ -1,5 +1,5 @@
 //! The part of one statement.
-ghost use Rattle.std.specs.Prelude.{◌≡◌, ◌+◌, ℕ, ◌<◌, ◌≤◌, IfOk, OnOk, Some, length, slice_get};
+ghost use Rattle.std.specs.Prelude.{◌≡◌, ◌+◌, ℕ, ◌<◌, ◌≤◌, All, IfOk, OnOk, Some, length, slice_get};
 ghost use Rattle.adv_base.specs.Named.{NamesBlock};
 ghost use Rattle.adv_base.specs.Settings.{the_setting};
 ghost use Rattle.adv_base.specs.declared.limits.TheConstants.{MOST_STATEMENTS, MOST_WEIGHT};
@@ -7,8 +7,8 @@ ghost use Rattle.bip_model.specs.Limits.Grants.{MOST_ORDERS};
 ghost use Rattle.bip_model.specs.StandsFor.{IsPart};
 ghost use Rattle.inum_cache.specs.Caches.{orders_of};
 ghost use Rattle.plan_model.specs.Totals.{block_of};
-ghost use Rattle.programme_parts.specs.Caches.{IsCached};
-ghost use Rattle.programme_parts.specs.Kept.{HasKept};
+ghost use Rattle.programme_parts.specs.Caches.{IsCached, IsCacheFor};
+ghost use Rattle.programme_parts.specs.Kept.{HasAllPlaces, HasKept};
 ghost use Rattle.programme_parts.specs.Parts.{ArePartsBelow, blocked};
 ghost use Rattle.programme_parts.specs.inner.Every.{AreEvery};
 ghost use Rattle.programme_parts.specs.inner.Prices.{ArePriced};
@@ -60,6 +60,22 @@ fn copied_templates(alloc: Global, cache: &Cache) -> Result<List<Template>, NoMe
     })
 }
 
+/// A template has a place for each slot that there may be.
+fn has_all_places(template: &Template)
+    ensures { HasAllPlaces template.now }
+{
+    let _needs = template.needs;
+}
+
+/// So has each of some.
+fn have_all_places(templates: &[Template])
+    ensures { All HasAllPlaces templates.now }
+{
+    for template in templates {
+        has_all_places(template);
+    }
+}
+
 /// The part of a statement that has a block, by its number, from 1, its weight and the block's cache.
 pub fn part(
     alloc: Global,
@@ -81,6 +97,7 @@ pub fn part(
     let offers = every_offer(alloc, setting.cat, block, setting.shapes)?;
     let slots = slot_parts(alloc, setting, block, cache, &offers)?;
     let templates = copied_templates(alloc, cache)?;
+    have_all_places(templates.as_slice());
     Ok(Part {
         statement: number,
         weight,
@@ -90,7 +107,7 @@ pub fn part(
 }
 
 /// Puts the part of the next statement at the end, by the cache of its block. `at` is its place, from 0.
-pub fn push_part(
+fn push_part(
     alloc: Global,
     setting: &Setting<'_>,
     at: usize,
@@ -115,4 +132,27 @@ pub fn push_part(
     )?;
     parts.push(own)?;
     Ok(())
+}
+
+/// Puts the part of the next statement at the end, by its cache, where it has a block. `at` is its place, from 0.
+pub fn push_statement(
+    alloc: Global,
+    setting: &Setting<'_>,
+    at: usize,
+    statement: &Statement,
+    cache: &Option<Cache>,
+    parts: &mut Vec<Part>,
+) -> Result<(), NoMemory>
+    requires found { slice_get setting.now.statements.now at ≡ Some statement.now }
+    requires cached { IsCacheFor setting.now.cat.now statement.now cache.now }
+    requires before { ArePartsBelow (the_setting setting.now) at parts.old.items }
+    ensures { OnOk result (ArePartsBelow (the_setting setting.now) (at + 1) parts.new.items) }
+{
+    match statement.work.block() {
+        None => Ok(()),
+        Some(block) => match cache {
+            None => Ok(()),
+            Some(cache) => push_part(alloc, setting, at, statement, block, cache, parts),
+        },
+    }
 }

@@ -275,20 +275,20 @@ IsAdvice None advice = ⊥
 IsAdvice (Some setting) advice = IsBoundedBy advice.answer.cost advice.answer.bound
 
 -- advice that has a bound of at most its cost, over candidates that name what the catalogue has
-pub record IsTuned (cat : TheCatalogue) (tuned : Tuned) : Type 0 where
+pub record FitsCatalogue (cat : TheCatalogue) (tuned : Tuned) : Type 0 where
   pub named : All (NamesShape cat) tuned.shapes
   pub few : length tuned.shapes ≤ MOST_CANDIDATES
   pub bounded : IsBoundedBy tuned.advice.answer.cost tuned.advice.answer.bound
 
 -- so is each of them, over the catalogue of their setting
-abbrev pub AreTuned : Option TheSetting → List Tuned → Type 0
-AreTuned None tuned = ⊥
-AreTuned (Some setting) tuned = All (IsTuned setting.cat) tuned
+abbrev pub FitCatalogueOf : Option TheSetting → List Tuned → Type 0
+FitCatalogueOf None tuned = ⊥
+FitCatalogueOf (Some setting) tuned = All (FitsCatalogue setting.cat) tuned
 
 -- Prices have a cost for each statement of their setting, candidates are of its catalogue, and each advice has a bound of at
 -- most its cost.
 abbrev pub FitsSetting : Option TheSetting → Done → Type 0
 FitsSetting setting (Priced prices) = length prices.costs ≡ length (statements_in setting)
 FitsSetting setting (Listed found) = AreNamedIn setting found
-FitsSetting setting (Retuned tuned) = AreTuned setting tuned
+FitsSetting setting (Retuned tuned) = FitCatalogueOf setting tuned
 FitsSetting setting done = EachAdvice (IsAdvice setting) (advices done)

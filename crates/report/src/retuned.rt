@@ -2,7 +2,7 @@
 ghost use Rattle.std.specs.Prelude.{◌≡◌, ◌++◌, OnOk, All, option_map};
 ghost use Rattle.adv_base.specs.Settings.{the_setting};
 ghost use Rattle.report.specs.Retuned.{tuned_text, tuned_texts, retuned_text};
-ghost use Rattle.report.specs.Texts.{IsTuned, AreTuned};
+ghost use Rattle.report.specs.Texts.{FitsCatalogue, FitCatalogueOf};
 
 use crate::Tuned;
 use crate::advised::{push_advice, push_line_of};
@@ -18,7 +18,7 @@ fn push_tuned(
     number: u128,
     tuned: &Tuned,
 ) -> Result<(), AllocError>
-    requires { IsTuned cat.now tuned.now }
+    requires { FitsCatalogue cat.now tuned.now }
     ensures { OnOk result (out.new.items ≡ out.old.items ++ tuned_text cat.now number tuned.now) }
 {
     push_line_of(alloc, out, b"advice ", number)?;
@@ -32,7 +32,7 @@ fn push_all(
     cat: &Catalogue,
     tuned: &[Tuned],
 ) -> Result<(), AllocError>
-    requires { All (IsTuned cat.now) tuned.now }
+    requires { All (FitsCatalogue cat.now) tuned.now }
     ensures { OnOk result (out.new.items ≡ out.old.items ++ tuned_texts cat.now 1 tuned.now) }
 {
     'tuned: for at in 0..tuned.len() {
@@ -48,7 +48,7 @@ pub(crate) fn push_retuned(
     setting: Option<&Setting<'_>>,
     tuned: &[Tuned],
 ) -> Result<(), AllocError>
-    requires { AreTuned (option_map (λ s. the_setting s.now) setting) tuned.now }
+    requires { FitCatalogueOf (option_map (λ s. the_setting s.now) setting) tuned.now }
     ensures { OnOk result (out.new.items ≡ out.old.items ++ retuned_text (option_map (λ s. the_setting s.now) setting.entry) tuned.now) }
 {
     match setting {

@@ -12,7 +12,8 @@ use Rattle.programme_parts.proofs.Reading.{take-found}
 use Rattle.retune.specs.declared.fault.RetuneFault.{RetuneFault}
 use Rattle.retune.specs.declared.fault.RetuneFault.TheVariants.{Memory, NoStatement, TooManyStatements, TooManySlots, TooManyCombinations}
 use Rattle.retune.specs.Steps.{IsNewFault}
-use Rattle.retune.specs.inner.Caches.{IsCacheFor, AreCached, AreCachesBelow, IsCacheFault}
+use Rattle.programme_parts.specs.Caches.{IsCacheFor, AreCached}
+use Rattle.retune.specs.inner.Caches.{AreCachesBelow, IsCacheFault}
 
 pub caches-none : (cat : Catalogue) (statements : List Statement) → AreCachesBelow cat statements 0 []
 caches-none cat statements = record { caches_are = tt; few = All-nil (HasFew cat) }

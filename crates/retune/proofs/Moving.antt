@@ -45,6 +45,15 @@ removed-is xs at s =
     ∙ ap (λ t. t ++ drop (suc (length s.front)) (s.front ++ s.item ∷ s.back)) (take-append_seam s.front (s.item ∷ s.back))
     ∙ ap (λ t. s.front ++ t) (past s.front s.back s.item)
 
+-- the list without the item, with that at its place again
+pub removed-back : {A : Type 0} (xs : List A) (at : ℕ) (s : Split xs at) → take at (remove xs at) ++ s.item ∷ drop at (remove xs at) ≡ xs
+removed-back xs at s =
+    ap (λ t. take at t ++ s.item ∷ drop at t) (removed-is xs at s)
+    ∙ ap (λ n. take n (s.front ++ s.back) ++ s.item ∷ drop n (s.front ++ s.back)) s.place
+    ∙ ap (λ t. t ++ s.item ∷ drop (length s.front) (s.front ++ s.back)) (take-append_seam s.front s.back)
+    ∙ ap (λ t. s.front ++ s.item ∷ t) (drop-append_seam s.front s.back)
+    ∙ sym s.is
+
 -- all but the end are the list without the item
 pub front-of-moved : {A : Type 0} (xs : List A) (at count : ℕ) → at < length xs → count + 1 ≡ length xs → take count (at_end xs at) ≡ remove xs at
 front-of-moved xs at count h counted =

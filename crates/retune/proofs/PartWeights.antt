@@ -21,7 +21,7 @@ use Rattle.bip_model.specs.Limits.Programmes.{GrantsWithin}
 use Rattle.bip_model.specs.StandsFor.{AreEach, Blocked, IsGrant, IsSlotPart, IsPart, SomeAsksNothing, blocked_in, blocked_from, candidates_on}
 use Rattle.bip_model.proofs.Lists.{each-map}
 use Rattle.inum_cache.specs.Templates.{AreInOrder}
-use Rattle.programme_parts.specs.Kept.{AsksNothingPast, HasKept}
+use Rattle.programme_parts.specs.Kept.{AsksNothingPast, HasAllPlaces, HasKept}
 use Rattle.programme_parts.specs.Parts.{blocked}
 use Rattle.retune.specs.inner.Weights.{IsPartBy, RiseFrom, with_statements}
 use Rattle.retune.proofs.Reweighed.{ByWeight}
@@ -152,6 +152,7 @@ kept-by cat number weight b w old new has by =
       kept = subst (AreKept has.task) (sym by.templates_are) has.kept;
       in_order = subst AreInOrder (sym by.templates_are) has.in_order;
       past = subst (λ (templates : List Template). All (AsksNothingPast has.task.slots) templates) (sym by.templates_are) has.past;
+      places = subst (λ (templates : List Template). All HasAllPlaces templates) (sym by.templates_are) has.places;
     }
 
 -- what a part keeps where its statement gets a weight

@@ -16,11 +16,12 @@ use Rattle.adv_base.specs.Named.{NamesWork}
 use Rattle.bip_model.specs.StandsFor.{AreEach}
 use Rattle.bip_model.proofs.Lists.{each-length}
 use Rattle.candidates.specs.Candidates.{AreCandidates, existing_indexes, fresh_proposals, with_proposal}
+use Rattle.candidates.specs.Growing.{TheProposed, IsProposed}
 use Rattle.candidates.specs.Proposals.{Proposal, proposals, work_proposals}
 use Rattle.plan_model.specs.Totals.{block_of}
 use Rattle.inum_cache.specs.declared.cache.Cache.{Cache}
 use Rattle.retune.specs.Steps.{AreReweighed, slots_in_all}
-use Rattle.retune.specs.inner.Caches.{HoldsCache, AreCached}
+use Rattle.programme_parts.specs.Caches.{HoldsCache, AreCached}
 use Rattle.retune.proofs.Steps.{slots-cons}
 
 -- ## The same but for weights
@@ -109,6 +110,9 @@ alike-candidates cat xs ys shapes left_over h are =
       not_unique = are.not_unique;
       rest = are.rest ∙ ap (λ (proposed : List Proposal). length proposed - MOST_CANDIDATES) same;
     }
+
+pub alike-proposed : (cat : Catalogue) (xs ys : List Statement) (proposed : TheProposed) → Alike xs ys → IsProposed cat xs proposed → IsProposed cat ys proposed
+alike-proposed cat xs ys proposed h are = record { existing_are = are.existing_are; fresh_are = are.fresh_are ∙ same-fresh cat xs ys h }
 
 -- ## Weights
 

@@ -14,7 +14,7 @@ use Rattle.bip_model.specs.StandsFor.{AreEach}
 use Rattle.bip_model.proofs.Lists.{each-more}
 use Rattle.inum_cache.specs.declared.cache.Cache.{Cache}
 use Rattle.retune.specs.Steps.{slots_in_all, HasRoom, HasSlots}
-use Rattle.retune.specs.inner.Caches.{IsCacheFor, AreCached}
+use Rattle.programme_parts.specs.Caches.{IsCacheFor, AreCached}
 use Rattle.retune.proofs.Moving.{split, removed-is}
 
 -- ## Limits

@@ -1,43 +1,19 @@
 //! The caches of plans of statements.
-ghost use Rattle.std.specs.Prelude.{◌≡◌, ◌+◌, ◌≤◌, All, IfOk, IfErr, OnOk, Some, length};
+ghost use Rattle.std.specs.Prelude.{◌+◌, ◌≤◌, All, IfOk, IfErr, OnOk, length};
 ghost use Rattle.adv_base.specs.Named.{NamesWork};
 ghost use Rattle.adv_base.specs.declared.limits.TheConstants.{MOST_STATEMENTS};
-ghost use Rattle.plan_model.specs.Totals.{block_of};
-ghost use Rattle.programme_parts.specs.Caches.{IsCached};
+ghost use Rattle.programme_parts.specs.Caches.{AreCached, IsCacheFor};
 ghost use Rattle.programme_parts.specs.Combinations.{AreFew, HasFew};
 ghost use Rattle.retune.specs.Steps.{IsNewFault};
-ghost use Rattle.retune.specs.inner.Caches.{AreCached, AreCachesBelow, IsCacheFor, IsCacheFault};
+ghost use Rattle.retune.specs.inner.Caches.{AreCachesBelow, IsCacheFault};
 
 use crate::fault::RetuneFault;
-use adv_base::{Block, Catalogue, List, Statement};
+use adv_base::{Catalogue, List, Statement};
 use inum_cache::{Cache, CacheFault};
-use programme_parts::block_cache;
+use programme_parts::statement_cache;
 use std::alloc::Global;
 
-/// The cache of the block of a statement. A fault names the statement by its number.
-fn cache_of(
-    alloc: Global,
-    cat: &Catalogue,
-    number: u32,
-    statement: &Statement,
-    block: &Block,
-) -> Result<Cache, RetuneFault>
-    requires named { NamesWork cat.now statement.now.work }
-    requires block_is { block_of statement.now.work ≡ Some block.now }
-    ensures cache { IfOk result (IsCached cat.now block.now) }
-    ensures few { IfOk result (λ _. HasFew cat.now statement.now) }
-    ensures fault { IfErr result (IsCacheFault cat.now statement.now number) }
-{
-    match block_cache(alloc, cat, block) {
-        Ok(cache) => Ok(cache),
-        Err(CacheFault::Memory) => Err(RetuneFault::Memory),
-        Err(CacheFault::TooManyCombinations(count)) => {
-            Err(RetuneFault::TooManyCombinations(number, count))
-        }
-    }
-}
-
-/// The cache of a statement, where it has a block.
+/// The cache of a statement, where it has a block. A fault names the statement by its number.
 pub(crate) fn cache_for(
     alloc: Global,
     cat: &Catalogue,
@@ -49,11 +25,11 @@ pub(crate) fn cache_for(
     ensures few { IfOk result (λ _. HasFew cat.now statement.now) }
     ensures fault { IfErr result (IsCacheFault cat.now statement.now number) }
 {
-    match statement.work.block() {
-        None => Ok(None),
-        Some(block) => {
-            let cache = cache_of(alloc, cat, number, statement, block)?;
-            Ok(Some(cache))
+    match statement_cache(alloc, cat, statement) {
+        Ok(cache) => Ok(cache),
+        Err(CacheFault::Memory) => Err(RetuneFault::Memory),
+        Err(CacheFault::TooManyCombinations(count)) => {
+            Err(RetuneFault::TooManyCombinations(number, count))
         }
     }
 }

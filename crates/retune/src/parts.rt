@@ -1,40 +1,17 @@
 //! The parts of a programme, by the caches that a session keeps.
-ghost use Rattle.std.specs.Prelude.{◌≡◌, ◌+◌, OnOk, IfOk, Some, length, slice_get};
+ghost use Rattle.std.specs.Prelude.{IfOk, length};
 ghost use Rattle.adv_base.specs.Settings.{the_setting};
 ghost use Rattle.programme_parts.specs.Parts.{ArePartsBelow};
-ghost use Rattle.retune.specs.inner.Caches.{AreCached, IsCacheFor};
+ghost use Rattle.programme_parts.specs.Caches.{AreCached};
 
-use adv_base::{List, NoMemory, Setting, Statement};
+use adv_base::{List, NoMemory, Setting};
 use bip_model::Part;
 use inum_cache::Cache;
-use programme_parts::push_part;
+use programme_parts::push_statement;
 use std::alloc::Global;
 
-/// Puts the part of the next statement at the end, where it has a block. `at` is its place, from 0.
-fn push_next(
-    alloc: Global,
-    setting: &Setting<'_>,
-    at: usize,
-    statement: &Statement,
-    cache: &Option<Cache>,
-    parts: &mut Vec<Part>,
-) -> Result<(), NoMemory>
-    requires found { slice_get setting.now.statements.now at ≡ Some statement.now }
-    requires cached { IsCacheFor setting.now.cat.now statement.now cache.now }
-    requires before { ArePartsBelow (the_setting setting.now) at parts.old.items }
-    ensures { OnOk result (ArePartsBelow (the_setting setting.now) (at + 1) parts.new.items) }
-{
-    match statement.work.block() {
-        None => Ok(()),
-        Some(block) => match cache {
-            None => Ok(()),
-            Some(cache) => push_part(alloc, setting, at, statement, block, cache, parts),
-        },
-    }
-}
-
 /// The parts of the statements that have a block, by their caches.
-pub(crate) fn parts_of(
+pub(crate) fn parts_by(
     alloc: Global,
     setting: &Setting<'_>,
     caches: &[Option<Cache>],
@@ -44,7 +21,7 @@ pub(crate) fn parts_of(
 {
     let mut parts = Vec::new(alloc);
     for at in 0..setting.statements.len() {
-        push_next(
+        push_statement(
             alloc,
             setting,
             at,

@@ -2,37 +2,41 @@
 use crate::caches::{cache_for, caches_of};
 use crate::fault::RetuneFault;
 use crate::lists::{from_end, grow, place, set_weight, shrink, slots_in, slots_of, to_end};
-use crate::programme::tuned;
+use crate::narrowing::{Removed, narrow};
+use crate::programme::made;
 use crate::weights::reweigh;
+use crate::widening::widen;
 use adv_base::limits::{MOST_SLOTS_IN_ALL, MOST_STATEMENTS};
 use adv_base::{Catalogue, List, Statement};
 use bip_model::Programme;
-use candidates::Candidates;
+use candidates::{Candidates, Proposed};
 use inum_cache::Cache;
 use std::alloc::Global;
 use std::marker::Model;
 
 /// A workload over a catalogue, with the candidates that its statements propose and the programme that stands for both.
-/// It keeps the cache of plans of each statement. Statements are numbered from 1.
+/// It keeps the cache of plans of each statement, and what they propose. Statements are numbered from 1.
 #[derive(Drop)]
 pub struct Session<'a> {
     alloc: Global,
     cat: &'a Catalogue,
     statements: Vec<Statement>,
     caches: Vec<Option<Cache>>,
+    proposed: Proposed,
     candidates: Candidates,
     programme: Programme,
 }
 
 impl<'a> Model for Session<'a> {
     ghost use Rattle.retune.specs.Sessions.{TheSession, the_session, IsTuned};
-    ghost use Rattle.retune.specs.inner.Caches.{AreCached};
+    ghost use Rattle.candidates.specs.Growing.{IsProposed};
+    ghost use Rattle.programme_parts.specs.Caches.{AreCached};
 
     ghost Value = { TheSession };
 
     ghost view = { λ s. the_session s.cat.now s.statements.items s.candidates s.programme };
 
-    ghost invariant = { λ s. IsTuned (the_session s.cat.now s.statements.items s.candidates s.programme) × AreCached s.cat.now s.statements.items s.caches.items };
+    ghost invariant = { λ s. IsTuned (the_session s.cat.now s.statements.items s.candidates s.programme) × AreCached s.cat.now s.statements.items s.caches.items × IsProposed s.cat.now s.statements.items s.proposed };
 }
 
 impl<'a> Session<'a> {
@@ -41,7 +45,9 @@ impl<'a> Session<'a> {
     ghost use Rattle.adv_base.specs.Named.{NamesWork};
     ghost use Rattle.adv_base.specs.declared.limits.TheConstants.{MOST_WEIGHT};
     ghost use Rattle.programme_parts.specs.Combinations.{AreFew};
-    ghost use Rattle.retune.specs.Sessions.{IsTuned};
+    ghost use Rattle.bip_model.specs.declared.programme.Programme as declared;
+    ghost use Rattle.programme_parts.specs.Laws.{IsProgrammeOf};
+    ghost use Rattle.retune.specs.Sessions.{IsTuned, setting_of};
     ghost use Rattle.retune.specs.Steps as steps;
     ghost use Rattle.retune.specs.declared.fault.RetuneFault.TheVariants.{NoStatement};
 
@@ -60,12 +66,15 @@ impl<'a> Session<'a> {
     {
         let statements = statements.items;
         let caches = caches_of(alloc, cat, statements.as_slice())?.items;
-        let (candidates, programme) = tuned(alloc, cat, statements.as_slice(), caches.as_slice())?;
+        let list = statements.as_slice();
+        let proposed = Proposed::new(alloc, cat, list)?;
+        let (candidates, programme) = made(alloc, cat, list, caches.as_slice(), &proposed)?;
         Ok(Session {
             alloc,
             cat,
             statements,
             caches,
+            proposed,
             candidates,
             programme,
         })
@@ -101,20 +110,28 @@ impl<'a> Session<'a> {
         self.admits(&statement)?;
         let number = self.statements.len() as u32 + 1;
         let cache = cache_for(self.alloc, self.cat, number, &statement)?;
-        grow(&mut self.statements, &mut self.caches, statement, cache)?;
-        match tuned(
+        let before = self.proposed.len();
+        self.proposed.add(self.alloc, self.cat, &statement)?;
+        match grow(&mut self.statements, &mut self.caches, statement, cache) {
+            Ok(()) => {}
+            Err(_) => {
+                self.proposed.shorten(before);
+                return Err(RetuneFault::Memory);
+            }
+        }
+        match widen(
             self.alloc,
             self.cat,
             self.statements.as_slice(),
             self.caches.as_slice(),
+            &self.proposed,
+            &mut self.candidates,
+            &mut self.programme,
         ) {
-            Ok((candidates, programme)) => {
-                self.candidates = candidates;
-                self.programme = programme;
-                Ok(())
-            }
+            Ok(()) => Ok(()),
             Err(_) => {
                 shrink(&mut self.statements, &mut self.caches);
+                self.proposed.shorten(before);
                 Err(RetuneFault::Memory)
             }
         }
@@ -133,16 +150,21 @@ impl<'a> Session<'a> {
         to_end(&mut self.statements, at);
         to_end(&mut self.caches, at);
         let count = self.statements.len() - 1;
-        match tuned(
+        let statement = &self.statements[count];
+        let removed = Removed { statement, at };
+        match narrow(
             self.alloc,
             self.cat,
             &self.statements.as_slice()[..count],
             &self.caches.as_slice()[..count],
+            removed,
+            &self.candidates,
+            &mut self.programme,
         ) {
-            Ok((candidates, programme)) => {
+            Ok((proposed, candidates)) => {
                 shrink(&mut self.statements, &mut self.caches);
+                self.proposed = proposed;
                 self.candidates = candidates;
-                self.programme = programme;
                 Ok(())
             }
             Err(_) => {
@@ -196,9 +218,11 @@ impl<'a> Session<'a> {
         &self.candidates
     }
 
-    /// The programme that stands for the statements with the candidates.
+    /// The programme that stands for the statements with the candidates, and the only one with the templates that are kept of
+    /// each block: so the same, number for number, as one that is made from scratch.
     pub fn programme(&self) -> &Programme
         ensures programme { result.now ≡ self.now.programme }
+        ensures one { (other : declared.Programme) → IsProgrammeOf (setting_of self.now) other → other ≡ self.now.programme }
         ensures tuned { IsTuned self.now }
     {
         &self.programme

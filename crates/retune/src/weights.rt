@@ -44,7 +44,7 @@ fn reweigh_upkeep(setting: &Setting<'_>, at: usize, weight: u32, costs: &mut Lis
 }
 
 /// The place of the part of a statement of a number, if it has one. Parts stand by rising numbers.
-fn place_of(parts: &[Part], number: u16) -> Option<usize>
+pub(crate) fn place_of(parts: &[Part], number: u16) -> Option<usize>
     requires { RiseFrom 1 parts.now }
     ensures there { IfSome result (λ at. at < length parts.now) }
     ensures number { IfSome result (λ at. (d : part.Part) → (slice_index_or parts.now at d).statement ≡ number) }

@@ -3,44 +3,21 @@ ghost use Rattle.std.specs.Prelude.{◌≡◌, ◌+◌, IfErr, IfOk, OnOk, Some,
 ghost use Rattle.adv_base.specs.declared.setting.Config.{Config};
 ghost use Rattle.adv_base.specs.Settings.{the_setting};
 ghost use Rattle.bip_model.specs.StandsFor as stands;
+ghost use Rattle.bip_model.specs.declared.programme.Programme as declared;
 ghost use Rattle.bip_model.specs.Values as values;
 ghost use Rattle.plan_model.specs.Totals as totals;
-ghost use Rattle.programme_parts.specs.Caches.{IsCached};
-ghost use Rattle.programme_parts.specs.Combinations.{AreFew, HasFew};
+ghost use Rattle.programme_parts.specs.Combinations.{AreFew};
 ghost use Rattle.programme_parts.specs.Kept.{HasKept};
+ghost use Rattle.programme_parts.specs.Laws.{IsProgrammeOf};
 ghost use Rattle.programme_parts.specs.Parts.{ArePartsBelow};
 ghost use Rattle.tuning.specs.Refusals.{IsCause};
 
 use crate::fault::TuneFault;
-use adv_base::{Block, List, Setting, Statement};
+use adv_base::{List, Setting, Statement};
 use bip_model::{Part, Programme};
-use inum_cache::{Cache, CacheFault};
-use programme_parts::{block_cache, programme_with_parts, push_part};
+use inum_cache::CacheFault;
+use programme_parts::{programme_with_parts, push_statement, statement_cache};
 use std::alloc::Global;
-
-/// The cache of the block of a statement. `at` is its place, from 0.
-fn cache_of(
-    alloc: Global,
-    setting: &Setting<'_>,
-    at: usize,
-    statement: &Statement,
-    block: &Block,
-) -> Result<Cache, TuneFault>
-    requires found { slice_get setting.now.statements.now at ≡ Some statement.now }
-    requires block_is { totals.block_of statement.now.work ≡ Some block.now }
-    requires few_before { AreFew setting.now.cat.now (take at setting.now.statements.now) }
-    ensures cache { IfOk result (IsCached setting.now.cat.now block.now) }
-    ensures few { IfOk result (λ _. HasFew setting.now.cat.now statement.now) }
-    ensures fault { IfErr result (IsCause (the_setting setting.now)) }
-{
-    match block_cache(alloc, setting.cat, block) {
-        Ok(cache) => Ok(cache),
-        Err(CacheFault::Memory) => Err(TuneFault::Memory),
-        Err(CacheFault::TooManyCombinations(count)) => {
-            Err(TuneFault::TooManyCombinations(at as u32 + 1, count))
-        }
-    }
-}
 
 /// Puts the part of the next statement at the end, where it has a block.
 fn push_next(
@@ -57,12 +34,14 @@ fn push_next(
     ensures few { OnOk result (AreFew setting.now.cat.now (take (at + 1) setting.now.statements.now)) }
     ensures fault { IfErr result (IsCause (the_setting setting.now)) }
 {
-    match statement.work.block() {
-        None => Ok(()),
-        Some(block) => {
-            let cache = cache_of(alloc, setting, at, statement, block)?;
-            push_part(alloc, setting, at, statement, block, &cache, parts)?;
+    match statement_cache(alloc, setting.cat, statement) {
+        Ok(cache) => {
+            push_statement(alloc, setting, at, statement, &cache, parts)?;
             Ok(())
+        }
+        Err(CacheFault::Memory) => Err(TuneFault::Memory),
+        Err(CacheFault::TooManyCombinations(count)) => {
+            Err(TuneFault::TooManyCombinations(at as u32 + 1, count))
         }
     }
 }
@@ -85,12 +64,13 @@ fn parts_of(alloc: Global, setting: &Setting<'_>) -> Result<List<Part>, TuneFaul
 /// block a part, with the templates that the cache of the block's task keeps. At each slot it has, for each interesting
 /// order, the least price of the table and the indexes that exist, and a grant for each candidate on the table, in
 /// increasing number, with its price where it gives the order. So `value` of the programme is the workload's total under
-/// every configuration of these candidates. `TooManyCombinations` comes at the first statement whose block has more than
+/// every configuration of these candidates. There is no other such programme of the setting. `TooManyCombinations` comes at the first statement whose block has more than
 /// `MOST_COMBINATIONS` combinations of interesting orders, and always there but for want of memory, which is `Memory`.
 pub fn programme(alloc: Global, setting: &Setting<'_>) -> Result<Programme, TuneFault>
     ensures stands { IfOk result (stands.StandsFor (the_setting setting.now)) }
     ensures kept { IfOk result (λ programme. stands.AreEach (HasKept setting.now.cat.now) (stands.blocked_from 1 setting.now.statements.now) programme.parts) }
     ensures total { IfOk result (λ programme. (config : Config) → totals.IsTotal setting.now.cat.now setting.now.shapes.now config setting.now.statements.now (values.value programme config)) }
+    ensures one { IfOk result (λ programme. (other : declared.Programme) → IsProgrammeOf (the_setting setting.now) other → other ≡ programme) }
     ensures few { IfOk result (λ _. AreFew setting.now.cat.now setting.now.statements.now) }
     ensures fault { IfErr result (IsCause (the_setting setting.now)) }
 {

@@ -1,6 +1,6 @@
 use Rattle.std.proofs.Common.{◌≡◌, ◌+◌, [], List, length, drop, ap, sym, ◌∙◌, arith}
-use Rattle.std.specs.Prelude.{fold}
-use Rattle.std.proofs.lemmas.List.{length-map, length-append, drop_at}
+use Rattle.std.specs.Prelude.{fold, take}
+use Rattle.std.proofs.lemmas.List.{length-map, length-append, drop_at, take_at}
 use Rattle.candidates.specs.Candidates.{with_proposal, existing_indexes, fresh_proposals}
 use Rattle.candidates.specs.inner.Known.{as_proposal, as_proposals}
 use Rattle.candidates.specs.Proposals.{Proposal, proposals}
@@ -24,4 +24,5 @@ returns c =
     record {
       fresh = ap (drop c.len-existing.result) all ∙ drop_at base (fresh_proposals cat statements) c.len-existing.result count;
       within = omega (arith, count, long, same);
+      existing = ap (take c.len-existing.result) all ∙ take_at base (fresh_proposals cat statements) c.len-existing.result count ∙ first;
     }

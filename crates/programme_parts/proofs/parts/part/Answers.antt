@@ -9,7 +9,7 @@ use Rattle.inum_cache.specs.Templates.{AreInOrder}
 use Rattle.bip_model.specs.Limits.Parts.{TemplateLimits}
 use Rattle.bip_model.specs.StandsFor.{SomeAsksNothing}
 use Rattle.adv_base.specs.Settings.{the_setting}
-use Rattle.programme_parts.specs.Kept.{AsksNothingPast}
+use Rattle.programme_parts.specs.Kept.{AsksNothingPast, HasAllPlaces}
 use Rattle.programme_parts.proofs.SlotParts.{asks-nothing, asks-past, template-limits, slot-part}
 use Rattle.programme_parts.proofs.parts.part.Goals as goal
 
@@ -71,5 +71,6 @@ returns-clause-kept c =
       task_is = cached.task_is;
       past = subst (All (AsksNothingPast cached.task.slots)) (sym c.in_ok-templates.ensures) (asks-past cached.task cache cached.cache_is);
       kept = subst (AreKept cached.task) (sym c.in_ok-templates.ensures) cached.cache_is.kept;
+      places = subst (All HasAllPlaces) c.as_slice.ensures c.have_all_places.ensures;
       in_order = subst AreInOrder (sym c.in_ok-templates.ensures) cached.cache_is.in_order;
     }
