@@ -1,7 +1,7 @@
 #!/usr/bin/env -S python3 -IB
 """`cophy retune` on workloads of the generator, of 100 to 1000 statements: what one more edit takes of the processor's
-time, by its kind, beside making the programme from scratch; and a second advice, after one edit, beside the first. It
-prints Markdown."""
+time, by its kind, beside making the programme from scratch; and an advice that follows one edit behind another advice,
+beside one from scratch on the same statements. It prints Markdown."""
 import os
 import re
 import sys
@@ -26,23 +26,35 @@ HEADS = (
     "`weigh` us",
     "`add` ms",
     "`remove` ms",
-    "first advice ms",
-    "second ms",
-    "second over first",
-    "nodes of both",
+    "advice ms",
+    "again after `weigh`",
+    "after `add`",
+    "after `remove`",
+    "nodes of all four",
 )
+# The edits before which an advice may stand.
+KINDS = ("weigh", "add", "remove")
 
 
 def edits(statements: list[tuple[str, str]]) -> dict[str, str]:
     """The edits that are run, by a name. Those of `add` take statements away too, and add these again."""
     removed = "remove 1\n" * MOVED
+    weight, first = statements[0]
+    # What stands before both advices, and the edit between them.
+    between = {
+        "weigh": ("", f"weigh 1 {2 * int(weight)}\n"),
+        "add": ("remove 1\n", f"add {weight} {first}\n"),
+        "remove": ("", "remove 1\n"),
+    }
+    advices = {f"again {kind}": f"{start}advise\n{edit}advise\n" for kind, (start, edit) in between.items()}
+    advices |= {f"before {kind}": f"{start}advise\n" for kind, (start, _) in between.items()}
+    advices |= {f"anew {kind}": f"{start}{edit}advise\n" for kind, (start, edit) in between.items()}
     return {
         "none": "",
         "weigh": "".join(f"weigh {it % len(statements) + 1} {it % 99 + 1}\n" for it in range(WEIGHED)),
         "remove": removed,
         "add": removed + "".join(f"add {weight} {text}\n" for weight, text in statements[:MOVED]),
-        "advice": "advise\n",
-        "second": f"advise\nweigh 1 {2 * int(statements[0][0])}\nadvise\n",
+        **advices,
     }
 
 
@@ -65,12 +77,23 @@ def runs_of(program: str, workload: Workload, folder: str, repeat: int) -> dict[
     return runs
 
 
+def nodes_of(run: Run) -> list[str]:
+    """The nodes of the advices of a run."""
+    return re.findall(r"^nodes (\d+) ", run.output.decode(), re.M)
+
+
 def row_of(workload: Workload, runs: dict[str, Run]) -> tuple[object, ...]:
     def spent(name: str, before: str, count: int = 1) -> float:
         """The milliseconds of one of so many edits that a run has beyond another one's."""
         return 1000 * (runs[name].processor - runs[before].processor) / count
 
-    first, second = spent("advice", "none"), spent("second", "advice")
+    def again(kind: str) -> float:
+        """The part of an advice from scratch that one behind an edit takes, the edit with it."""
+        return spent(f"again {kind}", f"before {kind}") / spent(f"anew {kind}", "none")
+
+    nodes = [
+        node for name in ("before weigh", *(f"again {kind}" for kind in KINDS)) for node in nodes_of(runs[name])[-1:]
+    ]
     return (
         workload.statements,
         runs["candidates"].output.count(b" pages\n"),
@@ -78,10 +101,9 @@ def row_of(workload: Workload, runs: dict[str, Run]) -> tuple[object, ...]:
         f"{1000 * spent('weigh', 'none', WEIGHED):.1f}",
         f"{spent('add', 'remove', MOVED):.2f}",
         f"{spent('remove', 'none', MOVED):.2f}",
-        f"{first:.1f}",
-        f"{second:.1f}",
-        f"{second / first:.2f}",
-        ", ".join(re.findall(r"^nodes (\d+) ", runs["second"].output.decode(), re.M)),
+        f"{spent('before weigh', 'none'):.1f}",
+        *(f"{again(kind):.2f}" for kind in KINDS),
+        ", ".join(nodes),
     )
 
 

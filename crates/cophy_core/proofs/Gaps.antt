@@ -27,7 +27,7 @@ use Rattle.bip_model.specs.Proves.{free_node}
 use Rattle.bip_model.specs.Views.{node_of}
 use Rattle.cophy_core.specs.Answers.{Answers}
 use Rattle.cophy_core.specs.commands.Advise.{IsAdvice}
-use Rattle.cophy_core.specs.commands.Retune.{AreTuned}
+use Rattle.cophy_core.specs.commands.Retune.{AreTunedOver}
 use Rattle.cophy_core.specs.Causes.{gap_status, search_status, sweep_status, HasGivenUp, GapIsTrue, IsAnswered}
 use Rattle.cophy_core.specs.Endings.{Outside}
 use Rattle.command_line.specs.CommandLine.{PlainCommand, Advise, Ruled, Sweep, Retune, CheckRuled, Bench, command_of}
@@ -112,7 +112,7 @@ abbrev AreAdvised : ℕ → ℕ → List Tuned → Type 0
 AreAdvised budget nodes [] = Unit {0}
 AreAdvised budget nodes (tuned ∷ more) = ((setting : TheSetting) × IsAdvice budget nodes setting tuned.advice) × AreAdvised budget nodes more
 
-are_advised : (cat : Catalogue) (budget nodes : ℕ) (statements : List Statement) (edits : List TheEdit) (tuned : List Tuned) → AreTuned cat budget nodes statements edits tuned → AreAdvised budget nodes tuned
+are_advised : (cat : Catalogue) (budget nodes : ℕ) (statements : List Statement) (edits : List TheEdit) (tuned : List Tuned) → AreTunedOver cat budget nodes statements edits tuned → AreAdvised budget nodes tuned
 are_advised cat budget nodes statements [] [] h = tt
 are_advised cat budget nodes statements [] (tuned ∷ more) h = absurd cc
 are_advised cat budget nodes statements (script.Advise ∷ edits) [] h = absurd h

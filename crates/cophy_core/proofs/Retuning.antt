@@ -24,7 +24,7 @@ use Rattle.report.specs.declared.done.Tuned.{Tuned}
 use Rattle.retune.specs.Steps.{added, AreReweighed, IsNumber, HasSlots}
 use Rattle.sql_reader.proofs.Unique.{one_workload, workload_or_fault, one_sql_fault}
 use Rattle.sql_reader.specs.declared.parsed.ParsedStatement.{ParsedStatement}
-use Rattle.cophy_core.specs.commands.Retune.{IsAddition, IsAdded, IsTaken, AreTuned, IsRetuned, IsMisnamed, IsAddFault, IsNumberFault, IsEditFault, IsFirstFault, IsUntaken, IsTooRichWorkload, Refuses}
+use Rattle.cophy_core.specs.commands.Retune.{IsAddition, IsAdded, IsTaken, AreTunedOver, IsRetuned, IsMisnamed, IsAdditionFault, IsMissing, IsEditFault, IsFirstFault, IsUntaken, HasTooManyInWorkload, Refuses}
 use Rattle.cophy_core.proofs.Combinations.{none_beyond, one_beyond}
 use Rattle.cophy_core.proofs.OneSetting.{same_statement}
 
@@ -112,7 +112,7 @@ one_after cat before (Weigh number weight) xs ys a b = one_reweighed before numb
 one_after cat before Advise xs ys a b = a ∙ sym b
 
 -- an edit that is taken has no fault
-added_or_fault : (cat : Catalogue) (before after : List Statement) (weight : ℕ) (sql : List ℕ) (fault : EditFault) → IsAdded cat before weight sql after → IsAddFault cat before weight sql fault → ⊥
+added_or_fault : (cat : Catalogue) (before after : List Statement) (weight : ℕ) (sql : List ℕ) (fault : EditFault) → IsAdded cat before weight sql after → IsAdditionFault cat before weight sql fault → ⊥
 added_or_fault cat before after weight sql (Sql fault) a b = workload_or_fault sql (a.addition.parsed ∷ []) fault a.addition.is_workload b
 added_or_fault cat before after weight sql BadLine a b =
     b.count (single sql b.parsed a.addition.parsed (one_workload sql b.parsed (a.addition.parsed ∷ []) b.is_workload a.addition.is_workload))
@@ -124,7 +124,7 @@ added_or_fault cat before after weight sql (TooManyCombinations n count) a b =
     few_or_rich cat b.statement count (subst (HasFew cat) (one_addition cat weight sql a.statement b.statement a.addition b.addition) a.few) b.beyond
 added_or_fault cat before after weight sql (NoStatement n) a b = b
 
-numbered_or_fault : (before : List Statement) (number : ℕ) (fault : EditFault) → IsNumber before number → IsNumberFault before number fault → ⊥
+numbered_or_fault : (before : List Statement) (number : ℕ) (fault : EditFault) → IsNumber before number → IsMissing before number fault → ⊥
 numbered_or_fault before number (NoStatement n) a b = b.1 a
 numbered_or_fault before number fault a b = b
 
@@ -155,25 +155,25 @@ IsOfStep TooManySlots = Unit {0}
 IsOfStep (TooManyCombinations n count) = Unit {0}
 IsOfStep fault = ⊥
 
-meant : (cat : Catalogue) (before : List Statement) (weight : ℕ) (sql : List ℕ) (fault : EditFault) → IsOfStep fault → IsAddFault cat before weight sql fault → Means cat weight sql
+meant : (cat : Catalogue) (before : List Statement) (weight : ℕ) (sql : List ℕ) (fault : EditFault) → IsOfStep fault → IsAdditionFault cat before weight sql fault → Means cat weight sql
 meant cat before weight sql TooManyStatements is h = record { statement = h.statement; addition = h.addition }
 meant cat before weight sql TooManySlots is h = record { statement = h.statement; addition = h.addition }
 meant cat before weight sql (TooManyCombinations n count) is h = record { statement = h.statement; addition = h.addition }
 meant cat before weight sql fault is h = absurd is
 
 -- not both
-not_both : (cat : Catalogue) (before : List Statement) (weight : ℕ) (sql : List ℕ) (fault : EditFault) → Means cat weight sql → IsOfText fault → IsAddFault cat before weight sql fault → ⊥
+not_both : (cat : Catalogue) (before : List Statement) (weight : ℕ) (sql : List ℕ) (fault : EditFault) → Means cat weight sql → IsOfText fault → IsAdditionFault cat before weight sql fault → ⊥
 not_both cat before weight sql (Sql fault) a is b = workload_or_fault sql (a.addition.parsed ∷ []) fault a.addition.is_workload b
 not_both cat before weight sql BadLine a is b =
     b.count (single sql b.parsed a.addition.parsed (one_workload sql b.parsed (a.addition.parsed ∷ []) b.is_workload a.addition.is_workload))
 not_both cat before weight sql (Bind fault) a is b = misnamed_or_added cat weight sql fault a.statement b a.addition
 not_both cat before weight sql fault a is b = absurd is
 
-apart : (cat : Catalogue) (before : List Statement) (weight : ℕ) (sql : List ℕ) (step text : EditFault) → IsOfStep step → IsOfText text → IsAddFault cat before weight sql step → IsAddFault cat before weight sql text → ⊥
+apart : (cat : Catalogue) (before : List Statement) (weight : ℕ) (sql : List ℕ) (step text : EditFault) → IsOfStep step → IsOfText text → IsAdditionFault cat before weight sql step → IsAdditionFault cat before weight sql text → ⊥
 apart cat before weight sql step text s t a b = not_both cat before weight sql text (meant cat before weight sql step s a) t b
 
 -- two texts that mean nothing have one fault
-one_text_fault : (cat : Catalogue) (before : List Statement) (weight : ℕ) (sql : List ℕ) (f g : EditFault) → IsOfText f → IsOfText g → IsAddFault cat before weight sql f → IsAddFault cat before weight sql g → g ≡ f
+one_text_fault : (cat : Catalogue) (before : List Statement) (weight : ℕ) (sql : List ℕ) (f g : EditFault) → IsOfText f → IsOfText g → IsAdditionFault cat before weight sql f → IsAdditionFault cat before weight sql g → g ≡ f
 one_text_fault cat before weight sql (Sql f) (Sql g) s t a b = ap Sql (one_sql_fault sql g f b a)
 one_text_fault cat before weight sql (Sql f) BadLine s t a b = absurd (workload_or_fault sql b.parsed f b.is_workload a)
 one_text_fault cat before weight sql (Sql f) (Bind g) s t a b = absurd (workload_or_fault sql (b.parsed ∷ []) f b.is_workload a)
@@ -191,7 +191,7 @@ one_text_fault cat before weight sql (Bind f) g s t a b = absurd t
 one_text_fault cat before weight sql f g s t a b = absurd s
 
 -- so have two steps
-one_step_fault : (cat : Catalogue) (before : List Statement) (weight : ℕ) (sql : List ℕ) (f g : EditFault) → IsOfStep f → IsOfStep g → IsAddFault cat before weight sql f → IsAddFault cat before weight sql g → g ≡ f
+one_step_fault : (cat : Catalogue) (before : List Statement) (weight : ℕ) (sql : List ℕ) (f g : EditFault) → IsOfStep f → IsOfStep g → IsAdditionFault cat before weight sql f → IsAdditionFault cat before weight sql g → g ≡ f
 one_step_fault cat before weight sql TooManyStatements TooManyStatements s t a b = refl
 one_step_fault cat before weight sql TooManyStatements TooManySlots s t a b = absurd (a.room b.room)
 one_step_fault cat before weight sql TooManyStatements (TooManyCombinations n count) s t a b = absurd (a.room b.room)
@@ -211,7 +211,7 @@ one_step_fault cat before weight sql (TooManyCombinations n count) g s t a b = a
 one_step_fault cat before weight sql f g s t a b = absurd s
 
 -- of which kind a fault of an addition is
-kind : (cat : Catalogue) (before : List Statement) (weight : ℕ) (sql : List ℕ) (fault : EditFault) → IsAddFault cat before weight sql fault → IsOfText fault ⊎ IsOfStep fault
+kind : (cat : Catalogue) (before : List Statement) (weight : ℕ) (sql : List ℕ) (fault : EditFault) → IsAdditionFault cat before weight sql fault → IsOfText fault ⊎ IsOfStep fault
 kind cat before weight sql (Sql fault) h = inl tt
 kind cat before weight sql BadLine h = inl tt
 kind cat before weight sql (Bind fault) h = inl tt
@@ -220,7 +220,7 @@ kind cat before weight sql TooManySlots h = inr tt
 kind cat before weight sql (TooManyCombinations n count) h = inr tt
 kind cat before weight sql (NoStatement n) h = absurd h
 
-one_add_fault : (cat : Catalogue) (before : List Statement) (weight : ℕ) (sql : List ℕ) (f g : EditFault) → IsAddFault cat before weight sql f → IsAddFault cat before weight sql g → g ≡ f
+one_add_fault : (cat : Catalogue) (before : List Statement) (weight : ℕ) (sql : List ℕ) (f g : EditFault) → IsAdditionFault cat before weight sql f → IsAdditionFault cat before weight sql g → g ≡ f
 one_add_fault cat before weight sql f g a b =
     elim (kind cat before weight sql f a) [
       | inl s ↦ elim (kind cat before weight sql g b) [
@@ -233,7 +233,7 @@ one_add_fault cat before weight sql f g a b =
       ]
     ]
 
-one_number_fault : (before : List Statement) (number : ℕ) (f g : EditFault) → IsNumberFault before number f → IsNumberFault before number g → g ≡ f
+one_number_fault : (before : List Statement) (number : ℕ) (f g : EditFault) → IsMissing before number f → IsMissing before number g → g ≡ f
 one_number_fault before number (NoStatement n) (NoStatement m) a b = ap NoStatement (b.0 ∙ sym a.0)
 one_number_fault before number (NoStatement n) g a b = absurd b
 one_number_fault before number f g a b = absurd a
@@ -258,8 +258,8 @@ one_first cat statements number (edit ∷ edits) line other f g (inr a) (inr b) 
     one_first cat b.0 (suc number) edits line other f g (subst (λ (xs : List Statement). IsFirstFault cat xs (suc number) edits line f) same a.2) b.2
 
 -- where one isn't taken they are not all taken
-taken_first : (cat : Catalogue) (budget nodes : ℕ) (statements : List Statement) (edit : TheEdit) (edits : List TheEdit) (tuned : List Tuned) → AreTuned cat budget nodes statements (edit ∷ edits) tuned →
-    (after : List Statement) × IsTaken cat statements edit after × ((rest : List Tuned) × AreTuned cat budget nodes after edits rest)
+taken_first : (cat : Catalogue) (budget nodes : ℕ) (statements : List Statement) (edit : TheEdit) (edits : List TheEdit) (tuned : List Tuned) → AreTunedOver cat budget nodes statements (edit ∷ edits) tuned →
+    (after : List Statement) × IsTaken cat statements edit after × ((rest : List Tuned) × AreTunedOver cat budget nodes after edits rest)
 taken_first cat budget nodes statements Advise edits [] h = absurd h
 taken_first cat budget nodes statements Advise edits (first ∷ tuned) h = (statements, refl, (tuned, h.1))
 taken_first cat budget nodes statements (Add weight sql) edits tuned h = (h.0, h.1, (tuned, h.2))
@@ -267,7 +267,7 @@ taken_first cat budget nodes statements (Remove number) edits tuned h = (h.0, h.
 taken_first cat budget nodes statements (Weigh number weight) edits tuned h = (h.0, h.1, (tuned, h.2))
 
 tuned_or_fault : (cat : Catalogue) (budget nodes : ℕ) (statements : List Statement) (number : ℕ) (edits : List TheEdit) (tuned : List Tuned) (line : ℕ) (fault : EditFault) →
-    AreTuned cat budget nodes statements edits tuned → IsFirstFault cat statements number edits line fault → ⊥
+    AreTunedOver cat budget nodes statements edits tuned → IsFirstFault cat statements number edits line fault → ⊥
 tuned_or_fault cat budget nodes statements number [] tuned line fault a b = b
 tuned_or_fault cat budget nodes statements number (edit ∷ edits) tuned line fault a (inl b) =
     let first = taken_first cat budget nodes statements edit edits tuned a in
@@ -320,7 +320,7 @@ one_of_edits script setting line other f g (inl a) (inr b) = absurd (no_bad_line
 one_of_edits script setting line other f g (inr a) (inl b) = absurd (no_bad_line script a.edits other a.script_is b.1)
 one_of_edits script setting line other f g (inr a) (inr b) = one_untaken script setting line other f g a b
 
-rich_or_edit : (script : List ℕ) (setting : TheSetting) (n count line : ℕ) (fault : EditFault) → IsTooRichWorkload script setting n count → IsOne script setting line fault → ⊥
+rich_or_edit : (script : List ℕ) (setting : TheSetting) (n count line : ℕ) (fault : EditFault) → HasTooManyInWorkload script setting n count → IsOne script setting line fault → ⊥
 rich_or_edit script setting n count line fault a (inl b) = no_bad_line script a.edits line a.script_is b.1
 rich_or_edit script setting n count line fault a (inr b) = none_beyond setting n count b.few a.first
 

@@ -11,7 +11,7 @@ use Rattle.edit_script.specs.Scripts.{TheEdit, Add, Remove, Weigh, Advise, is_ad
 use Rattle.plan_model.specs.declared.plan.TheConstants.{MOST_TOTAL}
 use Rattle.plan_model.specs.Totals.{block_of}
 use Rattle.report.specs.Advices.{EachAdvice}
-use Rattle.report.specs.Texts.{IsTuned}
+use Rattle.report.specs.Texts.{FitsCatalogue}
 use Rattle.report.specs.declared.done.EditFault.{EditFault}
 use Rattle.report.specs.declared.done.Refusal.TheVariants.{Edit}
 use Rattle.report.specs.declared.done.Tuned.{Tuned}
@@ -21,7 +21,7 @@ use Rattle.retune.specs.Steps as steps
 use Rattle.retune.specs.Steps.{added, removed, AreReweighed}
 use Rattle.retune.specs.declared.fault.RetuneFault.{RetuneFault}
 use Rattle.retune.specs.declared.fault.RetuneFault.TheVariants as faults
-use Rattle.cophy_core.specs.commands.Retune.{IsAddition, IsAddFault, IsTaken, IsTunedOver, AreTuned, IsEditFault, IsFirstFault}
+use Rattle.cophy_core.specs.commands.Retune.{IsAddition, IsAdditionFault, IsTaken, IsTunedOver, AreTunedOver, IsEditFault, IsFirstFault}
 use Rattle.cophy_core.specs.declared.stop.Stop.{Stop}
 use Rattle.cophy_core.specs.declared.stop.Stop.TheVariants.{Memory, Failed, Refused}
 use Rattle.cophy_core.specs.inner.Retuning.{IsShort, IsTold, OfEdit, OnLine, IsStepStop}
@@ -69,16 +69,16 @@ drop_all (x ∷ xs) (suc i) low = drop_all xs i (omega (arith, low))
 -- what a session that has taken the edits before a place still leads to, and which advice there was
 pub record IsHalfway (cat : Catalogue) (budget nodes : ℕ) (first now : List Statement) (edits : List TheEdit) (at : ℕ) (all : List Tuned) : Type 0 where
   pub few : AreFew cat now
-  pub fits : All (IsTuned cat) all
-  pub tuned : (rest : List Tuned) → AreTuned cat budget nodes now (drop at edits) rest → AreTuned cat budget nodes first edits (all ++ rest)
+  pub fits : All (FitsCatalogue cat) all
+  pub tuned : (rest : List Tuned) → AreTunedOver cat budget nodes now (drop at edits) rest → AreTunedOver cat budget nodes first edits (all ++ rest)
   pub fault : (line : ℕ) (fault : EditFault) → IsFirstFault cat now (at + 1) (drop at edits) line fault → IsFirstFault cat first 1 edits line fault
 
 pub begins : (cat : Catalogue) (budget nodes : ℕ) (first : List Statement) (edits : List TheEdit) → AreFew cat first → IsHalfway cat budget nodes first first edits 0 []
-begins cat budget nodes first edits few = record { few = few; fits = All-nil (IsTuned cat); tuned = λ rest h. h; fault = λ line fault h. h }
+begins cat budget nodes first edits few = record { few = few; fits = All-nil (FitsCatalogue cat); tuned = λ rest h. h; fault = λ line fault h. h }
 
 -- an edit that asks for no advice
 one_more : (cat : Catalogue) (budget nodes : ℕ) (now after : List Statement) (edit : TheEdit) (edits : List TheEdit) (rest : List Tuned) → (edit ≡ Advise → ⊥) → IsTaken cat now edit after →
-    AreTuned cat budget nodes after edits rest → AreTuned cat budget nodes now (edit ∷ edits) rest
+    AreTunedOver cat budget nodes after edits rest → AreTunedOver cat budget nodes now (edit ∷ edits) rest
 one_more cat budget nodes now after (Add weight sql) edits rest other taken h = (after, taken, h)
 one_more cat budget nodes now after (Remove number) edits rest other taken h = (after, taken, h)
 one_more cat budget nodes now after (Weigh number weight) edits rest other taken h = (after, taken, h)
@@ -89,7 +89,7 @@ pub takes : (cat : Catalogue) (budget nodes : ℕ) (first now after : List State
 takes cat budget nodes first now after edits at all edit front other taken few h = record {
   few = few;
   fits = h.fits;
-  tuned = λ rest then. h.tuned rest (subst (λ (es : List TheEdit). AreTuned cat budget nodes now es rest) (sym front) (one_more cat budget nodes now after edit (drop (at + 1) edits) rest other taken then));
+  tuned = λ rest then. h.tuned rest (subst (λ (es : List TheEdit). AreTunedOver cat budget nodes now es rest) (sym front) (one_more cat budget nodes now after edit (drop (at + 1) edits) rest other taken then));
   fault = λ line fault then. h.fault line fault (subst (λ (es : List TheEdit). IsFirstFault cat now (at + 1) es line fault) (sym front) (inr (after, taken, next line fault then)));
 }
   where
@@ -97,13 +97,13 @@ takes cat budget nodes first now after edits at all edit front other taken few h
     next line fault then = let same : at + 1 + 1 ≡ suc (at + 1) = omega arith in subst (λ (n : ℕ). IsFirstFault cat after n (drop (at + 1) edits) line fault) same then
 
 pub advises : (cat : Catalogue) (budget nodes : ℕ) (first now after : List Statement) (edits : List TheEdit) (at : ℕ) (all : List Tuned) (one : Tuned) → drop at edits ≡ Advise ∷ drop (at + 1) edits → after ≡ now →
-    IsTunedOver cat budget nodes after one → IsTuned cat one → AreFew cat after → IsHalfway cat budget nodes first now edits at all → IsHalfway cat budget nodes first after edits (at + 1) (all ++ one ∷ [])
+    IsTunedOver cat budget nodes after one → FitsCatalogue cat one → AreFew cat after → IsHalfway cat budget nodes first now edits at all → IsHalfway cat budget nodes first after edits (at + 1) (all ++ one ∷ [])
 advises cat budget nodes first now after edits at all one front same tuned fits few h = record {
   few = few;
-  fits = All-push (IsTuned cat) all one h.fits fits;
-  tuned = λ rest then. subst (AreTuned cat budget nodes first edits) (sym (append_assoc all (one ∷ []) rest))
-      (h.tuned (one ∷ rest) (subst (λ (es : List TheEdit). AreTuned cat budget nodes now es (one ∷ rest)) (sym front)
-      (subst (λ (xs : List Statement). IsTunedOver cat budget nodes xs one) same tuned, subst (λ (xs : List Statement). AreTuned cat budget nodes xs (drop (at + 1) edits) rest) same then)));
+  fits = All-push (FitsCatalogue cat) all one h.fits fits;
+  tuned = λ rest then. subst (AreTunedOver cat budget nodes first edits) (sym (append_assoc all (one ∷ []) rest))
+      (h.tuned (one ∷ rest) (subst (λ (es : List TheEdit). AreTunedOver cat budget nodes now es (one ∷ rest)) (sym front)
+      (subst (λ (xs : List Statement). IsTunedOver cat budget nodes xs one) same tuned, subst (λ (xs : List Statement). AreTunedOver cat budget nodes xs (drop (at + 1) edits) rest) same then)));
   fault = λ line fault then. h.fault line fault (subst (λ (es : List TheEdit). IsFirstFault cat now (at + 1) es line fault) (sym front)
       (inr (after, same, next line fault then)));
 }
@@ -124,9 +124,9 @@ tells cat budget nodes first now after edits at all more (Weigh number weight) f
     subst (IsHalfway cat budget nodes first after edits (at + 1)) (sym told) (takes cat budget nodes first now after edits at all (Weigh number weight) front (λ e. absurd cc) taken few h)
 
 -- all edits were taken
-pub ends : (cat : Catalogue) (budget nodes : ℕ) (first now : List Statement) (edits : List TheEdit) (at : ℕ) (all : List Tuned) → length edits ≤ at → IsHalfway cat budget nodes first now edits at all → AreTuned cat budget nodes first edits all
+pub ends : (cat : Catalogue) (budget nodes : ℕ) (first now : List Statement) (edits : List TheEdit) (at : ℕ) (all : List Tuned) → length edits ≤ at → IsHalfway cat budget nodes first now edits at all → AreTunedOver cat budget nodes first edits all
 ends cat budget nodes first now edits at all end h =
-    subst (AreTuned cat budget nodes first edits) (append-nil all) (h.tuned [] (subst (λ (es : List TheEdit). AreTuned cat budget nodes now es []) (sym (drop_all edits at end)) refl))
+    subst (AreTunedOver cat budget nodes first edits) (append-nil all) (h.tuned [] (subst (λ (es : List TheEdit). AreTunedOver cat budget nodes now es []) (sym (drop_all edits at end)) refl))
 
 -- one of them isn't
 pub stops : (cat : Catalogue) (budget nodes : ℕ) (first now : List Statement) (edits : List TheEdit) (at line : ℕ) (all : List Tuned) (edit : TheEdit) (stop : Stop) → drop at edits ≡ edit ∷ drop (at + 1) edits → line ≡ at + 1 →
@@ -138,11 +138,11 @@ stops cat budget nodes first now edits at line all edit (Refused (Edit told faul
 stops cat budget nodes first now edits at line all edit (Refused r) front place h why = absurd why
 
 -- each has a cost within its limit
-pub each_bounded : (cat : Catalogue) (all : List Tuned) → All (IsTuned cat) all → EachAdvice (λ advice. advice.answer.cost < MOST_TOTAL) (map (λ (each : Tuned). each.advice) all)
+pub each_bounded : (cat : Catalogue) (all : List Tuned) → All (FitsCatalogue cat) all → EachAdvice (λ advice. advice.answer.cost < MOST_TOTAL) (map (λ (each : Tuned). each.advice) all)
 each_bounded cat [] h = tt
-each_bounded cat (one ∷ []) h = (All-head (IsTuned cat) one [] h).bounded.small
+each_bounded cat (one ∷ []) h = (All-head (FitsCatalogue cat) one [] h).bounded.small
 each_bounded cat (one ∷ other ∷ more) h =
-    ((All-head (IsTuned cat) one (other ∷ more) h).bounded.small, each_bounded cat (other ∷ more) (All-tail (IsTuned cat) one (other ∷ more) h))
+    ((All-head (FitsCatalogue cat) one (other ∷ more) h).bounded.small, each_bounded cat (other ∷ more) (All-tail (FitsCatalogue cat) one (other ∷ more) h))
 
 -- the last of a list that has one is that one
 pub alone : {X : Type 0} (xs ys : List X) (x : X) → length ys ≡ 1 → ys ≡ xs ++ x ∷ [] → ys ≡ x ∷ []
@@ -152,14 +152,14 @@ alone (y ∷ front) ys x count e = absurd (omega (arith, count, ap length e, len
 -- ## Refusals of a session
 
 pub added_stop : (cat : Catalogue) (session : TheSession) (weight : ℕ) (sql : List ℕ) (line : ℕ) (statement : Statement) (fault : RetuneFault) (stop : Stop) → session.cat ≡ cat → IsAddition cat weight sql statement →
-    steps.IsAddFault session statement fault → IsStepStop line fault stop → StopsAt (OnLine line (IsAddFault cat session.statements weight sql)) stop
-added_stop cat session weight sql line statement faults.Memory stop same addition why is = subst (StopsAt (OnLine line (IsAddFault cat session.statements weight sql))) (sym is) tt
+    steps.IsAddFault session statement fault → IsStepStop line fault stop → StopsAt (OnLine line (IsAdditionFault cat session.statements weight sql)) stop
+added_stop cat session weight sql line statement faults.Memory stop same addition why is = subst (StopsAt (OnLine line (IsAdditionFault cat session.statements weight sql))) (sym is) tt
 added_stop cat session weight sql line statement faults.TooManyStatements stop same addition why is =
-    subst (StopsAt (OnLine line (IsAddFault cat session.statements weight sql))) (sym is) (refl, record { statement = statement; addition = addition; room = why })
+    subst (StopsAt (OnLine line (IsAdditionFault cat session.statements weight sql))) (sym is) (refl, record { statement = statement; addition = addition; room = why })
 added_stop cat session weight sql line statement faults.TooManySlots stop same addition why is =
-    subst (StopsAt (OnLine line (IsAddFault cat session.statements weight sql))) (sym is) (refl, record { statement = statement; addition = addition; room = why.0; slots = why.1 })
+    subst (StopsAt (OnLine line (IsAdditionFault cat session.statements weight sql))) (sym is) (refl, record { statement = statement; addition = addition; room = why.0; slots = why.1 })
 added_stop cat session weight sql line statement (faults.TooManyCombinations n count) stop same addition why is =
-    subst (StopsAt (OnLine line (IsAddFault cat session.statements weight sql))) (sym is)
+    subst (StopsAt (OnLine line (IsAdditionFault cat session.statements weight sql))) (sym is)
     (refl, record { statement = statement; addition = addition; room = why.0; slots = why.1; number_is = why.2; beyond = subst (λ (k : Catalogue). IsBeyond k statement count) same why.3 })
 added_stop cat session weight sql line statement (faults.NoStatement n) stop same addition why is = absurd why
 

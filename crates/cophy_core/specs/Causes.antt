@@ -69,7 +69,7 @@ abbrev pub HasGapPointBy : Result PlainCommand WordFault → List Point → Type
 HasGapPointBy (Ok (Sweep cat load first step count nodes cert)) points = HasGapPoint nodes points
 HasGapPointBy words points = ⊥
 
--- status 1 is that of advice or of a sweep, and comes only where a search gave up
+-- status 1 is that of advice, of which there may be several, or of a sweep, and comes only where a search gave up
 abbrev pub GapIsTrue : Result PlainCommand WordFault → Done → Type 0
 GapIsTrue words (Swept points) = sweep_status points ≡ 1 → HasGapPointBy words points
 GapIsTrue words done = status_of done ≡ 1 → SomeAdvice (λ advice. HasGivenUp advice.nodes advice.answer) (advices done)

@@ -7,6 +7,7 @@ pub(crate) mod cost;
 pub(crate) mod explain;
 pub(crate) mod fold;
 pub(crate) mod list_candidates;
+pub(crate) mod remembered;
 pub(crate) mod retune_workload;
 pub(crate) mod ruled;
 pub(crate) mod sweep;

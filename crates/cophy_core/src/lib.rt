@@ -26,13 +26,13 @@ mod laws;
 mod made;
 mod opened;
 mod planned;
+mod programmes;
 mod reply;
 mod setting;
 mod statements;
 mod stop;
 mod tally;
 mod top;
-mod tuned;
 mod worked;
 
 pub use command_line::{Command, DEFAULT_NODES, read_words};

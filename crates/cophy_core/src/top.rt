@@ -139,8 +139,8 @@ pub fn run<S: Shelf, O: Sink>(
     ensures refused { RefusalIsTrue (command_of (texts words.now)) (S.files shelf.old) result.done }
     // A certificate is said to prove nothing only to `check` and `check-ruled`, where nothing is refused, for what fails first.
     ensures not_proved { NotProvedIsTrue (command_of (texts words.now)) (S.files shelf.old) result.done }
-    // Status 1 comes only where the search for advice, or that of a point of a sweep at which a gap is left, gave up: its nodes
-    // were spent, and it left a gap.
+    // Status 1 comes only where a search gave up, for advice, of which `retune` gives several, or at a point of a sweep at which
+    // a gap is left: its nodes were spent, and it left a gap.
     ensures gap { GapIsTrue (command_of (texts words.now)) result.done }
     ensures memory { MemoryWritesNothing (O.written out.old) (O.written out.new) result.done }
     // Whatever the counts did, what is answered to a command is true of the files.

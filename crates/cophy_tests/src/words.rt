@@ -77,7 +77,19 @@ Err(Missing(5))|check-ruled c l r
 Err(Extra(6))|check-ruled c l r f x
 Ok(Fold { cat: "c", load: "l", out: "o" })|fold c l o
 Err(Missing(4))|fold c l
-Err(Extra(5))|fold c l o --x"#;
+Err(Extra(5))|fold c l o --x
+Ok(Retune { cat: "c", load: "l", edits: "e", budget: 4, nodes: 20000 })|retune c l e 4
+Ok(Retune { cat: "c", load: "l", edits: "--e", budget: 0, nodes: 7 })|retune c l --e 0 --nodes 7
+Err(Missing(2))|retune
+Err(Missing(5))|retune c l e
+Err(BadNumber(5))|retune c l 4 e
+Err(BadNumber(5))|retune c l e 1000000000001
+Err(BadNumber(7))|retune c l e 4 --nodes 0
+Err(BadNumber(5))|retune c l e x --nodes 0
+Err(UnknownOption(6))|retune c l e 4 --cert f
+Err(Missing(7))|retune c l e 4 --nodes
+Err(Twice(8))|retune c l e 4 --nodes 5 --nodes 6
+Err(Extra(6))|retune c l e 4 x"#;
 
 /// The bytes of configuration files over three candidates, in which `~` stands for a line feed: the first faulty line,
 /// or the candidates with a blank behind each, `|` and the bytes.

@@ -57,20 +57,20 @@ pub record IsTunedOver (cat : Catalogue) (budget nodes : ℕ) (statements : List
   pub advice_is : IsAdvice budget nodes (record { cat = cat; statements = statements; shapes = tuned.shapes }) tuned.advice
 
 -- each edit is taken in turn, and there is such advice for each that asks for it
-abbrev pub AreTuned : Catalogue → ℕ → ℕ → List Statement → List TheEdit → List Tuned → Type 0
-AreTuned cat budget nodes statements [] tuned = tuned ≡ []
-AreTuned cat budget nodes statements (Advise ∷ edits) [] = ⊥
-AreTuned cat budget nodes statements (Advise ∷ edits) (first ∷ tuned) =
-    IsTunedOver cat budget nodes statements first × AreTuned cat budget nodes statements edits tuned
-AreTuned cat budget nodes statements (edit ∷ edits) tuned =
-    (after : List Statement) × IsTaken cat statements edit after × AreTuned cat budget nodes after edits tuned
+abbrev pub AreTunedOver : Catalogue → ℕ → ℕ → List Statement → List TheEdit → List Tuned → Type 0
+AreTunedOver cat budget nodes statements [] tuned = tuned ≡ []
+AreTunedOver cat budget nodes statements (Advise ∷ edits) [] = ⊥
+AreTunedOver cat budget nodes statements (Advise ∷ edits) (first ∷ tuned) =
+    IsTunedOver cat budget nodes statements first × AreTunedOver cat budget nodes statements edits tuned
+AreTunedOver cat budget nodes statements (edit ∷ edits) tuned =
+    (after : List Statement) × IsTaken cat statements edit after × AreTunedOver cat budget nodes after edits tuned
 
 -- the bytes are a script, the workload's statements have few enough combinations, and the script's edits are taken
 pub record IsRetuned (budget nodes : ℕ) (script : List ℕ) (setting : TheSetting) (tuned : List Tuned) : Type 0 where
   pub edits : List TheEdit
   pub script_is : IsScript script edits
   pub few : AreFew setting.cat setting.statements
-  pub tuned_are : AreTuned setting.cat budget nodes setting.statements edits tuned
+  pub tuned_are : AreTunedOver setting.cat budget nodes setting.statements edits tuned
 
 abbrev pub Gives : ℕ → ℕ → List ℕ → TheSetting → Done → Type 0
 Gives budget nodes script setting (Retuned tuned) = IsRetuned budget nodes script setting tuned
@@ -92,7 +92,7 @@ pub record IsMisnamed (cat : Catalogue) (sql : List ℕ) (fault : BindFault) : T
   pub first : statements_of cat sql (parsed ∷ []) ≡ Err fault
 
 -- they are one with too many combinations, though there is room for it and its slots
-pub record IsTooRich (cat : Catalogue) (before : List Statement) (weight : ℕ) (sql : List ℕ) (n count : ℕ) : Type 0 where
+pub record HasTooManyCombinations (cat : Catalogue) (before : List Statement) (weight : ℕ) (sql : List ℕ) (n count : ℕ) : Type 0 where
   pub statement : Statement
   pub addition : IsAddition cat weight sql statement
   pub room : HasRoom before
@@ -101,7 +101,7 @@ pub record IsTooRich (cat : Catalogue) (before : List Statement) (weight : ℕ) 
   pub beyond : IsBeyond cat statement count
 
 -- they are one, there is room for it, but not for its slots
-pub record IsTooWide (cat : Catalogue) (before : List Statement) (weight : ℕ) (sql : List ℕ) : Type 0 where
+pub record HasTooManySlots (cat : Catalogue) (before : List Statement) (weight : ℕ) (sql : List ℕ) : Type 0 where
   pub statement : Statement
   pub addition : IsAddition cat weight sql statement
   pub room : HasRoom before
@@ -114,25 +114,25 @@ pub record IsOneTooMany (cat : Catalogue) (before : List Statement) (weight : �
   pub room : ¬ (HasRoom before)
 
 -- why bytes aren't added with a weight, first
-abbrev pub IsAddFault : Catalogue → List Statement → ℕ → List ℕ → EditFault → Type 0
-IsAddFault cat before weight sql (Sql fault) = HasSqlFault sql fault
-IsAddFault cat before weight sql BadLine = AreNotOne sql
-IsAddFault cat before weight sql (Bind fault) = IsMisnamed cat sql fault
-IsAddFault cat before weight sql TooManyStatements = IsOneTooMany cat before weight sql
-IsAddFault cat before weight sql TooManySlots = IsTooWide cat before weight sql
-IsAddFault cat before weight sql (TooManyCombinations n count) = IsTooRich cat before weight sql n count
-IsAddFault cat before weight sql (NoStatement n) = ⊥
+abbrev pub IsAdditionFault : Catalogue → List Statement → ℕ → List ℕ → EditFault → Type 0
+IsAdditionFault cat before weight sql (Sql fault) = HasSqlFault sql fault
+IsAdditionFault cat before weight sql BadLine = AreNotOne sql
+IsAdditionFault cat before weight sql (Bind fault) = IsMisnamed cat sql fault
+IsAdditionFault cat before weight sql TooManyStatements = IsOneTooMany cat before weight sql
+IsAdditionFault cat before weight sql TooManySlots = HasTooManySlots cat before weight sql
+IsAdditionFault cat before weight sql (TooManyCombinations n count) = HasTooManyCombinations cat before weight sql n count
+IsAdditionFault cat before weight sql (NoStatement n) = ⊥
 
 -- there is no statement of a number
-abbrev pub IsNumberFault : List Statement → ℕ → EditFault → Type 0
-IsNumberFault before number (NoStatement n) = (n ≡ number) × (¬ (IsNumber before number))
-IsNumberFault before number fault = ⊥
+abbrev pub IsMissing : List Statement → ℕ → EditFault → Type 0
+IsMissing before number (NoStatement n) = (n ≡ number) × (¬ (IsNumber before number))
+IsMissing before number fault = ⊥
 
 -- why an edit isn't taken
 abbrev pub IsEditFault : Catalogue → List Statement → TheEdit → EditFault → Type 0
-IsEditFault cat before (Add weight sql) fault = IsAddFault cat before weight sql fault
-IsEditFault cat before (Remove number) fault = IsNumberFault before number fault
-IsEditFault cat before (Weigh number weight) fault = IsNumberFault before number fault
+IsEditFault cat before (Add weight sql) fault = IsAdditionFault cat before weight sql fault
+IsEditFault cat before (Remove number) fault = IsMissing before number fault
+IsEditFault cat before (Weigh number weight) fault = IsMissing before number fault
 IsEditFault cat before Advise fault = ⊥
 
 -- Of edits on lines from a number on, the one on this line is the first that isn't taken, for this fault.
@@ -150,7 +150,7 @@ pub record IsUntaken (script : List ℕ) (setting : TheSetting) (line : ℕ) (fa
   pub first : IsFirstFault setting.cat setting.statements 1 edits line fault
 
 -- the bytes are a script, and this is the workload's first statement with more combinations than a cache of plans takes
-pub record IsTooRichWorkload (script : List ℕ) (setting : TheSetting) (n count : ℕ) : Type 0 where
+pub record HasTooManyInWorkload (script : List ℕ) (setting : TheSetting) (n count : ℕ) : Type 0 where
   pub edits : List TheEdit
   pub script_is : IsScript script edits
   pub first : IsFirstBeyond setting.cat setting.statements n count
@@ -159,5 +159,5 @@ pub record IsTooRichWorkload (script : List ℕ) (setting : TheSetting) (n count
 abbrev pub Refuses : List ℕ → TheSetting → Refusal → Type 0
 Refuses script setting (Edit line BadLine) = IsBadLine script line ⊎ IsUntaken script setting line BadLine
 Refuses script setting (Edit line fault) = IsUntaken script setting line fault
-Refuses script setting (TooManyOfWorkload n count) = IsTooRichWorkload script setting n count
+Refuses script setting (TooManyOfWorkload n count) = HasTooManyInWorkload script setting n count
 Refuses script setting why = ⊥

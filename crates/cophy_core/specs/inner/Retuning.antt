@@ -9,7 +9,7 @@ use Rattle.report.specs.declared.done.EditFault.TheVariants.{NoStatement, TooMan
 use Rattle.report.specs.declared.done.Refusal.{Refusal}
 use Rattle.report.specs.declared.done.Refusal.TheVariants.{Edit}
 use Rattle.report.specs.declared.done.Tuned.{Tuned}
-use Rattle.report.specs.Texts.{IsTuned}
+use Rattle.report.specs.Texts.{FitsCatalogue}
 use Rattle.retune.specs.declared.fault.RetuneFault.{RetuneFault}
 use Rattle.retune.specs.declared.fault.RetuneFault.TheVariants as retune
 use Rattle.sql_reader.specs.Workload.{IsWorkload}
@@ -37,7 +37,7 @@ pub record IsReweighed (bound : List Statement) (weight : ℕ) (statement : Stat
 pub record IsOneMore (cat : Catalogue) (budget nodes : ℕ) (statements : List Statement) (before after : List Tuned) : Type 0 where
   pub tuned : Tuned
   pub is : IsTunedOver cat budget nodes statements tuned
-  pub fits : IsTuned cat tuned
+  pub fits : FitsCatalogue cat tuned
   pub after_is : after ≡ before ++ tuned ∷ []
 
 -- where an edit asks for it; else nothing is put

@@ -14,12 +14,12 @@ ghost use Rattle.cophy_core.specs.Endings.{plain_puts};
 ghost use Rattle.cophy_core.specs.Stops.{StopsAt, LacksProgramme};
 ghost use Rattle.cophy_core.specs.commands.Advise as spec;
 
+use crate::programmes::programme_of;
 use crate::stop::Stop;
-use crate::tuned::programme_of;
 use crate::worked::{FilePut, Worked, one_put};
 use adv_base::{Config, List, NoMemory, Setting};
 use bip_model::{Answer, Fix, Programme, shown_bounds};
-use branch_bound::{Room, search};
+use branch_bound::{Earlier, Proposals, Room, search};
 use certificate::{
     best_answers_keep_limits, standing_programmes_are_in_order, version_of, write_cert,
 };
@@ -72,9 +72,23 @@ pub(crate) fn certified(
     }
 }
 
+/// What a search works with beside its room, which recalls an earlier answer where there is one.
+fn proposals_of(
+    alloc: Global,
+    programme: &Programme,
+    nodes: u32,
+    earlier: Option<&Earlier<'_>>,
+) -> Result<Proposals, NoMemory> {
+    match earlier {
+        None => Proposals::new(alloc, programme, nodes),
+        Some(earlier) => Proposals::after(alloc, programme, nodes, earlier),
+    }
+}
+
 /// A best set of candidates below a root that together take at most `budget` pages, found by a search of at most so many
 /// nodes (branch and bound over CoPhy's programme, which is the setting's), with what the workload costs under it and a bound
 /// that no such set undercuts; both are the same unless the nodes were spent. `left_over` proposed indexes are no candidates.
+/// What an earlier answer found is looked at first, and nothing rests on it.
 pub(crate) fn advice_below(
     alloc: Global,
     setting: &Setting<'_>,
@@ -83,6 +97,7 @@ pub(crate) fn advice_below(
     left_over: u64,
     budget: u64,
     nodes: u32,
+    earlier: Option<&Earlier<'_>>,
 ) -> Result<Advice, NoMemory>
     requires found { AreCandidates setting.now.cat.now setting.now.statements.now setting.now.shapes.now left_over }
     requires stands { StandsFor (the_setting setting.now) programme.now }
@@ -95,7 +110,16 @@ pub(crate) fn advice_below(
     ensures bounded { IfOk result (λ advice. IsBoundedBy advice.answer.cost advice.answer.bound) }
 {
     let room = Room::new(alloc, programme, nodes)?;
-    let answer = search(programme, setting.shapes, root, budget, nodes, room);
+    let mut proposed = proposals_of(alloc, programme, nodes, earlier)?;
+    let answer = search(
+        programme,
+        setting.shapes,
+        root,
+        budget,
+        nodes,
+        room,
+        &mut proposed,
+    );
     shown_bounds();
     has_all_flags(&answer.config);
     Ok(Advice {
@@ -114,6 +138,7 @@ pub(crate) fn best_advice(
     left_over: u64,
     budget: u64,
     nodes: u32,
+    earlier: Option<&Earlier<'_>>,
 ) -> Result<Advice, NoMemory>
     requires found { AreCandidates setting.now.cat.now setting.now.statements.now setting.now.shapes.now left_over }
     requires stands { StandsFor (the_setting setting.now) programme.now }
@@ -125,7 +150,9 @@ pub(crate) fn best_advice(
     ensures bounded { IfOk result (λ advice. IsBoundedBy advice.answer.cost advice.answer.bound) }
 {
     let root = Fix::free();
-    let advice = advice_below(alloc, setting, programme, &root, left_over, budget, nodes)?;
+    let advice = advice_below(
+        alloc, setting, programme, &root, left_over, budget, nodes, earlier,
+    )?;
     Ok(advice)
 }
 
@@ -146,7 +173,7 @@ pub(crate) fn advice_on(
     ensures stop { IfErr result (StopsAt (LacksProgramme (the_setting setting.now))) }
 {
     let programme = programme_of(alloc, setting)?;
-    let advice = best_advice(alloc, setting, &programme, left_over, budget, nodes)?;
+    let advice = best_advice(alloc, setting, &programme, left_over, budget, nodes, None)?;
     Ok(advice)
 }
 
@@ -170,7 +197,7 @@ pub(crate) fn advise(
     ensures stop { IfErr result (StopsAt (LacksProgramme (the_setting setting.now))) }
 {
     let programme = programme_of(alloc, setting)?;
-    let advice = best_advice(alloc, setting, &programme, left_over, budget, nodes)?;
+    let advice = best_advice(alloc, setting, &programme, left_over, budget, nodes, None)?;
     best_answers_keep_limits();
     standing_programmes_are_in_order();
     let puts = certified(alloc, setting, &programme, budget, &advice.answer, cert)?;

@@ -8,7 +8,7 @@ ghost use Rattle.adv_base.specs.Settings.{the_setting};
 ghost use Rattle.edit_script.specs.Scripts as scripts;
 ghost use Rattle.edit_script.specs.declared.edit.TheConstants.{MOST_LINES};
 ghost use Rattle.programme_parts.specs.Combinations.{AreFew};
-ghost use Rattle.report.specs.Texts.{FitsSetting, IsTuned};
+ghost use Rattle.report.specs.Texts.{FitsSetting, FitsCatalogue};
 ghost use Rattle.cophy_core.specs.Causes.{IsBounded};
 ghost use Rattle.cophy_core.specs.Settings.{AreStatementsOf};
 ghost use Rattle.cophy_core.specs.Stops.{StopsAt, LacksProgramme};
@@ -17,6 +17,7 @@ ghost use Rattle.cophy_core.specs.inner.Retuning as inner;
 
 use crate::commands::advise::best_advice;
 use crate::commands::list_candidates::copies;
+use crate::commands::remembered::{Remembered, earlier_of, numbers_now};
 use crate::stop::Stop;
 use adv_base::{Catalogue, List, NoMemory, Setting, Statement};
 use binder::{BindFault, bind};
@@ -38,7 +39,7 @@ fn one_statement<'a>(alloc: Global, line: u32, sql: &'a [u8]) -> Result<Parsed<'
     requires { length sql.now ≤ MOST_FILE_BYTES }
     ensures one { IfOk result (inner.IsOne sql.now) }
     ensures stop { IfErr result (λ stop. (cat : catalogues.Catalogue) (before : List statements.Statement) (weight : ℕ) →
-        StopsAt (inner.OnLine line (spec.IsAddFault cat before weight sql.now)) stop) }
+        StopsAt (inner.OnLine line (spec.IsAdditionFault cat before weight sql.now)) stop) }
 {
     match read_workload(alloc, sql) {
         Ok(parsed) => {
@@ -84,7 +85,7 @@ fn addition(
     ensures addition { IfOk result (spec.IsAddition cat.now weight sql.now) }
     ensures named { IfOk result (λ statement. NamesWork cat.now statement.work) }
     ensures stop { IfErr result (λ stop. (before : List statements.Statement) →
-        StopsAt (inner.OnLine line (spec.IsAddFault cat.now before weight sql.now)) stop) }
+        StopsAt (inner.OnLine line (spec.IsAdditionFault cat.now before weight sql.now)) stop) }
 {
     let parsed = one_statement(alloc, line, sql)?;
     match bind(alloc, cat, &parsed) {
@@ -126,7 +127,7 @@ fn add(
     ensures taken { OnOk result (spec.IsAdded cat.now session.old.statements weight sql.now session.new.statements) }
     ensures few { OnOk result (AreFew cat.now session.new.statements) }
     ensures cat { OnOk result (session.new.cat ≡ cat.now) }
-    ensures stop { IfErr result (StopsAt (inner.OnLine line (spec.IsAddFault cat.now session.old.statements weight sql.now))) }
+    ensures stop { IfErr result (StopsAt (inner.OnLine line (spec.IsAdditionFault cat.now session.old.statements weight sql.now))) }
 {
     let statement = addition(alloc, cat, line, weight, sql)?;
     match session.add(statement) {
@@ -141,7 +142,7 @@ fn remove(session: &mut Session<'_>, line: u32, number: u32) -> Result<(), Stop>
     ensures taken { OnOk result (spec.IsTaken session.old.cat session.old.statements (scripts.Remove number) session.new.statements) }
     ensures few { OnOk result (AreFew session.old.cat session.new.statements) }
     ensures cat { OnOk result (session.new.cat ≡ session.old.cat) }
-    ensures stop { IfErr result (StopsAt (inner.OnLine line (spec.IsNumberFault session.old.statements number))) }
+    ensures stop { IfErr result (StopsAt (inner.OnLine line (spec.IsMissing session.old.statements number))) }
 {
     match session.remove(number) {
         Ok(()) => Ok(()),
@@ -157,7 +158,7 @@ fn reweigh(session: &mut Session<'_>, line: u32, number: u32, weight: u32) -> Re
     ensures taken { OnOk result (spec.IsTaken session.old.cat session.old.statements (scripts.Weigh number weight) session.new.statements) }
     ensures few { OnOk result (AreFew session.old.cat session.new.statements) }
     ensures cat { OnOk result (session.new.cat ≡ session.old.cat) }
-    ensures stop { IfErr result (StopsAt (inner.OnLine line (spec.IsNumberFault session.old.statements number))) }
+    ensures stop { IfErr result (StopsAt (inner.OnLine line (spec.IsMissing session.old.statements number))) }
 {
     match session.reweigh(number, weight) {
         Ok(()) => Ok(()),
@@ -190,13 +191,15 @@ fn take(
     }
 }
 
-/// Advice over the candidates of a session, with a copy of these.
-fn tuned(
+/// Advice over the candidates of a session, with a copy of these. What was told last is looked at first.
+fn advice_over(
     alloc: Global,
     cat: &Catalogue,
     session: &Session<'_>,
     budget: u64,
     nodes: u32,
+    last: Option<&Tuned>,
+    remembered: &Remembered,
 ) -> Result<Tuned, NoMemory>
     requires cat { session.now.cat ≡ cat.now }
     requires few { AreFew cat.now session.now.statements }
@@ -204,7 +207,7 @@ fn tuned(
     requires some { 1 ≤ nodes }
     requires nodes { nodes ≤ MOST_NODES }
     ensures tuned { IfOk result (spec.IsTunedOver cat.now budget nodes session.now.statements) }
-    ensures fits { IfOk result (IsTuned cat.now) }
+    ensures fits { IfOk result (FitsCatalogue cat.now) }
 {
     let found = session.candidates();
     let setting = Setting {
@@ -214,7 +217,18 @@ fn tuned(
     };
     let shapes = copies(alloc, setting.shapes)?;
     let programme = session.programme();
-    let advice = best_advice(alloc, &setting, programme, found.left_over, budget, nodes)?;
+    let numbers = numbers_now(last, setting.shapes);
+    let places = remembered.places(alloc, programme, &numbers)?;
+    let earlier = earlier_of(last, &numbers, places.as_slice());
+    let advice = best_advice(
+        alloc,
+        &setting,
+        programme,
+        found.left_over,
+        budget,
+        nodes,
+        earlier.as_ref(),
+    )?;
     Ok(Tuned { shapes, advice })
 }
 
@@ -225,6 +239,7 @@ fn put_tuned(
     session: &Session<'_>,
     budget: u64,
     nodes: u32,
+    remembered: &mut Remembered,
     all: &mut Vec<Tuned>,
 ) -> Result<(), NoMemory>
     requires cat { session.now.cat ≡ cat.now }
@@ -234,7 +249,10 @@ fn put_tuned(
     requires nodes { nodes ≤ MOST_NODES }
     ensures { OnOk result (inner.IsOneMore cat.now budget nodes session.now.statements all.old.items all.new.items) }
 {
-    all.push(tuned(alloc, cat, session, budget, nodes)?)?;
+    let last = all.as_slice().last();
+    let advice = advice_over(alloc, cat, session, budget, nodes, last, remembered)?;
+    *remembered = Remembered::of(alloc, session.programme(), session.statements().len())?;
+    all.push(advice)?;
     Ok(())
 }
 
@@ -256,6 +274,7 @@ fn put_asked(
     edit: Edit<'_>,
     budget: u64,
     nodes: u32,
+    remembered: &mut Remembered,
     all: &mut Vec<Tuned>,
 ) -> Result<(), NoMemory>
     requires cat { session.now.cat ≡ cat.now }
@@ -266,7 +285,7 @@ fn put_asked(
     ensures { OnOk result (inner.IsTold cat.now budget nodes session.now.statements (scripts.is_advise (scripts.the_edit edit.entry)) all.old.items all.new.items) }
 {
     if asks(edit) {
-        return put_tuned(alloc, cat, session, budget, nodes, all);
+        return put_tuned(alloc, cat, session, budget, nodes, remembered, all);
     }
     Ok(())
 }
@@ -288,15 +307,26 @@ fn advices(
     requires budget { budget ≤ MOST_ROWS }
     requires some { 1 ≤ nodes }
     requires nodes { nodes ≤ MOST_NODES }
-    ensures tuned { IfOk result (λ tuned. spec.AreTuned cat.now budget nodes session.old.statements (map scripts.the_edit edits.now) tuned) }
-    ensures fits { IfOk result (λ tuned. All (IsTuned cat.now) tuned) }
+    ensures tuned { IfOk result (λ tuned. spec.AreTunedOver cat.now budget nodes session.old.statements (map scripts.the_edit edits.now) tuned) }
+    ensures fits { IfOk result (λ tuned. All (FitsCatalogue cat.now) tuned) }
     ensures stop { IfErr result (StopsAt (inner.OfEdit (spec.IsFirstFault cat.now session.old.statements 1 (map scripts.the_edit edits.now)))) }
 {
     let mut all = Vec::new(alloc);
+    let mut remembered = Remembered::nothing(alloc);
     'edits: for at in 0..edits.len() {
         let edit = edits[at];
         take(alloc, cat, session, at as u32 + 1, edit)?;
-        put_asked(alloc, cat, session, edit, budget, nodes, &mut all)?;
+        remembered.follow(edit);
+        put_asked(
+            alloc,
+            cat,
+            session,
+            edit,
+            budget,
+            nodes,
+            &mut remembered,
+            &mut all,
+        )?;
     }
     Ok(List { items: all })
 }
@@ -329,7 +359,12 @@ fn session_of<'a>(alloc: Global, setting: &Setting<'a>, load: &[u8]) -> Result<S
         Err(RetuneFault::TooManyCombinations(number, count)) => {
             Err(Stop::Refused(Refusal::TooManyCombinations(number, count)))
         }
-        Err(_) => Err(Stop::Memory),
+        Err(RetuneFault::Memory) => Err(Stop::Memory),
+        Err(
+            RetuneFault::NoStatement(_)
+            | RetuneFault::TooManyStatements
+            | RetuneFault::TooManySlots,
+        ) => unreachable!(),
     }
 }
 

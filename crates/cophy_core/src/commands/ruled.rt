@@ -12,8 +12,8 @@ ghost use Rattle.cophy_core.specs.Stops.{StopsAt};
 ghost use Rattle.cophy_core.specs.commands.Ruled as spec;
 
 use crate::commands::advise::{advice_below, certified};
+use crate::programmes::programme_of;
 use crate::stop::Stop;
-use crate::tuned::programme_of;
 use crate::worked::Worked;
 use adv_base::Setting;
 use bip_model::Fix;
@@ -67,7 +67,9 @@ pub(crate) fn ruled(
 {
     let root = settled_root(alloc, setting, rules, budget)?;
     let programme = programme_of(alloc, setting)?;
-    let advice = advice_below(alloc, setting, &programme, &root, left_over, budget, nodes)?;
+    let advice = advice_below(
+        alloc, setting, &programme, &root, left_over, budget, nodes, None,
+    )?;
     best_answers_keep_limits();
     standing_programmes_are_in_order();
     let puts = certified(alloc, setting, &programme, budget, &advice.answer, cert)?;

@@ -13,8 +13,8 @@ ghost use Rattle.cophy_core.specs.commands.Sweep as spec;
 ghost use Rattle.cophy_core.specs.inner.Sweeps as inner;
 
 use crate::commands::advise::has_all_flags;
+use crate::programmes::programme_of;
 use crate::stop::Stop;
-use crate::tuned::programme_of;
 use crate::worked::{FilePut, Worked};
 use adv_base::{List, NoMemory, Setting};
 use bip_model::{Point, Programme, shown_bounds};

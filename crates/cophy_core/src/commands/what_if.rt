@@ -11,11 +11,11 @@ ghost use Rattle.cophy_core.specs.Stops.{StopsAt};
 ghost use Rattle.cophy_core.specs.commands.WhatIf as spec;
 ghost use Rattle.cophy_core.specs.inner.Parts.{ArePartsFrom};
 
+use crate::programmes::programme_of;
 use crate::read_conf;
 use crate::statements::upkeep_of;
 use crate::stop::Stop;
 use crate::tally::Tally;
-use crate::tuned::programme_of;
 use adv_base::{Config, NoMemory, Setting, Statement};
 use bip_model::{Part, Programme, part_cost, value_is_total};
 use hypo_indexes::config_pages;

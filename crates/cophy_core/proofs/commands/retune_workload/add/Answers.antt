@@ -2,14 +2,14 @@ use Rattle.std.proofs.Common.{rules, sym, subst}
 use Rattle.adv_base.specs.declared.catalogue.Catalogue.{Catalogue}
 use Rattle.programme_parts.specs.Combinations.{AreFew, HasFew}
 use Rattle.cophy_core.specs.Stops.{StopsAt}
-use Rattle.cophy_core.specs.commands.Retune.{IsAddFault}
+use Rattle.cophy_core.specs.commands.Retune.{IsAdditionFault}
 use Rattle.cophy_core.specs.inner.Retuning.{OnLine}
 use Rattle.cophy_core.proofs.Taking.{few_added, added_stop}
 use Rattle.cophy_core.proofs.commands.retune_workload.add.Goals as goal
 
 pub returns-in_err-statement-clause-stop : goal.returns-in_err-statement-clause-stop
 returns-in_err-statement-clause-stop c =
-    let h : StopsAt (OnLine c.args.line (IsAddFault c.args.cat.now c.args.session.now.statements c.args.weight c.args.sql.now)) c.in_err-statement.field-0.0 =
+    let h : StopsAt (OnLine c.args.line (IsAdditionFault c.args.cat.now c.args.session.now.statements c.args.weight c.args.sql.now)) c.in_err-statement.field-0.0 =
     c.in_err-statement.ensures.stop c.args.session.now.statements in
     search (rules, h)
 

@@ -6,14 +6,14 @@ use Rattle.adv_base.specs.declared.workload.Statement.{Statement}
 use Rattle.binder.specs.Plain.{plain_statements}
 use Rattle.binder.specs.Statements.{statements_of}
 use Rattle.cophy_core.specs.Stops.{StopsAt}
-use Rattle.cophy_core.specs.commands.Retune.{IsAddFault}
+use Rattle.cophy_core.specs.commands.Retune.{IsAdditionFault}
 use Rattle.cophy_core.specs.inner.Retuning.{OnLine}
 use Rattle.cophy_core.proofs.commands.retune_workload.addition.Goals as goal
 
 pub returns-in_err-parsed-clause-stop : goal.returns-in_err-parsed-clause-stop
 returns-in_err-parsed-clause-stop c =
     let p = err_from_is_err_and c.from_residual.result c.from_residual.ensures.1 in
-    rw p.1 (λ before. subst (StopsAt (OnLine c.args.line (IsAddFault c.args.cat.now before c.args.weight c.args.sql.now))) (sym p.2) (c.in_err-parsed.ensures.stop c.args.cat.now before c.args.weight))
+    rw p.1 (λ before. subst (StopsAt (OnLine c.args.line (IsAdditionFault c.args.cat.now before c.args.weight c.args.sql.now))) (sym p.2) (c.in_err-parsed.ensures.stop c.args.cat.now before c.args.weight))
 
 pub returns-in-Ok-clause-addition : goal.returns-in-Ok-clause-addition
 returns-in-Ok-clause-addition c =
