@@ -36,14 +36,14 @@ def advisors(folder: Path) -> list[tuple[str, str]]:
 
 
 def load(folder: Path, share: int | None = None, advisor: str = "", sizes: str = "") -> Result | None:
-    """A measurement; without a share that without any index. Of several rounds it has the median of the times by the clock
-    and the least of those by the processor."""
+    """A measurement; without a share that without any index. Of several rounds it has the median: the least by the
+    processor may be one of which the system hadn't counted all yet."""
     file = folder / ("none.json" if share is None else f"{advisor.replace(' ', '_')}-{sizes}-{share}.json")
     if not file.exists():
         return None
     found: Result = json.loads(file.read_text())
     found["times"] = {name: statistics.median(it) for name, it in found["times"].items()}
-    found["processor"] = {name: min(it) for name, it in found["processor"].items()}
+    found["processor"] = {name: statistics.median(it) for name, it in found["processor"].items()}
     return found
 
 

@@ -70,3 +70,4 @@ WHERE e.extname = 'hypopg'
 UNION ALL SELECT 'pg_catalog' LIMIT 1 \gset
 GRANT USAGE ON SCHEMA :"home" TO cophy_advisor;
 COMMIT;
+\echo the role cophy_advisor is ready in :DBNAME

@@ -115,6 +115,11 @@ class PrivateServer:
         """What a query gives, as psql prints it."""
         return self.psql(query, database).stdout.strip()
 
+    def release(self, database: str) -> None:
+        """Waits until no session holds a lock on a number any more, as that of a client that has ended may for a moment."""
+        held = "SELECT count(*) FROM pg_locks WHERE locktype = 'advisory'"
+        until(lambda: self.value(held, database) == "0", "the locks of sessions before are released")
+
     def stop(self) -> None:
         """Ends the server and removes its own folder."""
         self.process.terminate()

@@ -110,7 +110,8 @@ def advised(
         is_good = total(every, [it]) < total(every, []) or f"must {shown(it)}" in lines
         others = [indexes[other - 1] for other in picks]
         is_free = not any(it[0] == other[0] and (it[1] == other[1] or it[3] and other[3]) for other in others)
-        if is_good and is_free and len(picks) < MOST and size + it[2] <= budget and f"never {shown(it)}" not in lines:
+        is_allowed = not {f"never {shown(it)}", f"never {it[0]}.{it[1]}"} & {*lines}
+        if is_good and is_free and len(picks) < MOST and size + it[2] <= budget and is_allowed:
             picks, size = picks + [at], size + it[2]
     picks.sort()
     cost = total(every, [indexes[it - 1] for it in picks])

@@ -130,7 +130,8 @@ class OnServer(OverShop):
         self.assertRegex(text, rf"-- budget .*, {stored}\n")
         self.assertRegex(text, rf"-- pick 1: 30 pages \(0\.2 MB\), {stored}\n")
         self.assertIn(
-            "-- cost 583,783,100, bound 580,000,000, gap 3,783,100: the bound isn't reached\n-- costs are in ", text
+            "-- cost 583,783,100, bound 580,000,000, gap 3,783,100: these picks cost more than it\n-- costs are in ",
+            text,
         )
         self.server.psql(text, "shop")
         made = self.server.value(

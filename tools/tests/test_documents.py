@@ -162,7 +162,7 @@ class FirstPage(unittest.TestCase):
 
     def test_it_is_read_in_less_than_two_minutes_and_has_all_commands(self) -> None:
         page, _ = (ROOT / "docs/POSTGRES.md").read_text().split("\nThat is all that is needed.")
-        self.assertLess(len(page.split()), 300)
+        self.assertLessEqual(len(page.split()), 250)
         places = [
             page.index(it)
             for it in ("apt-get", "advisor_role.sql", ".pgpass", "advise --budget 2GB --min", "psql -X -U")

@@ -30,7 +30,7 @@ if HAS_PARSER:
         """Prices of statements each of which takes the best of its indexes; each index has an upkeep."""
 
         def __init__(self, saved: list[dict[int, int]], upkeep: dict[int, int]) -> None:
-            self.saved, self.upkeep = saved, upkeep
+            self.saved, self.upkeep, self.calls = saved, upkeep, 0
             self.candidates = {it: Candidate(it, "t", (f"c{it}",), 1) for it in upkeep}
 
         def cost(self, chosen: Chosen) -> int:
@@ -39,6 +39,12 @@ if HAS_PARSER:
 
         def costs(self, base: Chosen, sets: Sequence[Chosen]) -> list[int]:
             return [self.cost(it) for it in sets]
+
+
+def clash(chosen: frozenset[int], clustered: dict[int, str]) -> bool:
+    """Whether two of a set are clustered on one table."""
+    tables = [clustered[it] for it in chosen if it in clustered]
+    return len(tables) > len({*tables})
 
 
 @unittest.skipUnless(HAS_PARSER, "python3-pglast isn't installed")
@@ -51,13 +57,23 @@ class Steps(unittest.TestCase):
             (9, {2}, (), {2, 3}),
             (9, {4, 2}, (3,), {2, 3}),
             (9, {4, 2}, (), {2, 3}),
-            (9, {4, 5}, (), {1}),
+            (9, {4, 5}, (), {2, 3}),
             (12, {5, 2}, (1,), {2, 3, 4}),
             (20, {5}, (), {1, 3, 4}),
             (2, set[int](), (), set[int]()),
         ):
             with self.subTest(room=room, start=start):
                 self.assertEqual(Exchange(prices, sizes, room).improved(frozenset(start), others), found)
+
+    def test_what_is_too_large_is_tried_too(self) -> None:
+        # The pick that saves the most needs two others out of the way, which no single step takes.
+        prices = Made([{1: 60, 3: 90}, {2: 50}, {5: 40, 6: 38}], {1: 0, 2: 0, 3: 0, 5: 0, 6: 0})
+        exchange = Exchange(prices, {1: 10, 2: 10, 3: 14, 5: 10, 6: 6}, 30)
+        start, larger = frozenset((1, 2, 5)), frozenset((3, 2, 5))
+        self.assertEqual(exchange.improved(start, ()), start)
+        self.assertEqual(exchange.best_of([start], {1, 2, 3, 5}), start)
+        self.assertEqual(exchange.best_of([start, larger], {1, 2, 3, 5}), {2, 3, 6})
+        self.assertIsNone(Exchange(prices, exchange.sizes, 5, frozenset((1,))).best_of([frozenset((1,))], ()))
 
     def test_what_comes_out_fits_and_costs_no_more_and_no_step_saves_anything(self) -> None:
         drawn = random.Random(3)
@@ -67,19 +83,37 @@ class Steps(unittest.TestCase):
             saved = [{it: drawn.randrange(1, 90) for it in drawn.sample(numbers, 3)} for _ in range(8)]
             prices = Made(saved, {it: drawn.randrange(4) for it in numbers})
             fixed = frozenset(drawn.sample(numbers, 3))
-            exchange = Exchange(prices, sizes, drawn.randrange(30, 120), fixed)
+            clustered = {it: drawn.choice("tu") for it in drawn.sample(numbers, drawn.choice((0, 5)))}
+            exchange = Exchange(prices, sizes, drawn.randrange(30, 120), fixed, clustered)
             start = frozenset[int]()
             for it in drawn.sample(numbers, 12):
-                start |= {it} if exchange.size(start | {it}) <= exchange.room else set()
+                step = start | {it}
+                start = step if exchange.size(step) <= exchange.room and not clash(step, clustered) else start
             found = exchange.improved(start, numbers)
+            self.assertFalse(clash(found, clustered))
             self.assertLessEqual(exchange.size(found), exchange.room)
             self.assertLessEqual(prices.cost(found), prices.cost(start))
             self.assertEqual(found & fixed, start & fixed)
             for more in (frozenset(), *({it} for it in numbers)):
                 for less in (frozenset(), *({it} for it in found)):
                     step = found - less | more
-                    if not (step ^ found) & fixed and exchange.size(step) <= exchange.room:
+                    fits = exchange.size(step) <= exchange.room and not clash(step, clustered)
+                    if fits and not (step ^ found) & fixed:
                         self.assertGreaterEqual(prices.cost(step), prices.cost(found))
+
+    def test_a_clustered_one_takes_the_place_of_the_other_of_its_table(self) -> None:
+        prices = Made([{1: 30, 2: 60}, {2: 1, 3: 50}], dict.fromkeys(range(1, 4), 1))
+        sizes = {1: 1, 2: 1, 3: 1}
+        tables: list[tuple[dict[int, str], set[int], set[int]]] = [
+            ({}, set(), {2, 3}),
+            ({1: "t", 2: "t", 3: "u"}, set(), {2, 3}),
+            ({1: "t", 2: "t", 3: "t"}, set(), {2}),
+            ({1: "t", 2: "t"}, {1}, {1, 3}),
+        ]
+        for clustered, fixed, found in tables:
+            with self.subTest(clustered=clustered, fixed=fixed):
+                exchange = Exchange(prices, sizes, 9, frozenset(fixed), clustered)
+                self.assertEqual(exchange.improved(frozenset({1}), {1, 2, 3}), found)
 
     def test_rules_speak_of_what_they_name(self) -> None:
         picks = [Candidate(1, "t", ("a", "b"), 1), Candidate(2, "t", ("a",), 1), Candidate(3, "u", ("a",), 1)]
@@ -101,7 +135,7 @@ class Steps(unittest.TestCase):
 class OverTheStandIn(unittest.TestCase):
     """Over the stand-in, whose pages of an index have nothing to do with how PostgreSQL stores it."""
 
-    def test_what_fits_alone_as_stored_is_found_whatever_the_model_takes_it_for(self) -> None:
+    def setUp(self) -> None:
         column = '[[table.column]]\nname = "{0}"\nkind = "text"\nwidth = 8\ndistinct = 10\npostgres_type = "text"\n'
         tables = "".join(
             f'[[table]]\nname = "{name}"\nrows = {rows}\npages = {pages}\n' + column.format("a") + column.format("b")
@@ -110,23 +144,50 @@ class OverTheStandIn(unittest.TestCase):
         texts = (
             f"-- weight {w}\nselect a from {it}\nwhere b = ?;\n" for it, w in (("small", 1), ("other", 1), ("large", 9))
         )
-        with tempfile.TemporaryDirectory() as name:
-            kept = Folder.made(str(Path(name) / "found"))
-            kept.write({folder.CATALOGUE: f"version = 2\n{tables}", folder.WORKLOAD: "".join(texts)})
-            program = Program(str(HERE / "stand_in.py"), kept.path(folder.CATALOGUE), kept.path(folder.WORKLOAD))
-            schema = read_schema(kept.read(folder.CATALOGUE))
-            sizes = {it.table: (it.pages, stored_size(schema, [it])) for it in program.advise(10**9).picks}
-            self.assertGreater(sizes["large"][0], 400 * sizes["large"][1])
-            asked = sizes["large"][1] + 1
-            self.assertLess(room_in(asked), sizes["large"][1] + sizes["small"][1])
-            advice, _ = Searches(program, kept, asked, (), Progress()).filling(schema, Rules())
-            self.assertEqual([it.table for it in advice.picks], ["large"])
-            self.assertGreaterEqual(advice.budget, sizes["large"][0])
+        here = tempfile.TemporaryDirectory()
+        self.addCleanup(here.cleanup)
+        self.kept = Folder.made(str(Path(here.name) / "found"))
+        self.kept.write({folder.CATALOGUE: f"version = 2\n{tables}", folder.WORKLOAD: "".join(texts)})
+        paths = (self.kept.path(folder.CATALOGUE), self.kept.path(folder.WORKLOAD))
+        self.program = Program(str(HERE / "stand_in.py"), *paths)
+
+    def test_what_fits_alone_as_stored_is_found_whatever_the_model_takes_it_for(self) -> None:
+        schema = read_schema(self.kept.read(folder.CATALOGUE))
+        sizes = {it.table: (it.pages, stored_size(schema, [it])) for it in self.program.advise(10**9).picks}
+        self.assertGreater(sizes["large"][0], 400 * sizes["large"][1])
+        asked = sizes["large"][1] + 1
+        self.assertLess(room_in(asked), sizes["large"][1] + sizes["small"][1])
+        advice, _ = Searches(self.program, self.kept, asked, (), Progress()).filling(schema, Rules())
+        self.assertEqual([it.table for it in advice.picks], ["large"])
+        self.assertGreaterEqual(advice.budget, sizes["large"][0])
+
+    def test_the_curve_has_points_where_its_first_picks_come_in(self) -> None:
+        sizes = {it.table: it.pages for it in self.program.advise(10**9).picks}
+        found = Searches(self.program, self.kept, sizes["large"], (), Progress()).curve()
+        small, both = sizes["small"], sizes["small"] + sizes["other"]
+        budgets = [it.budget for it in found]
+        self.assertEqual(budgets, sorted({*budgets}))
+        self.assertEqual((budgets[:3], budgets[-1]), ([0, small, both], both + sizes["large"]))
+        self.assertEqual([len(it.picks) for it in found[:3]], [0, 1, 2])
 
 
 @unittest.skipUnless(HAS_PARSER and COPHY.exists(), "the program isn't built, or python3-pglast isn't installed")
 class OverTheProgram(unittest.TestCase):
     """Over the program and a made workload."""
+
+    def test_costs_of_sets_beside_one_that_was_never_priced(self) -> None:
+        sys.path[:0] = [str(ROOT / "bench")]
+        from generator import texts
+
+        with tempfile.TemporaryDirectory() as name:
+            files = [Path(name) / it for it in ("c.toml", "w.sql")]
+            for file, text in zip(files, texts(5, 4, 12)):
+                file.write_text(text)
+            program = Program(str(COPHY), *map(str, files))
+            prices = Pricing(program)
+            base = frozenset(sorted(prices.candidates)[::3])
+            sets = [base - {it} for it in sorted(base)] + [base | {it} for it in prices.candidates if it not in base]
+            self.assertEqual(prices.costs(base, sets), [program.whatif(it).total for it in sets])
 
     def test_picks_are_exchanged_and_the_program_finds_them_under_the_rules(self) -> None:
         sys.path[:0] = [str(ROOT / "bench")]

@@ -183,7 +183,20 @@ class Export(OverShop):
         )
 
     def test_a_table_that_was_never_analysed_is_told(self) -> None:
-        self.assertIn("fresh was never analysed", self.export().stderr)
+        self.assertRegex(self.export().stderr, r"warning: .*\bfresh\b.* never analysed: run ANALYZE")
+
+    def test_tables_that_were_never_analysed_are_one_line_and_small_ones_none(self) -> None:
+        self.server.psql("CREATE DATABASE fresh")
+        self.addCleanup(self.server.psql, "DROP DATABASE fresh")
+        rows = "SELECT i AS a FROM generate_series(1, 5000) i"
+        filled = "".join(f"CREATE TABLE t{it} AS {rows};" for it in range(5))
+        self.server.psql(f"CREATE TABLE empty (a int); CREATE TABLE small AS SELECT 1 AS a; {filled}", "fresh")
+        (self.folder / "q.sql").write_text("SELECT a FROM t0;\n")
+        said = self.export("--sql", str(self.folder / "q.sql"), database="fresh").stderr
+        told = re.findall(r"warning: (.*never analysed.*)", said)
+        names = r"t\d, t\d, t\d and 2 more were never analysed: run ANALYZE, their numbers are guesses"
+        self.assertEqual(len(told), 1, said)
+        self.assertRegex(told[0], names)
 
     def test_weights_are_calls_and_the_same_statement_stands_once(self) -> None:
         self.export()

@@ -64,14 +64,14 @@ class Stored(unittest.TestCase):
         # 20,000,000 bytes are 2731 leaves of 7335 less half an entry, and 11 pages and a root stand above them, and one before
         # all. PostgreSQL's own is of 2745.
         self.assertEqual(pages(1000000, [four], True), 1 + 2731 + 11 + 1)
-        for parts, entry in (
-            ([four, four], 20),
-            ([four, Part(8, 8, 9)], 28),
-            ([Part(9, 1, 9)], 28),
-            ([Part(1, 1, 9), four], 20),
+        for parts, entry, above in (
+            ([four, four], 20, 250),
+            ([four, Part(8, 8, 9)], 28, 250),
+            ([Part(9, 1, 9)], 28, 203),
+            ([Part(1, 1, 9), four], 20, 250),
         ):
             leaves = math.ceil(1000000 * entry / (7335 - entry / 2))
-            self.assertEqual(pages(1000000, parts, False), 1 + leaves + math.ceil(leaves / 250) + 1)
+            self.assertEqual(pages(1000000, parts, False), 1 + leaves + math.ceil(leaves / above) + 1)
         # 50 keys of 20,000 rows each are stored as 7576 of 132.
         self.assertEqual(pages(1000000, [few], True), 1 + 843 + 4 + 1)
         self.assertEqual(pages(1000000, [few], False), 1 + 2731 + 11 + 1)

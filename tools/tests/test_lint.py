@@ -100,6 +100,12 @@ class Lint(unittest.TestCase):
                 self.assertEqual(status, 0)
                 self.assertIn(note, text)
 
+    def test_a_column_without_a_limit_is_noted(self) -> None:
+        long = TEXT + "postgres_most = 1073741824\n" + TEXT.replace('"x"', '"y"') + "postgres_most = 84\n"
+        note = "c: note: an INSERT of more than 2704 bytes fails where an index has the column: 't.x'\n"
+        self.assertEqual(self.linted(HEAD + COLUMN + long, "SELECT x, y FROM t"), (0, note))
+        self.assertEqual(self.linted(HEAD + COLUMN + long), (0, ""))
+
     def test_notes_of_a_kind_are_one_line(self) -> None:
         statements = ["SELECT c FROM t WHERE c < ? AND x > ? LIMIT 5;", "SELECT c FROM t WHERE c > ? LIMIT 5;\n"] * 15
         status, text = self.linted(HEAD + COLUMN + TEXT, "\n".join(statements))

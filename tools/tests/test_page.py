@@ -47,7 +47,7 @@ def statement(number: int, sql: str, calls: int, after: float, picks: list[int])
 
 def change(number: int, sql: str, ours: float, server: float) -> dict[str, Any]:
     """What a pick changes of a statement."""
-    return {"numbers": [number], "sql": sql, "calls": 9, "ours": ours, "server": server}
+    return {"numbers": [number], "sql": sql, "calls": 9, "seconds": 1.5, "guess": False, "ours": ours, "server": server}
 
 
 def document(folder: str) -> dict[str, Any]:
@@ -59,6 +59,7 @@ def document(folder: str) -> dict[str, Any]:
         "min_saving": 0.0,
         "most_per_table": None,
         "include": False,
+        "long_columns": False,
     }
     skipped = statement(1, "SHOW x", 5, 900.0, []) | {
         "numbers": [],
@@ -72,6 +73,8 @@ def document(folder: str) -> dict[str, Any]:
         "made": "2026-11-29T10:55:00Z",
         "database": "shop & <b>",
         "server": "15.18",
+        "host": "/run/db server",
+        "port": 5433,
         "folder": folder,
         "options": options | {"rules": None, "tables": [], "users": [], "may_cluster": []},
         "asked_pages": 262144,
@@ -83,9 +86,13 @@ def document(folder: str) -> dict[str, Any]:
         "proved": "proved cost 1800000 bound 1800000 budget 262144",
         "calls_divided_by": 1.0,
         "warnings": ["t was never analysed: run ANALYZE, its numbers are guesses"],
+        "doubts": [],
+        "gap": None,
+        "knee": None,
         "lint": ["note: LIMIT costs and saves nothing, the whole statement is priced: statement 1"],
         "rewriting": ["3 statements, written as 2"],
         "rules": ["never t(c)"],
+        "long_columns": [],
         "functions": [],
         "owners": ["app"],
         "picks": [
@@ -101,11 +108,13 @@ def document(folder: str) -> dict[str, Any]:
                     'CREATE INDEX CONCURRENTLY "t_b_idx" ON "public"."t" ("b");',
                     'CLUSTER "public"."t" USING "t_b_idx";',
                 ],
+                "build_seconds": 7.4,
                 "outcome": "unknown",
                 "unknown_for": ["42883 a function or an operator isn't there: statement 2"],
                 "begins": None,
                 "notes": ["it locks <the table>", "hypopg shows no other order"],
-                "saves": {"ours": 80.0, "server": 88.8889, "cost_without": 9000000},
+                "long": [],
+                "saves": {"ours": 80.0, "server": 88.8889, "measured": 30.0, "cost_without": 9000000},
                 "changes": [change(1, ODD, 81.0, 88.8889), change(2, "UPDATE t SET b = 1", -1.0, 0.0)],
             }
         ],
@@ -158,60 +167,9 @@ class Page(unittest.TestCase):
         return ran.stderr
 
     def page(self) -> str:
+        """The page, with blanks in the place of those at which no line ends."""
         self.call(str(self.here))
-        return (self.here / "report.html").read_text()
-
-    def test_the_summary_counts_what_saves_little(self) -> None:
-        from cophy_pg.overview import lines_of
-
-        pick = self.document["picks"][0] | {"saves": {"ours": 0.4, "server": 0.0}}
-        self.document["options"]["min_saving"] = 0
-        texts = ("1 of these saves less than 1 % and takes 0.2 MB", "2 of these save less than 1 % and take 0.3 MB")
-        for count, text in enumerate(texts, 1):
-            self.document["picks"] = [pick] * count
-            self.assertIn(f"{text}: --min-saving 1 leaves such out", lines_of(self.document))
-
-    def test_the_summary_says_which_picks_another_serves_and_which_are_wide(self) -> None:
-        from cophy_pg.overview import lines_of
-
-        pick = self.document["picks"][0]
-        columns = (["b"], ["b", "c", "d", "e", "f"], ["c"])
-        self.document["picks"] = [pick | {"columns": it} for it in columns]
-        lines, hint = lines_of(self.document), "1 of these has 5 columns or more: --include"
-        self.assertEqual([it for it in lines if "begins with its" in it], ["   2 begins with its columns"])
-        self.assertTrue(any(it.startswith(hint) for it in lines), lines)
-        self.document["options"]["include"] = True
-        self.assertFalse(any(it.startswith(hint) for it in lines_of(self.document)))
-
-    def test_the_summary_counts_what_limits_leave_out_and_names_what_was_skipped(self) -> None:
-        from cophy_pg.overview import lines_of
-
-        left_out = self.document["left_out"][0]
-        asked = left_out | {"why": "it saves 0.1 % by our model, and 1 % are asked for"}
-        for count in (4, 5):
-            self.document["left_out"] = [left_out, *[asked] * count]
-            lines = lines_of(self.document)
-            self.assertIn("  t(c): no plan of the server takes it", lines)
-            self.assertEqual(lines.count(f"  t(c): {asked['why']}"), count if count == 4 else 0)
-        self.assertIn("  5 more by --min-saving or --most-per-table, which the report names", lines)
-        self.assertIn("  33.3 %: SHOW: SHOW x", lines)
-        self.document["statements"][2]["seconds"] = 0.1
-        self.assertFalse([it for it in lines_of(self.document) if it.startswith("skipped")])
-
-    def test_the_next_step_is_a_command_that_the_owner_may_take(self) -> None:
-        from cophy_pg.overview import next_of
-
-        head = "to make them, let"
-        for owners, text in (
-            (["app"], "the owner of the tables run: psql -X -U app -f /a/indexes.sql"),
-            (["a b; $(c)"], "the owner of the tables run: psql -X -U 'a b; $(c)' -f /a/indexes.sql"),
-            (["a", "b"], "a member of a and b, who own the tables, run: psql -X -U OWNER -f /a/indexes.sql"),
-            ([], "the owner of the tables run: psql -X -U OWNER -f /a/indexes.sql"),
-        ):
-            with self.subTest(owners=owners):
-                found = next_of(self.document | {"owners": owners}, "/a/indexes.sql")
-                self.assertEqual(found, [f"{head} {text}"])
-        self.assertEqual(next_of(self.document | {"picks": []}, "x"), [])
+        return (self.here / "report.html").read_text().replace("\N{NO-BREAK SPACE}", " ")
 
     def test_the_document_is_one_of_advise(self) -> None:
         self.assertEqual([*faults(self.document, SCHEMA, SCHEMA)], [])
@@ -225,7 +183,7 @@ class Page(unittest.TestCase):
             "CLUSTER &#34;public&#34;.&#34;t&#34; USING &#34;t_b_idx&#34;;",
             "<p>It locks &lt;the table&gt;.</p>\n<p>Hypopg shows no other order.</p>",
             "<td><code>t(c)</code></td>",
-            "<b>80.0 %</b> by our model and <b>88.9 %</b> by the server's planner",
+            "<b>80.0 %</b> by our model and <b>88.9 %</b> by the server's planner, and of the measured time about 30.0 %.",
             "Without it the workload costs 9,000 by our model, with it 1,800.",
             "42883 a function or an operator isn&#39;t there: statement 2",
             "no plan of the server takes it",
@@ -242,6 +200,35 @@ class Page(unittest.TestCase):
                 self.assertIn(part, text)
         self.assertNotIn("What a budget buys", text)
         self.assertEqual(stat.S_IMODE((self.here / "report.html").stat().st_mode), 0o600)
+
+    def test_no_number_is_parted_from_its_unit_and_doubts_and_rules_are_told(self) -> None:
+        left_out = {
+            "number": 6,
+            "table": "t",
+            "columns": ["d"],
+            "clustered": False,
+            "pages": 9,
+            "why": "it saves 0.2 %",
+        }
+        self.document["left_out"].append(left_out)
+        self.document["rules"] = ["never t(c)", "must t(b)", "must t(d)"]
+        self.document["picks"][0] |= {"long": ["b"], "clustered": False, "outcome": "taken"}
+        self.document["picks"][0]["saves"] |= {"ours": 27.0, "server": 3.3}
+        self.document["doubts"] = ["the advice stands unless you distrust 'app'"]
+        self.write()
+        text = self.page()
+        self.assertIn("never t(c)\nmust t(b)\nmust t(d)  (left out then: it saves 0.2 %)</pre>", text)
+        self.assertIn("<li>the advice stands unless you distrust &#39;app&#39;</li>", text)
+        self.assertIn('<p class="bad">The server saves 3.3 %: probably not worth 0.2 MB.</p>', text)
+        self.assertIn('<p class="bad">With it an INSERT of more than 2,704 bytes in b would fail.</p>', text)
+        raw = (self.here / "report.html").read_text()
+        self.assertIn("<b>27.0\N{NO-BREAK SPACE}%</b> by our model", raw)
+        self.assertIn("<b>0.2\N{NO-BREAK SPACE}MB</b>", raw)
+
+    def test_a_pick_that_rests_on_a_guess_and_on_little_time_is_marked(self) -> None:
+        self.document["picks"][0]["changes"][0] |= {"guess": True, "seconds": 0.02}
+        self.write()
+        self.assertIn("It rests on a guess, a range whose end isn", self.page())
 
     def test_nothing_in_it_is_code_or_fetched(self) -> None:
         text = self.page()
@@ -271,10 +258,24 @@ class Page(unittest.TestCase):
         (self.here / "curve.json").write_text(json.dumps(points))
         text = self.page()
         # At each point the cost steps down; the bound, which holds for smaller budgets, has come down before it.
-        self.assertIn('class="cost-line" d="M90.0 24.0H323.3V128.9H556.7V212.8H580.0"', text)
-        self.assertIn('class="bound-line" d="M90 24.0H90.0V155.1H323.3V212.8H556.7"', text)
-        for part in ("1.6 MB", "44.4 %", 'y="123.9">1</text>'):
+        cost = 'class="cost-line" d="M70.0 28.0H440.8V131.1H594.4V213.6H620.0"'
+        self.assertIn(cost, text)
+        self.assertIn('class="bound-line" d="M70 28.0H70.0V156.9H440.8V213.6H594.4"', text)
+        for part in ("1.6 MB", "44.4 %", 'y="126.1">1</text>', '<td class="number" data-name="bound">4,000</td>'):
             self.assertIn(part, text)
+
+    def test_numbers_in_the_curve_do_not_overlap_and_an_advice_has_one_row(self) -> None:
+        from cophy_pg.curves import curve_of
+
+        shown = ((0, 0, 9000), (8, 8, 8900), (10, 9, 8890), (12, 9, 8890), (900, 900, 100))
+        points = [
+            {"budget": at, "size": size, "cost": cost, "bound": cost, "picks": ["t(b)"] * (at > 0)}
+            for at, size, cost in shown
+        ]
+        curve = curve_of(points, 9000)
+        assert curve is not None
+        self.assertEqual([it[2] for it in curve["dots"]], ["0", "1", "", "1"])
+        self.assertEqual([it["budget"] for it in curve["rows"]], ["0.0 MB", "0.1 MB", "0.1 MB", "7.0 MB"])
 
     def test_without_indexes(self) -> None:
         self.document |= {"picks": [], "left_out": [], "size_pages": 0, "stored_pages": 0, "warnings": [], "lint": []}
@@ -282,6 +283,13 @@ class Page(unittest.TestCase):
         text = self.page()
         self.assertIn("No index is worth making for shop", text)
         self.assertIn("There are none.", text)
+
+    def test_a_folder_from_before_there_were_doubts_is_shown(self) -> None:
+        for it in ("doubts", "gap", "knee", "long_columns", "host", "port"):
+            self.document.pop(it)
+        del self.document["picks"][0]["long"], self.document["picks"][0]["saves"]["measured"]
+        self.write()
+        self.assertIn("<h3>1. t(b) clustered</h3>", self.page())
 
     def test_a_folder_from_before_there_were_clustered_picks_is_shown(self) -> None:
         for it in (*self.document["picks"], *self.document["left_out"], self.document["options"]):

@@ -2,6 +2,7 @@
 from __future__ import annotations
 
 import os
+import re
 import subprocess
 import tempfile
 import unittest
@@ -82,12 +83,13 @@ class Script(unittest.TestCase):
         self.assertTrue(ran.stdout.isascii())
         return ran.stdout
 
-    def run_script(self, text: str, *more: str, status: int = 0) -> str:
+    def run_script(self, text: str, *more: str, status: int = 0, **environment: str) -> str:
         """What psql says of a script."""
+        self.server.release("making")
         (self.here / "script.sql").write_text(text)
         words = [str(program("psql")), "-X", *more, "-f", str(self.here / "script.sql")]
-        environment = self.server.environment("making", PGUSER="cophy")
-        ran = subprocess.run(words, capture_output=True, text=True, env=environment, check=False, timeout=LONG)
+        given = self.server.environment("making", **{"PGUSER": "cophy"} | environment)
+        ran = subprocess.run(words, capture_output=True, text=True, env=given, check=False, timeout=LONG)
         self.assertEqual(ran.returncode, status, ran.stderr)
         return ran.stdout + ran.stderr
 
@@ -110,7 +112,8 @@ class Script(unittest.TestCase):
         self.assertEqual(self.run_script(text).count("it is there already"), 4)
         self.assertEqual(self.names(), made)
         self.server.psql("CREATE INDEX other ON plain (b)", "making")
-        self.run_script(text, "-v", "undo=1")
+        said = self.run_script(text, "-v", "undo=1")
+        self.assertEqual(re.findall(r"^(\d): (\w+)_idx is dropped$", said, re.MULTILINE)[-1], ("1", "plain_a_b"))
         self.assertEqual(self.names(), ["other"])
         self.server.psql("DROP INDEX other", "making")
 
@@ -118,8 +121,55 @@ class Script(unittest.TestCase):
         text, before = self.script(("parted(kind, day)",)), self.names()
         self.server.psql("CREATE ROLE stranger; ALTER TABLE parted_one OWNER TO stranger", "making")
         self.addCleanup(self.server.psql, "ALTER TABLE parted_one OWNER TO cophy; DROP ROLE stranger", "making")
-        self.assertIn("let their owner run the script, not a superuser", self.run_script(text, status=3))
+        said = self.run_script(text, status=3)
+        self.assertIn("let their owner run the script, not a superuser", said)
+        todo = "To make these indexes run it as stranger (psql -X -U); a role without a password gets one by \\password ROLE"
+        self.assertIn(todo, said)
         self.assertEqual(self.names(), before)
+
+    def test_its_statements_are_none_of_the_workload(self) -> None:
+        self.server.psql("CREATE EXTENSION pg_stat_statements; SELECT pg_stat_statements_reset()", "making")
+        self.addCleanup(self.server.psql, "DROP EXTENSION pg_stat_statements", "making")
+        text = self.script(PICKS)
+        self.run_script(text)
+        self.run_script(text, "-v", "undo=1")
+        self.server.psql("SELECT b FROM plain WHERE a = 3", "making")
+        report = str(self.here / "report")
+        words = ("export", *self.files[:2], "--report", report)
+        ran = called(self.server, *words, database="making", PGUSER="cophy_advisor")
+        self.assertEqual(ran.returncode, 0, ran.stderr)
+        each = Path(report).read_text().partition("each statement,")[2].splitlines()[1:]
+        self.assertTrue(any("SELECT b FROM plain" in it for it in each), each)
+        self.assertEqual([it for it in each if re.search("INDEX|cophy_|DO '|SET |is_out|pg_index", it)], [])
+
+    def test_who_owns_no_table_is_told_the_owner_at_once(self) -> None:
+        text = self.script(("plain(a)", "parted(kind)"))
+        said = self.run_script(text, status=3, PGUSER="cophy_advisor")
+        self.assertIn("Run this script as cophy\n", said)
+        self.assertIn("only the owner of the tables may make indexes on them", said)
+        self.assertNotIn("1 of 2", said)
+        owner = 'odd "$$\\ é'.replace('"', '""')
+        self.server.psql(f'CREATE ROLE "{owner}" LOGIN; ALTER TABLE plain OWNER TO "{owner}"', "making")
+        self.addCleanup(self.server.psql, f'ALTER TABLE plain OWNER TO cophy; DROP ROLE "{owner}"', "making")
+        said = self.run_script(self.script(("plain(a)",)), status=3, PGUSER="cophy_advisor")
+        self.assertIn('Run this script as "odd ""$$\\ ?"\n', said)
+
+    def test_one_is_left_out_by_its_number(self) -> None:
+        text = self.script(("plain(a)", "plain(b)", "parent(a)"), "--order", "3,1,2")
+        self.assertEqual(
+            [*re.findall(r"^-- (\d\. \S+)$", text, re.MULTILINE)], ["1. parent(a)", "2. plain(a)", "3. plain(b)"]
+        )
+        said = self.run_script(text, "-v", "without=1, 3")
+        self.assertRegex(
+            said, r"\A1 of 3: parent\(a\), .*\n1 is left out\n2 of 3: plain\(a\).*\n3 of 3.*\n3 is left out\ndone\n\Z"
+        )
+        self.assertEqual(self.names(), ["plain_a_idx"])
+        self.run_script(text)
+        self.assertEqual(len(self.names()), 4)
+        self.run_script(text, "-v", "undo=1", "-v", "without=2")
+        self.assertEqual(self.names(), ["plain_a_idx"])
+        self.run_script(text, "-v", "undo=1")
+        self.assertEqual(self.names(), [])
 
     def test_what_an_earlier_run_left_is_made_again(self) -> None:
         text = self.script(("plain(a, b)", "parted(kind)"))

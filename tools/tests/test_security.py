@@ -322,7 +322,8 @@ ALTER ROLE app NOSUPERUSER; REVOKE pg_execute_server_program FROM app"""
         self.assertIn("'app' may put another view in the place of pg_stat_statements", ran.stderr)
         ran = self.call("export", *self.files[:2])
         self.assertEqual(ran.returncode, 0, ran.stderr)
-        self.assertIn("warning: 'app' may put another view in the place of pg_stat_statements", ran.stderr)
+        told = "warning: the advice stands unless you distrust 'app', who may replace pg_stat_statements in"
+        self.assertIn(told, ran.stderr)
         self.assertFalse(self.marks())
 
     def test_verify_by_the_advisor_leaves_no_mark_and_names_functions(self) -> None:

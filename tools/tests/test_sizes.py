@@ -9,6 +9,7 @@ import random
 import tempfile
 import unittest
 from pathlib import Path
+from typing import Any
 
 from private_server import PrivateServer, missing
 from fixtures import called, shop
@@ -121,9 +122,60 @@ class Skewed(unittest.TestCase):
         ):
             with self.subTest(real=real, columns=len(parts)):
                 self.assertTrue(0.95 <= real / pages(rows, parts, True) <= 1.03, pages(rows, parts, True))
+        # The rows lie in the order of two days, of which one is soon after the other.
+        sent, delivered = (
+            Part(4, 4, values, correlation=near) for values, near in ((1036, 0.999996), (1042, 0.999984))
+        )
+        self.assertTrue(0.9 <= 72 / pages(56389, [sent, delivered], True) <= 1.03)
+        self.assertGreater(pages(56389, [sent, Part(4, 4, 1042)], True), 1.8 * 72)
         # Not knowing how common the most common value is, all are taken to be as common as each other.
         blind = [member, Part(5, 1, 3, varies=True)]
         self.assertGreater(pages(40500, blind, True), 1.4 * pages(40500, [member, state], True))
+
+
+@unittest.skipIf(MISSING, MISSING)
+class Columns(unittest.TestCase):
+    """What the statistics of a server tell of a column."""
+
+    def test_texts_have_the_sizes_of_the_values_that_are_known(self) -> None:
+        from cophy_pg.lengths import PARTS, sizes_of
+
+        self.assertEqual(sizes_of([], [10] * 101), [11])
+        self.assertEqual(sizes_of([], []), [])
+        self.assertEqual(sizes_of([], [10, 501]), [])
+        self.assertEqual(sizes_of([], [126, 127])[:: PARTS - 1], [127, 131])
+        found = sizes_of([(5, 0.7), (9, 0.1)], [7, 8])
+        self.assertEqual([found.count(it) for it in (6, 8, 9, 10)], [28, 4, 4, 4])
+
+    def test_rows_lie_in_an_order_where_values_are_many_and_none_is_common(self) -> None:
+        from cophy_pg.lengths import ordered_by
+        from cophy_pg.schema import Column
+
+        days = Column("sent", "sent", "date", 4, distinct=900, common=0.01)
+        self.assertEqual([ordered_by(days, it) for it in (0.99998, -1, 0.9, float("nan"))], [0.99998, 1, 0, 0])
+        for distinct, common in ((3, 0.01), (900, 0.9)):
+            self.assertEqual(ordered_by(Column("role", "role", distinct=distinct, common=common), 0.9999), 0)
+
+    def test_values_that_lie_close_are_counted_by_the_histogram(self) -> None:
+        from cophy_pg.schema import Column
+        from cophy_pg.sizes import values_of
+
+        def values(known: int, **more: Any) -> int:
+            return round(values_of(Column("c", "c", "int", 4, distinct=known, low=1, high=12000, **more), 60000))
+
+        self.assertEqual(values(9700), 11919)
+        # Half of the rows have a tenth of the values.
+        self.assertEqual(values(9700, bounds=[1, 1200, 12000]), 11328)
+        self.assertEqual(values(9700, nulls=0.5), 11015)
+        self.assertEqual(values(5000), 5000)
+        self.assertEqual(values(1000), 1000)
+        self.assertEqual(values_of(Column("c", "c", "text", 4, distinct=700), 60000), 700)
+
+    def test_pages_above_the_leaves_have_fewer_entries_where_the_first_column_is_wide(self) -> None:
+        from cophy_pg.stored import Part, pages
+
+        wide = Part(164, 1, 60000, varies=True, sizes=(164,))
+        self.assertTrue(0.99 <= 1551 / pages(60000, [wide], True) <= 1.01)
 
 
 @unittest.skipIf(MISSING, MISSING)

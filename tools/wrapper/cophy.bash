@@ -43,7 +43,7 @@ _cophy_pg() {
     case "$command" in
         advise | daily)
             if [ "$command" = daily ]; then options+=" --keep"; fi
-            options+=" --budget --folder --since --min-calls --min-saving --rules --most-per-table --no-curve --table --user --nodes --sql --log"
+            options+=" --budget --folder --since --min-calls --min-saving --rules --long-columns --most-per-table --no-curve --table --user --nodes --sql --log"
             options+=" --may-cluster --include"
             options+="$rewriting --dsn --timeout --i-trust-the-statements --program --json"
             ;;
@@ -55,7 +55,7 @@ _cophy_pg() {
         export) options+=" --dsn --sql --log --report --since --min-calls --table --user --may-cluster --timeout$rewriting --program" ;;
         rewrite) options+=" --report$rewriting --program" ;;
         rules) options+=" --skip-unknown" ;;
-        ddl) options+=" --script --include --rows-a-second --pages-a-second --json" ;;
+        ddl) options+=" --script --include --rows-a-second --order --pages-a-second --json" ;;
         verify)
             options+=" --dsn --sql --log --since --min-calls --table --user --timeout --i-trust-the-statements"
             options+=" --advice --rules --json --program"

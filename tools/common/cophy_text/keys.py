@@ -66,9 +66,20 @@ NULLS = "postgres_nulls"
 """The share of the rows that have no value in a column."""
 COMMON = "postgres_common"
 """The share that a column's most common value has of the rows with a value."""
+SIZES = "postgres_sizes"
+"""How many bytes the values of a column of texts take with their headers: each number stands for as many rows."""
+CORRELATION = "postgres_correlation"
+"""How nearly the rows lie in the order of a column, where they nearly do."""
+MOST = "postgres_most"
+"""The most bytes that a value of a column may have in an index, where its length varies and no index limits it."""
+ENTRY, LONGEST_ENTRY = 2704, 2600
+"""The bytes that an entry of an index has at most, a third of a page, and those without its header and the gaps between its
+columns."""
 ORDERED = "postgres_ordered"
 """Whether the rows lie in the order of an index that isn't `clustered`, since they may be laid in another one."""
-PASSED_OVER = frozenset((OURS, NO_KEY, CHILDREN, TAKEN, TYPE, SCALE, FRACTIONS, NULLS, COMMON, ORDERED))
+PASSED_OVER = frozenset(
+    (OURS, NO_KEY, CHILDREN, TAKEN, TYPE, SCALE, FRACTIONS, NULLS, COMMON, SIZES, CORRELATION, MOST, ORDERED)
+)
 
 _STEP = re.compile(r"([a-z_]+)(?:\[(\d+)\])?")
 

@@ -115,6 +115,9 @@ def _column(
         yield Note("without distinct an equality is taken to keep a tenth of the rows", f"{name!a}{more}")
     elif isinstance(distinct, int) and isinstance(rows, int) and distinct > max(1, rows):
         yield Warning(path, f"{name!a} has more distinct values than its table has rows")
+    most = column.get(keys.MOST)
+    if isinstance(most, int) and most > keys.LONGEST_ENTRY:
+        yield Note(f"an INSERT of more than {keys.ENTRY} bytes fails where an index has the column", f"{name!a}")
     if column.get("kind") in ("int", "date") and ("low" in column) != ("high" in column):
         yield Warning(path, f"{name!a} has one end alone, which counts for nothing without the other")
 

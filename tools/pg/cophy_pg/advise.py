@@ -6,50 +6,58 @@ import json
 import os
 from dataclasses import replace
 from datetime import UTC, datetime
+from functools import partial
 from typing import Any
 
 from cophy_lint.checks import catalogue_remarks, lines, workload_remarks
 from cophy_text import files
-from cophy_text.answers import read_advice
-from cophy_pg import export, folder, inputs
-from cophy_pg.amounts import amount, whole
+from cophy_text.answers import Advice, Prices, read_advice, read_candidates
+from cophy_pg import export, folder, inputs, unlimited
+from cophy_pg.advise_words import add_words
+from cophy_pg.beside import Beside
 from cophy_pg.catalogue import read_schema
 from cophy_pg.choice import UNTAKEN, Choice, Limits, drop_by_limits, drop_by_server
-from cophy_pg.clustering import add_clustering, permit
+from cophy_pg.closing import next_of
+from cophy_pg.clustering import permit
 from cophy_pg.commands import commands_text
 from cophy_pg.curve import as_json as as_json_of_point
 from cophy_pg.folder import Folder
 from cophy_pg.folding import Folding
 from cophy_pg.included import searched_columns
-from cophy_pg.making import ddl_text
+from cophy_pg.making import ddl_text, in_order
 from cophy_pg.outcomes import Verdict, outcomes
-from cophy_pg.overview import lines_of, next_of
+from cophy_pg.overview import lines_of
 from cophy_pg.page import NoReport, page_of
 from cophy_pg.picks import home_of
-from cophy_pg.plans import plans_of
-from cophy_pg.program import NoCommand, Program, add_program, program_file
+from cophy_pg.plans import costs_without, plans_of
+from cophy_pg.program import NoCommand, Program, program_file
 from cophy_pg.progress import say
 from cophy_pg.ranking import rank
+from cophy_pg.remainder import freed, gap_of, knee_of
 from cophy_pg.report import summary
 from cophy_pg.result import Result
 from cophy_pg.rewrite import Rewriter
 from cophy_pg.rewrite.options import options_of
 from cophy_pg.schema import Schema
 from cophy_pg.searches import Rules, Searches, listed_in
-from cophy_pg.selection import add_selection, count, ran_once, selection_of
-from cophy_pg.server import Server, add_connection, connected, reading, version_of
+from cophy_pg.selection import ran_once, selection_of
+from cophy_pg.server import Server, connected, reading, version_of
+from cophy_pg.sizes import stored_size
 from cophy_pg.snapshots import taken_of
 from cophy_pg.statistics import Found
 from cophy_pg.steps import Steps
 from cophy_pg.trust import owners_of, refuse_powers
-from cophy_pg.verify import Judged, add_trust, advice_text, as_json, judge, look_up
-from cophy_pg.why import reasons
+from cophy_pg.verify import Judged, advice_text, as_json, judge, look_up
+from cophy_pg.why import Reason, reasons
 from cophy_pg.workload import Workload, made
+from cophy_pg.worth import Worth, worth_of
 
 NOTHING = 3
 """The status where no index is worth making."""
 ROUNDS = 4
 """How often is searched: each time but the first without what no plan took before."""
+ADDITIONS = 3
+"""How often the planner is asked what it takes in the space that is left."""
 
 
 def add_advise(commands: argparse._SubParsersAction[argparse.ArgumentParser]) -> None:
@@ -65,58 +73,6 @@ def add_advise(commands: argparse._SubParsersAction[argparse.ArgumentParser]) ->
     )
     add_words(parser)
     parser.set_defaults(run=advise, is_silent=False)
-
-
-def add_words(parser: argparse.ArgumentParser) -> None:
-    """The words that say what to advise on, and how."""
-    parser.add_argument(
-        "--budget",
-        type=amount,
-        required=True,
-        metavar="SPACE",
-        help="what the indexes may take as PostgreSQL stores them: 2GB, 500MB, or pages",
-    )
-    parser.add_argument("--folder", metavar="DIR", help="where all files go (cophy-advice- and the time)")
-    _add_limits(parser)
-    parser.add_argument(
-        "--no-curve",
-        action="store_true",
-        help="don't search for what some other budgets would buy, which the report draws",
-    )
-    parser.add_argument("--nodes", type=whole, metavar="N", help="the node budget of the search")
-    parser.add_argument("--json", action="store_true", help="print all that was found as JSON instead")
-    source = parser.add_mutually_exclusive_group()
-    source.add_argument("--sql", metavar="FILE", help="statements from a file of SQL, as export takes them")
-    source.add_argument("--log", metavar="FILE", help="statements from a log, as export takes them")
-    add_selection(parser)
-    add_clustering(parser)
-    export.add_options(parser, has_report=False)
-    add_connection(parser)
-    add_trust(parser)
-    add_program(parser)
-
-
-def _add_limits(parser: argparse.ArgumentParser) -> None:
-    """The words that say which indexes may be made, and of what form."""
-    parser.add_argument(
-        "--min-saving", type=percent, default=0.0, metavar="PERCENT", help="what each index has to save"
-    )
-    parser.add_argument(
-        "--rules", metavar="FILE", help="what has to be made and what never may, as cophy-pg rules takes them"
-    )
-    parser.add_argument("--most-per-table", type=count, metavar="N", help="how many new indexes a table may get")
-    parser.add_argument(
-        "--include",
-        action="store_true",
-        help="put columns that no statement compares, joins, groups or orders by behind INCLUDE",
-    )
-
-
-def percent(text: str) -> float:
-    """A share from 0 to 100."""
-    if not 0 <= float(text) <= 100:
-        raise ValueError
-    return float(text)
 
 
 def advise(words: argparse.Namespace) -> int:
@@ -164,7 +120,7 @@ class Run:
             found, workload = self._export()
         with self.steps.step("lint", "looking for what is probably wrong"):
             lint = self._lint()
-        self.rules = Rules.of(read_schema(self.folder.read(folder.CATALOGUE)), self.words.rules)
+        self._take_rules()
         try:
             first = self._searched(found.schema)
             with connected(self.words.dsn, self.words.timeout) as server:
@@ -187,7 +143,8 @@ class Run:
         warnings = [*self.warnings, *self.rules.remarks, *([] if self.words.sql else ran_once(workload, none))]
         told = {"warnings": warnings, "lint": lint, "rewriting": summary(workload), "rules": listed_in(choice.rules)}
         parts = (found.schema, workload, advice, choice, judged, plans, (none, kept, all_), reason, proved)
-        self.head["unused"] = unused
+        self._tell_rest(found.schema, advice, choice, unused)
+        self.head["knee"] = knee_of(points, none.total)
         result = Result(*parts, self.head, told, self.steps.seconds)
         self._write(result)
         if points:
@@ -195,19 +152,25 @@ class Run:
             self.folder.write({folder.CURVE: json.dumps(curve, indent=2) + "\n"})
         return result.document()
 
+    def _tell_rest(self, schema: Schema, advice: Advice, choice: Choice, unused: str | None) -> None:
+        """Why the picks cost more than the bound, and why they leave space."""
+        stored = stored_size(schema, choice.advice.picks)
+        self.head["unused"] = unused or freed(self.words.budget, stored, len(choice.left_out))
+        self.head["gap"] = gap_of(self.program, advice, choice, self.rules, self.head["long_columns"])
+
     def _write(self, result: Result) -> None:
         """Writes what the last steps found."""
         none, kept, _ = result.prices
-        picks = result.choice.advice.picks
+        picks, order = result.choice.advice.picks, result.numbers()
         text = advice_text(replace(result.advice, picks=picks), [it.number for it in picks], kept.total)
         self.folder.write(
             {
                 folder.VERIFY: json.dumps(as_json(result.judged, [none, kept, kept]), indent=2) + "\n",
                 folder.KEPT: text,
-                folder.DDL: ddl_text(result.schema, read_advice(text), is_script=True),
+                folder.DDL: ddl_text(result.schema, in_order(read_advice(text), order), is_script=True),
                 folder.PLANS: json.dumps(result.plans.document(result.workload)) + "\n",
                 folder.COMMANDS: commands_text(
-                    self.words, self.folder, result.advice.budget, bool(result.told["rules"])
+                    self.words, self.folder, result.advice.budget, bool(result.told["rules"]), order
                 ),
             }
         )
@@ -227,21 +190,21 @@ class Run:
                 if given is None:
                     given = inputs.from_server(server, doubts.append, words.is_trusted)
                     contents[folder.SNAPSHOT] = taken_of(server, given).text()
-                version = version_of(server)
+                version, place = version_of(server), server.place()
             listed, found, self.warnings, name = export.read(server, given, selection_of(words), self.steps)
-            self.warnings = [*doubts, *self.warnings, *permit(found.schema, words.may_cluster)]
+            self.warnings += permit(found.schema, words.may_cluster)
             with reading(server, "READ COMMITTED"):
                 look_up(server, [Verdict(at, it, {}) for at, it in enumerate(listed, 1)], words.is_trusted)
         folding = Folding(lambda: export.catalogue_of(found, name), words.program, self.steps)
         workload = made(listed, Rewriter(found.schema, options_of(words)), self.steps, folding)
         if words.include:
             found.schema.searched = searched_columns(workload.text().encode(errors="replace"))
-        self.head = self._head_of(name, version)
+        self.head = self._head_of(name, version) | {"doubts": doubts, "host": place[0], "port": place[1]}
         catalogue = export.catalogue_of(found, name)
         rank(workload, catalogue, words.program, is_ordered=not (words.sql or words.log))
         contents[folder.CATALOGUE] = catalogue
         contents[folder.WORKLOAD] = workload.text()
-        contents[folder.EXPORT] = export.report_of(workload, self.warnings)
+        contents[folder.EXPORT] = export.report_of(workload, [*doubts, *self.warnings])
         self.folder.write(contents)
         return found, workload
 
@@ -261,6 +224,7 @@ class Run:
                 "min_saving": words.min_saving,
                 "most_per_table": words.most_per_table,
                 "include": words.include,
+                "long_columns": words.long_columns,
                 "rules": words.rules,
                 "tables": words.tables,
                 "users": words.users,
@@ -274,6 +238,16 @@ class Run:
         found = lines([*remarks, *workload_remarks(workload, document)])
         self.folder.write({folder.LINT: "".join(f"{it}\n" for it in found)})
         return found
+
+    def _take_rules(self) -> None:
+        """The rules that were given, and those that keep long values out of indexes."""
+        schema = read_schema(self.folder.read(folder.CATALOGUE))
+        self.rules, own = Rules.of(schema, self.words.rules), list[str]()
+        if not self.words.long_columns:
+            candidates = read_candidates(self.program.text("candidates"))
+            own = unlimited.never(schema, candidates, self.folder.read(folder.WORKLOAD), self.rules.given)
+        self.rules.given = [*self.rules.given, *own]
+        self.head["long_columns"] = own
 
     def _searched(self, schema: Schema) -> Choice:
         """What fills the budget under the rules so far."""
@@ -298,26 +272,84 @@ class Run:
             except NoCommand:
                 break
         assert best is not None
+        best = self._filled(server, schema, workload, *best)
         tables = {it.table for it in best[0].advice.picks}
         with reading(server):
             self.head["owners"] = owners_of(server, [it.oid for it in schema.tables.values() if it.shown in tables])
         return best
 
-    def _settle(self, server: Server, schema: Schema, workload: Workload, choice: Choice) -> Judged:
+    def _filled(
+        self, server: Server, schema: Schema, workload: Workload, choice: Choice, judged: Judged
+    ) -> tuple[Choice, Judged]:
+        """Adds what the server's planner takes in the space that is left, as long as it says that this saves something. Where
+        each pick has to save so much by our model, nothing is added."""
+        exchange = self.searches.exchange(schema, self.rules)
+        for _ in range(0 if self.words.min_saving else ADDITIONS):
+            beside = Beside(choice, judged.verdicts, exchange, workload.divisor)
+            trades = []
+            for it in beside.narrower():
+                users = self._asked(server, schema, workload, beside.with_trade(it), beside.users(it)).verdicts
+                trades.append(beside.priced(it, users))
+            asked = beside.asked_about(trades)
+            if asked is None:
+                break
+            found = self._asked(server, schema, workload, asked, judged.verdicts).verdicts
+            chosen = beside.better(found, trades)
+            if chosen == beside.chosen:
+                break
+            try:
+                advice, rules = self.searches.made_of(chosen, self.rules)
+            except NoCommand:
+                break
+            more = Choice(advice, [*choice.left_out], rules=rules)
+            again = self._settle(server, schema, workload, more, judged.verdicts)
+            if again.sums()[0] < judged.sums()[0] or again.sums()[2] >= judged.sums()[2]:
+                break
+            choice, judged = more, again
+        return choice, judged
+
+    def _settle(
+        self, server: Server, schema: Schema, workload: Workload, choice: Choice, known: list[Verdict] | None = None
+    ) -> Judged:
         """Asks the planner until all picks that are left stay. Picks that were left out before are asked about no more."""
         words = self.words
         limits = Limits(words.min_saving, words.most_per_table)
         while True:
-            records = enumerate(workload.records, 1)
-            found = [Verdict(at, it.input, workload.times(it)) for at, it in records if it.numbers]
-            with self.steps.step("verify", "asking the server's planner", 2 * len(found)):
-                with reading(server):
-                    home_of(server)
-                listed, functions = judge(server, schema, choice.advice, found, words.is_trusted, self.steps)
-                texts = {number: text for number, (text, _) in enumerate(workload.statements, 1)}
-                outcomes(listed, found, texts, [])
+            judged = self._asked(server, schema, workload, choice.advice, known)
+            known = judged.verdicts
             with self.steps.step("limits", "leaving out what isn't worth it"):
-                is_less = drop_by_server(choice, schema, listed, self.rules.asks_for)
-                is_less |= drop_by_limits(choice, self.program, limits, self.steps, self.rules.asks_for)
+                is_less = drop_by_server(choice, schema, judged.outcomes, self.rules.asks_for)
+                worth = partial(self._worth, server, schema, workload, choice.advice, judged.verdicts)
+                is_less |= drop_by_limits(choice, self.program, limits, self.steps, self.rules.asks_for, worth)
             if not is_less:
-                return Judged(found, listed, functions)
+                return judged
+
+    def _asked(
+        self, server: Server, schema: Schema, workload: Workload, advice: Advice, known: list[Verdict] | None = None
+    ) -> Judged:
+        """What the planner says of some picks; what it said of statements without any isn't asked for again."""
+        records = enumerate(workload.records, 1)
+        found = [Verdict(at, it.input, workload.times(it)) for at, it in records if it.numbers]
+        if known is not None:
+            found = [Verdict(it.number, it.input, it.times, before=it.before, fault=it.fault) for it in known]
+        with self.steps.step("verify", "asking the server's planner", 2 * len(found)):
+            with reading(server):
+                home_of(server)
+            listed, functions = judge(server, schema, advice, found, self.words.is_trusted, self.steps)
+            texts = {number: text for number, (text, _) in enumerate(workload.statements, 1)}
+            outcomes(listed, found, texts, [])
+        return Judged(found, listed, functions)
+
+    def _worth(
+        self,
+        server: Server,
+        schema: Schema,
+        workload: Workload,
+        advice: Advice,
+        found: list[Verdict],
+        reason: Reason,
+        prices: tuple[Prices, Prices],
+    ) -> Worth:
+        """What a pick saves, by the server too."""
+        without = costs_without(server, schema, advice, reason.pick, found, self.steps)
+        return worth_of(reason, prices, found, without, [it.input.seconds for it in workload.records])

@@ -9,7 +9,7 @@ from cophy_text.answers import Advice
 MOST_TRIES = 8
 FULL = 0.97
 """So much of the space is full enough."""
-SPARED = 50
+SPARED = 100
 """One part in so many is left free, since the formula of sizes may say that much too little."""
 WIDEST = 8
 """Beyond so many times the space, a larger budget isn't tried."""

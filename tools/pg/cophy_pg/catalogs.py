@@ -35,7 +35,11 @@ STATS = f"""
 SELECT c.oid::int8, s.attname::text, s.n_distinct::float8, s.avg_width::int4, s.correlation::float8,
        CASE WHEN a.atttypid = ANY(%s::oid[]) THEN s.most_common_vals::text::text[] END,
        CASE WHEN a.atttypid = ANY(%s::oid[]) THEN s.histogram_bounds::text::text[] END, s.inherited,
-       s.most_common_freqs::float8[], s.null_frac::float8
+       s.most_common_freqs::float8[], s.null_frac::float8,
+       CASE WHEN a.atttypid = ANY(%s::oid[]) THEN ARRAY(SELECT pg_catalog.octet_length(it)
+           FROM unnest(s.most_common_vals::text::text[]) WITH ORDINALITY l(it, at) ORDER BY at) END,
+       CASE WHEN a.atttypid = ANY(%s::oid[]) THEN ARRAY(SELECT pg_catalog.octet_length(it)
+           FROM unnest(s.histogram_bounds::text::text[]) it) END
 FROM pg_catalog.pg_stats s JOIN pg_catalog.pg_namespace n ON n.nspname = s.schemaname
 JOIN pg_catalog.pg_class c ON c.relnamespace = n.oid AND c.relname = s.tablename
 JOIN pg_catalog.pg_attribute a ON a.attrelid = c.oid AND a.attname = s.attname

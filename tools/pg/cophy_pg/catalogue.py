@@ -74,6 +74,12 @@ def _column(column: Column) -> list[str]:
         lines.append(f"{keys.NULLS} = {column.nulls}")
     if column.common:
         lines.append(f"{keys.COMMON} = {column.common}")
+    if column.sizes:
+        lines.append(f"{keys.SIZES} = {column.sizes}")
+    if column.correlation:
+        lines.append(f"{keys.CORRELATION} = {column.correlation:.6f}")
+    if column.most:
+        lines.append(f"{keys.MOST} = {column.most}")
     if column.no_key:
         lines.append(f"{keys.NO_KEY} = {toml_text(column.no_key)}")
     return lines
@@ -155,7 +161,10 @@ def _read_column(element: dict[str, Any], is_second: bool) -> Column:
     column.scale = min(MOST_SCALE, max(0, _of(int, element.get(keys.SCALE, 0))))
     column.nulls = share_of(_of(float, element.get(keys.NULLS, 0.0)))
     column.common = share_of(_of(float, element.get(keys.COMMON, 0.0)))
+    column.correlation = share_of(_of(float, element.get(keys.CORRELATION, 0.0)))
+    column.sizes = [max(1, _of(int, it)) for it in _of(list, element.get(keys.SIZES, []))]
     column.has_fractions = _of(bool, element.get(keys.FRACTIONS, False))
+    column.most = max(0, _of(int, element.get(keys.MOST, 0)))
     if "distinct" in element:
         column.distinct = _of(int, element["distinct"])
     if kind != "text":

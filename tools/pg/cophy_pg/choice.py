@@ -4,14 +4,14 @@ from __future__ import annotations
 from collections.abc import Callable
 from dataclasses import dataclass, field, replace
 
-from cophy_text.answers import Advice, Candidate
-from cophy_text.shown import percent
+from cophy_text.answers import Advice, Candidate, Prices
 from cophy_pg.ddl import why_not
 from cophy_pg.outcomes import Outcome
 from cophy_pg.program import Program
 from cophy_pg.progress import Progress
 from cophy_pg.schema import Schema
 from cophy_pg.why import Reason, reasons
+from cophy_pg.worth import Worth
 
 UNTAKEN = "no plan of the server takes it"
 ASKED = "asked for"
@@ -64,29 +64,48 @@ def drop_by_server(
 
 
 def drop_by_limits(
-    choice: Choice, program: Program, limits: Limits, progress: Progress, asks_for: Callable[[Candidate], bool]
+    choice: Choice,
+    program: Program,
+    limits: Limits,
+    progress: Progress,
+    asks_for: Callable[[Candidate], bool],
+    worth: Callable[[Reason, tuple[Prices, Prices]], Worth],
 ) -> bool:
-    """Leaves out the picks beyond a limit, unless they are asked for, of each table the one that saves the least first, since
-    the others may save more without it; whether any was."""
-    before, is_done = len(choice.left_out), not limits.are_given()
-    while not is_done and choice.advice.picks:
+    """Leaves out the picks beyond a limit, unless they are asked for, of each table the one that saves the least, since the
+    others may save more without it; whether any was. What the server saves is asked for where our model saves too little.
+    """
+    before = len(choice.left_out)
+    if limits.are_given() and choice.advice.picks:
         none, all_, found = reasons(program, choice.advice, progress)
         tables: set[str] = set()
         for it in sorted(found, key=lambda it: it.total_without):
-            why = _beyond(limits, it, found, none.total, all_.total) if it.pick.table not in tables else ""
-            if why and not asks_for(it.pick):
+            if it.pick.table in tables or asks_for(it.pick):
+                continue
+            why = _saves_less(limits, it, (none, all_), worth) or _is_one_of_many(limits, it, found)
+            if why:
                 tables.add(it.pick.table)
                 choice.drop(it.pick, why)
-        is_done = not tables
     return len(choice.left_out) > before
 
 
-def _beyond(limits: Limits, reason: Reason, found: list[Reason], before: int, total: int) -> str:
-    """The limit that a pick is beyond, in words."""
-    saves = 100 * (reason.total_without - total) / before if before else 0.0
-    if saves < limits.min_saving:
-        return f"it saves {percent(saves)} by our model, and {limits.min_saving:g} % are {ASKED}"
+def _saves_less(
+    limits: Limits,
+    reason: Reason,
+    prices: tuple[Prices, Prices],
+    worth: Callable[[Reason, tuple[Prices, Prices]], Worth],
+) -> str:
+    """In words, that a pick saves less than is asked for, by our model, by the server and of the measured time; nothing where
+    it saves as much by one of them."""
+    none, all_ = prices
+    if not limits.min_saving or 100 * (reason.total_without - all_.total) >= limits.min_saving * none.total:
+        return ""
+    found = worth(reason, prices)
+    return f"it saves {found.shown()}; {limits.min_saving:g} % are {ASKED}" if found.most() < limits.min_saving else ""
+
+
+def _is_one_of_many(limits: Limits, reason: Reason, found: list[Reason]) -> str:
+    """In words, that a table has more picks than are asked for."""
     most = limits.most_per_table
-    if most is not None and sum(it.pick.table == reason.pick.table for it in found) > most:
-        return f"others of its table save more, and {most} a table are {ASKED} at most"
-    return ""
+    if most is None or sum(it.pick.table == reason.pick.table for it in found) <= most:
+        return ""
+    return f"others of its table save more, and {most} a table are {ASKED} at most"

@@ -3,6 +3,7 @@ from __future__ import annotations
 
 import argparse
 import shlex
+from collections.abc import Sequence
 
 from cophy_text.files import shown
 from cophy_pg import clustering, folder
@@ -10,14 +11,17 @@ from cophy_pg.folder import Folder
 from cophy_pg.rewrite.options import words_of
 
 
-def commands_text(words: argparse.Namespace, kept: Folder, budget: int, has_rules: bool) -> str:
-    """A line for each step, without the connection. The budget is the program's, in pages."""
+def commands_text(
+    words: argparse.Namespace, kept: Folder, budget: int, has_rules: bool, order: Sequence[int] = ()
+) -> str:
+    """A line for each step, without the connection. The budget is the program's, in pages; the order is that of the picks."""
     both = [kept.path(folder.CATALOGUE), kept.path(folder.WORKLOAD)]
     chosen, written = _chosen(words), [*words_of(words), *clustering.words_of(words)]
     nodes = ["--nodes", str(words.nodes)] if words.nodes else []
     trusted = ["--i-trust-the-statements"] if words.is_trusted else []
     advice, certificate, curve = kept.path(folder.ADVICE), kept.path(folder.CERTIFICATE), kept.path(folder.CURVE)
     included = ["--include", both[1]] if words.include else []
+    ordered = ["--order", ",".join(map(str, order))] if len(order) > 1 else []
     ruled: list[list[str]] = []
     if has_rules:
         ruled = [[words.program, "ruled", *both, str(budget), kept.path(folder.RULES), *nodes]]
@@ -30,7 +34,7 @@ def commands_text(words: argparse.Namespace, kept: Folder, budget: int, has_rule
         *ruled,
         ["cophy-pg", "verify", *both, advice, *chosen, *trusted, "--advice", kept.path(folder.KEPT)],
         ["cophy-pg", "why", *both, kept.path(folder.KEPT)],
-        ["cophy-pg", "ddl", both[0], kept.path(folder.KEPT), "--script", *included],
+        ["cophy-pg", "ddl", both[0], kept.path(folder.KEPT), "--script", *included, *ordered],
         ["cophy-pg", "curve", *both, "--json"],
         ["cophy-pg", "report", kept.name],
     ]

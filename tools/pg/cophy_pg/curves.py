@@ -1,12 +1,15 @@
 """The curve of cost and bound over the budget: its steps, and it as a picture in SVG."""
 from __future__ import annotations
 
+import math
 from dataclasses import dataclass
 from typing import Any
 
 from cophy_text.shown import grouped, percent, space
 
-WIDTH, HEIGHT, LEFT, RIGHT, BOTTOM, TOP = 640, 300, 90, 60, 40, 24
+WIDTH, HEIGHT, LEFT, RIGHT, BOTTOM, TOP = 640, 300, 70, 20, 40, 28
+DIGIT, LINE = 12, 22
+"""How wide a digit and how high a line is at most, on a narrow screen, with the space beside it."""
 
 
 @dataclass(frozen=True)
@@ -49,7 +52,8 @@ def bound_steps(points: list[Point]) -> list[Corner]:
 
 def curve_of(document: list[dict[str, Any]], without: int) -> dict[str, Any] | None:
     """The lines of cost and bound over the budget, and what stands at the axes; nothing where there are too few points. A
-    share is one of what the workload costs without indexes."""
+    share is one of what the workload costs without indexes. Space is drawn by its root, so that small budgets are seen.
+    """
     points = [
         Point(int(it["budget"]), int(it["size"]), int(it["cost"]), int(it["bound"]), len(it["picks"]))
         for it in document
@@ -59,10 +63,10 @@ def curve_of(document: list[dict[str, Any]], without: int) -> dict[str, Any] | N
         return None
     # Beyond the last budget there is room for the number of indexes there.
     last, most = points[-1].budget, max(1, without, *(it.cost for it in points))
-    end = last + last // 20
+    end = last + last // 10
 
     def across(budget: int) -> float:
-        return round(LEFT + (WIDTH - LEFT - RIGHT) * budget / end, 1)
+        return round(LEFT + (WIDTH - LEFT - RIGHT) * math.sqrt(budget / end), 1)
 
     def up(cost: int) -> float:
         return round(HEIGHT - BOTTOM - (HEIGHT - BOTTOM - TOP) * max(0, cost) / most, 1)
@@ -78,11 +82,29 @@ def curve_of(document: list[dict[str, Any]], without: int) -> dict[str, Any] | N
         "base": HEIGHT - BOTTOM,
         "cost": f"M{across(costs[0].pages)} {up(costs[0].cost)}{down}H{across(end)}",
         "bound": f"M{LEFT} {up(bounds[0].cost)}H{across(bounds[0].pages)}{back}",
-        "dots": [(across(it.pages), up(it.cost), it.picks) for it in costs],
-        "ups": [(up(it), grouped(it / 1000), percent(100 * (most - it) / most)) for it in (0, most // 2, most)],
-        "acrosses": [(across(it), space(it)) for it in (0, last // 2, last)],
-        "rows": [_row(it, most) for it in points],
+        "dots": _labelled([(across(it.pages), up(it.cost), it.picks) for it in costs]),
+        "ups": [(up(it), f"{100 * it / most:.0f} %") for it in (0, most // 2, most)],
+        "acrosses": [(across(it), space(it)) for it in dict.fromkeys((0, last // 16, last // 4, last))],
+        "rows": [_row(it, most) for it in _different(points)],
     }
+
+
+def _labelled(dots: list[tuple[float, float, int]]) -> list[tuple[float, float, str]]:
+    """Dots with their numbers; one that would stand on the number before it is left out."""
+    found, end, base = list[tuple[float, float, str]](), 0.0, 0.0
+    for x, y, picks in dots:
+        is_free = x >= end or y - base >= LINE
+        found.append((x, y, str(picks) if is_free else ""))
+        if is_free:
+            end, base = x + DIGIT * (1 + len(str(picks))), y
+    return found
+
+
+def _different(points: list[Point]) -> list[Point]:
+    """The points, of those with one advice the one with the least budget."""
+    return [
+        it for at, it in enumerate(points) if not at or (it.size, it.cost) != (points[at - 1].size, points[at - 1].cost)
+    ]
 
 
 def _row(it: Point, most: int) -> dict[str, Any]:

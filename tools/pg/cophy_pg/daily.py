@@ -11,6 +11,7 @@ from datetime import datetime
 
 from cophy_text import files
 from cophy_pg import advise, folder
+from cophy_pg.advise_words import add_words
 from cophy_pg.changes import OTHERS, Found, compared, lines_of
 from cophy_pg.folder import Folder
 from cophy_pg.inputs import NoInput
@@ -34,7 +35,7 @@ def add_daily(commands: argparse._SubParsersAction[argparse.ArgumentParser]) -> 
         "directory", metavar="DIR", help="where the folders of all calls are; it is made where it isn't there"
     )
     parser.add_argument("--keep", type=count, default=KEPT, metavar="N", help=f"how many folders stay ({KEPT})")
-    advise.add_words(parser)
+    add_words(parser)
     parser.set_defaults(run=daily)
 
 

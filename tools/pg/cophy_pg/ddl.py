@@ -63,12 +63,13 @@ class Laid:
 @dataclass
 class Made:
     """A pick with the indexes that stand for it, of a clustered one with the table that is laid in the order of its index, or
-    why none can be made."""
+    why none can be made; and its place among those that are made, from 1, as it is shown."""
 
     pick: Candidate
     indexes: tuple[Named, ...] = ()
     why_not: str = ""
     laid: Laid | None = None
+    place: int = 0
 
     @property
     def name(self) -> str:

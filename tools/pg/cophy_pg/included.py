@@ -4,7 +4,7 @@ from __future__ import annotations
 from cophy_text.answers import Candidate
 from cophy_text.tokens import RESERVED, Token, tokens
 
-_CLAUSES = {
+CLAUSES = {
     **dict.fromkeys(("SELECT", "SET", "INSERT", "VALUES"), "read"),
     **dict.fromkeys(("FROM", "JOIN", "INTO", "UPDATE"), "sources"),
     **dict.fromkeys(("ON", "WHERE", "HAVING", "GROUP", "ORDER"), "searched"),
@@ -22,21 +22,22 @@ def searched_columns(workload: bytes) -> set[str]:
         if token.text == b";":
             clause, calls = "", []
         elif token.text == b"(":
-            calls.append(before is not None and _is_name(before))
+            calls.append(before is not None and is_name(before))
         elif token.text == b")" and calls:
             calls.pop()
-        elif token.word in _CLAUSES:
-            clause = _CLAUSES[token.word]
-        elif clause == "searched" and _is_name(token) and not any(calls) and not _is_apart(after):
+        elif token.word in CLAUSES:
+            clause = CLAUSES[token.word]
+        elif clause == "searched" and is_name(token) and not any(calls) and not is_apart(after):
             found.add(token.text.decode("ascii", "replace").strip('"').lower())
     return found
 
 
-def _is_name(token: Token) -> bool:
+def is_name(token: Token) -> bool:
+    """Whether a token may be a name."""
     return token.kind == "quoted" or (token.kind == "word" and token.word not in RESERVED)
 
 
-def _is_apart(after: list[Token]) -> bool:
+def is_apart(after: list[Token]) -> bool:
     """Whether what follows a name makes it the name of a table or a function, or a column that is only needed."""
     if after and after[0].text in (b".", b"("):
         return True

@@ -54,16 +54,7 @@ def from_server(server: Server, warn: Callable[[str], None] = say, is_trusted: b
         )
     where, number, others = found
     if others:
-        who = (
-            f"{' and '.join(map(ascii, others))} may put another view in the place of {EXTENSION}, in schema {where!a}"
-        )
-        if not is_trusted and has_power(server):
-            raise NoInput(
-                f"{who}, and its code would have this role's rights: tools/pg/advisor_role.sql makes a role with few; "
-                "or give the statements by --sql or --log, or the schema to a superuser"
-            )
-        moved = f"ALTER EXTENSION {EXTENSION} SET SCHEMA one of a superuser"
-        warn(f"{who}: what it says may be made up; {moved} ends that")
+        _doubt(server, " and ".join(map(ascii, others)), where, warn, is_trusted)
     view = f"{quoted_name(where)}.{EXTENSION}"
     names = {
         str(it[0])
@@ -93,6 +84,18 @@ def from_server(server: Server, warn: Callable[[str], None] = say, is_trusted: b
     return [*inputs.values()]
 
 
+def _doubt(server: Server, who: str, where: str, warn: Callable[[str], None], is_trusted: bool) -> None:
+    """Warns of who may put another view in the place of the extension's, and refuses a role that it would have power over."""
+    if not is_trusted and has_power(server):
+        raise NoInput(
+            f"{who} may put another view in the place of {EXTENSION}, in schema {where!a}, and its code would have this role's rights: tools/pg/advisor_role.sql makes a role with few; "
+            "or give the statements by --sql or --log, or the schema to a superuser"
+        )
+    moved = f"CREATE SCHEMA counted; GRANT USAGE ON SCHEMA counted TO PUBLIC; ALTER EXTENSION {EXTENSION} SET SCHEMA counted;"
+    what = f"who may replace {EXTENSION} in schema {where!a}"
+    warn(f"the advice stands unless you distrust {who}, {what}; a superuser ends that by: {moved}")
+
+
 _EXPLAIN = re.compile(
     r"\s*EXPLAIN\s+(?:\((?P<options>[^()]*)\)\s*)?(?:ANALY[ZS]E\s+)?(?:VERBOSE\s+)?(?P<sql>.*)",
     re.IGNORECASE | re.DOTALL,
@@ -103,7 +106,7 @@ _PREPARE = re.compile(
 
 
 def within(text: str, gave_rows: bool, has_numbers: bool) -> str | None:
-    """The statement that a text of pg_stat_statements stands for; nothing where it is one of ours.
+    """The statement that a text of pg_stat_statements stands for; nothing where it is one of ours, be it of a script.
 
     The text is the one in which a statement was first seen, so it may be within EXPLAIN or PREPARE though all calls are of
     the statement itself. EXPLAIN's own entry gives no rows, and up to PostgreSQL 15 it has its literals, not numbers.
@@ -115,7 +118,8 @@ def within(text: str, gave_rows: bool, has_numbers: bool) -> str | None:
         return None if is_own else text
     if found.re is _EXPLAIN and not gave_rows and not (has_numbers and re.search(r"\$\d", text)):
         return None if is_own else text
-    return found["sql"]
+    # What a script of ours prepares is its own.
+    return None if found["sql"].startswith(OWN) else found["sql"]
 
 
 def look_up(server: Server, listed: list[Input]) -> None:

@@ -4,13 +4,12 @@ from __future__ import annotations
 from collections.abc import Callable
 from dataclasses import dataclass
 
+from cophy_text.keys import LONGEST_ENTRY
 from cophy_pg.schema import Column, Table
 from cophy_pg.server import Row, Server, ServerFault, quoted_name, reading
 from cophy_pg.trust import MOST_NAMES, may_plan, runs_functions
 from cophy_pg.types import Base, Orders
 
-LONGEST_ENTRY = 2600
-"""An entry has at most a third of a page, 2704 bytes, with its header and the gaps between its columns."""
 SAMPLED_PAGES, SAMPLED_PARTS = 500, 8
 SHORT = 100
 """Where no value is out of line and none is longer than this on average, the table isn't sampled."""
@@ -18,6 +17,12 @@ WIDEST = 1000
 WAITED, MOST_WAITS = ("55P03", "57014"), 5
 """After so many samples that weren't given in time, be it for a lock or for a function of an index, none is taken any more."""
 TEXTS = frozenset(("text", "varchar", "bpchar", "bytea"))
+NEVER_LONG = frozenset(
+    "numeric inet cidr int4range int8range numrange tsrange tstzrange daterange oidvector int2vector".split()
+)
+"""Types without a limit whose values are short nevertheless."""
+ENDLESS = 2**30
+"""PostgreSQL has no longer value."""
 
 
 @dataclass
@@ -47,6 +52,14 @@ class Stored:
         """Whether a value may be too long for an entry, as far as its type says."""
         most = self.most()
         return most is None or most > LONGEST_ENTRY
+
+    def most_of_entry(self) -> int:
+        """The most bytes that a value may add to an entry, where its length varies, characters having up to four; 0 where it
+        doesn't, or no value is long."""
+        if self.base.length > 0 or self.base.name in NEVER_LONG or self.is_virtual:
+            return 0
+        most = self.most()
+        return ENDLESS if most is None else most
 
     def bytes_of(self) -> str:
         """What SQL says of a value's length, without the call of any function that a user made."""
@@ -96,6 +109,7 @@ class Lengths:
             if not why and it.base.length > 0 and most is not None and most > LONGEST_ENTRY:
                 why = "its values take more than a third of a page"
             it.column.no_key = "it isn't stored" if it.is_virtual else why
+            it.column.most = 0 if it.column.name in indexed else it.most_of_entry()
         varying = [it for it in stored if it.base.length < 0 and not it.is_virtual]
         if varying and self._is_long(table, varying, parts):
             self.waiting.append(Sampled(table, varying, parts, indexed))

@@ -5,6 +5,7 @@ import argparse
 import json
 import os
 from contextlib import suppress
+from dataclasses import replace
 from textwrap import wrap
 from typing import Any
 
@@ -19,6 +20,7 @@ from cophy_pg.schema import Schema
 from cophy_pg.script import script_text
 from cophy_pg.sizes import both, stored_pages
 from cophy_pg.speed import PAGES_A_SECOND, ROWS_A_SECOND, Speed
+from cophy_pg.unlimited import exceeding, warning
 
 OWNERS = [
     "-- Let the owner of the tables run this, not a superuser: functions that an owner planted, as in a partition key or behind",
@@ -55,6 +57,20 @@ def add_ddl(commands: argparse._SubParsersAction[argparse.ArgumentParser]) -> No
         help="put columns that no statement of the workload compares, joins, groups or orders by behind INCLUDE",
     )
     parser.add_argument(
+        "--order",
+        type=numbers,
+        default=[],
+        metavar="N,N,..",
+        help="the order of the picks, by their numbers in the advice",
+    )
+    _add_speeds(parser)
+    parser.add_argument("--json", action="store_true", help="print JSON instead")
+    parser.set_defaults(run=ddl)
+
+
+def _add_speeds(parser: argparse.ArgumentParser) -> None:
+    """The words of how fast the server is."""
+    parser.add_argument(
         "--rows-a-second",
         type=rate,
         default=ROWS_A_SECOND,
@@ -68,8 +84,17 @@ def add_ddl(commands: argparse._SubParsersAction[argparse.ArgumentParser]) -> No
         metavar="N",
         help=f"how fast CLUSTER writes a table beside its indexes, for the estimates ({PAGES_A_SECOND})",
     )
-    parser.add_argument("--json", action="store_true", help="print JSON instead")
-    parser.set_defaults(run=ddl)
+
+
+def numbers(text: str) -> list[int]:
+    """Numbers of candidates."""
+    return [int(it) for it in text.split(",")]
+
+
+def in_order(advice: Advice, order: list[int]) -> Advice:
+    """An advice with its picks in an order, those first that it names."""
+    places = {number: at for at, number in enumerate(order)}
+    return replace(advice, picks=sorted(advice.picks, key=lambda it: places.get(it.number, len(places))))
 
 
 def rate(text: str) -> int:
@@ -81,7 +106,8 @@ def rate(text: str) -> int:
 
 def ddl(words: argparse.Namespace) -> int:
     """Prints the statements."""
-    schema, advice = read_schema(files.read(words.catalogue)), advice_of(words.advice, may_be_retuned=True)
+    schema = read_schema(files.read(words.catalogue))
+    advice = in_order(advice_of(words.advice, may_be_retuned=True), words.order)
     if words.include:
         schema.searched = searched_columns(files.read(words.include))
     is_newer = _is_newer(words.catalogue, words.advice)
@@ -109,6 +135,8 @@ def made_of(schema: Schema, advice: Advice) -> list[Made]:
     """The indexes of an advice."""
     taken = taken_names(schema)
     made = [create(schema, it, taken) for it in advice.picks]
+    for place, it in enumerate((it for it in made if not it.why_not), 1):
+        it.place = place
     # A table is laid anew before its other indexes are made, which would be made anew with it.
     return sorted(made, key=lambda it: it.laid is None)
 
@@ -117,7 +145,7 @@ def ddl_text(
     schema: Schema, advice: Advice, speed: Speed = Speed(), is_script: bool = False, more: list[str] | None = None
 ) -> str:
     """The statements with comments on what they are of, or a script."""
-    end = "the bound is reached: no other choice costs less" if advice.is_finished else "the bound isn't reached"
+    end = "the bound is reached: no other choice costs less" if advice.is_finished else "these picks cost more than it"
     made = made_of(schema, advice)
     budget, size = both(advice.budget, None), both(advice.size, sum(stored_of(schema, it) for it in made))
     cost, bound, gap = map(grouped, (advice.cost, advice.bound, advice.gap))
@@ -125,10 +153,11 @@ def ddl_text(
     head.append(f"-- {UNIT}")
     left_out = [f"-- pick {it.pick.number} is left out, {_comment(it.why_not)}" for it in made if it.why_not]
     if is_script:
-        return script_text(schema, made, [*head, *left_out], speed)
+        return script_text(schema, made, [*(more or []), *left_out], speed)
     lines = [*head, *OWNERS]
     for it in made:
         lines += ["", f"-- pick {it.pick.number}: {both(it.pick.pages, stored_of(schema, it) or None)}"]
+        lines += [f"-- {fails}"] if (fails := warning(exceeding(schema, it.pick))) and not it.why_not else []
         lines += [f"-- left out, {_comment(it.why_not)}"] if it.why_not else _statements(schema, it, speed)
     return "\n".join(lines) + "\n"
 
@@ -171,6 +200,7 @@ def _as_json(schema: Schema, advice: Advice, made: list[Made]) -> dict[str, Any]
                 "stored_pages": stored_of(schema, it) or None,
                 "name": it.name or None,
                 "statement": "\n".join(it.statements) or None,
+                "long": exceeding(schema, it.pick),
                 **({"left_out": it.why_not} if it.why_not else {}),
             }
             for it in made

@@ -1,19 +1,24 @@
 """What `advise` found, for the terminal."""
 from __future__ import annotations
 
-import shlex
 from typing import Any
 
 from cophy_text.answers import counted
 from cophy_text.shown import grouped, percent, share, short, space
-from cophy_pg.choice import ASKED
+from cophy_pg.choice import ASKED, UNTAKEN
+from cophy_pg.closing import costs, last_of
+from cophy_pg.guesses import doubt_of, gains, seconds_of, warning_of
+from cophy_pg.unlimited import told, warning
 
 MOST_CHANGES = 5
-SAVES = "what each saves of the workload's cost, by our model and by the server's planner:"
+SAVES = f"   {'size':>9} {'our model':>9} {'server':>9}  % of the cost saved; statement, "
+KINDS = ("ours", "server", "measured")
 LITTLE = 1
 """What an index has to save, in percent, so that nothing is said of that."""
 MUCH = 20
 """A skipped statement is named that has this part of the whole."""
+MOST_NUMBERS, SQL = 5, 45
+"""So many numbers of statements, and so many characters of one, are shown."""
 WIDE = 5
 """Of so many columns some are mostly only read."""
 
@@ -21,10 +26,13 @@ WIDE = 5
 def lines_of(document: dict[str, Any]) -> list[str]:
     """The summary of a document."""
     lines = [_head(document), *(f"warning: {it}" for it in document["warnings"])]
-    lines += [SAVES, ""] if document["picks"] else [""]
+    time = "measured time" if _measured(document) == "seconds" else "calls"
+    lines += [SAVES + time] if document["picks"] else [""]
     for at, it in enumerate(document["picks"], 1):
-        lines += [*_pick(at, it), *_longer(it, document["picks"]), ""]
+        lines += [*_pick(at, it, document), *_longer(it, document["picks"])]
+    lines += [""] * bool(document["picks"])
     lines += _hints(document)
+    lines += [told(long), ""] if (long := document.get("long_columns", [])) else []
     lines += [*_left_out(document["left_out"]), *_skipped(document)]
     unknown = [it for it in document["statements"] if it["not_explained"]]
     if unknown:
@@ -32,7 +40,7 @@ def lines_of(document: dict[str, Any]) -> list[str]:
         shown = ((name_of(it), it["not_explained"], short(it["sql"])) for it in unknown[:MOST_CHANGES])
         lines += [f"  {name}: {why}: {sql}" for name, why, sql in shown]
         lines += [f"  and {grouped(len(unknown) - MOST_CHANGES)} more", ""] if unknown[MOST_CHANGES:] else [""]
-    return [*lines, *costs(document), *_end(document)]
+    return [*lines, *costs(document), *last_of(document)]
 
 
 def _longer(pick: dict[str, Any], picks: list[dict[str, Any]]) -> list[str]:
@@ -47,15 +55,12 @@ def _longer(pick: dict[str, Any], picks: list[dict[str, Any]]) -> list[str]:
 
 
 def _left_out(left_out: list[dict[str, Any]]) -> list[str]:
-    """What was left out; of what the limits that were given leave out more than a few is counted alone."""
-    if not left_out:
-        return []
-    few = [it for it in left_out if ASKED not in it["why"]]
-    shown = left_out if len(left_out) - len(few) < MOST_CHANGES else few
-    lines = [f"  {named(it)}: {it['why']}" for it in shown]
-    if shown is few:
-        lines += [f"  {len(left_out) - len(few)} more by --min-saving or --most-per-table, which the report names"]
-    return ["left out of the advice:", *lines, ""]
+    """How many were left out, by the reasons; the report names each."""
+    untaken = sum(it["why"] == UNTAKEN for it in left_out)
+    asked = sum(ASKED in it["why"] for it in left_out)
+    counts = {"taken by no plan": untaken, "beyond limits": asked, "for other reasons": len(left_out) - untaken - asked}
+    shown = ", ".join(f"{count} {why}" for why, count in counts.items() if count)
+    return [f"left out, see the report: {shown}", ""] if left_out else []
 
 
 def _skipped(document: dict[str, Any]) -> list[str]:
@@ -67,24 +72,31 @@ def _skipped(document: dict[str, Any]) -> list[str]:
         return []
     lines = [f"  {share(it[what], whole)}: {it['skipped']}: {short(it['sql'])}" for it in much[:MOST_CHANGES]]
     name = "time" if what == "seconds" else "calls"
-    return [f"skipped, though much of the {name} is theirs, so no index is advised for them:", *lines, ""]
+    return [f"skipped, with much of the {name}, so no index is advised for them:", *lines, ""]
 
 
 def _hints(document: dict[str, Any]) -> list[str]:
-    """Options that make the advice smaller, where it has what they leave out."""
-    options, lines = document["options"], []
-    little = [it for it in document["picks"] if max(it["saves"]["ours"], it["saves"]["server"]) < LITTLE]
+    """Options that make the advice smaller, where it has what they leave out, and how one index is left out."""
+    options, picks, lines = document["options"], document["picks"], list[str]()
+    little = [at for at, it in enumerate(picks, 1) if max(it["saves"].get(key) or 0 for key in KINDS) < LITTLE]
     if little and options["min_saving"] < LITTLE:
-        what = f"{len(little)} of these save{'s' * (len(little) == 1)} less than {LITTLE} %"
-        size = space(sum(it["stored_pages"] for it in little))
-        lines += [f"{what} and {'takes' if len(little) == 1 else 'take'} {size}: --min-saving {LITTLE} leaves such out"]
-    wide = sum(len(it["columns"]) >= WIDE for it in document["picks"])
+        size = space(sum(picks[at - 1]["stored_pages"] for at in little))
+        save, take = ("saves", "takes") if len(little) == 1 else ("save", "take")
+        what = f"{_numbers(little)} {save} less than {LITTLE} % and {take} {size}"
+        lines += [f"{what}: --min-saving {LITTLE} leaves such out"]
+    wide = [at for at, it in enumerate(picks, 1) if len(it["columns"]) >= WIDE]
     if wide and not options["include"]:
-        have = "has" if wide == 1 else "have"
-        lines += [
-            f"{wide} of these {have} {WIDE} columns or more: --include puts those that are only read behind INCLUDE"
-        ]
+        have = "has" if len(wide) == 1 else "have"
+        what = f"{_numbers(wide)} {have} {WIDE} columns or more"
+        lines += [f"{what}: --include puts what is only read behind INCLUDE"]
+    if len(picks) > 1:
+        lines += ["-v without=2 behind psql leaves out number 2"]
     return [*lines, ""] if lines else []
+
+
+def _numbers(listed: list[int]) -> str:
+    """The numbers of picks in a row."""
+    return " and ".join([", ".join(map(str, listed[:-1])), str(listed[-1])]) if listed[1:] else str(listed[0])
 
 
 def named(pick: dict[str, Any]) -> str:
@@ -95,10 +107,12 @@ def named(pick: dict[str, Any]) -> str:
 def name_of(statement: dict[str, Any]) -> str:
     """A statement by its numbers in the workload, or as one without."""
     numbers = statement["numbers"]
-    if not numbers:
-        return "a skipped statement"
-    more = ", .." if len(numbers) > 5 else ""
-    return f"statement{'s' * (len(numbers) > 1)} {', '.join(map(str, numbers[:5]))}{more}"
+    return f"statement{'s' * (len(numbers) > 1)} {listed_numbers(numbers)}" if numbers else "a skipped statement"
+
+
+def listed_numbers(numbers: list[int]) -> str:
+    """The first of some numbers."""
+    return ", ".join(map(str, numbers[:MOST_NUMBERS])) + (", .." if len(numbers) > MOST_NUMBERS else "")
 
 
 def headline(document: dict[str, Any]) -> str:
@@ -112,17 +126,17 @@ def _head(document: dict[str, Any]) -> str:
     written = sum(bool(it["numbers"]) for it in document["statements"])
     size = f", {space(document['stored_pages'])} of {space(document['asked_pages'])}" if picks else ""
     what = f"database {document['database']!a}, {grouped(written)} of {counted(count, 'statement')}{_part(document)}"
-    return f"{headline(document)}{size}: {what}, {sum(document['seconds'].values()):,.1f} s"
+    return f"{headline(document)}{size}: {what}; advised in {sum(document['seconds'].values()):,.1f} s"
 
 
 def _part(document: dict[str, Any]) -> str:
-    """What the statements that are priced have of all, where some were skipped."""
-    every = document["statements"]
-    if all(it["numbers"] for it in every):
+    """What the statements that are priced have of the measured time, or of all calls where some were skipped."""
+    every, what = document["statements"], _measured(document)
+    whole = sum(it[what] for it in every)
+    if not whole or what == "calls" and all(it["numbers"] for it in every):
         return ""
-    what = _measured(document)
-    priced = sum(it[what] for it in every if it["numbers"])
-    return f" with {share(priced, sum(it[what] for it in every))} of the {'time' if what == 'seconds' else what}"
+    of = f"the {_seconds(whole)} measured" if what == "seconds" else "the calls"
+    return f" with {share(sum(it[what] for it in every if it['numbers']), whole)} of {of}"
 
 
 def _measured(document: dict[str, Any]) -> str:
@@ -130,83 +144,52 @@ def _measured(document: dict[str, Any]) -> str:
     return "calls" if any(it["seconds"] is None for it in document["statements"]) else "seconds"
 
 
-def _pick(at: int, pick: dict[str, Any]) -> list[str]:
-    saves, changes = pick["saves"], [it for it in pick["changes"] if is_seen(it)]
-    lines = [f"{at}. {it}" if n == 0 else f"   {it}" for n, it in enumerate(pick["statements"])]
+def _pick(at: int, pick: dict[str, Any], document: dict[str, Any]) -> list[str]:
     taken = {
         "taken": "",
         "unknown": "whether plans take it isn't known",
         "not taken": "a rule asks for it, no plan takes it",
     }[pick["outcome"]]
-    size = f"   {space(pick['stored_pages']):>9}, saves "
-    is_one = len(changes) == 1 and _both(changes[0]) == _both(saves)
-    lines += [size + _both(saves) + (f"  {_changed(changes[0])}" if is_one else "")]
-    for it in [] if is_one else changes[:MOST_CHANGES]:
-        lines += [" " * len(size) + f"{_both(it)}  {_changed(it)}"]
-    left = len(changes) - MOST_CHANGES
-    lines += [] if changes else ["   by less than 0.1 % in each statement"]
-    lines += [f"   and {counted(left, 'statement')} more"] if left > 0 else []
+    lines = [f"{at}. {it}" if n == 0 else f"   {it}" for n, it in enumerate(pick["statements"])]
+    lines += [f"   {space(pick['stored_pages']):>9} {_both(pick['saves'])}  {_for(pick)}"]
     lines += [f"   {taken}"] if taken else []
+    lines += [f"   {it}" for it in (doubt_of(pick) or warning_of(pick, document), warning(pick.get("long", []))) if it]
     lines += [f"   unknown: {it}" for it in pick["unknown_for"]]
     lines += [f"   {pick['begins']} begins with its columns"] if pick["begins"] else []
     return lines + [f"   {it}" for it in pick["notes"]]
 
 
+def _for(pick: dict[str, Any]) -> str:
+    """The statement that gains the most by a pick, and which others gain or lose."""
+    found = gains(pick)
+    if not found:
+        return "less than 0.1 % in each statement"
+    first, *others = found
+    losing = [it for it in pick["changes"] if is_seen(it) and it not in found]
+    text = f"{name_of(first)}, {_measured_time([first])}: {short(first['sql'], SQL)}"
+    text += f"; also {_all_of(others)}" if others else ""
+    return text + (f"; {_all_of(losing)} lose{'s' * (len(losing) == 1)}" if losing else "")
+
+
+def _all_of(changes: list[dict[str, Any]]) -> str:
+    """The statements of changes by their numbers."""
+    return listed_numbers(sorted(number for it in changes for number in it["numbers"]))
+
+
+def _measured_time(changes: list[dict[str, Any]]) -> str:
+    """What the server measured of statements, or else their calls."""
+    seconds = seconds_of(changes)
+    return _seconds(seconds) if seconds is not None else counted(sum(it["calls"] for it in changes), "call")
+
+
+def _seconds(number: float) -> str:
+    return f"{number:,.1f} s" if number >= 1 else f"{number:.2g} s"
+
+
 def _both(saves: dict[str, Any]) -> str:
-    return f"{percent(saves['ours']):>8} {percent(saves['server']):>8}"
-
-
-def _changed(change: dict[str, Any]) -> str:
-    return f"{name_of(change)}, {counted(change['calls'], 'call')}: {change['sql']}"
+    return " ".join(f"{percent(saves[it]).removesuffix(' %'):>9}" for it in ("ours", "server"))
 
 
 def is_seen(change: dict[str, Any]) -> bool:
     """Whether a change is one in the digits that are shown."""
     return abs(float(change["ours"])) >= 0.05 or abs(float(change["server"])) >= 0.05
-
-
-def costs(document: dict[str, Any]) -> list[str]:
-    """The table of costs before and after, and of the bound."""
-    ours, server = document["cost"], document["server_cost"]
-    before, after, bound = (grouped(it / 1000) for it in (ours["before"], ours["after"], ours["bound"]))
-    server_before, server_after = (grouped(float(server[it])) for it in ("before", "after"))
-    rows = [
-        ["", "before", "after", "", "bound"],
-        ["our model", before, after, share(ours["after"], ours["before"]), bound],
-        ["the server's", server_before, server_after, share(server["after"], server["before"]), ""],
-    ]
-    widths = [max(len(it[at]) for it in rows) for at in range(5)]
-    return [
-        "  ".join(
-            cell.ljust(width) if at == 0 else cell.rjust(width) for at, (cell, width) in enumerate(zip(row, widths))
-        ).rstrip()
-        for row in rows
-    ]
-
-
-def end_of(document: dict[str, Any]) -> str:
-    """What the bound says of the advice."""
-    cost = document["cost"]
-    fit = f"that fit {counted(document['budget_pages'], 'page')} of it"
-    if cost["after"] == cost["bound"]:
-        return f"by our model no other indexes {fit} cost less"
-    if cost["finished"]:
-        how = "without rules, and with" if document["rules"] else "with"
-        return f"by our model no indexes {fit} cost less than the bound; {how} what was left out, it is reached"
-    return "the search was stopped before its cost reached the bound: a higher --nodes may find better"
-
-
-def next_of(document: dict[str, Any], script: str) -> list[str]:
-    """Who may run the script, and how, where it makes something."""
-    if not document["picks"]:
-        return []
-    owners = [it if it.isascii() and it.isprintable() else ascii(it) for it in document["owners"]]
-    who = shlex.quote(owners[0]) if len(owners) == 1 else "OWNER"
-    whose = "the owner of the tables" if len(owners) < 2 else f"a member of {' and '.join(owners)}, who own the tables,"
-    return [f"to make them, let {whose} run: psql -X -U {who} -f {shlex.quote(script)}"]
-
-
-def _end(document: dict[str, Any]) -> list[str]:
-    budget = f"of {counted(document['budget_pages'], 'page')} as our model counts them"
-    unused = [document["unused"]] if document.get("unused") else []
-    return [end_of(document), *unused, f"certificate, for a budget {budget}: {document['proved']}"]

@@ -11,12 +11,15 @@ from cophy_text import files
 from cophy_text.answers import counted
 from cophy_text.shown import grouped, percent, share, short, space
 from cophy_pg import folder
+from cophy_pg.closing import end_of
 from cophy_pg.curves import curve_of
 from cophy_pg.folder import Folder
-from cophy_pg.overview import end_of, headline, is_seen, name_of, named
+from cophy_pg.guesses import doubt_of, warning_of
+from cophy_pg.overview import headline, is_seen, name_of, named
 from cophy_pg.plan_text import plan_text
 from cophy_pg.progress import say
 from cophy_pg.rewrite import CHANGES
+from cophy_pg.unlimited import told, warning
 
 try:
     import jinja2
@@ -25,6 +28,7 @@ except ImportError:
 
 TEMPLATE = Path(__file__).resolve().parent / "page.html"
 VERSION = 1
+KEPT = "\n\N{NO-BREAK SPACE}"
 
 
 class NoReport(Exception):
@@ -79,42 +83,60 @@ def page_text(document: dict[str, Any], plans: dict[str, Any], curve: dict[str, 
         "grouped": grouped,
         "model": lambda cost: _cost(cost / 1000),
         "cost": _cost,
-        "percent": percent,
-        "space": space,
+        "percent": lambda number: whole(percent(number)),
+        "space": lambda pages: whole(space(pages)),
+        "whole": whole,
         "short": short,
     }
     return environment.from_string(TEMPLATE.read_text()).render(
         it=document,
         end=end_of(document),
         headline=headline(document),
-        picks=[_pick(it) for it in document["picks"]],
+        picks=[_pick(it, document) for it in document["picks"]],
         left_out=[{"index": named(it), "pages": it["pages"], "why": it["why"]} for it in document["left_out"]],
         statements=_statements(document, plans),
         skipped=_skipped(document),
         changes=_changes(document),
+        rules=_rules(document),
+        doubts=document.get("doubts", []),
+        long=told(document.get("long_columns", [])),
         curve=curve,
         commands=_commands(document),
         counted=counted,
-        share=share,
+        share=lambda part, every: whole(share(part, every)),
     )
+
+
+def _rules(document: dict[str, Any]) -> list[str]:
+    """The rules that the picks keep, of those that ask for what was left out afterwards with the reason."""
+    reasons = {f"must {named(it)}": it["why"] for it in document["left_out"]}
+    return [it + (f"  (left out then: {reasons[it]})" if it in reasons else "") for it in document["rules"]]
 
 
 def plain(value: Any) -> Any:
     """A text without the characters that aren't printed, such as those that turn the direction of what follows."""
     if isinstance(value, str) and not value.isprintable():
         return type(value)(
-            "".join(it if it.isprintable() or it == "\n" else " " if it == "\t" else "\ufffd" for it in value)
+            "".join(it if it.isprintable() or it in KEPT else " " if it == "\t" else "\ufffd" for it in value)
         )
     return value
+
+
+def whole(text: str) -> str:
+    """A number that no line ends within, before its unit."""
+    return text.replace(" ", "\N{NO-BREAK SPACE}")
 
 
 def _cost(number: float) -> str:
     return f"{number:,.1f}" if abs(number) < 1000 else grouped(float(number))
 
 
-def _pick(pick: dict[str, Any]) -> dict[str, Any]:
-    changes = [it | {"anchor": _anchor(it), "name": name_of(it)} for it in pick["changes"] if is_seen(it)]
-    return {"notes": [], **pick, "index": named(pick), "listed": changes}
+def _pick(pick: dict[str, Any], document: dict[str, Any]) -> dict[str, Any]:
+    changes = [
+        {"seconds": None} | it | {"anchor": _anchor(it), "name": name_of(it)} for it in pick["changes"] if is_seen(it)
+    ]
+    more = {"warning": warning_of(pick, document), "doubt": doubt_of(pick), "may_fail": warning(pick.get("long", []))}
+    return {"notes": [], "build_seconds": None, **pick, "index": named(pick), "listed": changes, **more}
 
 
 def _anchor(statement: dict[str, Any]) -> str:

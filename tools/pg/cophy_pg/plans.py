@@ -55,10 +55,27 @@ def plans_of(server: Server, schema: Schema, advice: Advice, found: list[Verdict
             names = {name for name, number in made.items() if number == pick.number}
             users = [it for it in known if names & index_names(plans.after.get(it.number, {}))]
             if users:
-                make(server, schema, _but(advice, pick))
-                costs = _each(explainer, users, progress)
-                plans.without[pick.number] = {at: float(it["Total Cost"]) for at, it in costs.items()}
+                plans.without[pick.number] = _costs_without(explainer, schema, advice, pick, users, progress)
     return plans
+
+
+def costs_without(
+    server: Server, schema: Schema, advice: Advice, pick: Candidate, found: list[Verdict], progress: Progress
+) -> dict[int, float]:
+    """What a call of the statements that take a pick costs without it, by the numbers of their verdicts."""
+    users = [it for it in found if pick.number in it.taken and it.after is not None]
+    if not users:
+        return {}
+    with reading(server, "READ COMMITTED"):
+        home_of(server)
+        return _costs_without(Explainer(server, Columns()), schema, advice, pick, users, progress)
+
+
+def _costs_without(
+    explainer: Explainer, schema: Schema, advice: Advice, pick: Candidate, users: list[Verdict], progress: Progress
+) -> dict[int, float]:
+    make(explainer.server, schema, _but(advice, pick))
+    return {at: float(it["Total Cost"]) for at, it in _each(explainer, users, progress).items()}
 
 
 def _shown(advice: Advice, number: int) -> str:
@@ -66,7 +83,7 @@ def _shown(advice: Advice, number: int) -> str:
 
 
 def _but(advice: Advice, pick: Candidate) -> Advice:
-    return replace(advice, picks=[it for it in advice.picks if it is not pick])
+    return replace(advice, picks=[it for it in advice.picks if it.number != pick.number])
 
 
 def _each(explainer: Explainer, listed: Iterable[Verdict], progress: Progress) -> dict[int, Any]:

@@ -50,6 +50,7 @@ class Pricing:
 
     def costs(self, base: Chosen, sets: Sequence[Chosen]) -> list[int]:
         """The costs under sets that differ little from a base. Differences that no statement sees together share a call."""
+        self.cost(base)
         waiting = list(sets)
         while waiting := [it for it in waiting if not self._is_known(it)]:
             seen, together = set[frozenset[str]](), base

@@ -9,14 +9,17 @@ from cophy_text.answers import Advice, Candidate, Prices
 from cophy_text.shown import short
 from cophy_pg.choice import Choice
 from cophy_pg.ddl import Made, create, taken_names
-from cophy_pg.outcomes import ORDINARY
+from cophy_pg.guesses import is_guessed, is_judged
+from cophy_pg.outcomes import ORDINARY, Outcome
 from cophy_pg.plans import Plans
 from cophy_pg.schema import Schema
 from cophy_pg.sizes import stored_size
 from cophy_pg.speed import Speed
+from cophy_pg.unlimited import exceeding
 from cophy_pg.verify import Judged
 from cophy_pg.why import Reason
 from cophy_pg.workload import Record, Workload
+from cophy_pg.worth import worth_of
 
 
 @dataclass
@@ -66,26 +69,42 @@ class Result:
             "seconds": {name: round(it, 3) for name, it in self.seconds.items()},
         }
 
+    def numbers(self) -> list[int]:
+        """The numbers of the picks in the order in which they are shown and made."""
+        return [it["number"] for it in self._picks()]
+
     def _picks(self) -> list[dict[str, Any]]:
-        taken, found = taken_names(self.schema), []
+        """The picks, those that save the most first, by names that are given in this order."""
         outcomes = {it.pick.number: it for it in self.judged.outcomes}
-        for it in self.reasons:
-            made, outcome = create(self.schema, it.pick, taken), outcomes[it.pick.number]
-            found.append(
-                {
-                    **_index(it.pick),
-                    "stored_pages": stored_size(self.schema, [it.pick]),
-                    "name": made.name,
-                    "statements": [*made.statements],
-                    "outcome": outcome.name,
-                    "unknown_for": [f"{why}: {where}" if where else why for why, where in outcome.reasons.items()],
-                    "begins": outcome.begins or None,
-                    "notes": self._notes(made),
-                    "saves": self._saves(it),
-                    "changes": self._changes(it),
-                }
-            )
-        return sorted(found, key=lambda it: (-max(it["saves"]["ours"], it["saves"]["server"]), it["number"]))
+        listed: list[dict[str, Any]] = [
+            _index(it.pick)
+            | {
+                "stored_pages": stored_size(self.schema, [it.pick]),
+                "outcome": outcomes[it.pick.number].name,
+                "saves": self._saves(it),
+                "changes": self._changes(it),
+            }
+            for it in self.reasons
+        ]
+        taken, picks = taken_names(self.schema), {it.pick.number: it.pick for it in self.reasons}
+        return [it | self._made(picks[it["number"]], outcomes, taken) for it in sorted(listed, key=place_of)]
+
+    def _made(self, pick: Candidate, outcomes: dict[int, Outcome], taken: set[str]) -> dict[str, Any]:
+        """How a pick is made, and what there is to say of that."""
+        made, outcome = create(self.schema, pick, taken), outcomes[pick.number]
+        return {
+            "name": made.name,
+            "statements": [*made.statements],
+            "build_seconds": round(self._build(made), 3),
+            "unknown_for": [f"{why}: {where}" if where else why for why, where in outcome.reasons.items()],
+            "begins": outcome.begins or None,
+            "notes": self._notes(made),
+            "long": exceeding(self.schema, pick),
+        }
+
+    def _build(self, made: Made) -> float:
+        """How long it takes to make a pick, in seconds, by a measured rate."""
+        return Speed().seconds(self.schema.tables[made.where], bool(made.indexes), made.laid is not None)
 
     def _notes(self, made: Made) -> list[str]:
         """What a clustered pick asks of others, and how the server was asked about it."""
@@ -93,12 +112,18 @@ class Result:
             return []
         return [*Speed().told(self.schema.tables[made.where], len(made.indexes)), ORDINARY]
 
-    def _saves(self, reason: Reason) -> dict[str, float]:
-        """What the workload would cost more without a pick, in percent of what it costs without any."""
-        ours = _percent(reason.total_without - self.prices[1].total, self.prices[0].total)
-        before = self.judged.sums()[1]
-        saved = sum(it.calls * self.plans.saved(reason.pick.number, it) for it in self.judged.verdicts)
-        return {"ours": ours, "server": _percent(saved, before), "cost_without": reason.total_without}
+    def _saves(self, reason: Reason) -> dict[str, float | None]:
+        """What the workload would cost more without a pick, in percent of what it costs without any, and what of the measured
+        time that is about."""
+        without = self.plans.without.get(reason.pick.number, {})
+        every = [it.input.seconds for it in self.workload.records]
+        found = worth_of(reason, self.prices[:2], self.judged.verdicts, without, every)
+        return {
+            "ours": round(found.ours, 4),
+            "server": round(found.server, 4),
+            "measured": round(found.measured, 4) if found.measured is not None else None,
+            "cost_without": reason.total_without,
+        }
 
     def _changes(self, reason: Reason) -> list[dict[str, Any]]:
         """The statements that a pick changes the cost of, by our model or by the server's, what all calls save in percent of
@@ -106,14 +131,25 @@ class Result:
         one."""
         before, server_before = self.prices[0].total, self.judged.sums()[1]
         found: dict[tuple[int, ...], dict[str, Any]] = {}
+        texts = [text for text, _ in self.workload.statements]
         for verdict in self.judged.verdicts:
             ours = sum(reason.changes.get(it, 0) for it in verdict.written)
             server = verdict.calls * self.plans.saved(reason.pick.number, verdict)
             change = found.setdefault(
                 tuple(verdict.written),
-                {"numbers": verdict.written, "sql": short(verdict.input.text), "calls": 0, "ours": ours, "server": 0.0},
+                {
+                    "numbers": verdict.written,
+                    "sql": short(verdict.input.text),
+                    "calls": 0,
+                    "seconds": 0.0,
+                    "guess": any(is_guessed(texts[it - 1], reason.pick.columns) for it in verdict.written),
+                    "ours": ours,
+                    "server": 0.0,
+                },
             )
             change["calls"] += verdict.calls
+            known = change["seconds"] is not None and verdict.input.seconds is not None
+            change["seconds"] = change["seconds"] + verdict.input.seconds if known else None
             change["server"] += server
         shares = [
             it | {"ours": _percent(it["ours"], before), "server": _percent(it["server"], server_before)}
@@ -145,6 +181,13 @@ class Result:
         """What a call costs by our model, over all statements that it is written as."""
         before, after = (round(it.of_call(self.workload.times(record))) for it in self.prices[:2])
         return {"before": before, "after": after}
+
+
+def place_of(pick: dict[str, Any]) -> tuple[float, int]:
+    """What picks are put in order by: what the server says that they save, where it says so, or else the most."""
+    saves = pick["saves"]
+    most = saves["server"] if is_judged(pick) else max(saves["ours"], saves["server"])
+    return -most, pick["number"]
 
 
 def _index(pick: Candidate) -> dict[str, Any]:

@@ -23,8 +23,10 @@ class Column:
     `bounds` are such numbers too, between each two of which lie as many rows. They are values times ten to the power of
     `scale`; `has_fractions` says that values lie between them.
     `nulls` is the share of the rows that have no value, `common` what its most common value has of the others, where that is
-    known.
-    `no_key` says why no index can have the column, and is empty where one can.
+    known, and `sizes` what values take, of as many rows each. `correlation` says how nearly the rows lie in its order, from 0
+    to 1, where they nearly do.
+    `no_key` says why no index can have the column, and is empty where one can. `most` is the most bytes that a value may add to
+    an entry of an index, where its length varies and no index that is there limits it.
     """
 
     name: str
@@ -41,6 +43,9 @@ class Column:
     has_fractions: bool = False
     nulls: float = 0.0
     common: float = 0.0
+    sizes: list[int] = field(default_factory=list)
+    correlation: float = 0.0
+    most: int = 0
 
     def has_range(self) -> bool:
         """Whether a literal of this column can be priced by its place: between low and high, or by the histogram."""

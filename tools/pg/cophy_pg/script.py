@@ -1,12 +1,17 @@
 """`ddl --script`: a script of psql that makes the picks of an advice, says what went wrong, and takes them back."""
 from __future__ import annotations
 
+import re
+
 from cophy_text import VERSION
+from cophy_text.answers import counted
 from cophy_text.shown import space
 from cophy_pg.ddl import Laid, Made, Named, written_path, written_text
 from cophy_pg.schema import Schema, Table
+from cophy_pg.server import OWN
 from cophy_pg.sizes import stored_pages
-from cophy_pg.speed import Speed
+from cophy_pg.speed import Speed, duration
+from cophy_pg.unlimited import exceeding, warning
 
 BRIEF, PATIENT = "5s", "30min"
 
@@ -17,6 +22,10 @@ SET search_path TO pg_catalog, pg_temp;
 SET standard_conforming_strings TO on;
 SET statement_timeout TO 0;
 SET client_min_messages TO warning;
+\\if :{{?without}}
+\\else
+    \\set without ''
+\\endif
 -- An index that another run is making looks like one that was left INVALID.
 SELECT pg_try_advisory_lock(1668247673, 1) AS is_alone \\gset
 \\if :is_alone
@@ -27,7 +36,7 @@ SELECT pg_try_advisory_lock(1668247673, 1) AS is_alone \\gset
 -- of others, and holds nobody up.
 \\set brief '{BRIEF}'
 \\set patient '{PATIENT}'
-PREPARE cophy_state (text, text, text, text[]) AS
+PREPARE cophy_state (text, text, text, text[]) AS {OWN}
 SELECT count(*) FILTER (WHERE NOT is_it) > 0 AS is_other, count(*) FILTER (WHERE is_it AND is_valid) > 0 AS is_there,
     count(*) FILTER (WHERE is_it AND NOT is_valid) > 0 AS is_invalid
 FROM (
@@ -39,7 +48,7 @@ FROM (
     WHERE n.nspname = $1 AND c.relname = $2) found;
 """
 # Each part of a partitioned table with its index and that of the part above, by names of at most 63 bytes.
-_PARTS = """PREPARE cophy_parts (int, text, text, text, text) AS
+_PARTS = f"""PREPARE cophy_parts (int, text, text, text, text) AS {OWN}
 WITH tree AS (
     SELECT p.relid, p.parentrelid, p.level, n.nspname, c.relname, c.relkind, c.relnamespace, CASE WHEN p.level = 0 THEN $4
         ELSE CASE WHEN octet_length(c.relname::text) = length(c.relname) THEN left(c.relname, 24) ELSE 'part' END
@@ -54,7 +63,7 @@ WITH tree AS (
     LEFT JOIN pg_class x ON x.relname = t.index AND x.relnamespace = t.relnamespace
     LEFT JOIN pg_index i ON i.indexrelid = x.oid AND i.indrelid = t.relid
 )
-SELECT CASE $1
+SELECT '{OWN} ' || CASE $1
     WHEN 1 THEN format('DROP INDEX CONCURRENTLY %I.%I', nspname, index)
     WHEN 2 THEN format('CREATE INDEX %I ON ONLY %I.%I %s', index, nspname, relname, $5)
     WHEN 3 THEN format('CREATE INDEX CONCURRENTLY %I ON %I.%I %s', index, nspname, relname, $5)
@@ -71,10 +80,44 @@ ORDER BY CASE $1 WHEN 4 THEN -level ELSE level END, nspname, relname;
 """
 """The steps of a partitioned table, by their numbers: what an earlier run left INVALID is dropped, the indexes of what has
 parts are made alone, those of the parts, and these are attached; the fifth drops what isn't attached."""
-_LAID = """PREPARE cophy_laid (text, text, text) AS
+_LAID = f"""PREPARE cophy_laid (text, text, text) AS {OWN}
 SELECT count(*) > 0 AS is_laid FROM pg_index i JOIN pg_class x ON x.oid = i.indexrelid
 JOIN pg_class t ON t.oid = i.indrelid JOIN pg_namespace n ON n.oid = t.relnamespace
 WHERE i.indisclustered AND n.nspname = $1 AND t.relname = $2 AND x.relname = $3;
+"""
+
+
+_REFUSE = r"""WITH RECURSIVE touched AS (
+    SELECT c.oid FROM pg_class c JOIN pg_namespace n ON n.oid = c.relnamespace
+    WHERE (n.nspname::text, c.relname::text) IN (NAMES)
+    UNION SELECT i.inhrelid FROM pg_inherits i JOIN touched t ON i.inhparent = t.oid
+), owners AS (
+    SELECT DISTINCT c.relowner AS oid, pg_has_role(current_user, c.relowner, 'USAGE') AS is_own
+    FROM touched t JOIN pg_class c ON c.oid = t.oid
+), names AS (
+    SELECT string_agg(shown, ' and ') AS owners, string_agg(shown, ' or ') FILTER (WHERE NOT rolsuper) AS others,
+        bool_and(is_own) AS is_owner
+    FROM owners o JOIN (SELECT oid, rolsuper, regexp_replace(quote_ident(rolname), '[^ -~]', '?', 'g') AS shown FROM pg_roles) r
+        ON r.oid = o.oid
+)
+SELECT coalesce(owners, '') AS owners, coalesce(is_owner, true) AS is_owner, coalesce(
+    'run it as ' || others || ' (psql -X -U); a role without a password gets one by \password ROLE',
+    'disable the event trigger, or give its function to a superuser') AS todo,
+    EXISTS (SELECT FROM pg_roles o WHERE NOT o.rolsuper AND o.rolname <> session_user AND (
+    o.oid IN (SELECT oid FROM owners)
+    OR EXISTS (SELECT FROM pg_event_trigger e JOIN pg_proc p ON p.oid = e.evtfoid WHERE p.proowner = o.oid AND e.evtenabled <> 'D'))
+    AND EXISTS (SELECT FROM pg_roles r WHERE r.rolsuper
+        AND (pg_has_role(session_user, r.oid, 'MEMBER') OR pg_has_role(current_user, r.oid, 'MEMBER')))) AS is_others
+FROM names \gset
+\if :is_others
+    \warn 'To make these indexes' :todo
+    DO 'BEGIN RAISE EXCEPTION ''tables or event triggers of others: let their owner run the script, not a superuser''; END';
+\endif
+\if :is_owner
+\else
+    \warn 'Run this script as' :owners
+    DO 'BEGIN RAISE EXCEPTION ''only the owner of the tables may make indexes on them''; END';
+\endif
 """
 
 
@@ -83,46 +126,69 @@ def script_text(schema: Schema, made: list[Made], head: list[str], speed: Speed)
     listed = [it for it in made if not it.why_not]
     prepared = [_PARTS] * any(_table(schema, it).is_partitioned for it in listed)
     prepared += [_LAID] * any(it.laid is not None for it in listed)
-    lines = [f"-- Made by cophy-pg {VERSION}. The owner of the tables runs it: psql -X -f FILE"]
-    lines += ["-- It may be run again after a fault. To drop what it made: psql -X -v undo=1 -f FILE", *head, ""]
-    lines += [_HEAD + _refuse_powers(listed) + "".join(prepared) + "\\if :{?undo}"]
+    lines = [*_told(schema, listed, speed), *head, ""]
+    lines += [_HEAD + _refuse(listed) + "".join(prepared) + "\\if :{?undo}"]
     for it in reversed(listed):
-        lines += _undo(_table(schema, it), it)
+        lines += _unless_out(it, _undo(_table(schema, it), it))
     lines += ["\\else"]
-    for at, it in enumerate(listed, 1):
+    for it in listed:
         table, about = _table(schema, it), "by an index that is there"
         if it.indexes:
             size = space(stored_pages(schema, it.pick) or it.pick.pages)
             about = f"about {size} and {speed.of_index(table)}"
-        lines += ["", f"\\echo '{at} of {len(listed)}: {it.pick.shown()}, {about}'"]
-        lines += _make_parts(table, it) if table.is_partitioned else _make(it)
+        fails = warning(exceeding(schema, it.pick))
+        lines += [
+            "",
+            *[f"-- {fails}"] * bool(fails),
+            f"\\echo '{it.place} of {len(listed)}: {it.pick.shown()}, {about}'",
+        ]
+        steps = _make_parts(table, it) if table.is_partitioned else _make(it)
         if it.laid is not None:
-            lines += _lay(it, it.laid, speed.told(table, len(it.indexes)))
-    return "\n".join([*lines, "", "\\endif", "\\echo done", ""])
+            steps += _lay(it, it.laid, speed.told(table, len(it.indexes)))
+        lines += _unless_out(it, steps)
+    return _marked("\n".join([*lines, "", "\\endif", "\\echo done", ""]))
 
 
-def _refuse_powers(listed: list[Made]) -> str:
+def _marked(text: str) -> str:
+    """The script with our mark before each statement, so that none is taken for one of the workload."""
+    lines, is_open = list[str](), False
+    for line in text.split("\n"):
+        bare = line.lstrip()
+        is_sql = is_open or bool(bare) and not bare.startswith(("\\", "--"))
+        lines.append(line[: len(line) - len(bare)] + f"{OWN} {bare}" if is_sql and not is_open else line)
+        is_open = is_sql and not bare.endswith((";", "\\gset", "\\gexec"))
+    return "\n".join(lines)
+
+
+def _told(schema: Schema, listed: list[Made], speed: Speed) -> list[str]:
+    """What the script makes, how long that takes, whom it locks out, and how to take it back, for who runs it."""
+    size = space(sum(stored_pages(schema, it.pick) or it.pick.pages for it in listed if it.indexes))
+    time = duration(sum(speed.seconds(_table(schema, it), bool(it.indexes), it.laid is not None) for it in listed))
+    lines = [f"-- Made by cophy-pg {VERSION}: {counted(len(listed), 'step')}, about {size} of indexes and {time}."]
+    lines += ["-- The owner of the tables runs it: psql -X -f FILE. It may be run again after a fault."]
+    lines += [
+        "-- Each index is made CONCURRENTLY: reads and writes go on. It waits for open transactions, 30 minutes at most."
+    ]
+    if any(it.laid is not None for it in listed):
+        lines += ["-- CLUSTER locks its table against all others, readers too."]
+    lines += ["-- To leave out number 2 and 5: psql -X -v without=2,5 -f FILE"]
+    lines += ["-- To drop what it made: psql -X -v undo=1 -f FILE"]
+    return [*lines, *(f"-- {it.place}. {it.pick.shown()}" for it in sorted(listed, key=lambda it: it.place))]
+
+
+def _unless_out(made: Made, steps: list[str]) -> list[str]:
+    """Steps of a pick that are taken unless its number is among those that are to be left out."""
+    asked = f"SELECT '{made.place}' = ANY (string_to_array(replace(:'without', ' ', ''), ',')) AS is_out \\gset"
+    return [asked, "\\if :is_out", f"    \\echo '{made.place} is left out'", "\\else", *steps, "\\endif"]
+
+
+def _refuse(listed: list[Made]) -> str:
     """Ends the script for a superuser, or who may become one, where a table, a partition or an event trigger's function is
-    another role's: what that planted there, as in a partition key, would run with all rights."""
+    another role's: what that planted there, as in a partition key, would run with all rights. And for who isn't the owner of
+    the tables, nor a member of it."""
     tables = {it.where for it in listed} | {index.where for it in listed for index in it.indexes}
     names = sorted(f"({', '.join(map(written_text, it))})" for it in tables)
-    if not names:
-        return ""
-    return f"""WITH RECURSIVE touched AS (
-    SELECT c.oid FROM pg_class c JOIN pg_namespace n ON n.oid = c.relnamespace
-    WHERE (n.nspname::text, c.relname::text) IN ({', '.join(names)})
-    UNION SELECT i.inhrelid FROM pg_inherits i JOIN touched t ON i.inhparent = t.oid
-)
-SELECT count(*) > 0 AS is_others FROM pg_roles o
-WHERE NOT o.rolsuper AND o.rolname <> session_user AND (
-    EXISTS (SELECT FROM touched t JOIN pg_class c ON c.oid = t.oid WHERE c.relowner = o.oid)
-    OR EXISTS (SELECT FROM pg_event_trigger e JOIN pg_proc p ON p.oid = e.evtfoid WHERE p.proowner = o.oid AND e.evtenabled <> 'D'))
-    AND EXISTS (SELECT FROM pg_roles r WHERE r.rolsuper
-        AND (pg_has_role(session_user, r.oid, 'MEMBER') OR pg_has_role(current_user, r.oid, 'MEMBER'))) \\gset
-\\if :is_others
-    DO 'BEGIN RAISE EXCEPTION ''tables or event triggers of others: let their owner run the script, not a superuser''; END';
-\\endif
-"""
+    return _REFUSE.replace("NAMES", ", ".join(names)) if names else ""
 
 
 def _table(schema: Schema, made: Made) -> Table:
@@ -195,8 +261,17 @@ def _undo(table: Table, made: Made) -> list[str]:
         wait, how = ("brief", "") if table.is_partitioned else ("patient", "CONCURRENTLY ")
         lines += [f"SET lock_timeout TO :'{wait}';", _state(index)]
         lines += ["SELECT :'is_there'::bool OR :'is_invalid'::bool AS is_it \\gset", "\\if :is_it"]
-        lines += [f"    DROP INDEX {how}{index.shown()};", "\\endif"]
+        lines += [
+            f"    DROP INDEX {how}{index.shown()};",
+            f"    \\echo '{made.place}: {_named(index)} is dropped'",
+            "\\endif",
+        ]
     return lines + (["SET lock_timeout TO :'patient';", _step(table, made, 5)] if table.is_partitioned else [])
+
+
+def _named(index: Named) -> str:
+    """The name of an index as it may stand within quotes of psql."""
+    return re.sub(r"[^A-Za-z0-9_]", "?", index.name)
 
 
 def _step(table: Table, made: Made, number: int) -> str:

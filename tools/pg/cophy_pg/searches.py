@@ -14,7 +14,7 @@ from cophy_pg.curve import between
 from cophy_pg.exchange import Exchange
 from cophy_pg.folder import Folder
 from cophy_pg.inputs import NoInput
-from cophy_pg.pricing import Pricing
+from cophy_pg.pricing import Chosen, Pricing
 from cophy_pg.program import NoCommand, Program
 from cophy_pg.progress import Progress, say
 from cophy_pg.rules import Translation
@@ -23,8 +23,10 @@ from cophy_pg.sizes import stored_size
 
 WELL_FILLED = 0.95
 """Where less of the space is filled, it is said why."""
-POINTS = 6
-"""How many points a curve has, where there aren't more that were searched for anyhow."""
+MOST_STARTS = 4
+"""Of so many sets of picks is it tried what exchanges make of them."""
+POINTS, FIRST = 3, 3
+"""How many points a curve has where it bends, and where its first picks come in, beside those that were searched for anyhow."""
 
 
 @dataclass
@@ -108,39 +110,50 @@ class Searches:
 
         found = filled(self.asked, advised, lambda it: stored_size(schema, it.picks))
         self.progress("exchanging picks for others")
-        better = self._exchange(schema, rules).improved(
-            frozenset(it.number for it in found.picks), {it.number for one in tried for it in one.picks}
-        )
-        picks = [it for number, it in self._prices().candidates.items() if number in better]
-        if self._prices().cost(better) >= found.cost:
+        better = self._exchanged(schema, rules, found, tried)
+        if better is None or self._prices().cost(better) >= found.cost:
             return found, lines
-        ruled = lines + "".join(f"must {it.shown()}\n" for it in picks)
-        self.kept.write({folder.RULES: ruled})
         try:
-            return self._at(sum(it.pages for it in picks), ruled), ruled
+            return self.made_of(better, rules)
         except NoCommand:
             return found, lines
 
+    def made_of(self, chosen: Chosen, rules: Rules) -> tuple[Advice, str]:
+        """The advice that has just these picks, and the rules that it is found under."""
+        picks = [it for number, it in self._prices().candidates.items() if number in chosen]
+        ruled = rules.text() + "".join(f"must {it.shown()}\n" for it in picks)
+        self.kept.write({folder.RULES: ruled})
+        return self._at(sum(it.pages for it in picks), ruled), ruled
+
+    def _exchanged(self, schema: Schema, rules: Rules, found: Advice, tried: list[Advice]) -> Chosen | None:
+        """What costs the least in the same space, from the picks that were found and those that cost less and are too large."""
+        larger = sorted((it for it in tried if it.cost < found.cost), key=lambda it: -it.cost)
+        starts = dict.fromkeys(frozenset(it.number for it in one.picks) for one in (found, *larger))
+        others = {it.number for one in tried for it in one.picks}
+        return self.exchange(schema, rules).best_of([*starts][:MOST_STARTS], others)
+
     def unused(self, schema: Schema, rules: Rules, picks: list[Candidate], left_out: list[Candidate]) -> str | None:
         """What is said of space that is left, where it is much and nothing that fits and wasn't left out saves anything."""
-        exchange, chosen = self._exchange(schema, rules), frozenset(it.number for it in picks)
-        exchange.fixed |= {it.number for it in left_out}
+        exchange, chosen = self.exchange(schema, rules), frozenset(it.number for it in picks)
+        exchange.fixed |= chosen | {it.number for it in left_out}
         left = self.asked - exchange.size(chosen)
         if left <= self.asked * (1 - WELL_FILLED) or not exchange.improved(chosen, ()) <= chosen:
             return None
-        but = ", but for what was left out" * bool(left_out)
-        return f"{space(left)} of the space stay free: by our model no other index that fits saves anything{but}"
+        but = ["what was left out"] * bool(left_out) + ["what rules speak of"] * bool(rules.given)
+        told = "by our model no other index that fits saves anything" + (f", but for {' or '.join(but)}" if but else "")
+        return f"{space(left)} stay free: {told}"
 
     def _prices(self) -> Pricing:
         self.pricing = self.pricing or Pricing(self.program)
         return self.pricing
 
-    def _exchange(self, schema: Schema, rules: Rules) -> Exchange:
-        """Exchanges candidates that rules don't speak of. A clustered one stays, since it forbids others of its table."""
+    def exchange(self, schema: Schema, rules: Rules) -> Exchange:
+        """Exchanges candidates, clustered ones too, that rules don't speak of: what these ask for or forbid stays so."""
         prices = self._prices()
         sizes = {number: stored_size(schema, [it]) for number, it in prices.candidates.items()}
-        fixed = (number for number, it in prices.candidates.items() if it.is_clustered or rules.speak_of(it))
-        return Exchange(prices, sizes, room_in(self.asked), frozenset(fixed))
+        fixed = (number for number, it in prices.candidates.items() if rules.speak_of(it))
+        clustered = {number: it.table.lower() for number, it in prices.candidates.items() if it.is_clustered}
+        return Exchange(prices, sizes, room_in(self.asked), frozenset(fixed), clustered)
 
     def _at(self, budget: int, rules: str = "") -> Advice:
         self.progress(f"advising for {grouped(budget)} pages by the model")
@@ -166,14 +179,28 @@ class Searches:
         return advice, text.strip()
 
     def curve(self) -> list[Advice]:
-        """What less and more space would buy without rules: 0, what was searched for, what no budget limits, and some where the
-        curve bends."""
+        """What less and more space would buy without rules: 0, where the first picks come in, what was searched for, what no
+        budget limits, and some where the curve bends."""
         most = self._at(MOST_PAGES)
         known = {it: read_advice(text) for it, text in self.texts.items() if it < most.size}
+        known |= {it: self._at(it) for it in (0, *self._begins(most)) if it < most.size or not it}
         last = [replace(most, budget=most.size)] if most.size else []
-        found = sorted([*({0: self._at(0)} | known).values(), *last], key=lambda it: it.budget)
-        while len(found) < POINTS and (budget := between(found)) is not None:
+        found = sorted([*known.values(), *last], key=lambda it: it.budget)
+        wanted = len(found) + POINTS
+        while len(found) < wanted and (budget := between(found)) is not None:
             found = sorted([*found, self._at(budget)], key=lambda it: it.budget)
+        return found
+
+    def _begins(self, advice: Advice) -> list[int]:
+        """The budgets at which the first picks come in: the sizes of those that save the most a page, one after the other."""
+        prices, pages = self._prices(), {it.number: it.pages for it in advice.picks}
+        chosen, found = frozenset[int](), list[int]()
+        while len(found) < FIRST and (left := [it for it in pages if it not in chosen]):
+            costs = prices.costs(chosen, [chosen | {it} for it in left])
+            now = prices.cost(chosen)
+            best = max(zip(costs, left), key=lambda it: ((now - it[0]) / max(1, pages[it[1]]), -it[1]))[1]
+            chosen |= {best}
+            found.append(sum(pages[it] for it in chosen))
         return found
 
     def keep(self, budget: int, rules: str) -> None:

@@ -182,6 +182,11 @@ class Server:
         rows = self.rows(query, values)
         return rows[0][0] if rows else None
 
+    def place(self) -> tuple[str, int]:
+        """The host, or the folder of the socket, and the port."""
+        info = self.connection.info
+        return str(info.host or info.hostaddr or ""), int(info.port)
+
     def is_lost(self) -> bool:
         """Whether the connection has ended."""
         return bool(self.connection.closed)

@@ -22,20 +22,24 @@ FIXED = frozenset(("bool", "uuid", "char", "macaddr", "macaddr8"))
 """Other types all of whose values have as many bytes."""
 SAMPLED = 30000
 """The rows of which ANALYZE knows each, at its default; of more it counts distinct values in a sample."""
-DENSE = 2
-"""Whole numbers lie close where they have at most so many places for each that is known."""
+DENSE, LOOSE, FEW = 2, 8, 8
+"""Whole numbers lie close where they have at most so many places for each that is known; more where each has few rows, since
+ANALYZE's count is far too low there."""
 
 
 def values_of(column: Column, rows: int) -> float:
     """How many values a column has. ANALYZE's count comes from a sample, and is too low where each value has few rows; of
-    whole numbers that lie close, as the keys of another table do, at least as many occur as so many draws hit."""
+    whole numbers that lie close, as the keys of another table do, at least as many occur as so many draws hit, in each part
+    of the histogram."""
     known = min(rows, column.distinct or rows)
     if rows <= SAMPLED or column.kind == "text" or column.scale or column.has_fractions or not column.has_range():
         return known
-    places = (column.high or 0) - (column.low or 0) + 1
-    if places > DENSE * known:
+    ends = [it for it in column.bounds or (column.low, column.high) if it is not None]
+    if ends[-1] - ends[0] + 1 > (LOOSE if rows <= FEW * known else DENSE) * known:
         return known
-    return max(known, -places * math.expm1(-rows / places))
+    drawn = rows * (1 - column.nulls) / (len(ends) - 1)
+    wide = [last - first + (at == 0) for at, (first, last) in enumerate(zip(ends, ends[1:]))]
+    return max(known, -sum(it * math.expm1(-drawn / it) for it in wide if it))
 
 
 def part_of(column: Column, rows: int) -> Part:
@@ -45,7 +49,11 @@ def part_of(column: Column, rows: int) -> Part:
     else:
         alignment = column.width
     varies = column.kind == "text" and column.type not in ALIGNED and column.type not in FIXED
-    return Part(column.width, alignment, values_of(column, rows), column.nulls, varies, column.common)
+    sizes = tuple(column.sizes) if varies else ()
+    if sizes:
+        alignment = 1
+    values = values_of(column, rows)
+    return Part(column.width, alignment, values, column.nulls, varies, column.common, sizes, column.correlation)
 
 
 def stored_pages(schema: Schema, pick: Candidate) -> int | None:

@@ -22,11 +22,19 @@ class Speed:
 
     def of_index(self, table: Table) -> str:
         """How long an index over a table takes."""
-        return _seconds(table.rows / self.rows)
+        return duration(table.rows / self.rows)
+
+    def seconds(self, table: Table, has_new: bool, is_laid: bool) -> float:
+        """How many seconds a new index over a table and its parts takes, and to lay the rows anew."""
+        made = table.rows / self.rows if has_new else 0.0
+        return made + (self._rewrite(table, int(has_new)) if is_laid else 0.0)
+
+    def _rewrite(self, table: Table, new: int) -> float:
+        return table.pages / self.pages + (len(table.indexes) + new) * table.rows / self.rows
 
     def of_rewrite(self, table: Table, new: int) -> str:
         """How long CLUSTER takes with the indexes that are there and so many new ones."""
-        return _seconds(table.pages / self.pages + (len(table.indexes) + new) * table.rows / self.rows)
+        return duration(self._rewrite(table, new))
 
     def told(self, table: Table, new: int) -> list[str]:
         """What CLUSTER asks of others, and how long."""
@@ -39,5 +47,6 @@ class Speed:
         ]
 
 
-def _seconds(number: float) -> str:
+def duration(number: float) -> str:
+    """Seconds in words, at least one."""
     return counted(max(1, round(number)), "second")

@@ -10,6 +10,7 @@ from cophy_text.answers import counted
 from cophy_pg import catalogs, indexes
 from cophy_pg.bounds import bounds_of, parts_for
 from cophy_pg.keyable import WIDEST, Lengths, Part, Stored
+from cophy_pg.lengths import ordered_by, sizes_of
 from cophy_pg.places import MOMENTS, ends, place, set_scale, within_limits
 from cophy_pg.schema import SPARES, Column, Schema, Table, cleaned, share_of
 from cophy_pg.server import Row, Server, ServerFault, reading
@@ -18,8 +19,11 @@ from cophy_pg.types import Base, Orders, Types
 
 MOST_TABLES, MOST_COLUMNS = 200, 200
 MOST_ROWS = 10**12
+MOST_NAMED, FEWEST = 3, 10
+"""So many tables are named in a warning of several, and of so many pages is one whose guesses matter."""
 INTS = frozenset(("int2", "int4", "int8", "numeric", "float4", "float8", "oid"))
 DATES = frozenset(("date",))
+TEXTS = frozenset(("text", "varchar", "bpchar"))
 
 Progress = Callable[[str], None]
 
@@ -65,8 +69,8 @@ def read_database(server: Server, named: set[str], words: set[str], progress: Pr
         reader.choose({*named})
         progress(f"reading columns and statistics of {counted(len(reader.tables), 'table')}")
         types = reader.add_columns(server.rows(catalogs.COLUMNS))
-        numbers = types.named(INTS | DATES | MOMENTS)
-        reader.add_statistics(server.rows(catalogs.STATS, (numbers, numbers)))
+        numbers, texts = types.named(INTS | DATES | MOMENTS), types.named(TEXTS)
+        reader.add_statistics(server.rows(catalogs.STATS, (numbers, numbers, texts, texts)))
         reader.add_bounds()
         progress("reading indexes")
         listed = reader.given_indexes(server.rows(catalogs.INDEXES))
@@ -81,7 +85,17 @@ def read_database(server: Server, named: set[str], words: set[str], progress: Pr
     schema = Schema([it for it in reader.tables.values() if it.columns], path)
     schema.views, schema.left_out, schema.parents = reader.views, reader.left_out, reader.parents
     schema.taken, schema.aggregates = reader.taken_names(names), frozenset(str(it[0]) for it in aggregates)
-    return Found(schema, rates, [*warnings, *reader.warnings])
+    return Found(schema, rates, [*warnings, *_told(reader.guessed), *reader.warnings])
+
+
+def _told(guessed: list[str]) -> list[str]:
+    """What is warned of tables that were never analysed."""
+    if not guessed:
+        return []
+    more = f" and {len(guessed) - MOST_NAMED} more" * (len(guessed) > MOST_NAMED)
+    were, whose = ("was", "its") if len(guessed) == 1 else ("were", "their")
+    names = ", ".join(guessed[:MOST_NAMED])
+    return [f"{names}{more} {were} never analysed: run ANALYZE, {whose} numbers are guesses"]
 
 
 def read_rates(server: Server) -> dict[str, int]:
@@ -110,6 +124,7 @@ class Reader:
     def __init__(self, server: Server, words: set[str]) -> None:
         self.server, self.words = server, words
         self.warnings: list[str] = []
+        self.guessed: list[str] = []
         self.views: dict[tuple[str, str], str] = {}
         self.left_out: dict[tuple[str, str], str] = {}
         self.parents: dict[tuple[str, str], tuple[str, str]] = {}
@@ -240,12 +255,13 @@ class Reader:
                 rows += it.tuples / it.counted_pages * now
             pages += now
         table.rows, table.pages = min(MOST_ROWS, round(rows)), min(MOST_ROWS, pages)
-        if not table.is_analysed and table.columns:
-            self.warnings.append(f"{table.shown} was never analysed: run ANALYZE, its numbers are guesses")
+        if not table.is_analysed and table.columns and pages >= FEWEST:
+            self.guessed.append(table.shown)
 
     def add_statistics(self, rows: list[Row]) -> None:
         """Adds distinct values, widths and ends; of a table with parts, those over all of them."""
-        for oid, name, distinct, width, correlation, common, bounds, inherited, masses, missing in rows:
+        for row in rows:
+            oid, name, distinct, width, correlation, common, bounds, inherited, masses, missing, *lengths = row
             table = self.tables.get(int(oid))
             column = table.columns.get(str(name)) if table else None
             if table is None or column is None or (inherited and not (table.is_partitioned or table.children)):
@@ -254,8 +270,9 @@ class Reader:
             count = distinct if distinct > 0 else -distinct * table.rows
             column.distinct = within(count, 1, MOST_ROWS) if distinct else None
             column.nulls = round(share_of(float(missing)), 3)
-            if masses and missing < 1:
-                column.common = round(share_of(float(masses[0]) / (1 - float(missing))), 3)
+            shares = [share_of(float(it) / (1 - float(missing))) for it in masses or ()] if missing < 1 else []
+            column.common = round(shares[0], 3) if shares else 0.0
+            column.sizes = sizes_of([*zip(lengths[0] or (), shares)], lengths[1] or ())
             known = [*(common or ()), *(bounds or ())]
             set_scale(column, known)
             column.low, column.high = ends(column, known)
@@ -264,6 +281,7 @@ class Reader:
                 self.distributions[column] = frequent, [*(bounds or ())], 1 - float(missing)
             if correlation is not None and not table.children:
                 self.correlations.setdefault(int(oid), {})[str(name)] = float(correlation)
+                column.correlation = ordered_by(column, float(correlation))
 
     def add_bounds(self) -> None:
         """Adds the histograms, those of many columns with fewer parts."""

@@ -90,14 +90,14 @@ def add_trust(parser: argparse.ArgumentParser) -> None:
 def judge(
     server: Server, schema: Schema, advice: Advice, found: list[Verdict], is_trusted: bool, progress: Progress
 ) -> tuple[list[Outcome], list[str]]:
-    """Explains statements without and with the picks, and fills their verdicts."""
+    """Explains statements with the picks, and without them where that isn't known, and fills their verdicts."""
     with reading(server, "READ COMMITTED"):
         tables, every = look_up(server, found, is_trusted)
         functions = functions_of_users(server, every, tables) + replaceable(server)
         if functions:
             say_once(f"PostgreSQL may run these functions of users while it plans: {'; '.join(functions)}")
         explainer = Explainer(server, Columns.read(server, tables))
-        for it in found:
+        for it in (it for it in found if it.before is None):
             progress(f"explaining {it.shown()}")
             _explain(explainer, it, {}, False)
         listed, made = make(server, schema, advice)

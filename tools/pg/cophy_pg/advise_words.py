@@ -1,0 +1,73 @@
+"""The words of `advise`."""
+from __future__ import annotations
+
+import argparse
+
+from cophy_pg import export, unlimited
+from cophy_pg.amounts import amount, whole
+from cophy_pg.clustering import add_clustering
+from cophy_pg.program import add_program
+from cophy_pg.selection import add_selection, count
+from cophy_pg.server import add_connection
+from cophy_pg.verify import add_trust
+
+
+def add_words(parser: argparse.ArgumentParser) -> None:
+    """The words that say what to advise on, and how."""
+    parser.add_argument(
+        "--budget",
+        type=amount,
+        required=True,
+        metavar="SPACE",
+        help="what the indexes may take as PostgreSQL stores them: 2GB, 500MB, or pages",
+    )
+    parser.add_argument("--folder", metavar="DIR", help="where all files go (cophy-advice- and the time)")
+    _add_limits(parser)
+    parser.add_argument(
+        "--no-curve",
+        action="store_true",
+        help="don't search for what some other budgets would buy, which the report draws",
+    )
+    parser.add_argument("--nodes", type=whole, metavar="N", help="the node budget of the search")
+    parser.add_argument("--json", action="store_true", help="print all that was found as JSON instead")
+    source = parser.add_mutually_exclusive_group()
+    source.add_argument("--sql", metavar="FILE", help="statements from a file of SQL, as export takes them")
+    source.add_argument("--log", metavar="FILE", help="statements from a log, as export takes them")
+    add_selection(parser)
+    add_clustering(parser)
+    export.add_options(parser, has_report=False)
+    add_connection(parser)
+    add_trust(parser)
+    add_program(parser)
+
+
+def _add_limits(parser: argparse.ArgumentParser) -> None:
+    """The words that say which indexes may be made, and of what form."""
+    parser.add_argument(
+        "--min-saving",
+        type=percent,
+        default=0.0,
+        metavar="PERCENT",
+        help="what each index has to save by our model, by the server's planner or of the measured time, whichever is the most",
+    )
+    parser.add_argument(
+        "--rules", metavar="FILE", help="what has to be made and what never may, as cophy-pg rules takes them"
+    )
+    parser.add_argument(
+        unlimited.WORD,
+        action="store_true",
+        help="let indexes have columns for reading alone though an INSERT of a long value there would fail then",
+    )
+    parser.add_argument("--most-per-table", type=count, metavar="N", help="how many new indexes a table may get")
+    parser.add_argument(
+        "--include",
+        action="store_true",
+        help="put columns that no statement compares, joins, groups or orders by behind INCLUDE",
+    )
+
+
+def percent(text: str) -> float:
+    """A share from 0 to 100."""
+    if not 0 <= float(text) <= 100:
+        raise ValueError
+    return float(text)

@@ -1,0 +1,72 @@
+"""The end of what `advise` prints: what the workload costs, what the bound says, and who makes the indexes how."""
+from __future__ import annotations
+
+import shlex
+from typing import Any
+
+from cophy_text.shown import grouped, share, space
+from cophy_pg.speed import duration
+
+
+def costs(document: dict[str, Any]) -> list[str]:
+    """The table of costs before and after, and of the bound."""
+    ours, server = document["cost"], document["server_cost"]
+    before, after, bound = (grouped(it / 1000) for it in (ours["before"], ours["after"], ours["bound"]))
+    server_before, server_after = (grouped(float(server[it])) for it in ("before", "after"))
+    rows = [
+        ["", "before", "after", "", "bound"],
+        ["our model", before, after, share(ours["after"], ours["before"]), bound],
+        ["the server's", server_before, server_after, share(server["after"], server["before"]), ""],
+    ]
+    widths = [max(len(it[at]) for it in rows) for at in range(5)]
+    return [
+        "  ".join(
+            cell.ljust(width) if at == 0 else cell.rjust(width) for at, (cell, width) in enumerate(zip(row, widths))
+        ).rstrip()
+        for row in rows
+    ]
+
+
+def end_of(document: dict[str, Any]) -> str:
+    """What the bound says of the advice."""
+    cost, gap = document["cost"], document.get("gap")
+    fit = f"of {space(document['budget_pages'])}"
+    if cost["after"] == cost["bound"]:
+        return f"by our model no other indexes {fit} cost less"
+    if not cost["finished"]:
+        return "the search was stopped before its cost reached the bound: a higher --nodes may find better"
+    text = f"by our model no indexes {fit} cost less than the bound"
+    return text + (
+        f"; most of the gap is {gap['index']}: {gap['why']}" if gap else ", be they left out or against rules"
+    )
+
+
+def next_of(document: dict[str, Any], script: str) -> list[str]:
+    """Who may run the script, and how, where it makes something; and who may have faked what was counted."""
+    if not document["picks"]:
+        return [*document.get("doubts", [])]
+    owners = [*map(_plain, document["owners"])]
+    who = owners[0] if len(owners) == 1 else "OWNER"
+    whose = "their owner" if len(owners) < 2 else f"a member of {' and '.join(owners)}, who own the tables,"
+    known = [it["build_seconds"] for it in document["picks"] if it.get("build_seconds") is not None]
+    time = f" in about {duration(sum(known))}" if known else ""
+    at = [
+        word
+        for key, word in (("host", "-h"), ("port", "-p"), ("database", "-d"))
+        if document.get(key)
+        for word in (word, _plain(str(document[key])))
+    ]
+    command = shlex.join(["psql", "-X", *at, "-U", who, "-f", script])
+    return [f"to make them{time}, let {whose} run: {command}", *document.get("doubts", [])]
+
+
+def _plain(name: str) -> str:
+    """A name in printable ASCII."""
+    return name if name.isascii() and name.isprintable() else ascii(name)
+
+
+def last_of(document: dict[str, Any]) -> list[str]:
+    """What the bound says, why space is left, and from where on more space helps little."""
+    is_checked = "; certificate checked" * document["proved"].startswith("proved ")
+    more = (document.get(it) for it in ("unused", "knee"))
+    return [end_of(document) + is_checked, *(it for it in more if it)]

@@ -1,0 +1,57 @@
+"""Which picks rest on a guess: on a range whose end isn't known, in statements that have next to none of the measured time; and
+of which the server thinks far less than our model."""
+from __future__ import annotations
+
+import re
+from collections.abc import Iterable
+from typing import Any
+
+from cophy_text.shown import percent, space
+
+LITTLE = 1.0
+"""So many percent of the measured time are little."""
+FEW, FAR = 5.0, 4
+"""Where our model saves so many times what the server does, and the server few percent, that is told."""
+_OPEN = re.compile(r"(\w+)\s*(?:[<>]=?|BETWEEN)\s*\?", re.IGNORECASE)
+
+
+def is_guessed(text: str, columns: Iterable[str]) -> bool:
+    """Whether a statement of a workload compares one of these columns to an end that isn't known, so that a part of the
+    table is taken for the range."""
+    return not {it.lower() for it in _OPEN.findall(text)}.isdisjoint(it.lower() for it in columns)
+
+
+def gains(pick: dict[str, Any]) -> list[dict[str, Any]]:
+    """The changes of a pick by which a statement costs less, in the digits that are shown."""
+    return [it for it in pick["changes"] if max(it["ours"], it["server"]) >= 0.05]
+
+
+def seconds_of(listed: Iterable[dict[str, Any]]) -> float | None:
+    """The measured time of statements or of changes; nothing where some isn't known."""
+    return whole_of([it.get("seconds") for it in listed])
+
+
+def whole_of(listed: list[float | None]) -> float | None:
+    """The sum of measured times; nothing where some isn't known."""
+    return sum(it for it in listed if it is not None) if None not in listed else None
+
+
+def warning_of(pick: dict[str, Any], document: dict[str, Any]) -> str:
+    """What there is to warn of where a pick rests on a guess and on little of the measured time."""
+    found, whole = seconds_of(gains(pick)), seconds_of(document["statements"])
+    if not any(it.get("guess") for it in gains(pick)) or found is None or not whole or 100 * found >= LITTLE * whole:
+        return ""
+    return f"rests on a guess, a range whose end isn't known, and on {100 * found / whole:.2g} % of the measured time"
+
+
+def is_judged(pick: dict[str, Any]) -> bool:
+    """Whether the server says what a pick saves: it knows a clustered one as an ordinary index alone."""
+    return pick["outcome"] == "taken" and not pick.get("clustered", False)
+
+
+def doubt_of(pick: dict[str, Any]) -> str:
+    """What there is to say of a pick that by the server saves far less than by our model."""
+    ours, server = pick["saves"]["ours"], pick["saves"]["server"]
+    if not is_judged(pick) or server >= FEW or ours < max(LITTLE, FAR * server):
+        return ""
+    return f"the server saves {percent(server)}: probably not worth {space(pick['stored_pages'])}"

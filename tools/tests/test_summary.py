@@ -1,0 +1,153 @@
+"""What `advise` prints for a document: short, with each pick's statement, measured times and warnings."""
+from __future__ import annotations
+
+import unittest
+
+from test_page import MISSING, change, document
+
+
+@unittest.skipIf(MISSING, MISSING)
+class Summary(unittest.TestCase):
+    def setUp(self) -> None:
+        self.document = document("/home/you/advice")
+
+    def test_the_summary_counts_what_saves_little(self) -> None:
+        from cophy_pg.overview import lines_of
+
+        pick = self.document["picks"][0] | {"saves": {"ours": 0.4, "server": 0.0}}
+        self.document["options"]["min_saving"] = 0
+        texts = ("1 saves less than 1 % and takes 0.2 MB", "1 and 2 save less than 1 % and take 0.3 MB")
+        for count, text in enumerate(texts, 1):
+            self.document["picks"] = [pick] * count
+            self.assertIn(f"{text}: --min-saving 1 leaves such out", lines_of(self.document))
+        self.document["picks"] = [pick | {"saves": {"ours": 0.4, "server": 0.0, "measured": 1.9}}]
+        self.assertFalse([it for it in lines_of(self.document) if "--min-saving" in it])
+
+    def test_the_summary_says_which_picks_another_serves_and_which_are_wide(self) -> None:
+        from cophy_pg.overview import lines_of
+
+        pick = self.document["picks"][0]
+        columns = (["b"], ["b", "c", "d", "e", "f"], ["c"])
+        self.document["picks"] = [pick | {"columns": it} for it in columns]
+        lines, hint = lines_of(self.document), "2 has 5 columns or more: --include"
+        self.assertEqual([it for it in lines if "begins with its" in it], ["   2 begins with its columns"])
+        self.assertTrue(any(it.startswith(hint) for it in lines), lines)
+        self.document["options"]["include"] = True
+        self.assertFalse(any(it.startswith(hint) for it in lines_of(self.document)))
+
+    def test_the_summary_counts_what_is_left_out_and_names_what_was_skipped(self) -> None:
+        from cophy_pg.overview import lines_of
+
+        left_out = self.document["left_out"][0]
+        asked = left_out | {"why": "it saves 0.1 % by our model, and 1 % are asked for"}
+        self.document["left_out"] = [left_out, asked, asked, left_out | {"why": "it is there already"}]
+        text = "1 taken by no plan, 2 beyond limits, 1 for other reasons"
+        lines = lines_of(self.document)
+        self.assertIn(f"left out, see the report: {text}", lines)
+        self.assertIn("  33.3 %: SHOW: SHOW x", lines)
+        self.document["statements"][2]["seconds"] = 0.1
+        self.assertFalse([it for it in lines_of(self.document) if it.startswith("skipped")])
+
+    def test_the_summary_has_the_measured_time_and_warns_of_guesses(self) -> None:
+        from cophy_pg.guesses import is_guessed
+        from cophy_pg.overview import lines_of
+
+        for text, found in (
+            ("SELECT a FROM t\nWHERE x.b >= ? AND c = ?", True),
+            ("SELECT a FROM t WHERE b BETWEEN ? AND ?", True),
+            ("SELECT a FROM t WHERE b > 7 AND c < ?", False),
+            ("SELECT a FROM t WHERE b <> ? AND a = ?", False),
+        ):
+            self.assertEqual(is_guessed(text, ["a", "B"]), found, text)
+        changes = self.document["picks"][0]["changes"]
+        changes[0] |= {"guess": True, "seconds": 0.02}
+        changes.insert(1, changes[0] | {"numbers": [7], "guess": False, "seconds": 0.01})
+        lines, warned = lines_of(self.document), "   rests on a guess, a range whose end isn't known, and on 0.67 % of"
+        head = "2 of 3 statements with 66.7 % of the 4.5 s measured; advised in 1.2 s"
+        self.assertIn(head, lines[0])
+        row = r"80\.0 +88\.9  statement 1, 0\.02 s: SELECT .*; also 7; 2 loses\Z"
+        head = "        size our model    server  % of the cost saved; statement, measured time"
+        self.assertEqual(lines[2], head)
+        create, cluster = self.document["picks"][0]["statements"]
+        self.assertEqual(lines[3:5], [f"1. {create}", f"   {cluster}"])
+        self.assertRegex(lines[5], row)
+        self.assertTrue(any(it.startswith(warned) for it in lines), lines)
+        for key, value in (("guess", False), ("seconds", 0.2), ("seconds", None)):
+            it = changes[0] | {key: value}
+            self.document["picks"][0]["changes"] = [it, *changes[1:]]
+            self.assertFalse([it for it in lines_of(self.document) if "rests on" in it])
+
+    def test_the_summary_of_five_picks_is_short(self) -> None:
+        from cophy_pg.closing import next_of
+        from cophy_pg.overview import lines_of
+
+        pick = self.document["picks"][0]
+        plain = {"notes": [], "outcome": "taken", "unknown_for": [], "clustered": False}
+        changes = [change(at, "SELECT customer_name, count(*) FROM customer GROUP BY 1", 9.0, 9.0) for at in (1, 2)]
+        self.document["picks"] = [
+            pick
+            | plain
+            | {
+                "columns": [*"abcde"[: at + 1]],
+                "changes": changes,
+                "table": f"t{at}",
+                "statements": pick["statements"][:1],
+            }
+            for at in range(5)
+        ]
+        self.document["options"]["include"], self.document["warnings"] = True, []
+        self.document |= {"long_columns": ["never t.a", "never t.b", "never t.c"], "left_out": []}
+        self.document["knee"] = "by our model 12.3 MB save nine tenths of what any indexes can"
+        skipped = self.document["statements"].pop()
+        self.assertTrue(skipped["skipped"])
+        lines = [*lines_of(self.document), *next_of(self.document, "/home/you/advice/indexes.sql")]
+        self.assertLessEqual(len(" ".join(lines).split()), 250)
+
+    def test_what_the_bound_says_is_told_in_plain_words(self) -> None:
+        from cophy_pg.overview import lines_of
+
+        reached = "by our model no other indexes of 2,048.0 MB cost less; certificate checked"
+        self.assertIn(reached, lines_of(self.document))
+        self.document["cost"]["bound"] = 1700000
+        text = "by our model no indexes of 2,048.0 MB cost less than the bound"
+        self.assertIn(f"{text}, be they left out or against rules; certificate checked", lines_of(self.document))
+        self.document["gap"] = {"index": "t(c, d)", "why": "no plan of the server takes it"}
+        more = "; most of the gap is t(c, d): no plan of the server takes it; certificate checked"
+        self.assertIn(text + more, lines_of(self.document))
+        self.document |= {"unused": "5.0 MB stay free: so it is", "knee": "of all"}
+        self.assertEqual(lines_of(self.document)[-2:], ["5.0 MB stay free: so it is", "of all"])
+
+    def test_how_one_index_is_left_out_is_told_below_them(self) -> None:
+        from cophy_pg.overview import lines_of
+
+        line = "-v without=2 behind psql leaves out number 2"
+        self.assertNotIn(line, lines_of(self.document))
+        self.document["picks"] *= 2
+        self.assertIn(line, lines_of(self.document))
+
+    def test_the_next_step_is_a_command_that_the_owner_may_take(self) -> None:
+        from cophy_pg.closing import next_of
+
+        head, call = (
+            "to make them in about 7 seconds, let",
+            "run: psql -X -h '/run/db server' -p 5433 -d 'shop & <b>' -U",
+        )
+        for owners, text in (
+            (["app"], f"their owner {call} app -f /a/indexes.sql"),
+            (["a b; $(c)"], f"their owner {call} 'a b; $(c)' -f /a/indexes.sql"),
+            (["a", "b"], f"a member of a and b, who own the tables, {call} OWNER -f /a/indexes.sql"),
+            ([], f"their owner {call} OWNER -f /a/indexes.sql"),
+        ):
+            with self.subTest(owners=owners):
+                found = next_of(self.document | {"owners": owners}, "/a/indexes.sql")
+                self.assertEqual(found, [f"{head} {text}"])
+        self.assertEqual(next_of(self.document | {"picks": []}, "x"), [])
+        doubt = "the advice stands unless you distrust 'app', who may"
+        lines = next_of(self.document | {"doubts": [doubt]}, "x")
+        self.assertEqual((len(lines), lines[-1]), (2, doubt))
+        self.document["picks"][0].pop("build_seconds")
+        self.assertTrue(next_of(self.document, "x")[0].startswith("to make them, let "))
+
+
+if __name__ == "__main__":
+    unittest.main()

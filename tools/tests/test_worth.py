@@ -1,0 +1,83 @@
+"""What a pick is worth by our model, by the server and of the measured time: which of the three keeps it, and which is shown first."""
+from __future__ import annotations
+
+import unittest
+from collections.abc import Iterable
+from typing import Any, cast
+
+from cophy_text.answers import Advice, Candidate, Price, Prices
+from cophy_pg.choice import Choice, Limits, drop_by_limits
+from cophy_pg.inputs import Input
+from cophy_pg.outcomes import Verdict
+from cophy_pg.program import Program
+from cophy_pg.progress import Progress
+from cophy_pg.why import Reason
+from cophy_pg.worth import Worth, worth_of
+
+PICKS = [Candidate(at, f"t{at}", ("a",), 9) for at in (1, 2)]
+
+
+class Priced:
+    """Stands for the program: pick 1 saves 5 of 1000, pick 2 saves 500."""
+
+    def whatif(self, numbers: Iterable[int]) -> Prices:
+        first, second = (500 - 5 * (1 in {*numbers})), 500 * (2 not in {*numbers})
+        return Prices({1: Price(1, first), 2: Price(1, second)}, first + second)
+
+
+class Worths(unittest.TestCase):
+    def test_what_is_saved_of_the_measured_time_is_that_of_the_cost(self) -> None:
+        found = [
+            Verdict(1, Input("x", 10, 8.0), {1: 1.0}, before=100.0, after=60.0),
+            Verdict(2, Input("y", 1, 2.0), {2: 1.0}, before=1000.0, after=1000.0),
+        ]
+        none, kept = Prices({1: Price(10, 90), 2: Price(1, 100)}, 1000), Prices(
+            {1: Price(10, 80), 2: Price(1, 100)}, 900
+        )
+        reason = Reason(PICKS[0], 910, {1: 10})
+        worth = worth_of(reason, (none, kept), found, {1: 85.0}, [8.0, 2.0, 10.0])
+        self.assertEqual((worth.ours, worth.server, worth.measured), (1.0, 12.5, 10.0))
+        self.assertEqual(worth.most(), 12.5)
+        text = "1.0 % by our model, 12.5 % by the server's planner, 10.0 % of the measured time"
+        self.assertEqual(worth.shown(), text)
+        unknown = worth_of(reason, (none, kept), found, {}, [8.0, None])
+        self.assertEqual((unknown.server, unknown.measured), (0.0, None))
+        self.assertNotIn("measured", unknown.shown())
+
+    def test_a_pick_stays_where_one_of_the_three_reaches_the_limit(self) -> None:
+        for worth, left in (
+            (Worth(0.5, 0.9, 1.9), [1, 2]),
+            (Worth(0.5, 1.0, None), [1, 2]),
+            (Worth(0.5, 0.9, 0.2), [2]),
+        ):
+            with self.subTest(worth=worth):
+                asked = list[int]()
+
+                def of(reason: Reason, _: tuple[Prices, Prices]) -> Worth:
+                    asked.append(reason.pick.number)
+                    return worth
+
+                choice = Choice(Advice(9, [*PICKS]))
+                program = cast(Program, Priced())
+                is_less = drop_by_limits(choice, program, Limits(1.0), Progress(), lambda _: False, of)
+                self.assertEqual([it.number for it in choice.advice.picks], left)
+                self.assertEqual((asked, is_less), ([1], len(left) < 2))
+                self.assertEqual([why.endswith("; 1 % are asked for") for _, why in choice.left_out], [True] * is_less)
+
+    def test_the_server_says_which_pick_is_the_first_and_which_isnt_worth_its_space(self) -> None:
+        from cophy_pg.guesses import doubt_of
+        from cophy_pg.result import place_of
+
+        def pick(ours: float, server: float, **more: Any) -> dict[str, Any]:
+            saves = {"saves": {"ours": ours, "server": server}, "number": 1, "stored_pages": 4224}
+            return saves | {"outcome": "taken", "clustered": False} | more
+
+        listed = [pick(27.0, 3.3), pick(1.0, 30.0), pick(20.0, 0.0, clustered=True), pick(5.0, 0.0, outcome="unknown")]
+        places = sorted(range(4), key=lambda at: place_of(listed[at]))
+        self.assertEqual(places, [1, 2, 3, 0])
+        doubts = [doubt_of(it) for it in listed]
+        self.assertEqual(doubts, ["the server saves 3.3 %: probably not worth 33.0 MB", "", "", ""])
+
+
+if __name__ == "__main__":
+    unittest.main()
