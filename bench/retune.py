@@ -11,7 +11,7 @@ sys.path.insert(0, os.path.dirname(os.path.realpath(__file__)))
 from measure import Run, arguments, need_answer, need_program, run_once  # noqa: E402
 from workloads import Workload, budget_of, candidate_pages, put  # noqa: E402
 
-SEED = 2
+SEEDS = (2, 4, 6)
 TABLES = 20
 STATEMENTS = (100, 300, 1000)
 # How many edits of a kind are measured together.
@@ -20,6 +20,7 @@ MOVED = 20
 # The budget, in hundredths of the pages of all candidates.
 SHARE = 20
 HEADS = (
+    "seed",
     "statements",
     "candidates",
     "from scratch ms",
@@ -95,6 +96,7 @@ def row_of(workload: Workload, runs: dict[str, Run]) -> tuple[object, ...]:
         node for name in ("before weigh", *(f"again {kind}" for kind in KINDS)) for node in nodes_of(runs[name])[-1:]
     ]
     return (
+        workload.seed,
         workload.statements,
         runs["candidates"].output.count(b" pages\n"),
         f"{spent('none', 'candidates'):.2f}",
@@ -119,9 +121,10 @@ def main() -> None:
     print_line(HEADS)
     print("|---" * len(HEADS) + "|")
     with TemporaryDirectory() as folder:
-        for count in STATEMENTS[:2] if options.quick else STATEMENTS:
-            workload = Workload(SEED, TABLES, count)
-            print_line(row_of(workload, runs_of(options.program, workload, folder, options.repeat)))
+        for seed in SEEDS:
+            for count in STATEMENTS[:2] if options.quick else STATEMENTS:
+                workload = Workload(seed, TABLES, count)
+                print_line(row_of(workload, runs_of(options.program, workload, folder, options.repeat)))
 
 
 main()

@@ -11,7 +11,7 @@ const KEPT: usize = 9;
 /// The same where the plan had too many sets.
 const KEPT_AGAIN: usize = 11;
 /// The nodes that trials have.
-const NODES: usize = 80;
+pub(crate) const NODES: usize = 80;
 
 /// The set that is named most, from a place to the end.
 fn most_used(uses: &[usize; MOST_SETS], from: usize, end: usize) -> usize {
@@ -74,7 +74,7 @@ impl Planner {
         for set in 1..kept {
             self.add_known(task, set);
         }
-        self.raise_best(task);
+        let _ = self.raise_best(task);
         self.hint = 0;
     }
 
@@ -88,8 +88,8 @@ impl Planner {
         }
     }
 
-    /// Has the set that is best at the root stand first.
-    fn raise_best(&mut self, task: &Task<'_>) {
+    /// Has the set that is best at the root stand first; where it stood.
+    pub(crate) fn raise_best(&mut self, task: &Task<'_>) -> usize {
         let mut best = Best {
             set: 1,
             value: i128::MIN,
@@ -103,6 +103,7 @@ impl Planner {
         if best.set < self.ledgers.len() && self.ledgers.len() > 1 {
             self.ledgers.swap(1, best.set);
         }
+        best.set
     }
 
     /// Plans below the root with the sets that there are and others, first with more than there may be; whether no leaf is left open
@@ -123,7 +124,7 @@ impl Planner {
     }
 
     /// How many sets the plan names, zeros left out and the root's counted in any case.
-    fn named(&self) -> usize {
+    pub(crate) fn named(&self) -> usize {
         let uses = self.uses();
         let mut count = 1usize;
         for set in 2..MOST_SETS {

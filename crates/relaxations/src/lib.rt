@@ -22,6 +22,7 @@ mod planner;
 mod planning;
 mod proposals;
 mod recalling;
+mod retracing;
 mod rounding;
 mod splitting;
 mod thinning;

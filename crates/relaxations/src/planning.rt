@@ -118,7 +118,7 @@ impl Planner {
     }
 
     /// Plans below a leaf of the tree, or a node that the tree hasn't: by a trial, by another with a set of its own, or deeper.
-    fn plan_leaf(
+    pub(crate) fn plan_leaf(
         &mut self,
         task: &Task<'_>,
         finder: &mut Finder,

@@ -18,7 +18,7 @@ use std::alloc::Global;
 /// Sets are asked so often at most before there is a search.
 const MOST_ASKED: u64 = 20_000;
 /// The most of a cost that is looked at, 2^100.
-const MOST_COST: u128 = 1_267_650_600_228_229_401_496_703_205_376;
+pub(crate) const MOST_COST: u128 = 1_267_650_600_228_229_401_496_703_205_376;
 
 /// A node of a plan, in preorder: the candidate of its branch, from 1, or 0 at a leaf; there the set that closes it, or the
 /// best one: 0 for zeros, k for the k-th. The inner side of a branch stands behind it, the other one at `outside`; an inner
@@ -53,8 +53,9 @@ pub struct Proposals {
     limits: Limits,
     /// The configuration that was found last, if there is one.
     pub(crate) known: Option<Chosen>,
-    /// How many sets are recalled of elsewhere, zeros among them.
+    /// How many sets are recalled of elsewhere, zeros among them, and a tree with them.
     pub(crate) recalled: usize,
+    pub(crate) tree: Vec<PlanNode>,
     /// What the configuration costs for which the plan that stands was made along with it.
     planned: Option<i128>,
 }
@@ -86,6 +87,7 @@ impl Proposals {
             },
             known: None,
             recalled: 0,
+            tree: Vec::with_capacity(alloc, 0)?,
             planned: None,
         })
     }
@@ -145,9 +147,20 @@ impl Proposals {
             ..task_of(&self.matrix, &self.limits)
         };
         self.planner.aim(self.finder.best.cost);
-        self.planner.begin_again(&task, &self.root, self.recalled);
+        let recalled = self.recalled;
         self.recalled = 0;
-        let is_closed = self.planner.plan_again(&task, &mut self.finder);
+        let mut is_closed = false;
+        if !self.tree.is_empty() {
+            let tree = self.tree.as_mut_slice();
+            self.planner
+                .begin_recalled(&task, &self.root, recalled, tree);
+            is_closed = self.planner.plan_retracing(&task, &mut self.finder, tree);
+            self.tree.clear();
+        }
+        if !is_closed {
+            self.planner.begin_again(&task, &self.root, recalled);
+            is_closed = self.planner.plan_again(&task, &mut self.finder);
+        }
         if is_closed {
             self.planned = Some(self.planner.cost);
         }

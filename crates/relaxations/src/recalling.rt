@@ -1,16 +1,19 @@
 //! Proposals that go on with the answer to a programme that differs in little.
 
 use crate::configuration::Chosen;
-use crate::planner::MOST_SETS;
-use crate::proposals::Proposals;
+use crate::planner::{MOST_SETS, OVERFULL, PlanNode};
+use crate::proposals::{MOST_COST, Proposals};
 use adv_base::NoMemory;
-use adv_base::limits::MOST_RENT;
+use adv_base::limits::{MOST_PAGE_PRICE, MOST_RENT};
 use bip_model::{Answer, Multipliers, Node, Programme};
 use interior_point::{at, put};
 use std::alloc::Global;
 
 /// The numbers that candidates have, by those that they had, both from 1: 0 for one that has gone.
 pub type NewNumbers = [u16; 257];
+
+/// In place of a candidate that has gone.
+const GONE: u16 = 257;
 
 /// The answer of an earlier search, the numbers that its candidates have now, and for each grant of the programme now where its
 /// rent stands in the answer's sets, past their ends where it isn't there.
@@ -35,8 +38,17 @@ fn uses_of(tree: &[Node]) -> [usize; MOST_SETS] {
     uses
 }
 
+/// The number that a candidate of a branch has now: one past all where it has gone, so that it stays out.
+fn number_now(numbers: &NewNumbers, number: u16) -> u16 {
+    match at(numbers, number as usize, 0) {
+        0 => GONE,
+        now => now,
+    }
+}
+
 impl Proposals {
-    /// The same as `new`, of a programme that differs in little from one for which an answer is known.
+    /// The same as `new`, of a programme that differs in little from one for which an answer is known: the first
+    /// search goes along its tree, with its configuration and sets.
     pub fn after(
         alloc: Global,
         programme: &Programme,
@@ -45,7 +57,8 @@ impl Proposals {
     ) -> Result<Proposals, NoMemory> {
         let mut own = Proposals::new(alloc, programme, nodes)?;
         own.recall_configuration(&earlier.answer.config.on, earlier.numbers);
-        own.recall_sets(earlier);
+        let sets = own.recall_sets(earlier);
+        own.recall_tree(alloc, earlier, &sets)?;
         Ok(own)
     }
 
@@ -60,28 +73,59 @@ impl Proposals {
         self.known = Some(known);
     }
 
-    /// Recalls the first set of an answer, and of the others those that most leaves name.
-    fn recall_sets(&mut self, earlier: &Earlier<'_>) {
+    /// Recalls the first set of an answer, and then the others, those first that most leaves name; the place of each by its
+    /// number in the answer.
+    fn recall_sets(&mut self, earlier: &Earlier<'_>) -> [u8; MOST_SETS] {
         let mut uses = uses_of(earlier.answer.tree.as_slice());
+        let mut own = [0; MOST_SETS];
         let sets = earlier.answer.sets.as_slice();
         let mut next = 0;
         for place in 1..self.planner.ledgers.len().min(MOST_SETS) {
             if next >= sets.len() {
-                return;
+                break;
             }
             self.recall_set(place, &sets[next], earlier.places);
             self.recalled = place.saturating_add(1);
+            put(&mut own, next.saturating_add(1), (place & 255) as u8);
             next = usize::MAX;
             let mut most = 0;
             for set in 1..sets.len() {
-                let own = at(&uses, set.saturating_add(1), 0);
-                if own > most {
-                    most = own;
+                let times = at(&uses, set.saturating_add(1), 0);
+                if times > most {
+                    most = times;
                     next = set;
                 }
             }
             put(&mut uses, next.saturating_add(1), 0);
         }
+        own
+    }
+
+    /// Recalls the tree of an answer without a gap, whose sets stand at these places now.
+    fn recall_tree(
+        &mut self,
+        alloc: Global,
+        earlier: &Earlier<'_>,
+        sets: &[u8; MOST_SETS],
+    ) -> Result<(), NoMemory> {
+        if earlier.answer.bound < earlier.answer.cost.min(MOST_COST) as i128 {
+            return Ok(());
+        }
+        let tree = earlier.answer.tree.as_slice();
+        self.tree = Vec::with_capacity(alloc, tree.len())?;
+        for node in tree {
+            let (candidate, set) = match node {
+                Node::Branch(number) => (number_now(earlier.numbers, *number), 0),
+                Node::Bounded(set) => (0, at(sets, *set as usize, 0)),
+                Node::Overfull => (0, OVERFULL),
+            };
+            let _ = self.tree.push(PlanNode {
+                candidate,
+                set,
+                is_open: false,
+            });
+        }
+        Ok(())
     }
 
     /// Writes a set of an answer into the ledger at a place.
@@ -94,5 +138,6 @@ impl Proposals {
             let old = at(places, link.rent, u32::MAX) as usize;
             *rent = at(set.lambda.as_slice(), old, 0).min(MOST_RENT) as i64;
         }
+        ledger.page = set.mu.min(MOST_PAGE_PRICE) as i128;
     }
 }

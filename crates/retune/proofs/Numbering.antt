@@ -3,7 +3,7 @@ use Rattle.std.proofs.Common.{◌≡◌, ◌≢◌, ◌∙◌, inl, inr, ℕ, su
 use Rattle.std.specs.List.{enumerate_from}
 use Rattle.std.proofs.lemmas.Bool.{cases_Bool, eq-eqb, ne_eqb}
 use Rattle.std.proofs.lemmas.Bool.Decides.{Decides-eqb}
-use Rattle.std.proofs.lemmas.List.{append-nil, length-take-le, take_more, take_all, map-append}
+use Rattle.std.proofs.lemmas.List.{append-nil, length-take-le, take_more, map-append}
 use Rattle.std.proofs.lemmas.List.Elements.{filter-append}
 use Rattle.adv_base.specs.declared.catalogue.index.IndexShape.{IndexShape}
 use Rattle.bip_model.specs.StandsFor.{candidates_on}
@@ -33,9 +33,6 @@ pub until-other : (shapes : List IndexShape) (t k : ℕ) (d : IndexShape) → k 
 until-other shapes t k d within other =
     let off = ne_eqb (get_or shapes k d).table t other in
     until-more shapes t k d within ∙ rw off (append-nil (candidates_on (take k shapes) t))
-
-pub until-all : (shapes : List IndexShape) (t k : ℕ) → length shapes ≤ k → candidates_on (take k shapes) t ≡ candidates_on shapes t
-until-all shapes t k all = ap (λ (front : List IndexShape). candidates_on front t) (take_all k shapes all)
 
 -- ## Numbers
 

@@ -29,4 +29,5 @@ mod weights;
 mod widening;
 
 pub use fault::RetuneFault;
+pub use numbers::is_same_shape;
 pub use session::Session;

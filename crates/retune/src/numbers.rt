@@ -20,9 +20,10 @@ pub(crate) struct Numbers {
     ghost candidates: { All IsCandidate of },
 }
 
-/// Whether two shapes are the same index.
-fn is_same_shape(a: &IndexShape, b: &IndexShape) -> bool
-    ensures { result ≡ true → a.now ≡ b.now }
+/// Whether two shapes are the same: of one table, with the same keys, as unique and as clustered.
+pub fn is_same_shape(a: &IndexShape, b: &IndexShape) -> bool
+    ensures same { result ≡ true → a.now ≡ b.now }
+    ensures each { a.now ≡ b.now → result ≡ true }
 {
     if a.table != b.table || a.unique != b.unique || a.clustered != b.clustered {
         return false;

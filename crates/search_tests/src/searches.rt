@@ -61,11 +61,19 @@ fn judge_answer(rt: &impl Abort, problem: &Problem<'_>, nodes: usize, best: u128
     }
 }
 
-/// What a search works with that recalls an answer to the same programme.
-fn recalled(rt: &impl Abort, alloc: Global, programme: &Programme, answer: &Answer) -> Proposals {
+/// What a search works with that recalls an answer to the same programme, as if one of the candidates were another than then.
+fn recalled(
+    rt: &impl Abort,
+    alloc: Global,
+    programme: &Programme,
+    answer: &Answer,
+    other: usize,
+) -> Proposals {
     let mut numbers = [0u16; 257];
     for number in 1..257 {
-        numbers[number] = number as u16;
+        if number != other {
+            numbers[number] = number as u16;
+        }
     }
     let mut places = Vec::new(alloc);
     for place in 0..grant_count(programme) {
@@ -79,7 +87,7 @@ fn recalled(rt: &impl Abort, alloc: Global, programme: &Programme, answer: &Answ
     Proposals::after(alloc, programme, 20000, &earlier).expect(rt, "memory")
 }
 
-/// So is that of a search that begins anew, of one that recalls its answer, and of one that goes on.
+/// So is that of a search that begins anew, of those that recall its answer, and of one that goes on.
 fn judge(
     rt: &impl Abort,
     alloc: Global,
@@ -95,9 +103,11 @@ fn judge(
     let mut fresh = proposals(rt, alloc, problem.programme);
     let answer = searched(rt, alloc, problem, nodes, &mut fresh);
     judge_answer(rt, problem, nodes as usize, best, &answer);
-    let mut known = recalled(rt, alloc, problem.programme, &answer);
-    let answer = searched(rt, alloc, problem, nodes, &mut known);
-    judge_answer(rt, problem, nodes as usize, best, &answer);
+    for other in 0..3 {
+        let mut known = recalled(rt, alloc, problem.programme, &answer, other);
+        let again = searched(rt, alloc, problem, nodes, &mut known);
+        judge_answer(rt, problem, nodes as usize, best, &again);
+    }
     let answer = searched(rt, alloc, problem, nodes, proposed);
     judge_answer(rt, problem, nodes as usize, best, &answer);
 }

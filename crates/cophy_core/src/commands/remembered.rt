@@ -5,6 +5,7 @@ use bip_model::{Part, Programme};
 use branch_bound::{Earlier, NewNumbers};
 use edit_script::Edit;
 use report::Tuned;
+use retune::is_same_shape;
 use std::alloc::Global;
 
 /// In place of a grant that wasn't there.
@@ -36,18 +37,10 @@ fn place_of(at: usize) -> u32 {
     at.min(NOWHERE as usize) as u32
 }
 
-/// Whether two candidates are the same.
-fn is_same(one: &IndexShape, other: &IndexShape) -> bool {
-    one.table == other.table
-        && one.clustered == other.clustered
-        && one.unique == other.unique
-        && one.keys.as_slice() == other.keys.as_slice()
-}
-
 /// The number of a shape among others, from 1; 0 where it isn't there.
 fn number_among(shapes: &[IndexShape], shape: &IndexShape) -> u16 {
     for (at, other) in shapes.iter().enumerate() {
-        if is_same(other, shape) {
+        if is_same_shape(other, shape) {
             return at.wrapping_add(1).min(256) as u16;
         }
     }

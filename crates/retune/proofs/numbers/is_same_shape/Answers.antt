@@ -12,8 +12,8 @@ same_bool true false e = e
 same_bool false true e = sym e
 same_bool false false e = refl
 
-pub returns : goal.returns
-returns c = λ h.
+pub returns-clause-same : goal.returns-clause-same
+returns-clause-same c = λ h.
     same_shape c.args.a.now c.args.b.now c.if-a-b.false
     (sym c.as_slice.ensures ∙ (slice_eq-Decides Decides-eqb c.as_slice.result.now c.as_slice-2.result.now c.eq.result c.eq.ensures).0 h ∙ c.as_slice-2.ensures)
     (same_bool c.args.a.now.unique c.args.b.now.unique c.if-a-b-2.false) (same_bool c.args.a.now.clustered c.args.b.now.clustered c.if-a-b-3.false)

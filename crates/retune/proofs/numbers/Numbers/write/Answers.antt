@@ -20,7 +20,7 @@ loop-from-preserved c =
     let d : IndexShape = c.index-old-from.result in
     let there : at < length new = c.if-at-new.false in
     let same : get_or old from d ≡ get_or new at d =
-    sym c.index-old-from.is ∙ c.is_same_shape.ensures c.if-not-is_same_shape.false ∙ c.index-new-at.is ∙ get_or_default new at c.index-new-at.result d there in
+    sym c.index-old-from.is ∙ c.is_same_shape.ensures.same c.if-not-is_same_shape.false ∙ c.index-new-at.is ∙ get_or_default new at c.index-new-at.result d there in
     let own : (e : IndexShape) → (get_or old from e).table ≡ c.args.table = c.loop-from.invariant.on c.loop-from-test.true in
     let more = written-more of old new c.args.table from at d c.loop-from-test.true there (omega arith) same (own d) c.loop-from.invariant.written in
     record {
