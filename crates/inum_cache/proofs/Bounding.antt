@@ -1,7 +1,9 @@
 -- The least costs of the templates that fit a combination bound what plans above its leaves cost.
-use Rattle.std.proofs.Common.{◌≡◌, inl, inr, ℕ, zero, suc, ◌+◌, ◌^◌, ◌<◌, ◌≤◌, ◌==◌, true, false, Bool, cond, List, [], ◌∷◌, ◌++◌, length, get_or, All, refl, sym, ap, ◌∙◌, subst, arith}
-use Rattle.std.proofs.lemmas.Bool.{cases_Bool, cases_lt, cases_eq, eq-eqb, ne_eqb, false≢true}
-use Rattle.std.proofs.lemmas.List.{get_or_append_left, get_or_past, get_or_push, length_push}
+use Rattle.std.proofs.Common.{◌≡◌, inl, inr, ℕ, zero, suc, ◌+◌, ◌^◌, ◌<◌, ◌≤◌, ◌==◌, true, cond, List, [], ◌∷◌, length, map, take, get_or, All, refl, sym, ap, ◌∙◌, subst, arith}
+use Rattle.std.specs.List.{range_with_len}
+use Rattle.std.proofs.lemmas.Bool.{cases_lt, cases_eq, eq-eqb, ne_eqb}
+use Rattle.std.proofs.lemmas.List.{get_or-take, get_or_past}
+use Rattle.std.proofs.lemmas.List.FromFn.{get_or-map-range_with_len, length-map-range_with_len}
 use Rattle.adv_base.specs.Items.{Order, BeginsWith}
 use Rattle.adv_base.specs.OfferTables.{price_at, order_at}
 use Rattle.adv_base.proofs.Begins.{begins_nil, begins_self}
@@ -15,18 +17,17 @@ use Rattle.planner.specs.declared.cut.Merge.{Merge}
 use Rattle.planner.specs.declared.ways.Ways.{Ways}
 use Rattle.planner.specs.Fronts.{head_at, listed}
 use Rattle.planner.specs.Cells.{blank, any_at, cell_at, cost_at}
-use Rattle.planner.specs.Cuts.{cut_at, merge_at, is_covered}
+use Rattle.planner.specs.Cuts.{cut_at, merge_at}
 use Rattle.planner.specs.Choices.{HashBound, MergesBound}
 use Rattle.planner.specs.Rows.{width, order_of, cuts_of, merges_in, sets_of, IsLowRow}
+use Rattle.planner.proofs.Begins.{longer_in}
 use Rattle.planner.proofs.Lower.{AreBlank, IsLow, all_low}
 use Rattle.planner.proofs.Reading.{test_from_begins}
 use Rattle.planner.proofs.Tabling.{columns_all}
-use Rattle.planner.proofs.Upper.{means_at}
+use Rattle.planner.proofs.Upper.{facts, means_at}
 use Rattle.inum_cache.specs.Numbering.{size_in, order_in}
 use Rattle.inum_cache.specs.inner.Cells.{place_at, asks, template_at, joined_place, Fits, IsReplaced, IsJoined, IsRaised, JoinGives, RaiseGives, least_fit}
-use Rattle.inum_cache.specs.inner.Passes.{cell_in, is_wanted, AreRowsOf, IsLeaf}
-use Rattle.inum_cache.proofs.Rowing.{no-cuts}
-use Rattle.inum_cache.proofs.Wanted.{longer-either, sides-wanted, front-wanted}
+use Rattle.inum_cache.specs.inner.Passes.{cell_in, row_in, AreRowsOf, IsLeaf}
 use Rattle.inum_cache.proofs.Fitting.{asks-past, least_fit-most, least_fit-found, least_fit-replaced}
 
 -- ## Lists of places
@@ -124,67 +125,26 @@ pub record IsPlacedAt (orders : List (List Order)) (needs : Orders) (slot : ℕ)
   pub within : place < size_in orders slot
   pub is : order_in orders slot place ≡ needs slot
 
--- a row of what a function gives for the first n fronts
-pub row-of : (ℕ → Cell) → ℕ → List Cell
-row-of make zero = []
-row-of make (suc n) = row-of make n ++ make n ∷ []
+module _ (ways : Ways) (orders : List (List Order)) (rows : List (List (List Template))) (first : (slot : ℕ) → slot < length orders → order_in orders slot 0 ≡ []) (done : AreRowsOf ways orders rows (sets_of ways)) (needs : Orders) (placed : (slot : ℕ) → slot < ways.task.now.slots → IsPlacedAt orders needs slot) where
+  abbrev pub fit-cell : ℕ → ℕ → Cell
+  fit-cell s f =
+      record { cost = least_fit orders needs (cell_in (row_in rows s) f); any = least_fit orders needs (cell_in (row_in rows s) f) }
 
-row-of-length : (make : ℕ → Cell) (n : ℕ) → length (row-of make n) ≡ n
-unfolding row-of
-row-of-length make zero = refl
-row-of-length make (suc n) =
-    let before = row-of-length make n in omega (arith, before, length_push (row-of make n) (make n))
-
-row-of-at : (make : ℕ → Cell) (n f : ℕ) → f < n → cell_at (row-of make n) f ≡ make f
-unfolding row-of
-row-of-at make zero f below = absurd (omega (arith, below))
-row-of-at make (suc n) f below =
-    elim (cases_lt f n) [
-      | inl less ↦ get_or_append_left (row-of make n) (make n ∷ []) blank f (omega (arith, less, row-of-length make n)) ∙ row-of-at make n f less
-      | inr past ↦
-          let here : n ≡ f = omega (arith, past, below) in
-          subst (λ k. cell_at (row-of make n ++ make n ∷ []) k ≡ make k) here (get_or_push (row-of make n) (make n) blank n (row-of-length make n))
-    ]
-
--- What bounds a front's plans: the least cost of the templates that fit, where the front may be wanted. Of a front that
--- can't be, nothing is said: any number below all costs will do, and no join of a larger set looks at it.
-abbrev pub bound-at : Ways → List (List Order) → Orders → (ℕ → List (List Template)) → ℕ → ℕ → ℕ
-bound-at ways orders needs rows s f =
-    cond (is_wanted ways s f) (least_fit orders needs (cell_in (rows s) f)) (cond (is_covered ways.covered.items s) 0 1000000000000000000000000000000)
-
-module _ (ways : Ways) (orders : List (List Order)) (rows : ℕ → List (List Template)) (first : (slot : ℕ) → slot < length orders → order_in orders slot 0 ≡ []) (done : AreRowsOf ways orders rows (sets_of ways)) (needs : Orders) (placed : (slot : ℕ) → slot < ways.task.now.slots → IsPlacedAt orders needs slot) where
   abbrev pub fit-row : ℕ → List Cell
-  fit-row s = row-of (λ f. record { cost = bound-at ways orders needs rows s f; any = bound-at ways orders needs rows s f }) (width ways)
+  fit-row s = map (fit-cell s) (range_with_len 0 (width ways))
 
-  cell-is : (s f : ℕ) → f < width ways → cell_at (fit-row s) f ≡ record { cost = bound-at ways orders needs rows s f; any = bound-at ways orders needs rows s f }
-  cell-is s f front_in = row-of-at (λ k. record { cost = bound-at ways orders needs rows s k; any = bound-at ways orders needs rows s k }) (width ways) f front_in
+  cell-is : (s f : ℕ) → f < width ways → cell_at (fit-row s) f ≡ fit-cell s f
+  cell-is s f front_in = get_or-map-range_with_len (fit-cell s) 0 (width ways) f f blank front_in (omega arith)
 
-  -- where a front may be wanted
-  pub cost-is : (s f : ℕ) → f < width ways → is_wanted ways s f ≡ true → cost_at (fit-row s) f ≡ least_fit orders needs (cell_in (rows s) f)
-  cost-is s f front_in wanted =
-      ap (λ (x : Cell). x.cost) (cell-is s f front_in)
-      ∙ ap (λ b. cond b (least_fit orders needs (cell_in (rows s) f)) (cond (is_covered ways.covered.items s) 0 1000000000000000000000000000000)) wanted
+  cell-past : (s f : ℕ) → width ways ≤ f → cell_at (fit-row s) f ≡ blank
+  cell-past s f past =
+      get_or_past (fit-row s) f blank (omega (arith, past, length-map-range_with_len (fit-cell s) 0 (width ways)))
 
-  pub any-is : (s f : ℕ) → f < width ways → is_wanted ways s f ≡ true → any_at (fit-row s) f ≡ least_fit orders needs (cell_in (rows s) f)
-  any-is s f front_in wanted =
-      ap (λ (x : Cell). x.any) (cell-is s f front_in)
-      ∙ ap (λ b. cond b (least_fit orders needs (cell_in (rows s) f)) (cond (is_covered ways.covered.items s) 0 1000000000000000000000000000000)) wanted
+  pub cost-is : (s f : ℕ) → f < width ways → cost_at (fit-row s) f ≡ least_fit orders needs (cell_in (row_in rows s) f)
+  cost-is s f front_in = ap (λ (x : Cell). x.cost) (cell-is s f front_in)
 
-  -- where it can't be, of a set that plans cover
-  cost-none : (s f : ℕ) → f < width ways → is_wanted ways s f ≡ false → is_covered ways.covered.items s ≡ true → cost_at (fit-row s) f ≡ 0
-  cost-none s f front_in off on =
-      ap (λ (x : Cell). x.cost) (cell-is s f front_in)
-      ∙ ap (λ b. cond b (least_fit orders needs (cell_in (rows s) f)) (cond (is_covered ways.covered.items s) 0 1000000000000000000000000000000)) off
-      ∙ ap (λ b. cond b 0 1000000000000000000000000000000) on
-
-  any-none : (s f : ℕ) → any_at (fit-row s) f ≡ cost_at (fit-row s) f
-  any-none s f =
-      elim (cases_lt f (width ways)) [
-        | inl front_in ↦ ap (λ (x : Cell). x.any) (cell-is s f front_in) ∙ sym (ap (λ (x : Cell). x.cost) (cell-is s f front_in))
-        | inr past ↦
-            let none = get_or_past (fit-row s) f blank (omega (arith, past, row-of-length (λ k. record { cost = bound-at ways orders needs rows s k; any = bound-at ways orders needs rows s k }) (width ways))) in
-            ap (λ (x : Cell). x.any) none ∙ sym (ap (λ (x : Cell). x.cost) none)
-      ]
+  pub any-is : (s f : ℕ) → f < width ways → any_at (fit-row s) f ≡ least_fit orders needs (cell_in (row_in rows s) f)
+  any-is s f front_in = ap (λ (x : Cell). x.any) (cell-is s f front_in)
 
   no-order : (t : Template) (slot : ℕ) → place_at t slot ≡ 0 → BeginsWith (needs slot) (asks orders t slot)
   no-order t slot none =
@@ -193,10 +153,7 @@ module _ (ways : Ways) (orders : List (List Order)) (rows : ℕ → List (List T
         | inr past ↦ subst (BeginsWith (needs slot)) (sym (asks-past orders t slot past)) (begins_nil (needs slot))
       ]
 
-  module _ (s : ℕ) (within : s < sets_of ways) (f : ℕ) (front_in : f < width ways) (wanted : is_wanted ways s f ≡ true) where
-    cell : List Template
-    cell = cell_in (rows s) f
-
+  module _ (s : ℕ) (within : s < sets_of ways) (f : ℕ) (front_in : f < width ways) where
     read-low : (slot offer : ℕ) → slot < ways.task.now.slots → offer < length (free needs slot) → 2 ^ slot ≡ s → BeginsWith (order_at (free needs) slot offer) (order_of ways f) → cost_at (fit-row s) f ≤ price_at (free needs) slot offer
     read-low slot zero slot_in offer_in is begins =
         let p = placed slot slot_in in
@@ -212,9 +169,18 @@ module _ (ways : Ways) (orders : List (List Order)) (rows : ℕ → List (List T
                 | inr other ↦ no-order t k (leaf-others slot p.place k other)
               ];
         } in
-        let low = least_fit-replaced orders needs (cell_in (rows s) f) t (((done.each s within).takes f front_in wanted).given t (inl (inr (slot, slot_in, (is, (p.place, p.within, (test, leaf))))))) fits in
-        omega (arith, low, cost-is s f front_in wanted)
+        let low = least_fit-replaced orders needs (cell_in (row_in rows s) f) t (((done.each s within).takes f front_in).given t (inl (inr (slot, slot_in, (is, (p.place, p.within, (test, leaf))))))) fits in
+        omega (arith, low, cost-is s f front_in)
     read-low slot (suc offer) slot_in offer_in is begins = absurd (omega (arith, offer_in))
+
+    -- the rows of a cut's parts stand before this one
+    early : (k : ℕ) → k < length (cuts_of ways s) → (g h price : ℕ) (t : Template) → JoinGives (cell_in (row_in rows (cut_at (cuts_of ways s) k).left) g) (cell_in (row_in rows (cut_at (cuts_of ways s) k).right) h) price t → JoinGives (cell_in (row_in (take s rows) (cut_at (cuts_of ways s) k).left) g) (cell_in (row_in (take s rows) (cut_at (cuts_of ways s) k).right) h) price t
+    early k inside g h price t join =
+        let cut : Cut = cut_at (cuts_of ways s) k in
+        let some = (facts ways s k within inside).parts.some in
+        let less = (facts ways s k within inside).parts.less in
+        let rest = (facts ways s k within inside).rest in
+        subst (λ (r : List (List Template)). JoinGives (cell_in r g) (cell_in (row_in (take s rows) cut.right) h) price t) (sym (get_or-take s rows cut.left [] less)) (subst (λ (r : List (List Template)). JoinGives (cell_in (row_in rows cut.left) g) (cell_in r h) price t) (sym (get_or-take s rows cut.right [] (omega arith))) join)
 
     hash-low : (k : ℕ) → k < length (cuts_of ways s) → HashBound ways.heads.items (fit-row (cut_at (cuts_of ways s) k).left) (fit-row (cut_at (cuts_of ways s) k).right) (cut_at (cuts_of ways s) k).hash_price f (cost_at (fit-row s) f)
     hash-low k inside =
@@ -222,8 +188,8 @@ module _ (ways : Ways) (orders : List (List Order)) (rows : ℕ → List (List T
         let some : 0 < width ways = omega (arith, front_in) in
         record {
           bound = λ none.
-              let low = join-low orders needs (cell_in (rows cut.left) 0) (cell_in (rows cut.right) 0) (cell_in (rows s) f) cut.hash_price (λ t j. ((done.each s within).takes f front_in wanted).given t (inr (k, inside, inl (none, j)))) in
-              omega (arith, low, cost-is s f front_in wanted, cost-is cut.left 0 some refl, cost-is cut.right 0 some refl);
+              let low = join-low orders needs (cell_in (row_in rows cut.left) 0) (cell_in (row_in rows cut.right) 0) (cell_in (row_in rows s) f) cut.hash_price (λ t j. ((done.each s within).takes f front_in).given t (inr (k, inside, inl (none, early k inside 0 0 cut.hash_price t j)))) in
+              omega (arith, low, cost-is s f front_in, cost-is cut.left 0 some, cost-is cut.right 0 some);
         }
 
     merge-low : (k : ℕ) → k < length (cuts_of ways s) → MergesBound ways.heads.items (fit-row (cut_at (cuts_of ways s) k).left) (fit-row (cut_at (cuts_of ways s) k).right) (cut_at (cuts_of ways s) k).merge_price (merges_in ways (cut_at (cuts_of ways s) k)) f (cost_at (fit-row s) f)
@@ -233,12 +199,10 @@ module _ (ways : Ways) (orders : List (List Order)) (rows : ℕ → List (List T
           each = λ j j_in. record {
             each = λ g serves.
                 let m : Merge = merge_at (merges_in ways cut) j in
-                let low = join-low orders needs (cell_in (rows cut.left) g) (cell_in (rows cut.right) m.right_front) (cell_in (rows s) f) cut.merge_price (λ t w. ((done.each s within).takes f front_in wanted).given t (inr (k, inside, inr (j, j_in, (g, serves, w))))) in
+                let low = join-low orders needs (cell_in (row_in rows cut.left) g) (cell_in (row_in rows cut.right) m.right_front) (cell_in (row_in rows s) f) cut.merge_price (λ t w. ((done.each s within).takes f front_in).given t (inr (k, inside, inr (j, j_in, (g, serves, early k inside g m.right_front cut.merge_price t w))))) in
                 let means = means_at ways s k within inside j j_in in
-                let sides = sides-wanted ways s k within inside j j_in in
-                let left = front-wanted ways s k within inside f j g wanted j_in serves in
-                let left_in : g < width ways = elim (longer-either (head_at ways.heads.items m.left_need) (head_at ways.heads.items f) m.left_need f g serves) [ inl own ↦ omega (arith, own, front_in) | inr need ↦ omega (arith, need, means.left_in) ] in
-                omega (arith, low, cost-is s f front_in wanted, any-is cut.left g left_in left, any-is cut.right m.right_front means.right_in sides.1);
+                let left_in = longer_in (width ways) m.left_need f g (head_at ways.heads.items m.left_need) (head_at ways.heads.items f) means.left_in front_in serves in
+                omega (arith, low, cost-is s f front_in, any-is cut.left g left_in, any-is cut.right m.right_front means.right_in);
           };
         }
 
@@ -246,101 +210,42 @@ module _ (ways : Ways) (orders : List (List Order)) (rows : ℕ → List (List T
     sort-low columns =
         elim (cases_lt 0 f) [
           | inl some ↦
-              let low = raise-low orders needs (cell_in (rows s) 0) (cell_in (rows s) f) (sort_cost ways.task.now.rates (rows_in ways.task.now s)) (λ t w. ((done.each s within).takes f front_in wanted).given t (inl (inl (some, columns_all s (order_of ways f) columns, w)))) in
-              omega (arith, low, any-is s f front_in wanted, cost-is s 0 (omega (arith, some)) refl)
+              let low = raise-low orders needs (cell_in (row_in rows s) 0) (cell_in (row_in rows s) f) (sort_cost ways.task.now.rates (rows_in ways.task.now s)) (λ t w. ((done.each s within).takes f front_in).given t (inl (inl (some, columns_all s (order_of ways f) columns, w)))) in
+              omega (arith, low, any-is s f front_in, cost-is s 0 (omega (arith, some, front_in)))
           | inr none ↦
               let zeroth : f ≡ 0 = omega (arith, none) in
-              let same : any_at (fit-row s) f ≡ any_at (fit-row s) 0 = ap (any_at (fit-row s)) zeroth in
-              omega (arith, same, any-none s 0)
+              let same : cost_at (fit-row s) f ≡ cost_at (fit-row s) 0 = ap (cost_at (fit-row s)) zeroth in
+              omega (arith, same, any-is s f front_in, cost-is s f front_in)
         ]
-
-  -- a set that a slot or a cut makes is covered
-  on-slot : (s slot : ℕ) → s < sets_of ways → slot < ways.task.now.slots → 2 ^ slot ≡ s → is_covered ways.covered.items s ≡ true
-  on-slot s slot within slot_in is = ways.known.cut.slots s slot within slot_in is
-
-  on-cut : (s k : ℕ) → s < sets_of ways → k < length (cuts_of ways s) → is_covered ways.covered.items s ≡ true
-  on-cut s k within inside =
-      elim (cases_Bool (is_covered ways.covered.items s)) [
-        | inl on ↦ on
-        | inr off ↦ absurd (omega (arith, inside, no-cuts ways s within off))
-      ]
 
   capped : (s f : ℕ) → cost_at (fit-row s) f ≤ 1000000000000000000000000000000
   capped s f =
       elim (cases_lt f (width ways)) [
-        | inr past ↦
-            let none = get_or_past (fit-row s) f blank (omega (arith, past, row-of-length (λ k. record { cost = bound-at ways orders needs rows s k; any = bound-at ways orders needs rows s k }) (width ways))) in
-            let is : cost_at (fit-row s) f ≡ 1000000000000000000000000000000 = ap (λ (x : Cell). x.cost) none in
-            omega (arith, is)
-        | inl front_in ↦
-            let is = ap (λ (x : Cell). x.cost) (cell-is s f front_in) in
-            let most : bound-at ways orders needs rows s f ≤ 1000000000000000000000000000000 = most-of (is_wanted ways s f) (is_covered ways.covered.items s) (least_fit orders needs (cell_in (rows s) f)) (least_fit-most orders needs (cell_in (rows s) f)) in
-            omega (arith, is, most)
+        | inl front_in ↦ omega (arith, cost-is s f front_in, least_fit-most orders needs (cell_in (row_in rows s) f))
+        | inr past ↦ let is : cost_at (fit-row s) f ≡ 1000000000000000000000000000000 = ap (λ (x : Cell). x.cost) (cell-past s f past) in omega (arith, is)
       ]
-    where
-      most-of : (w c : Bool) (n : ℕ) → n ≤ 1000000000000000000000000000000 → cond w n (cond c 0 1000000000000000000000000000000) ≤ 1000000000000000000000000000000
-      most-of true c n most = most
-      most-of false true n most = omega arith
-      most-of false false n most = omega arith
 
   blanks : AreBlank ways fit-row
   blanks =
       record {
         each = λ s within off f.
             elim (cases_lt f (width ways)) [
-              | inr past ↦ get_or_past (fit-row s) f blank (omega (arith, past, row-of-length (λ k. record { cost = bound-at ways orders needs rows s k; any = bound-at ways orders needs rows s k }) (width ways)))
+              | inr past ↦ cell-past s f past
               | inl front_in ↦
-                  let empty : cell_in (rows s) f ≡ [] = ap (λ (r : List (List Template)). cell_in r f) ((done.each s within).blank off) ∙ get_or_past {X = List Template} [] f [] (omega arith) in
-                  let fit : least_fit orders needs (cell_in (rows s) f) ≡ 1000000000000000000000000000000 = ap (least_fit orders needs) empty in
-                  let is : bound-at ways orders needs rows s f ≡ 1000000000000000000000000000000 = either-way (is_wanted ways s f) (is_covered ways.covered.items s) (least_fit orders needs (cell_in (rows s) f)) off fit in
-                  cell-is s f front_in ∙ ap (λ n. record { cost = n; any = n }) is
+                  let empty : cell_in (row_in rows s) f ≡ [] = ap (λ (r : List (List Template)). cell_in r f) ((done.each s within).blank off) ∙ get_or_past {X = List Template} [] f [] (omega arith) in
+                  cell-is s f front_in ∙ ap (λ (x : List Template). record { cost = least_fit orders needs x; any = least_fit orders needs x }) empty
             ];
       }
-    where
-      either-way : (w c : Bool) (n : ℕ) → c ≡ false → n ≡ 1000000000000000000000000000000 → cond w n (cond c 0 1000000000000000000000000000000) ≡ 1000000000000000000000000000000
-      either-way true c n off fit = fit
-      either-way false true n off fit = absurd (false≢true (sym off))
-      either-way false false n off fit = refl
 
   row-low : (s : ℕ) → s < sets_of ways → IsLowRow ways (free needs) fit-row s (fit-row s)
   row-low s within =
       record {
         capped = λ f. capped s f;
-        reads = λ f front_in. record {
-          each = λ slot offer slot_in offer_in is begins.
-              elim (cases_Bool (is_wanted ways s f)) [
-                | inl wanted ↦ read-low s within f front_in wanted slot offer slot_in offer_in is begins
-                | inr off ↦ let none = cost-none s f front_in off (on-slot s slot within slot_in is) in omega (arith, none)
-              ];
-        };
-        joins = λ k inside f front_in.
-            elim (cases_Bool (is_wanted ways s f)) [
-              | inl wanted ↦ record { hash = hash-low s within f front_in wanted k inside; merges = merge-low s within f front_in wanted k inside }
-              | inr off ↦
-                  let none = cost-none s f front_in off (on-cut s k within inside) in
-                  record {
-                    hash = record { bound = λ _. omega (arith, none) };
-                    merges = record { each = λ j j_in. record { each = λ g serves. omega (arith, none) } };
-                  }
-            ];
-        without = λ f front_in. let same = any-none s f in omega (arith, same);
-        with_sort = λ f front_in columns.
-            elim (cases_Bool (is_wanted ways s f)) [
-              | inl wanted ↦ sort-low s within f front_in wanted columns
-              | inr off ↦ unwanted-sort s within f front_in off
-            ];
+        reads = λ f front_in. record { each = read-low s within f front_in };
+        joins = λ k inside f front_in. record { hash = hash-low s within f front_in k inside; merges = merge-low s within f front_in k inside };
+        without = λ f front_in. omega (arith, any-is s f front_in, cost-is s f front_in);
+        with_sort = λ f front_in columns. sort-low s within f front_in columns;
       }
-    where
-      -- a set that is covered has 0 there, another costs what no plan does for all fronts
-      unwanted-sort : (s : ℕ) → s < sets_of ways → (f : ℕ) → f < width ways → is_wanted ways s f ≡ false → any_at (fit-row s) f ≤ cost_at (fit-row s) 0 + sort_cost ways.task.now.rates (rows_in ways.task.now s)
-      unwanted-sort s within f front_in off =
-          elim (cases_Bool (is_covered ways.covered.items s)) [
-            | inl on ↦ let none = cost-none s f front_in off on in let same = any-none s f in omega (arith, none, same)
-            | inr uncovered ↦
-                let first = ap (λ (x : Cell). x.cost) (blanks.each s within uncovered 0) in
-                let here = ap (λ (x : Cell). x.any) (blanks.each s within uncovered f) in
-                omega (arith, first, here)
-          ]
 
   -- what fits a combination costs at most what any plan above its leaves does
   pub fit-low : (s : ℕ) → s < sets_of ways → IsLow ways.task.now (free needs) (listed ways.task.now) ways.fronts.items s (fit-row s)

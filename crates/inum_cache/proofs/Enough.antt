@@ -1,5 +1,5 @@
 -- The templates of one pass are enough for the task.
-use Rattle.std.proofs.Common.{Global, ◌≡◌, ◌≢◌, inl, inr, ℕ, ◌+◌, ◌*◌, ◌^◌, ◌<◌, ◌≤◌, Bool, true, false, cond, not, IsTrue, List, [], ◌∷◌, length, All, Option, Some, None, refl, sym, ap, ◌∙◌, subst, arith}
+use Rattle.std.proofs.Common.{Global, ◌≡◌, ◌≢◌, inl, inr, ℕ, ◌+◌, ◌*◌, ◌^◌, ◌<◌, ◌≤◌, Bool, true, false, cond, not, IsTrue, List, [], length, All, Option, Some, None, refl, sym, ap, ◌∙◌, subst, arith}
 use Rattle.std.proofs.Math.Nat.{one-le-pow}
 use Rattle.std.proofs.Math.Pow.{pow_mono}
 use Rattle.std.proofs.lemmas.Bool.{cases_Bool, cases_lt, false≢true, not-true}
@@ -8,10 +8,10 @@ use Rattle.std.proofs.lemmas.Option.{slice_get-get_or, slice_get_within, get_or_
 use Rattle.adv_base.specs.Items.{Order, BeginsWith, is_same_order}
 use Rattle.adv_base.specs.OfferTables.{OfferLimits}
 use Rattle.adv_base.specs.Sets.{all_slots, has_slot}
-use Rattle.adv_base.proofs.Begins.{begins_decides, begins_nil, begins_self, begins_trans}
+use Rattle.adv_base.proofs.Begins.{begins_nil, begins_self, begins_trans}
 use Rattle.std.specs.List.{list_any}
 use Rattle.plan_model.specs.declared.plan.GroupStep.{GroupStep}
-use Rattle.plan_model.specs.declared.plan.GroupStep.TheVariants.{Nothing, Sorted, Hashed}
+use Rattle.plan_model.specs.declared.plan.GroupStep.TheVariants.{Nothing, Sorted}
 use Rattle.plan_model.specs.declared.plan.Plan.{Plan}
 use Rattle.plan_model.specs.declared.plan.Plan.TheVariants.{Leaf, Sort', Merge', Hash'}
 use Rattle.plan_model.specs.declared.plan.Whole.{Whole}
@@ -39,14 +39,13 @@ use Rattle.planner.proofs.Exists.{joined, rows_most}
 use Rattle.planner.proofs.Finding.{full_in}
 use Rattle.planner.proofs.Fronting.{all_asked, nothing_asked}
 use Rattle.planner.proofs.Lower.{IsLow}
-use Rattle.planner.proofs.Reading.{begins_from_test, test_from_begins}
-use Rattle.planner.proofs.Wholes.{none_bound, some_bound}
+use Rattle.planner.proofs.Reading.{begins_from_test}
+use Rattle.planner.proofs.Wholes.{nil_false, nil_true, none_bound, some_bound}
 use Rattle.inum_cache.specs.Numbering.{order_in, AreOrders}
 use Rattle.inum_cache.specs.Templates.{FitsOrders}
-use Rattle.inum_cache.specs.inner.Keeping.{begins}
 use Rattle.inum_cache.specs.inner.Cells.{asks, place_at, template_at, no_template, IsRaised, IsReplaced, RaiseGives, Takes, least_fit}
-use Rattle.inum_cache.specs.inner.Passes.{cell_in, every, AreRowsOf, IsFor}
-use Rattle.inum_cache.specs.inner.Tops.{has_list, ordered_cost, unordered_cost, TopGives}
+use Rattle.inum_cache.specs.inner.Passes.{cell_in, row_in, every, AreRowsOf, IsFor}
+use Rattle.inum_cache.specs.inner.Tops.{has_list, ordered_cost, plain_step, unordered_cost, TopGives}
 use Rattle.inum_cache.proofs.Bounding.{any-is, cost-is, fit-low, fit-row, IsPlacedAt}
 use Rattle.inum_cache.proofs.Fitting.{least_fit-found}
 use Rattle.inum_cache.proofs.Kept.{order-same, size-same}
@@ -62,40 +61,29 @@ pub record WholeFor (task : Task) (orders : List (List Order)) (t : Template) : 
   pub reads : (slot : ℕ) → slot < task.slots → choice whole.body slot ≡ place_at t slot
   pub past : (slot : ℕ) → task.slots ≤ slot → place_at t slot ≡ 0
 
-nil-true : (o : Order) → is_nil o ≡ true → o ≡ []
-nil-true [] e = refl
-nil-true (x ∷ xs) e = absurd (false≢true e)
-
-nil-false : (o : Order) → is_nil o ≡ false → o ≢ []
-nil-false [] e h = absurd (false≢true (sym e))
-nil-false (x ∷ xs) e h = cc
-
 pub end-sorts : (order : Order) (b : Bool) → is_nil order ≡ b → IsTrue (not b) → order ≢ []
 end-sorts order true e h = absurd (false≢true h)
-end-sorts order false e h = nil-false order e
+end-sorts order false e h = nil_false order e
 
 pub end-ordered : (order o : Order) (b : Bool) → is_nil order ≡ b → BeginsWith (cond (not b) order o) order
-end-ordered order o true e = subst (BeginsWith o) (sym (nil-true order e)) (begins_nil o)
+end-ordered order o true e = subst (BeginsWith o) (sym (nil_true order e)) (begins_nil o)
 end-ordered order o false e = begins_self order
 
-group-sorts : (group order : Order) (b : Bool) → begins group order ≡ b → IsTrue (not b) → order ≢ []
+pub plain-sorts : (g : Option Order) → body_sorts (plain_step g) ≡ false
+plain-sorts None = refl
+plain-sorts (Some group) = refl
+
+pub plain-fits : (g : Option Order) (o : Order) → FitsGroup g (plain_step g) o
+plain-fits None o = tt
+plain-fits (Some group) o = tt
+
+group-sorts : (group order : Order) (b : Bool) → begins_test group order ≡ b → IsTrue (not b) → order ≢ []
 group-sorts group order true e h = absurd (false≢true h)
-group-sorts group order false e h = λ none. absurd (false≢true (sym e ∙ ap (begins group) none))
+group-sorts group order false e h = λ none. absurd (false≢true (sym e ∙ ap (begins_test group) none))
 
-group-ordered : (group order : Order) (b : Bool) → begins group order ≡ b → BeginsWith (cond (not b) order group) order
-group-ordered group order true e = (begins_decides group order).0 e
+group-ordered : (group order : Order) (b : Bool) → begins_test group order ≡ b → BeginsWith (cond (not b) order group) order
+group-ordered group order true e = begins_from_test group order e
 group-ordered group order false e = begins_self order
-
-begins-same : (group order : Order) → begins_test group order ≡ begins group order
-begins-same group order =
-    elim (cases_Bool (begins group order)) [
-      | inl so ↦ test_from_begins group order ((begins_decides group order).0 so) ∙ sym so
-      | inr not_so ↦
-          elim (cases_Bool (begins_test group order)) [
-            | inl tested ↦ absurd (false≢true (sym not_so ∙ (begins_decides group order).1 (begins_from_test group order tested)))
-            | inr other ↦ other ∙ sym not_so
-          ]
-    ]
 
 -- a slot past the last is in no set
 all-lacks : (n slot : ℕ) → n ≤ slot → has_slot (all_slots n) slot ≡ false
@@ -123,29 +111,14 @@ module _ (task : Task) (orders : List (List Order)) (t : Template) where
       }
 
 module _ (ways : Ways) (orders : List (List Order)) (x t : Template) where
-  unordered-whole : (g : Option Order) → ways.task.now.group ≡ g → IsFor ways orders (all_slots ways.task.now.slots) 0 x → IsRaised x (unordered_cost g ways.task.now (rows_in ways.task.now (all_slots ways.task.now.slots))) t → WholeFor ways.task.now orders t
-  unordered-whole None e h is =
+  unordered-whole : IsFor ways orders (all_slots ways.task.now.slots) 0 x → IsRaised x (unordered_cost ways.task.now.group ways.task.now (rows_in ways.task.now (all_slots ways.task.now.slots))) t → WholeFor ways.task.now orders t
+  unordered-whole h is =
       let task : Task = ways.task.now in
-      let all : ℕ = all_slots task.slots in
-      let fs = not (is_nil task.order) in
-      let final : cond fs (sort_cost task.rates (final_rows task task.group (rows_in task all))) 0 ≡ final_cost task (rows_in task all) fs = ap (λ g. cond fs (sort_cost task.rates (final_rows task g (rows_in task all))) 0) e in
-      make-whole task orders t h.plan Nothing fs (h.plain refl) h.is.covers_set
-      (subst (λ g. FitsGroup g Nothing (delivers (every orders) h.plan)) (sym e) tt)
+      make-whole task orders t h.plan (plain_step task.group) (not (is_nil task.order)) (subst (λ b. IsValid b task (every orders) h.plan) (sym (plain-sorts task.group)) (h.plain refl)) h.is.covers_set
+      (plain-fits task.group (delivers (every orders) h.plan))
       (end-sorts task.order (is_nil task.order) refl)
-      (subst (λ g. BeginsWith (cond fs task.order (group_order g Nothing (delivers (every orders) h.plan))) task.order) (sym e) (end-ordered task.order (delivers (every orders) h.plan) (is_nil task.order) refl))
-      (omega (arith, h.is.costs, is.costs, final))
-      (λ slot below. h.reads slot (has-all task.slots slot below) ∙ sym (is.needs slot))
-      (λ slot past. is.needs slot ∙ h.others slot (all-lacks task.slots slot past))
-  unordered-whole (Some group) e h is =
-      let task : Task = ways.task.now in
-      let all : ℕ = all_slots task.slots in
-      let fs = not (is_nil task.order) in
-      let final : cond fs (sort_cost task.rates (final_rows task task.group (rows_in task all))) 0 ≡ final_cost task task.group_rows fs = ap (λ g. cond fs (sort_cost task.rates (final_rows task g (rows_in task all))) 0) e in
-      make-whole task orders t h.plan Hashed fs (h.plain refl) h.is.covers_set
-      (subst (λ g. FitsGroup g Hashed (delivers (every orders) h.plan)) (sym e) tt)
-      (end-sorts task.order (is_nil task.order) refl)
-      (subst (λ g. BeginsWith (cond fs task.order (group_order g Hashed (delivers (every orders) h.plan))) task.order) (sym e) (end-ordered task.order [] (is_nil task.order) refl))
-      (omega (arith, h.is.costs, is.costs, final))
+      (end-ordered task.order (group_order task.group (plain_step task.group) (delivers (every orders) h.plan)) (is_nil task.order) refl)
+      (omega (arith, h.is.costs, is.costs))
       (λ slot below. h.reads slot (has-all task.slots slot below) ∙ sym (is.needs slot))
       (λ slot past. is.needs slot ∙ h.others slot (all-lacks task.slots slot past))
 
@@ -169,7 +142,7 @@ module _ (ways : Ways) (orders : List (List Order)) (x t : Template) where
       let final : sort_cost task.rates (final_rows task task.group (rows_in task all)) ≡ sort_cost task.rates (rows_in task all) = ap (λ g. sort_cost task.rates (final_rows task g (rows_in task all))) e in
       make-whole task orders t input Nothing true is.valid.1 is.covers_set
       (subst (λ g. FitsGroup g Nothing (delivers (every orders) input)) (sym e) tt)
-      (λ _. nil-false task.order some)
+      (λ _. nil_false task.order some)
       (begins_self task.order)
       (omega (arith, is.costs, raised.costs, rows, final))
       reads past
@@ -185,20 +158,20 @@ module _ (ways : Ways) (orders : List (List Order)) (x t : Template) where
   ordered-whole (Some group) e has h is =
       let task : Task = ways.task.now in
       let all : ℕ = all_slots task.slots in
-      let fs = not (begins group task.order) in
+      let fs = not (begins_test group task.order) in
       let list_is : order_of ways 1 ≡ group = all_asked ways ∙ ap (λ (g : Option Order). wanted_list g task.order) e in
       let final : cond fs (sort_cost task.rates (final_rows task task.group (rows_in task all))) 0 ≡ final_cost task task.group_rows fs = ap (λ g. cond fs (sort_cost task.rates (final_rows task g (rows_in task all))) 0) e in
       make-whole task orders t h.plan Sorted fs h.is.valid h.is.covers_set
       (subst (λ g. FitsGroup g Sorted (delivers (every orders) h.plan)) (sym e) (subst (BeginsWith (delivers (every orders) h.plan)) list_is h.is.begins))
-      (group-sorts group task.order (begins group task.order) refl)
-      (subst (λ g. BeginsWith (cond fs task.order (group_order g Sorted (delivers (every orders) h.plan))) task.order) (sym e) (group-ordered group task.order (begins group task.order) refl))
+      (group-sorts group task.order (begins_test group task.order) refl)
+      (subst (λ g. BeginsWith (cond fs task.order (group_order g Sorted (delivers (every orders) h.plan))) task.order) (sym e) (group-ordered group task.order (begins_test group task.order) refl))
       (omega (arith, h.is.costs, is.costs, final))
       (λ slot below. h.reads slot (has-all task.slots slot below) ∙ sym (is.needs slot))
       (λ slot past. is.needs slot ∙ h.others slot (all-lacks task.slots slot past))
 
 -- ## The two facts
 
-module _ (alloc : Global) (ways : Ways) (orders : List (List Order)) (are : AreOrders ways.task.now orders) (own : (slot place : ℕ) → OfferLimits slot (order_in orders slot place, 0)) (first : (slot : ℕ) → slot < length orders → order_in orders slot 0 ≡ []) (rows : ℕ → List (List Template)) (done : AreRowsOf ways orders rows (sets_of ways)) (templates : List Template) (takes : Takes orders (TopGives ways.task.now (rows (all_slots ways.task.now.slots)) (rows_in ways.task.now (all_slots ways.task.now.slots))) [] templates) where
+module _ (alloc : Global) (ways : Ways) (orders : List (List Order)) (are : AreOrders ways.task.now orders) (own : (slot place : ℕ) → OfferLimits slot (order_in orders slot place, 0)) (first : (slot : ℕ) → slot < length orders → order_in orders slot 0 ≡ []) (rows : List (List (List Template))) (done : AreRowsOf ways orders rows (sets_of ways)) (templates : List Template) (takes : Takes orders (TopGives ways.task.now (row_in rows (all_slots ways.task.now.slots)) (rows_in ways.task.now (all_slots ways.task.now.slots))) [] templates) where
   -- each template that is kept is of a whole plan
   whole-for : (k : ℕ) → k < length templates → WholeFor ways.task.now orders (template_at templates k)
   whole-for k within =
@@ -208,8 +181,8 @@ module _ (alloc : Global) (ways : Ways) (orders : List (List Order)) (are : AreO
         | inl old ↦ absurd (omega (arith, old.1))
         | inr given ↦
             elim given [
-              | inl w ↦ unordered-whole ways orders (template_at (cell_in (rows full) 0) w.0) (template_at templates k) ways.task.now.group refl (of-row.plans 0 w.0 no_template w.1) w.2
-              | inr w ↦ ordered-whole ways orders (template_at (cell_in (rows full) 1) w.1.0) (template_at templates k) ways.task.now.group refl w.0 (of-row.plans 1 w.1.0 no_template w.1.1) w.1.2
+              | inl w ↦ unordered-whole ways orders (template_at (cell_in (row_in rows full) 0) w.0) (template_at templates k) (of-row.plans 0 w.0 no_template w.1) w.2
+              | inr w ↦ ordered-whole ways orders (template_at (cell_in (row_in rows full) 1) w.1.0) (template_at templates k) ways.task.now.group refl w.0 (of-row.plans 1 w.1.0 no_template w.1.1) w.1.2
             ]
       ]
 
@@ -292,11 +265,11 @@ module _ (alloc : Global) (ways : Ways) (orders : List (List Order)) (are : AreO
     few : rows_in ways.task.now (all_slots ways.task.now.slots) ≤ 1000000000000
     few = rows_most ways.task.now.rows (all_slots ways.task.now.slots) ways.task.now.limits.rows_limits
 
-    from-ordered : has_list ways.task.now.group ways.task.now.order ≡ true → least_fit orders needs (cell_in (rows (all_slots ways.task.now.slots)) 1) + ordered_cost ways.task.now.group ways.task.now (rows_in ways.task.now (all_slots ways.task.now.slots)) ≤ whole_cost ways.task.now (free needs) whole → Covers (IsIn ways.task.now templates) needs (whole_cost ways.task.now (free needs) whole)
-    from-ordered has = covers-by (cell_in (rows (all_slots ways.task.now.slots)) 1) (ordered_cost ways.task.now.group ways.task.now (rows_in ways.task.now (all_slots ways.task.now.slots))) (λ t w. takes.given t (inr (has, w)))
+    from-ordered : has_list ways.task.now.group ways.task.now.order ≡ true → least_fit orders needs (cell_in (row_in rows (all_slots ways.task.now.slots)) 1) + ordered_cost ways.task.now.group ways.task.now (rows_in ways.task.now (all_slots ways.task.now.slots)) ≤ whole_cost ways.task.now (free needs) whole → Covers (IsIn ways.task.now templates) needs (whole_cost ways.task.now (free needs) whole)
+    from-ordered has = covers-by (cell_in (row_in rows (all_slots ways.task.now.slots)) 1) (ordered_cost ways.task.now.group ways.task.now (rows_in ways.task.now (all_slots ways.task.now.slots))) (λ t w. takes.given t (inr (has, w)))
 
-    from-unordered : least_fit orders needs (cell_in (rows (all_slots ways.task.now.slots)) 0) + unordered_cost ways.task.now.group ways.task.now (rows_in ways.task.now (all_slots ways.task.now.slots)) ≤ whole_cost ways.task.now (free needs) whole → Covers (IsIn ways.task.now templates) needs (whole_cost ways.task.now (free needs) whole)
-    from-unordered = covers-by (cell_in (rows (all_slots ways.task.now.slots)) 0) (unordered_cost ways.task.now.group ways.task.now (rows_in ways.task.now (all_slots ways.task.now.slots))) (λ t w. takes.given t (inl w))
+    from-unordered : least_fit orders needs (cell_in (row_in rows (all_slots ways.task.now.slots)) 0) + unordered_cost ways.task.now.group ways.task.now (rows_in ways.task.now (all_slots ways.task.now.slots)) ≤ whole_cost ways.task.now (free needs) whole → Covers (IsIn ways.task.now templates) needs (whole_cost ways.task.now (free needs) whole)
+    from-unordered = covers-by (cell_in (row_in rows (all_slots ways.task.now.slots)) 0) (unordered_cost ways.task.now.group ways.task.now (rows_in ways.task.now (all_slots ways.task.now.slots))) (λ t w. takes.given t (inl w))
 
     covered : (g : Option Order) → ways.task.now.group ≡ g → Covers (IsIn ways.task.now templates) needs (whole_cost ways.task.now (free needs) whole)
     covered None e =
@@ -305,20 +278,21 @@ module _ (alloc : Global) (ways : Ways) (orders : List (List Order)) (are : AreO
         let all : ℕ = rows_in task full in
         let row = fit-row ways orders rows first done needs placed full in
         let some = ways.known.needs.some in
-        let c0 = cost-is ways orders rows first done needs placed full 0 (omega (arith, some)) refl in
-        let c1 = cost-is ways orders rows first done needs placed full 1 (omega (arith, some)) refl in
+        let c0 = cost-is ways orders rows first done needs placed full 0 (omega (arith, some)) in
+        let c1 = cost-is ways orders rows first done needs placed full 1 (omega (arith, some)) in
         let bound = none_bound task (free needs) ways.fronts.items row ways.known.needs.some (nothing_asked ways) (all_asked ways) low cheap few e (ap (λ (g : Option Order). wanted_list g task.order) e) whole v in
         let at-zero = bound.0 in
         let above : ordered_cost task.group task all ≡ 0 = ap (λ (g : Option Order). ordered_cost g task all) e in
+        let price : unordered_cost task.group task all ≡ 0 + final_cost task all (not (is_nil task.order)) = ap (λ (g : Option Order). unordered_cost g task all) e in
         elim (cases_Bool (is_nil task.order)) [
           | inl nil ↦
-              let price : unordered_cost task.group task all ≡ 0 = ap (λ (g : Option Order). unordered_cost g task all) e ∙ ap (λ b. final_cost task all (not b)) nil in
-              from-unordered (omega (arith, at-zero, c0, price))
+              let final : final_cost task all (not (is_nil task.order)) ≡ 0 = ap (λ b. final_cost task all (not b)) nil in
+              from-unordered (omega (arith, at-zero, c0, price, final))
           | inr some ↦
-              let price : unordered_cost task.group task all ≡ sort_cost task.rates all = ap (λ (g : Option Order). unordered_cost g task all) e ∙ ap (λ b. final_cost task all (not b)) some in
+              let final : final_cost task all (not (is_nil task.order)) ≡ sort_cost task.rates all = ap (λ b. final_cost task all (not b)) some in
               elim bound.1 [
                 | inl in-order ↦ from-ordered (ap (λ (g : Option Order). has_list g task.order) e ∙ ap not some) (omega (arith, in-order, c1, above))
-                | inr sorted ↦ from-unordered (omega (arith, sorted, c0, price))
+                | inr sorted ↦ from-unordered (omega (arith, sorted, c0, price, final))
               ]
         ]
     covered (Some group) e =
@@ -327,10 +301,10 @@ module _ (alloc : Global) (ways : Ways) (orders : List (List Order)) (are : AreO
         let all : ℕ = rows_in task full in
         let row = fit-row ways orders rows first done needs placed full in
         let some = ways.known.needs.some in
-        let c0 = cost-is ways orders rows first done needs placed full 0 (omega (arith, some)) refl in
-        let a1 = any-is ways orders rows first done needs placed full 1 (omega (arith, some)) refl in
+        let c0 = cost-is ways orders rows first done needs placed full 0 (omega (arith, some)) in
+        let a1 = any-is ways orders rows first done needs placed full 1 (omega (arith, some)) in
         let bound = some_bound task (free needs) ways.fronts.items row ways.known.needs.some (nothing_asked ways) (all_asked ways) low cheap few group e (ap (λ (g : Option Order). wanted_list g task.order) e) whole v in
-        let above : ordered_cost task.group task all ≡ task.rates.group_cpu * all + final_cost task task.group_rows (not (begins_test group task.order)) = ap (λ (g : Option Order). ordered_cost g task all) e ∙ ap (λ b. task.rates.group_cpu * all + final_cost task task.group_rows (not b)) (sym (begins-same group task.order)) in
+        let above : ordered_cost task.group task all ≡ task.rates.group_cpu * all + final_cost task task.group_rows (not (begins_test group task.order)) = ap (λ (g : Option Order). ordered_cost g task all) e in
         let hashing : unordered_cost task.group task all ≡ 2 * (task.rates.hash_cpu * all) + final_cost task task.group_rows (not (is_nil task.order)) = ap (λ (g : Option Order). unordered_cost g task all) e in
         elim bound [
           | inl sorted ↦ from-ordered (ap (λ (g : Option Order). has_list g task.order) e) (omega (arith, sorted, a1, above))

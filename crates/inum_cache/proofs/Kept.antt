@@ -55,9 +55,6 @@ differ a b (suc n) =
           ]
     ]
 
-same-needs : (needs others : Orders) → ((slot : ℕ) → needs slot ≡ others slot) → needs ≡ others
-same-needs needs others same = λ i slot. same slot i
-
 -- ## Templates of which none replaces another
 
 -- where one of the templates stands
@@ -155,7 +152,8 @@ module _ (task : Task) (orders : List (List Order)) (are : AreOrders task orders
               | inl less ↦ below slot less
               | inr past ↦ past-none task slot (needs slot) past (comb slot) ∙ sym (past-none task slot (c.other slot) past (others slot))
             ] in
-            let above = subst (λ (f : Orders). IsCostOfPlan task (free f) c.internal) (sym (same-needs needs c.other same)) (enough.plan c.other c.internal c.template) in
+            let alike : needs ≡ c.other = λ i slot. same slot i in
+            let above = subst (λ (f : Orders). IsCostOfPlan task (free f) c.internal) (sym alike) (enough.plan c.other c.internal c.template) in
             let cost : internal ≡ c.internal = omega (arith, low, kept.each.least.none_less above.whole above.valid, above.costs) in
             record {
               number = c.template.number;

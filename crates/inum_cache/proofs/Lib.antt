@@ -1,4 +1,3 @@
-pub mod Testing
 pub mod Kept
 pub mod Pricing
 pub mod Taking
@@ -6,7 +5,6 @@ pub mod Fitting
 pub mod Thinning
 pub mod Passing
 pub mod Rowing
-pub mod Wanted
 pub mod Bounding
 pub mod Enough
 pub mod Made

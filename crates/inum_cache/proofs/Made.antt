@@ -1,18 +1,15 @@
 -- What a cache is made of.
-use Rattle.std.proofs.Common.{Global, ◌≡◌, inl, inr, ℕ, suc, ◌<◌, ◌≤◌, cond, not, List, [], length, get_or, Option, Some, None, refl, sym, ap, ◌∙◌, subst, arith}
-use Rattle.std.specs.Prelude.{AllPairs}
+use Rattle.std.proofs.Common.{Global, ◌≡◌, inl, inr, ℕ, suc, ◌<◌, ◌≤◌, not, List, [], length, get_or, refl, sym, ap, ◌∙◌, subst, arith}
 use Rattle.std.proofs.lemmas.Bool.{cases_lt}
 use Rattle.std.proofs.lemmas.List.{get_or_past, nil_from_length}
-use Rattle.std.proofs.lemmas.Option.{slice_get_within, get_or_from_slice_get}
-use Rattle.adv_base.specs.Items.{Order, BeginsWith}
+use Rattle.adv_base.specs.Items.{Order}
 use Rattle.adv_base.specs.Offers.{OfferTable}
 use Rattle.adv_base.specs.OfferTables.{HasOffers, OfferLimits, OfferTableLimits}
 use Rattle.adv_base.proofs.Begins.{begins_length}
-use Rattle.plan_model.specs.declared.plan.GroupStep.TheVariants.{Nothing, Hashed}
 use Rattle.plan_model.specs.declared.plan.Whole.{Whole}
 use Rattle.plan_model.specs.declared.task.Task.{Task}
 use Rattle.plan_model.specs.declared.template.Template.{Template}
-use Rattle.plan_model.specs.Plans.{IsWhole, FitsGroup, delivers, group_order}
+use Rattle.plan_model.specs.Plans.{IsValid, IsWhole, delivers, group_order}
 use Rattle.plan_model.specs.Orders.{interesting_orders}
 use Rattle.plan_model.specs.Combinations.{IsCombination, free, AreEnough, IsIn}
 use Rattle.plan_model.proofs.OrderLaws.{IsOfSlot, interesting_orders-of-slot}
@@ -21,24 +18,17 @@ use Rattle.plan_model.proofs.Listing.{numbers-combination}
 use Rattle.planner.specs.inner.Shapes.{is_nil}
 use Rattle.planner.proofs.Exists.{joined}
 use Rattle.interesting_orders.proofs.OrderLemmas.{interesting_orders-first, interesting_orders-few}
-use Rattle.inum_cache.specs.Numbering.{size_in, order_in, AreOrders, SizeLimits}
-use Rattle.inum_cache.specs.Templates.{AreInOrder, StandsBefore}
+use Rattle.inum_cache.specs.Numbering.{size_in, order_in, AreOrders}
 use Rattle.inum_cache.specs.Caches.{no_orders}
-use Rattle.inum_cache.specs.inner.Cells.{no_template}
-use Rattle.inum_cache.proofs.Enough.{end-ordered, end-sorts}
-use Rattle.inum_cache.proofs.Kept.{order-same}
+use Rattle.inum_cache.specs.inner.Tops.{plain_step}
+use Rattle.inum_cache.proofs.Enough.{end-ordered, end-sorts, plain-fits, plain-sorts}
+use Rattle.inum_cache.proofs.Kept.{order-same, size-same}
 
 -- ## What combinations choose from
 
-pub choices-few : (task : Task) (orders : List (List Order)) → AreOrders task orders → length orders ≤ 8
-choices-few task orders are = omega (arith, are.count, task.limits.slots_most)
-
-pub choices-sizes : (task : Task) (orders : List (List Order)) → AreOrders task orders → (slot : ℕ) → slot < length orders → SizeLimits (size_in orders slot)
+pub choices-sizes : (task : Task) (orders : List (List Order)) → AreOrders task orders → (slot : ℕ) → slot < length orders → size_in orders slot ≤ 203
 choices-sizes task orders are slot below =
-    let same : size_in orders slot ≡ length (interesting_orders task slot) = ap length (are.each slot (omega (arith, below, are.count))) in
-    let first = interesting_orders-first task slot in
-    let some : length (interesting_orders task slot) ≡ suc (length first.0) = ap length first.1 in
-    record { some = omega (arith, same, some); most = omega (arith, same, interesting_orders-few task slot) }
+    omega (arith, size-same task orders are slot (omega (arith, below, are.count)), interesting_orders-few task slot)
 
 pub choices-first : (task : Task) (orders : List (List Order)) → AreOrders task orders → (slot : ℕ) → slot < length orders → order_in orders slot 0 ≡ []
 choices-first task orders are slot below =
@@ -59,40 +49,19 @@ choices-own task orders are slot place =
       | inr past ↦ subst (IsOfSlot slot) (sym (get_or_past (interesting_orders task slot) place [] past)) (none-of task slot)
     ])
 
--- ## The templates
-
-pub in-order : (templates : List Template) → AllPairs StandsBefore templates → AreInOrder templates
-in-order templates h i j first second less f s =
-    let a = get_or_from_slice_get templates i first no_template f in
-    let b = get_or_from_slice_get templates j second no_template s in
-    subst (λ t. StandsBefore t second) a (subst (StandsBefore (get_or templates i no_template)) b (h i j no_template less (slice_get_within templates j second s)))
-
 -- ## The combination of no orders
 
 -- some whole plan is valid
-some-whole : (alloc : Global) (task : Task) (table : OfferTable) → OfferTableLimits table → HasOffers task.slots table → (g : Option Order) → task.group ≡ g → (whole : Whole) × IsWhole task table whole
-some-whole alloc task table limits has None e =
-    let j = joined alloc task table limits has in
-    let fs = not (is_nil task.order) in (
-      record { body = j.plan; group = Nothing; final_sort = fs },
+some-whole : (alloc : Global) (task : Task) (table : OfferTable) → OfferTableLimits table → HasOffers task.slots table → (whole : Whole) × IsWhole task table whole
+some-whole alloc task table limits has =
+    let j = joined alloc task table limits has in (
+      record { body = j.plan; group = plain_step task.group; final_sort = not (is_nil task.order) },
       record {
-        body_valid = j.valid;
+        body_valid = subst (λ b. IsValid b task table j.plan) (sym (plain-sorts task.group)) j.valid;
         covers_all = j.covers_all;
-        group_fits = subst (λ g. FitsGroup g Nothing (delivers table j.plan)) (sym e) tt;
+        group_fits = plain-fits task.group (delivers table j.plan);
         sorts_by_something = end-sorts task.order (is_nil task.order) refl;
-        ordered = subst (λ g. BeginsWith (cond fs task.order (group_order g Nothing (delivers table j.plan))) task.order) (sym e) (end-ordered task.order (delivers table j.plan) (is_nil task.order) refl);
-      },
-    )
-some-whole alloc task table limits has (Some group) e =
-    let j = joined alloc task table limits has in
-    let fs = not (is_nil task.order) in (
-      record { body = j.plan; group = Hashed; final_sort = fs },
-      record {
-        body_valid = j.valid;
-        covers_all = j.covers_all;
-        group_fits = subst (λ g. FitsGroup g Hashed (delivers table j.plan)) (sym e) tt;
-        sorts_by_something = end-sorts task.order (is_nil task.order) refl;
-        ordered = subst (λ g. BeginsWith (cond fs task.order (group_order g Hashed (delivers table j.plan))) task.order) (sym e) (end-ordered task.order [] (is_nil task.order) refl);
+        ordered = end-ordered task.order (group_order task.group (plain_step task.group) (delivers table j.plan)) (is_nil task.order) refl;
       },
     )
 
@@ -107,7 +76,7 @@ none-combination task slot =
 pub plain-is-in : (alloc : Global) (task : Task) (templates : List Template) → AreEnough task (IsIn task templates) → (internal : ℕ) × IsIn task templates no_orders internal
 plain-is-in alloc task templates enough =
     let comb = none-combination task in
-    let some = some-whole alloc task (free no_orders) (free-limits task no_orders comb) (λ slot below. omega arith) task.group refl in
+    let some = some-whole alloc task (free no_orders) (free-limits task no_orders comb) (λ slot below. omega arith) in
     let c = enough.covers no_orders some.0 comb some.1 in (
       c.internal,
       record {

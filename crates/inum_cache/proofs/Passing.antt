@@ -35,7 +35,7 @@ use Rattle.planner.proofs.Tabling.{all_columns}
 use Rattle.planner.proofs.Upper.{facts, hashed_is, merged_is}
 use Rattle.inum_cache.specs.Numbering.{size_in, order_in}
 use Rattle.inum_cache.specs.inner.Cells.{place_at, template_at, no_template, joined_place, IsJoined, IsSmall, Takes}
-use Rattle.inum_cache.specs.inner.Passes.{cell_in, row_in, every, IsFor, IsGiven, AreRowsOf, ReadGives, CutsGive, HashGives, MergeGives, SortGives}
+use Rattle.inum_cache.specs.inner.Passes.{cell_in, row_in, every, IsFor, IsGiven, AreRowsOf, ReadGives, HashGives, MergeGives, SortGives}
 
 -- ## Each slot offers each of its orders for nothing
 
@@ -117,7 +117,7 @@ module _ (left right both : Template) (l r : Plan) (a b set price : ℕ) (sum : 
 
 -- ## What is given is of plans
 
-module _ (alloc : Global) (ways : Ways) (orders : List (List Order)) (rows : ℕ → List (List Template)) (set : ℕ) (within : set < sets_of ways) (done : AreRowsOf ways orders rows set) (f : ℕ) (front_in : f < width ways) where
+module _ (alloc : Global) (ways : Ways) (orders : List (List Order)) (rows : ℕ → List (List Template)) (set : ℕ) (within : set < sets_of ways) (done : (s : ℕ) → s < set → (f : ℕ) → All (IsFor ways orders s f) (cell_in (rows s) f)) (f : ℕ) (front_in : f < width ways) where
   given-read : (t : Template) → ReadGives ways orders set f t → IsFor ways orders set f t
   given-read t w =
       let slot = w.0 in
@@ -149,7 +149,7 @@ module _ (alloc : Global) (ways : Ways) (orders : List (List Order)) (rows : ℕ
 
     left-for : (g i : ℕ) → i < length (cell_in (rows (cut_at (cuts_of ways set) k).left) g) → IsFor ways orders (cut_at (cuts_of ways set) k).left g (template_at (cell_in (rows (cut_at (cuts_of ways set) k).left) g) i)
     left-for g i there =
-        (done.each (cut_at (cuts_of ways set) k).left (facts ways set k within inside).parts.less).plans g i no_template there
+        done (cut_at (cuts_of ways set) k).left (facts ways set k within inside).parts.less g i no_template there
 
     right-for : (g i : ℕ) → i < length (cell_in (rows (cut_at (cuts_of ways set) k).right) g) → IsFor ways orders (set - (cut_at (cuts_of ways set) k).left) g (template_at (cell_in (rows (cut_at (cuts_of ways set) k).right) g) i)
     right-for g i there =
@@ -157,7 +157,7 @@ module _ (alloc : Global) (ways : Ways) (orders : List (List Order)) (rows : ℕ
         let some = parts.some in
         let less = parts.less in
         let rest = (facts ways set k within inside).rest in
-        subst (λ s. IsFor ways orders s g (template_at (cell_in (rows (cut_at (cuts_of ways set) k).right) g) i)) rest ((done.each (cut_at (cuts_of ways set) k).right (omega arith)).plans g i no_template there)
+        subst (λ s. IsFor ways orders s g (template_at (cell_in (rows (cut_at (cuts_of ways set) k).right) g) i)) rest (done (cut_at (cuts_of ways set) k).right (omega arith) g i no_template there)
 
     given-hash : (t : Template) → HashGives ways rows f (cut_at (cuts_of ways set) k) t → IsFor ways orders set f t
     given-hash t w =
@@ -218,10 +218,6 @@ module _ (alloc : Global) (ways : Ways) (orders : List (List Order)) (rows : ℕ
           others = joined-others x y t l.plan r.plan a (set - a) set c.merge_price sum fs.parts.apart is l.reads l.others r.reads r.others;
         }
 
-  given-cuts : (t : Template) → CutsGive ways rows f (cuts_of ways set) t → IsFor ways orders set f t
-  given-cuts t w =
-      elim w.2 [ inl hash ↦ given-hash w.0 w.1 t hash | inr merge ↦ given-merge w.0 w.1 merge.0 merge.1 t merge.2 ]
-
   wanted : 0 < f → IsWantedList ways.task.now (order_of ways f)
   wanted some =
       front_wanted ways.task.now ways.fronts.items f (slice_index_or ways.fronts.items f Any) refl front_in ways.known.needs.needed (λ any.
@@ -258,7 +254,8 @@ module _ (alloc : Global) (ways : Ways) (orders : List (List Order)) (rows : ℕ
     pub given-for : (t : Template) → IsGiven ways orders rows input set f t → IsFor ways orders set f t
     given-for t (inl (inl sort)) = given-sort t sort
     given-for t (inl (inr read)) = given-read t read
-    given-for t (inr cuts) = given-cuts t cuts
+    given-for t (inr w) =
+        elim w.2 [ inl hash ↦ given-hash w.0 w.1 t hash | inr merge ↦ given-merge w.0 w.1 merge.0 merge.1 t merge.2 ]
 
     pub cell-for : (cell : List Template) → Takes orders (IsGiven ways orders rows input set f) [] cell → All (IsFor ways orders set f) cell
     cell-for cell takes k d there =
@@ -279,7 +276,7 @@ pub cell-small : (ways : Ways) (orders : List (List Order)) (set f : ℕ) (cell 
 cell-small ways orders set f cell limits h k d within =
     for-small ways orders set f (get_or cell k d) limits (h k d within)
 
-pub rows-small : (ways : Ways) (orders : List (List Order)) (rows : List (List (List Template))) → OfferTableLimits (every orders) → AreRowsOf ways orders (row_in rows) (length rows) → (s f : ℕ) → All IsSmall (cell_in (row_in rows s) f)
+pub rows-small : (ways : Ways) (orders : List (List Order)) (rows : List (List (List Template))) → OfferTableLimits (every orders) → AreRowsOf ways orders rows (length rows) → (s f : ℕ) → All IsSmall (cell_in (row_in rows s) f)
 rows-small ways orders rows limits done s f =
     elim (cases_lt s (length rows)) [
       | inl less ↦ cell-small ways orders s f (cell_in (row_in rows s) f) limits ((done.each s less).plans f)

@@ -1,79 +1,34 @@
 -- Rows of lists of templates, as they are found one after the other.
-use Rattle.std.proofs.Common.{◌≡◌, inl, inr, ℕ, ◌+◌, ◌-◌, ◌<◌, true, false, List, [], ◌∷◌, ◌++◌, length, All, refl, sym, ap, ◌∙◌, subst, arith}
+use Rattle.std.proofs.Common.{◌≡◌, inl, inr, ℕ, ◌+◌, ◌-◌, ◌<◌, true, false, List, [], ◌∷◌, ◌++◌, length, take, All, refl, sym, ap, ◌∙◌, subst, arith}
 use Rattle.std.specs.Prelude.{slice_index}
 use Rattle.std.specs.List.{slice_range}
 use Rattle.std.proofs.lemmas.Bool.{cases_lt, false≢true}
-use Rattle.std.proofs.lemmas.List.{get_or_append_left, get_or_past, get_or_push, length-take, length_push}
+use Rattle.std.proofs.lemmas.List.{get_or_append_left, get_or_past, get_or_push, length-take, length_push, take-append-le, take_all}
 use Rattle.adv_base.specs.Items.{Order}
 use Rattle.plan_model.specs.declared.template.Template.{Template}
-use Rattle.planner.specs.declared.cut.Cut.{Cut}
 use Rattle.planner.specs.declared.ways.Ways.{Ways}
-use Rattle.planner.specs.Cuts.{cut_at, merge_at, is_covered}
-use Rattle.planner.specs.Rows.{width, cuts_of, merges_in, sets_of}
-use Rattle.planner.proofs.Upper.{facts}
-use Rattle.inum_cache.specs.inner.Cells.{JoinGives, Takes}
-use Rattle.inum_cache.specs.inner.Passes.{cell_in, row_in, IsFor, IsGiven, IsRowOf, AreRowsOf, CutsGive, is_wanted}
+use Rattle.planner.specs.Cuts.{is_covered}
+use Rattle.planner.specs.Rows.{width, cuts_of, sets_of}
+use Rattle.inum_cache.specs.inner.Cells.{Takes}
+use Rattle.inum_cache.specs.inner.Passes.{cell_in, row_in, IsFor, IsGiven, IsRowOf, AreRowsOf}
 use Rattle.inum_cache.proofs.Taking.{takes-none, takes-same}
 
--- what is given comes from the rows of smaller sets alone
-module _ (ways : Ways) (orders : List (List Order)) (rows others : ℕ → List (List Template)) (set f : ℕ) (within : set < sets_of ways) (agree : (s : ℕ) → s < set → rows s ≡ others s) where
-  left-agrees : (k : ℕ) → k < length (cuts_of ways set) → rows (cut_at (cuts_of ways set) k).left ≡ others (cut_at (cuts_of ways set) k).left
-  left-agrees k inside = agree (cut_at (cuts_of ways set) k).left (facts ways set k within inside).parts.less
-
-  right-agrees : (k : ℕ) → k < length (cuts_of ways set) → rows (cut_at (cuts_of ways set) k).right ≡ others (cut_at (cuts_of ways set) k).right
-  right-agrees k inside =
-      let some = (facts ways set k within inside).parts.some in
-      let less = (facts ways set k within inside).parts.less in
-      let rest = (facts ways set k within inside).rest in
-      agree (cut_at (cuts_of ways set) k).right (omega arith)
-
-  cuts-frame : (t : Template) → CutsGive ways rows f (cuts_of ways set) t → CutsGive ways others f (cuts_of ways set) t
-  cuts-frame t w =
-      let k = w.0 in
-      let cut : Cut = cut_at (cuts_of ways set) k in
-      let left = left-agrees k w.1 in
-      let right = right-agrees k w.1 in (
-        k,
-        w.1,
-        elim w.2 [
-          | inl hash ↦
-              inl (hash.0, subst (λ r. JoinGives (cell_in r 0) (cell_in (others cut.right) 0) cut.hash_price t) left (subst (λ r. JoinGives (cell_in (rows cut.left) 0) (cell_in r 0) cut.hash_price t) right hash.1))
-          | inr merge ↦
-              let m = merge_at (merges_in ways cut) merge.0 in
-              let g = merge.2.0 in
-              inr (merge.0, merge.1, (g, merge.2.1, subst (λ r. JoinGives (cell_in r g) (cell_in (others cut.right) m.right_front) cut.merge_price t) left (subst (λ r. JoinGives (cell_in (rows cut.left) g) (cell_in r m.right_front) cut.merge_price t) right merge.2.2)))
-        ],
-      )
-
-  pub given-frame : (input : List Template) (t : Template) → IsGiven ways orders rows input set f t → IsGiven ways orders others input set f t
-  given-frame input t (inl first) = inl first
-  given-frame input t (inr cuts) = inr (cuts-frame t cuts)
-
-pub row-frame : (ways : Ways) (orders : List (List Order)) (rows others : ℕ → List (List Template)) (set : ℕ) (row : List (List Template)) → set < sets_of ways → ((s : ℕ) → s < set → rows s ≡ others s) → IsRowOf ways orders rows set row → IsRowOf ways orders others set row
-row-frame ways orders rows others set row within agree h =
-    record {
-      blank = h.blank;
-      takes = λ f front_in wanted. takes-same orders (IsGiven ways orders rows (cell_in row 0) set f) (IsGiven ways orders others (cell_in row 0) set f) [] (cell_in row f)
-          (given-frame ways orders rows others set f within agree (cell_in row 0))
-          (given-frame ways orders others rows set f within (λ s less. sym (agree s less)) (cell_in row 0))
-          (h.takes f front_in wanted);
-      plans = h.plans;
-    }
-
 -- one row more
-pub rows-push : (ways : Ways) (orders : List (List Order)) (rows : List (List (List Template))) (row : List (List Template)) (set : ℕ) → set < sets_of ways → length rows ≡ set → AreRowsOf ways orders (row_in rows) set → IsRowOf ways orders (row_in rows) set row → AreRowsOf ways orders (row_in (rows ++ row ∷ [])) (set + 1)
-rows-push ways orders rows row set within count done here =
+pub rows-push : (ways : Ways) (orders : List (List Order)) (rows : List (List (List Template))) (row : List (List Template)) (set : ℕ) → length rows ≡ set → AreRowsOf ways orders rows set → IsRowOf ways orders (row_in rows) set row → AreRowsOf ways orders (rows ++ row ∷ []) (set + 1)
+rows-push ways orders rows row set count done here =
     let more = rows ++ row ∷ [] in
-    let agree : (s : ℕ) → s < set → row_in rows s ≡ row_in more s = λ s less. sym (get_or_append_left rows (row ∷ []) [] s (omega (arith, less, count))) in
+    let front : (s : ℕ) → s < set + 1 → take s rows ≡ take s more = λ s below. sym (take-append-le s rows (row ∷ []) (omega (arith, below, count))) in
     record {
       each = λ s below.
           elim (cases_lt s set) [
             | inl less ↦
-                subst (IsRowOf ways orders (row_in more) s) (agree s less) (row-frame ways orders (row_in rows) (row_in more) s (row_in rows s) (omega arith) (λ t under. agree t (omega arith)) (done.each s less))
+                let same : row_in rows s ≡ row_in more s = sym (get_or_append_left rows (row ∷ []) [] s (omega (arith, less, count))) in
+                subst (λ (x : List (List (List Template))). IsRowOf ways orders (row_in x) s (row_in more s)) (front s below) (subst (IsRowOf ways orders (row_in (take s rows)) s) same (done.each s less))
             | inr past ↦
                 let same : set ≡ s = omega arith in
                 let last : row ≡ row_in more set = sym (get_or_push rows row [] set count) in
-                subst (λ n. IsRowOf ways orders (row_in more) n (row_in more n)) same (subst (IsRowOf ways orders (row_in more) set) last (row-frame ways orders (row_in rows) (row_in more) set row within agree here))
+                let whole : rows ≡ take set more = sym (take_all set rows (omega (arith, count))) ∙ front set (omega arith) in
+                subst (λ n. IsRowOf ways orders (row_in (take n more)) n (row_in more n)) same (subst (λ (x : List (List (List Template))). IsRowOf ways orders (row_in x) set (row_in more set)) whole (subst (IsRowOf ways orders (row_in rows) set) last here))
           ];
     }
 
@@ -82,7 +37,7 @@ rows-push ways orders rows row set within count done here =
 -- the lists of the first n fronts of a row
 pub record AreCells (ways : Ways) (orders : List (List Order)) (rows : ℕ → List (List Template)) (set : ℕ) (row : List (List Template)) (n : ℕ) : Type 0 where
   pub count : length row ≡ n
-  pub takes : (f : ℕ) → f < n → is_wanted ways set f ≡ true → Takes orders (IsGiven ways orders rows (cell_in row 0) set f) [] (cell_in row f)
+  pub takes : (f : ℕ) → f < n → Takes orders (IsGiven ways orders rows (cell_in row 0) set f) [] (cell_in row f)
   pub plans : (f : ℕ) → f < n → All (IsFor ways orders set f) (cell_in row f)
 
 -- the first list takes no sorts
@@ -90,7 +45,7 @@ pub first-cell : (ways : Ways) (orders : List (List Order)) (rows : ℕ → List
 first-cell ways orders rows set cell takes plans =
     record {
       count = refl;
-      takes = λ f below wanted.
+      takes = λ f below.
           let zeroth : 0 ≡ f = omega arith in
           subst (λ g. Takes orders (IsGiven ways orders rows cell set g) [] (cell_in (cell ∷ []) g)) zeroth
           (takes-same orders (IsGiven ways orders rows [] set 0) (IsGiven ways orders rows cell set 0) [] cell to-own to-none takes);
@@ -109,21 +64,20 @@ first-cell ways orders rows set cell takes plans =
     to-none t (inl (inr read)) = inl (inr read)
     to-none t (inr cuts) = inr cuts
 
-pub cells-push : (ways : Ways) (orders : List (List Order)) (rows : ℕ → List (List Template)) (set : ℕ) (row : List (List Template)) (cell : List Template) (n : ℕ) → 0 < n → AreCells ways orders rows set row n → (is_wanted ways set n ≡ true → Takes orders (IsGiven ways orders rows (cell_in row 0) set n) [] cell) → All (IsFor ways orders set n) cell → AreCells ways orders rows set (row ++ cell ∷ []) (n + 1)
+pub cells-push : (ways : Ways) (orders : List (List Order)) (rows : ℕ → List (List Template)) (set : ℕ) (row : List (List Template)) (cell : List Template) (n : ℕ) → 0 < n → AreCells ways orders rows set row n → Takes orders (IsGiven ways orders rows (cell_in row 0) set n) [] cell → All (IsFor ways orders set n) cell → AreCells ways orders rows set (row ++ cell ∷ []) (n + 1)
 cells-push ways orders rows set row cell n some h takes plans =
     let more = row ++ cell ∷ [] in
     let front : (f : ℕ) → f < n → cell_in row f ≡ cell_in more f = λ f below. sym (get_or_append_left row (cell ∷ []) [] f (omega (arith, below, h.count))) in
     let last : cell ≡ cell_in more n = sym (get_or_push row cell [] n h.count) in
     record {
       count = length_push row cell ∙ ap (λ k. k + 1) h.count;
-      takes = λ f below wanted.
+      takes = λ f below.
           subst (λ (input : List Template). Takes orders (IsGiven ways orders rows input set f) [] (cell_in more f)) (front 0 some)
           (elim (cases_lt f n) [
-            | inl less ↦ subst (Takes orders (IsGiven ways orders rows (cell_in row 0) set f) []) (front f less) (h.takes f less wanted)
+            | inl less ↦ subst (Takes orders (IsGiven ways orders rows (cell_in row 0) set f) []) (front f less) (h.takes f less)
             | inr past ↦
                 let same : n ≡ f = omega arith in
-                let here = takes (subst (λ k. is_wanted ways set k ≡ true) (sym same) wanted) in
-                subst (λ k. Takes orders (IsGiven ways orders rows (cell_in row 0) set k) [] (cell_in more k)) same (subst (Takes orders (IsGiven ways orders rows (cell_in row 0) set n) []) last here)
+                subst (λ k. Takes orders (IsGiven ways orders rows (cell_in row 0) set k) [] (cell_in more k)) same (subst (Takes orders (IsGiven ways orders rows (cell_in row 0) set n) []) last takes)
           ]);
       plans = λ f below.
           elim (cases_lt f n) [
@@ -138,7 +92,7 @@ pub row-is : (ways : Ways) (orders : List (List Order)) (rows : ℕ → List (Li
 row-is ways orders rows set row n all on h =
     record {
       blank = λ off. absurd (false≢true (sym off ∙ on));
-      takes = λ f front_in wanted. h.takes f (omega (arith, front_in, all)) wanted;
+      takes = λ f front_in. h.takes f (omega (arith, front_in, all));
       plans = λ f.
           elim (cases_lt f n) [
             | inl below ↦ h.plans f below
@@ -147,7 +101,7 @@ row-is ways orders rows set row n all on h =
     }
 
 -- a set that no plan covers has no cuts
-pub no-cuts : (ways : Ways) (set : ℕ) → set < sets_of ways → is_covered ways.covered.items set ≡ false → length (cuts_of ways set) ≡ 0
+no-cuts : (ways : Ways) (set : ℕ) → set < sets_of ways → is_covered ways.covered.items set ≡ false → length (cuts_of ways set) ≡ 0
 no-cuts ways set within off =
     cuts-empty ways.cuts.items (slice_index ways.starts.items set) (slice_index ways.starts.items (set + 1)) (ways.known.cut.joined set within off)
   where
@@ -161,7 +115,7 @@ row-none ways orders rows set within off =
     let none = no-cuts ways set within off in
     record {
       blank = λ _. refl;
-      takes = λ f front_in wanted.
+      takes = λ f front_in.
           subst (Takes orders (IsGiven ways orders rows (cell_in [] 0) set f) []) (empty f)
           (takes-none orders (IsGiven ways orders rows (cell_in [] 0) set f) [] (λ t g.
           elim g [

@@ -1,12 +1,15 @@
 -- Lists of templates that were given templates.
-use Rattle.std.proofs.Common.{◌≡◌, ◌⊎◌, inl, inr, ℕ, ◌+◌, List, [], refl, sym, ◌∙◌, subst, arith}
+use Rattle.std.proofs.Common.{◌≡◌, ◌⊎◌, inl, inr, ℕ, ◌+◌, List, [], All, refl, sym, ◌∙◌, subst, arith}
+use Rattle.std.specs.List.Sorted.{IsPermutation}
 use Rattle.std.proofs.lemmas.Bool.{cases_lt, cases_eq}
+use Rattle.std.proofs.lemmas.List.{get_or_default}
+use Rattle.std.proofs.lemmas.List.Sorted.{All-permutation, Contains-permutation}
 use Rattle.adv_base.specs.Items.{Order, BeginsWith}
 use Rattle.adv_base.proofs.Begins.{begins_self, begins_trans}
 use Rattle.plan_model.specs.declared.template.Template.{Template}
 use Rattle.inum_cache.specs.Numbering.{order_in}
 use Rattle.inum_cache.specs.inner.Passes.{IsLeaf}
-use Rattle.inum_cache.specs.inner.Cells.{place_at, asks, template_at, IsRaised, IsJoined, Replaces, IsReplaced, IsAmong, Takes, SomeBelow}
+use Rattle.inum_cache.specs.inner.Cells.{place_at, asks, template_at, no_template, Replaces, IsReplaced, IsAmong, Takes, SomeBelow}
 
 pub replaces-self : (orders : List (List Order)) (t : Template) → Replaces orders t t
 replaces-self orders t =
@@ -30,14 +33,6 @@ like-replaces orders x t costs places =
       less = omega (arith, costs);
       fits = record { fronts = λ slot. subst (λ p. BeginsWith (order_in orders slot p) (asks orders x slot)) (places slot) (begins_self (asks orders x slot)) };
     }
-
-pub raised-like : (orders : List (List Order)) (from x t : Template) (price : ℕ) → IsRaised from price x → IsRaised from price t → Replaces orders x t
-raised-like orders from x t price a b =
-    like-replaces orders x t (a.costs ∙ sym b.costs) (λ slot. a.needs slot ∙ sym (b.needs slot))
-
-pub joined-like : (orders : List (List Order)) (left right x t : Template) (price : ℕ) → IsJoined left right price x → IsJoined left right price t → Replaces orders x t
-joined-like orders left right x t price a b =
-    like-replaces orders x t (a.costs ∙ sym b.costs) (λ slot. a.needs slot ∙ sym (b.needs slot))
 
 pub leaf-like : (orders : List (List Order)) (slot place : ℕ) (x t : Template) → IsLeaf slot place x → IsLeaf slot place t → Replaces orders x t
 leaf-like orders slot place x t a b =
@@ -133,4 +128,22 @@ takes-thinned orders Given all thin a b =
       given = λ t g.
           let h = a.given t g in
           replaced-more orders thin (template_at all h.number) t (b.given (template_at all h.number) (h.number, h.within, refl)) h.replaces;
+    }
+
+-- the same in another order
+pub takes-moved : (orders : List (List Order)) (Given : Template → Type 0) (all moved : List Template) → IsPermutation all moved → Takes orders Given [] all → Takes orders Given [] moved
+takes-moved orders Given all moved same h =
+    let each : All Given all = λ i d within.
+    elim (h.from i within) [
+      | inl old ↦ absurd (omega (arith, old.1))
+      | inr given ↦ subst Given (sym (get_or_default all i d no_template within)) given
+    ] in
+    record {
+      from = λ k within. inr (All-permutation Given all moved same each k no_template within);
+      kept = λ t r. absurd (omega (arith, r.within));
+      given = λ t g.
+          let r = h.given t g in
+          let u = template_at all r.number in
+          let w = Contains-permutation all moved u same (r.number, r.within, get_or_default all r.number u no_template r.within) in
+          record { number = w.0; within = w.1; replaces = subst (λ x. Replaces orders x t) (sym (sym (get_or_default moved w.0 u no_template w.1) ∙ w.2)) r.replaces };
     }

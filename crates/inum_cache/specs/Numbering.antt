@@ -1,6 +1,5 @@
 -- The orders of slots by their places.
-use Rattle.std.specs.Prelude.{◌≡◌, ℕ, ◌+◌, ◌<◌, ◌≤◌, List, [], length, slice_index_or}
-use Rattle.adv_base.specs.declared.limits.TheConstants.{MOST_COLUMNS}
+use Rattle.std.specs.Prelude.{◌≡◌, ℕ, ◌<◌, List, [], length, slice_index_or}
 use Rattle.adv_base.specs.Items.{Order}
 use Rattle.plan_model.specs.declared.task.Task.{Task}
 use Rattle.plan_model.specs.Orders.{interesting_orders}
@@ -17,13 +16,3 @@ order_in orders slot place = slice_index_or (slice_index_or orders slot []) plac
 pub record AreOrders (task : Task) (orders : List (List Order)) : Type 0 where
   pub count : length orders ≡ task.slots
   pub each : (slot : ℕ) → slot < task.slots → slice_index_or orders slot [] ≡ interesting_orders task slot
-
--- the interesting orders of the slots below n
-pub record AreOrdersBelow (task : Task) (orders : List (List Order)) (n : ℕ) : Type 0 where
-  pub count : length orders ≡ n
-  pub each : (slot : ℕ) → slot < n → slice_index_or orders slot [] ≡ interesting_orders task slot
-
--- a slot has some orders, and at most three more than columns
-pub record SizeLimits (size : ℕ) : Type 0 where
-  pub some : 0 < size
-  pub most : size ≤ MOST_COLUMNS + 3

@@ -1,6 +1,5 @@
 -- What retells the loops of the code; nothing above this crate cites it.
 pub mod Cells
-pub mod Keeping
 pub mod Passes
 pub mod Tops
 pub mod Pricing

@@ -14,30 +14,24 @@ use crate::fault::CacheFault;
 use crate::pass::Pass;
 use crate::top::enough_templates;
 use adv_base::limits::MOST_COMBINATIONS;
-use adv_base::{Item, List, NoMemory};
+use adv_base::{List, NoMemory};
 use interesting_orders::{combinations, slot_orders};
 use plan_model::{Task, Template};
 use planner::ways_of;
 use std::alloc::Global;
 
 /// The interesting orders of each slot.
-fn orders_of(alloc: Global, task: &Task) -> Result<List<List<List<Item>>>, NoMemory>
-    ensures { IfOk result (λ orders. numbering.AreOrders task.now orders) }
+fn choices_of(alloc: Global, task: &Task) -> Result<Choices, NoMemory>
+    ensures { IfOk result (λ choices. numbering.AreOrders task.now choices.orders) }
 {
     let mut orders = Vec::new(alloc);
     for slot in 0..task.slots {
         let own = slot_orders(alloc, task, slot)?;
         orders.push(own)?;
     }
-    Ok(List { items: orders })
-}
-
-/// The same, as what combinations choose from.
-fn choices_of(alloc: Global, task: &Task) -> Result<Choices, NoMemory>
-    ensures { IfOk result (λ choices. numbering.AreOrders task.now choices.orders) }
-{
-    let orders = orders_of(alloc, task)?;
-    Ok(Choices { orders })
+    Ok(Choices {
+        orders: List { items: orders },
+    })
 }
 
 /// The templates of the combinations that are kept.

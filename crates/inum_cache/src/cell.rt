@@ -1,39 +1,22 @@
 //! Lists of templates of a set of slots.
-ghost use Rattle.std.specs.Prelude.{◌≡◌, ℕ, ◌+◌, ◌^◌, ◌<◌, ◌≤◌, ◌⊎◌, List, [], IfOk, IsTrue, All, AllPairs, OnOk, length, slice_index_or};
+ghost use Rattle.std.specs.Prelude.{◌≡◌, ℕ, ◌+◌, ◌^◌, ◌<◌, ◌≤◌, List, [], IfOk, IsTrue, All, AllPairs, OnOk, length, slice_index_or};
 ghost use Rattle.std.specs.List.{list_any};
 ghost use Rattle.adv_base.specs.Items.{Order};
-ghost use Rattle.inum_cache.specs.Templates.{StandsBefore};
 ghost use Rattle.inum_cache.specs.inner.Cells as cells;
 
 use crate::choices::Choices;
-use crate::fronts::begins;
 use adv_base::{List, NoMemory};
 use plan_model::Template;
+use planner::has_front;
 use std::alloc::Global;
-
-/// Whether the order that one needs of a slot is no front of what the other needs of it.
-#[inline]
-fn misses(choices: &Choices, one: &Template, other: &Template, slot: u8) -> bool
-    requires { slot < length choices.now.orders }
-    ensures { result ≡ cells.misses choices.now.orders (cells.asks choices.now.orders other.now) one.now slot }
-{
-    let front = one.needs[slot as usize];
-    let place = other.needs[slot as usize];
-    if front == 0 {
-        return false;
-    }
-    if front == place {
-        return false;
-    }
-    !begins(choices.order(slot, place), choices.order(slot, front))
-}
 
 /// Whether one needs of each slot a front of what the other needs.
 fn asks_no_more(choices: &Choices, one: &Template, other: &Template) -> bool
     ensures { result ≡ cells.does_fit choices.now.orders (cells.asks choices.now.orders other.now) one.now }
 {
     for slot in 0..choices.slots() {
-        if misses(choices, one, other, slot) {
+        let front = choices.order(slot, one.needs[slot as usize]);
+        if !has_front(choices.order(slot, other.needs[slot as usize]), front) {
             return false;
         }
     }
@@ -55,22 +38,18 @@ pub(crate) struct Hints {
     places: Vec<usize>,
 }
 
-/// By how much the number of a combination rises with the place of each slot, where the last slot's place goes fastest.
-fn weights_of(choices: &Choices) -> [usize; 8] {
-    let mut weights = [0; 8];
-    let mut weight = 1usize;
-    for slot in (0..choices.slots()).rev() {
-        weights[slot as usize] = weight;
-        weight = weight.wrapping_mul(choices.size(slot));
-    }
-    weights
-}
-
 impl Hints {
     /// Hints for so many combinations.
     pub(crate) fn new(alloc: Global, choices: &Choices, count: usize) -> Result<Hints, NoMemory> {
+        // By how much the number of a combination rises with the place of each slot: the last slot's goes fastest.
+        let mut weights = [0; 8];
+        let mut weight = 1usize;
+        for slot in (0..choices.slots()).rev() {
+            weights[slot as usize] = weight;
+            weight = weight.wrapping_mul(choices.size(slot));
+        }
         Ok(Hints {
-            weights: weights_of(choices),
+            weights,
             places: vec![in alloc; 0; count]?,
         })
     }
@@ -264,39 +243,11 @@ fn is_replaced(choices: &Choices, cell: &[Template], template: &Template) -> boo
     cell.iter().any(|one| replaces(choices, one, template))
 }
 
-/// Whether the places of what the first needs are less at some slot, and the same at all slots before.
-fn stands_before(first: &Template, second: &Template) -> bool
-    ensures yes { IsTrue result → StandsBefore first.now second.now }
-    ensures no { ¬ IsTrue result → cells.NeedsSame first.now second.now ⊎ StandsBefore second.now first.now }
-{
-    for slot in 0..8 {
-        if first.needs[slot] != second.needs[slot] {
-            return first.needs[slot] < second.needs[slot];
-        }
-    }
-    false
-}
-
-/// How many templates of a list that is in order stand before one that needs what no other does.
-fn place_for(cell: &[Template], template: &Template) -> usize
-    requires order { AllPairs StandsBefore cell.now }
-    requires other { (k : ℕ) → k < length cell.now → ¬ cells.NeedsSame (cells.template_at cell.now k) template.now }
-    ensures within { result ≤ length cell.now }
-    ensures before { (k : ℕ) → k < result → StandsBefore (cells.template_at cell.now k) template.now }
-    ensures after { (k : ℕ) → result ≤ k → k < length cell.now → StandsBefore template.now (cells.template_at cell.now k) }
-{
-    for place in 0..cell.len() {
-        if !stands_before(&cell[place], template) {
-            return place;
-        }
-    }
-    cell.len()
-}
-
-/// Gives a list, in which none replaces another, a template: it stands in its place for those that it replaces, unless
-/// another replaces it.
+/// Gives a list, in which none replaces another, a template that stands behind all of them: it comes for those that it
+/// replaces, unless another replaces it.
 fn keep(choices: &Choices, cell: &mut Vec<Template>, template: Template) -> Result<(), NoMemory>
-    requires { cells.IsThin choices.now.orders cell.old.items }
+    requires thin { cells.IsThin choices.now.orders cell.old.items }
+    requires behind { All (λ other. cells.Precedes other template) cell.old.items }
     ensures takes { OnOk result (cells.Takes choices.now.orders (λ t. t ≡ template) cell.old.items cell.new.items) }
     ensures thin { OnOk result (cells.IsThin choices.now.orders cell.new.items) }
 {
@@ -304,17 +255,17 @@ fn keep(choices: &Choices, cell: &mut Vec<Template>, template: Template) -> Resu
         return Ok(());
     }
     cell.retain(|other| !replaces(choices, &template, other));
-    let place = place_for(cell.as_slice(), &template);
-    cell.insert(place, template)?;
+    cell.push(template)?;
     Ok(())
 }
 
-/// The templates of a list that no other replaces, in order.
+/// The templates of a list in order that no other replaces.
 pub(crate) fn kept(
     alloc: Global,
     choices: &Choices,
     cell: &[Template],
 ) -> Result<List<Template>, NoMemory>
+    requires { AllPairs cells.Precedes cell.now }
     ensures takes { IfOk result (λ templates. cells.Takes choices.now.orders (cells.IsAmong cell.now) [] templates) }
     ensures thin { IfOk result (λ templates. cells.IsThin choices.now.orders templates) }
 {

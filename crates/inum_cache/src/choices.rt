@@ -1,6 +1,6 @@
 //! The orders among which a combination chooses one for each slot.
-ghost use Rattle.std.specs.Prelude.{◌≡◌, ℕ, ◌<◌, ◌≤◌, [], length, slice_index_or};
-ghost use Rattle.adv_base.specs.declared.limits.TheConstants.{MOST_SLOTS};
+ghost use Rattle.std.specs.Prelude.{◌≡◌, ℕ, ◌+◌, ◌<◌, ◌≤◌, [], length};
+ghost use Rattle.adv_base.specs.declared.limits.TheConstants.{MOST_COLUMNS, MOST_SLOTS};
 ghost use Rattle.adv_base.specs.OfferTables.{OfferLimits};
 ghost use Rattle.inum_cache.specs.Numbering as numbering;
 
@@ -11,7 +11,7 @@ use adv_base::{Item, List};
 pub(crate) struct Choices {
     pub orders: List<List<List<Item>>>,
     pub ghost few: { length orders ≤ MOST_SLOTS },
-    pub ghost sizes: { (slot : ℕ) → slot < length orders → numbering.SizeLimits (numbering.size_in orders slot) },
+    pub ghost sizes: { (slot : ℕ) → slot < length orders → numbering.size_in orders slot ≤ MOST_COLUMNS + 3 },
     pub ghost first: { (slot : ℕ) → slot < length orders → numbering.order_in orders slot 0 ≡ [] },
     pub ghost own: { (slot place : ℕ) → OfferLimits slot (numbering.order_in orders slot place, 0) },
 }

@@ -21,10 +21,8 @@ mod cache;
 mod cell;
 mod choices;
 mod fault;
-mod fronts;
 mod lookup;
 mod pass;
-mod prices;
 mod top;
 
 pub use building::build;

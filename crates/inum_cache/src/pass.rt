@@ -1,9 +1,9 @@
 //! The templates of all sets of slots, found in one pass from smaller sets to larger ones.
-ghost use Rattle.std.specs.Prelude.{◌≡◌, ℕ, ◌+◌, ◌<◌, ◌≤◌, true, not, [], All, IfOk, OnOk, length};
-ghost use Rattle.std.specs.List.{list_all, list_any};
+ghost use Rattle.std.specs.Prelude.{◌≡◌, ℕ, ◌+◌, ◌<◌, ◌≤◌, [], All, IfOk, OnOk, length};
+ghost use Rattle.std.specs.List.{list_all};
 ghost use Rattle.plan_model.specs.Plans.{is_column_of};
-ghost use Rattle.planner.specs.Cuts.{cut_at, is_covered, AreWays};
-ghost use Rattle.planner.specs.Fronts.{begins_test, head_at, meet};
+ghost use Rattle.planner.specs.Cuts.{is_covered};
+ghost use Rattle.planner.specs.Fronts.{begins_test, head_at};
 ghost use Rattle.planner.specs.Rows as set_rows;
 ghost use Rattle.inum_cache.specs.Numbering.{order_in};
 ghost use Rattle.inum_cache.specs.inner.Cells as cells;
@@ -13,7 +13,7 @@ use crate::cell::{Hints, insert, join_each, raise_each};
 use crate::choices::Choices;
 use adv_base::{Item, List, NoMemory};
 use plan_model::{Template, rows_of, sort_price};
-use planner::{Cut, Link, Merge, Ways, can_sort, cuts_at, longer, merges_at, serves};
+use planner::{Cut, Merge, Ways, can_sort, cuts_at, longer, merges_at, serves};
 use std::alloc::Global;
 
 /// What is known of a task before any offer, and the orders of its slots.
@@ -59,28 +59,6 @@ fn leaf(slot: u8, place: u8) -> Template
     let mut needs = [0; 8];
     needs[slot as usize] = place;
     Template { internal: 0, needs }
-}
-
-/// Whether two sets have no slot in common.
-fn are_apart(one: usize, other: usize) -> bool
-    ensures { result ≡ not (meet one other) }
-{
-    one & other == 0
-}
-
-/// Whether a link asks for a front by one of its ends, and has the other outside a set.
-fn asks_across(link: &Link, set: usize, front: usize) -> bool
-    ensures { result ≡ passes.asks_across link.now set front }
-{
-    link.left_front == front && are_apart(set, link.right)
-        || link.right_front == front && are_apart(set, link.left)
-}
-
-/// Whether some link does.
-fn any_across(links: &[Link], set: usize, front: usize) -> bool
-    ensures { result ≡ list_any (λ link. passes.asks_across link set front) links.now }
-{
-    links.iter().any(|link| asks_across(link, set, front))
 }
 
 impl Pass<'_> {
@@ -330,7 +308,7 @@ impl Pass<'_> {
         requires set_in { set < set_rows.sets_of self.now.ways }
         requires front_in { front < set_rows.width self.now.ways }
         requires count { length rows.now ≡ set }
-        requires done { passes.AreRowsOf self.now.ways self.now.choices.now.orders (passes.row_in rows.now) set }
+        requires done { passes.AreRowsOf self.now.ways self.now.choices.now.orders rows.now set }
         requires input { 0 < front → All (passes.IsFor self.now.ways self.now.choices.now.orders set 0) input.now }
         ensures takes { IfOk result (λ cell. cells.Takes self.now.choices.now.orders (passes.IsGiven self.now.ways self.now.choices.now.orders (passes.row_in rows.now) input.now set front) [] cell) }
         ensures plans { IfOk result (λ cell. All (passes.IsFor self.now.ways self.now.choices.now.orders set front) cell) }
@@ -350,38 +328,6 @@ impl Pass<'_> {
         self.ways.covered.as_slice()[set]
     }
 
-    /// Whether a front may be wanted of plans of a set: one of the first two, or what a link asks for that leads out of the
-    /// set.
-    fn is_wanted(&self, set: usize, front: usize) -> bool
-        ensures { result ≡ passes.is_wanted self.now.ways set front }
-    {
-        front < 2 || any_across(self.ways.links.as_slice(), set, front)
-    }
-
-    /// The same, or an empty list where the front can't be wanted.
-    fn wanted_cell(
-        &self,
-        alloc: Global,
-        hints: &mut Hints,
-        rows: &[List<List<Template>>],
-        input: &[Template],
-        set: usize,
-        front: usize,
-    ) -> Result<List<Template>, NoMemory>
-        requires set_in { set < set_rows.sets_of self.now.ways }
-        requires front_in { front < set_rows.width self.now.ways }
-        requires count { length rows.now ≡ set }
-        requires done { passes.AreRowsOf self.now.ways self.now.choices.now.orders (passes.row_in rows.now) set }
-        requires input { 0 < front → All (passes.IsFor self.now.ways self.now.choices.now.orders set 0) input.now }
-        ensures takes { IfOk result (λ cell. passes.is_wanted self.now.ways set front ≡ true → cells.Takes self.now.choices.now.orders (passes.IsGiven self.now.ways self.now.choices.now.orders (passes.row_in rows.now) input.now set front) [] cell) }
-        ensures plans { IfOk result (λ cell. All (passes.IsFor self.now.ways self.now.choices.now.orders set front) cell) }
-    {
-        if !self.is_wanted(set, front) {
-            return Ok(List::new(alloc));
-        }
-        self.cell_of(alloc, hints, rows, input, set, front)
-    }
-
     /// The row of a set.
     fn row_of(
         &self,
@@ -392,7 +338,7 @@ impl Pass<'_> {
     ) -> Result<List<List<Template>>, NoMemory>
         requires set_in { set < set_rows.sets_of self.now.ways }
         requires count { length rows.now ≡ set }
-        requires done { passes.AreRowsOf self.now.ways self.now.choices.now.orders (passes.row_in rows.now) set }
+        requires done { passes.AreRowsOf self.now.ways self.now.choices.now.orders rows.now set }
         ensures { IfOk result (λ row. passes.IsRowOf self.now.ways self.now.choices.now.orders (passes.row_in rows.now) set row) }
     {
         let mut row = Vec::new(alloc);
@@ -403,7 +349,7 @@ impl Pass<'_> {
         row.push(first)?;
         for front in 1..self.ways.fronts.len() {
             let input = cell_at(row.as_slice(), 0);
-            let cell = self.wanted_cell(alloc, hints, rows, input, set, front)?;
+            let cell = self.cell_of(alloc, hints, rows, input, set, front)?;
             row.push(cell)?;
         }
         Ok(List { items: row })
@@ -416,7 +362,7 @@ impl Pass<'_> {
         hints: &mut Hints,
     ) -> Result<List<List<List<Template>>>, NoMemory>
         ensures count { IfOk result (λ rows. length rows ≡ set_rows.sets_of self.now.ways) }
-        ensures done { IfOk result (λ rows. passes.AreRowsOf self.now.ways self.now.choices.now.orders (passes.row_in rows) (set_rows.sets_of self.now.ways)) }
+        ensures done { IfOk result (λ rows. passes.AreRowsOf self.now.ways self.now.choices.now.orders rows (set_rows.sets_of self.now.ways)) }
     {
         let mut rows = Vec::new(alloc);
         for set in 0..self.ways.task.rows.len() {

@@ -1,7 +1,7 @@
 //! The templates of whole plans: what stands above the joins.
-ghost use Rattle.std.specs.Prelude.{◌≡◌, ◌≤◌, All, IfOk, OnOk};
+ghost use Rattle.std.specs.Prelude.{◌≡◌, ◌≤◌, All, AllPairs, IfOk, OnOk};
+ghost use Rattle.std.specs.List.Sorted.{IsPermutation};
 ghost use Rattle.plan_model.specs.Combinations.{AreEnough, IsIn};
-ghost use Rattle.planner.specs.inner.Shapes as shapes;
 ghost use Rattle.inum_cache.specs.Numbering.{AreOrders};
 ghost use Rattle.inum_cache.specs.Templates.{FitsOrders};
 ghost use Rattle.inum_cache.specs.inner.Cells as cells;
@@ -9,28 +9,11 @@ ghost use Rattle.inum_cache.specs.inner.Passes.{cell_in};
 ghost use Rattle.inum_cache.specs.inner.Tops as tops;
 
 use crate::cell::{Hints, kept, raise_each};
-use crate::fronts::begins;
 use crate::pass::{Pass, cell_at, row_at};
 use adv_base::{Item, List, NoMemory};
-use plan_model::{GroupStep, Task, Template, group_price, rows_of, sort_price};
+use plan_model::{GroupStep, Task, Template, group_price, rows_of};
+use planner::{final_cost, has_front, is_nil};
 use std::alloc::Global;
-
-/// Whether a list is empty.
-fn is_nil(order: &[Item]) -> bool
-    ensures { result ≡ shapes.is_nil order.now }
-{
-    order.is_empty()
-}
-
-/// What a final sort of rows costs, where there is one.
-fn final_price(task: &Task, rows: u64, sorts: bool) -> u128
-    requires some { 1 ≤ rows }
-    requires most { rows ≤ 1000000000000 }
-    ensures exact { result ≡ shapes.final_cost task.now rows sorts }
-    ensures few { result ≤ 64000000000000000000 }
-{
-    if sorts { sort_price(task, rows) } else { 0 }
-}
 
 /// Whether there is a list to group by, or some item to order by.
 fn has_list(task: &Task) -> bool
@@ -51,8 +34,8 @@ fn ordered_price(task: &Task, rows: u64) -> u128
     match &task.group {
         None => 0,
         Some(group) => {
-            let sorts = !begins(group.as_slice(), task.order.as_slice());
-            let sorting = final_price(task, task.group_rows, sorts);
+            let sorts = !has_front(group.as_slice(), task.order.as_slice());
+            let sorting = final_cost(task, task.group_rows, sorts);
             group_price(task, GroupStep::Sorted, rows) + sorting
         }
     }
@@ -67,9 +50,9 @@ fn unordered_price(task: &Task, rows: u64) -> u128
 {
     let sorts = !is_nil(task.order.as_slice());
     match &task.group {
-        None => final_price(task, rows, sorts),
+        None => final_cost(task, rows, sorts),
         Some(_) => {
-            let sorting = final_price(task, task.group_rows, sorts);
+            let sorting = final_cost(task, task.group_rows, sorts);
             group_price(task, GroupStep::Hashed, rows) + sorting
         }
     }
@@ -95,22 +78,16 @@ fn add_ordered(
     Ok(())
 }
 
-/// Gives it what comes of bodies in no order.
-fn add_unordered(
-    pass: &Pass<'_>,
-    hints: &mut Hints,
-    templates: &mut Vec<Template>,
-    row: &[List<Template>],
-    rows: u64,
-) -> Result<(), NoMemory>
-    requires small { All cells.IsSmall (cell_in row.now 0) }
-    requires some { 1 ≤ rows }
-    requires most { rows ≤ 1000000000000 }
-    ensures { OnOk result (cells.Takes pass.now.choices.now.orders (tops.UnorderedGives pass.now.ways.task.now row.now rows) templates.old.items templates.new.items) }
+/// Puts templates in order.
+fn put_in_order(templates: &mut Vec<Template>)
+    ensures moved { IsPermutation templates.old.items templates.new.items }
+    ensures ordered { AllPairs cells.Precedes templates.new.items }
 {
-    let price = unordered_price(pass.ways.task, rows);
-    raise_each(pass.choices, hints, templates, cell_at(row, 0), price)?;
-    Ok(())
+    templates.sort_unstable_by_key(
+        |template: &Template|
+            ensures { result ≡ template.now.needs }
+        { template.needs },
+    );
 }
 
 /// Templates that are enough for the task, from one pass over its sets of slots: each is of a plan above leaves of the
@@ -133,8 +110,11 @@ pub(crate) fn enough_templates(
     let row = row_at(rows.as_slice(), full);
     let all = rows_of(task, full);
     let mut templates = Vec::new(alloc);
-    add_unordered(pass, &mut hints, &mut templates, row, all)?;
+    let unordered = cell_at(row, 0);
+    let price = unordered_price(task, all);
+    raise_each(pass.choices, &mut hints, &mut templates, unordered, price)?;
     add_ordered(pass, &mut hints, &mut templates, row, all)?;
+    put_in_order(&mut templates);
     let least = kept(alloc, pass.choices, templates.as_slice())?;
     Ok(least)
 }

@@ -39,11 +39,11 @@ cheaper_split a b false e =
 cheaper_cases : (a b : Shape) → ((cheaper a b ≡ a) × (a.cost ≤ b.cost)) ⊎ ((cheaper a b ≡ b) × (b.cost < a.cost))
 cheaper_cases a b = cheaper_split a b (nat_lt b.cost a.cost) refl
 
-nil_true : (o : Order) → is_nil o ≡ true → o ≡ []
+pub nil_true : (o : Order) → is_nil o ≡ true → o ≡ []
 nil_true [] e = refl
 nil_true (x ∷ xs) e = absurd (false≢true e)
 
-nil_false : (o : Order) → is_nil o ≡ false → o ≢ []
+pub nil_false : (o : Order) → is_nil o ≡ false → o ≢ []
 nil_false [] e h = absurd (false≢true (sym e))
 nil_false (x ∷ xs) e h = cc
 

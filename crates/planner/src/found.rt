@@ -49,21 +49,6 @@ fn whole_of<O: Offers>(alloc: Global, search: &Search, offers: &O) -> Result<Fou
     })
 }
 
-/// The least plan, or the want of memory as the allocator gives it.
-fn find<O: Offers>(alloc: Global, task: &Task, offers: &O) -> Result<Found, AllocError>
-    requires { HasOffers task.now.slots (O.table offers.now) }
-    ensures valid { IfOk result (λ found. IsWhole task.now (O.table offers.now) found.plan) }
-    ensures costs { IfOk result (λ found. whole_cost task.now (O.table offers.now) found.plan ≡ found.cost) }
-    ensures least { IfOk result (λ found. Least task.now (O.table offers.now) found.cost) }
-    ensures most { IfOk result (λ found. found.cost < MOST_COST) }
-    ensures sorts { IfOk result (λ found. SortsWanted task.now found.plan.body) }
-{
-    let mut search = Search::made(alloc, task)?;
-    let _ = search.cost(offers);
-    let found = whole_of(alloc, &search, offers)?;
-    Ok(found)
-}
-
 /// A least plan of a task over a table of offers, with its cost. The plan is valid and whole, it costs `cost`, which is
 /// less than 10^21, and no valid whole plan costs less: over all bushy trees, merges on every crossing edge in both
 /// directions, hash joins, sorts under merges and groups by any list, both ways to group, and final sorts. Which of several
@@ -78,8 +63,8 @@ pub fn least<O: Offers>(alloc: Global, task: &Task, offers: &O) -> Result<Found,
     ensures most { IfOk result (λ found. found.cost < MOST_COST) }
     ensures sorts { IfOk result (λ found. SortsWanted task.now found.plan.body) }
 {
-    match find(alloc, task, offers) {
-        Ok(found) => Ok(found),
-        Err(_) => Err(NoMemory),
-    }
+    let mut search = Search::new(alloc, task)?;
+    let _ = search.cost(offers);
+    let found = whole_of(alloc, &search, offers)?;
+    Ok(found)
 }

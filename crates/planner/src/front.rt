@@ -86,7 +86,7 @@ pub(crate) fn side(link: &Link, set: usize) -> usize
 }
 
 /// Whether an order begins with another.
-pub(crate) fn begins(order: &[Item], list: &[Item]) -> bool
+pub fn has_front(order: &[Item], list: &[Item]) -> bool
     ensures { result ≡ order_fronts.begins_test order.now list.now }
 {
     begins_with(order, list)
@@ -98,7 +98,7 @@ pub fn serves(order: &[Item], front: Front, list: &[Item]) -> bool
 {
     match front {
         Front::Any => true,
-        Front::Listed => begins(order, list),
+        Front::Listed => has_front(order, list),
         Front::Need(item) => !order.is_empty() && order[0] == item,
     }
 }

@@ -36,8 +36,9 @@ mod whole;
 
 pub use cut::{Cut, Merge};
 pub use found::{Found, least};
-pub use front::{Front, Link, can_sort, longer, serves};
+pub use front::{Front, Link, can_sort, has_front, longer, serves};
 pub use make::ways_of;
 pub use row::{cuts_at, merges_at};
 pub use search::Search;
 pub use ways::Ways;
+pub use whole::{final_cost, is_nil};

@@ -13,7 +13,7 @@ use crate::ways::Ways;
 use crate::whole::least_shape;
 use adv_base::NoMemory;
 use plan_model::{Offers, Task};
-use std::alloc::{AllocError, Global};
+use std::alloc::Global;
 
 /// A search of least plans of one task, over any offers. What depends on the task alone is found when it is made, and each
 /// call of `cost` fills the search's own table in place.
@@ -37,8 +37,8 @@ fn first_set(slot: u8) -> usize
 impl<'a> Search<'a> {
     ghost use Rattle.planner.specs.Tables.{Holds, HoldsBelow, task_of};
 
-    /// The search, or the want of memory as the allocator gives it.
-    pub(crate) fn made(alloc: Global, task: &'a Task) -> Result<Search<'a>, AllocError>
+    /// A search of least plans of the task. `NoMemory` is want of memory.
+    pub fn new(alloc: Global, task: &'a Task) -> Result<Search<'a>, NoMemory>
         ensures { IfOk result (λ search. task_of search ≡ task.now) }
     {
         let ways = ways_of(alloc, task)?;
@@ -46,16 +46,6 @@ impl<'a> Search<'a> {
         let row = blank_row(alloc, width)?;
         let cells = blank_rows(alloc, row.as_slice(), ways.task.rows.len())?;
         Ok(Search { ways, cells, row })
-    }
-
-    /// A search of least plans of the task. `NoMemory` is want of memory.
-    pub fn new(alloc: Global, task: &'a Task) -> Result<Search<'a>, NoMemory>
-        ensures { IfOk result (λ search. task_of search ≡ task.now) }
-    {
-        match Search::made(alloc, task) {
-            Ok(search) => Ok(search),
-            Err(_) => Err(NoMemory),
-        }
     }
 
     /// The task that is searched.

@@ -8,7 +8,7 @@ ghost use Rattle.planner.specs.Rows.{IsCapped, width, sets_of};
 ghost use Rattle.planner.specs.inner.Shapes as shapes;
 
 use crate::cell::{Cell, any_of, cost_of};
-use crate::front::begins;
+use crate::front::has_front;
 use crate::row::row_in;
 use crate::ways::Ways;
 use adv_base::Item;
@@ -31,14 +31,14 @@ fn cheaper(a: Shape, b: Shape) -> Shape
 }
 
 /// Whether a list is empty.
-fn is_nil(order: &[Item]) -> bool
+pub fn is_nil(order: &[Item]) -> bool
     ensures { result ≡ shapes.is_nil order.now }
 {
     order.is_empty()
 }
 
 /// What a final sort of rows costs, where there is one.
-fn final_cost(task: &Task, rows: u64, sorts: bool) -> u128
+pub fn final_cost(task: &Task, rows: u64, sorts: bool) -> u128
     requires some { 1 ≤ rows }
     requires most { rows ≤ 1000000000000 }
     ensures exact { result ≡ shapes.final_cost task.now rows sorts }
@@ -85,7 +85,7 @@ fn sorted_group(task: &Task, group: &[Item], row: &[Cell], rows: u64) -> Shape
     requires most { rows ≤ 1000000000000 }
     ensures { result ≡ shapes.sorted_shape task.now group.now row.now rows }
 {
-    let final_sort = !begins(group, task.order.as_slice());
+    let final_sort = !has_front(group, task.order.as_slice());
     let grouping = task.rates.group_cpu as u128 * rows as u128;
     let cost = any_of(row, 1) + grouping + final_cost(task, task.group_rows, final_sort);
     Shape {

@@ -1,11 +1,12 @@
 -- Lists of templates of a set of slots.
-use Rattle.std.specs.Prelude.{◌≡◌, ℕ, ◌+◌, ◌<◌, ◌≤◌, nat_le, ◌==◌, Bool, not, ◌&&◌, ◌⊎◌, if◌then◌else◌, List, [], length, AllPairs, slice_index_or}
+use Rattle.std.specs.Prelude.{◌≡◌, ℕ, zero, suc, ◌+◌, ◌<◌, ◌≤◌, nat_le, ◌==◌, Bool, true, false, ◌&&◌, ◌⊎◌, if◌then◌else◌, List, [], length, AllPairs, slice_index_or}
+use Rattle.std.specs.Cmp.Lexicographic.{slice_cmp}
+use Rattle.std.specs.Ordering.{is_lt, nat_cmp}
 use Rattle.adv_base.specs.Items.{Order, BeginsWith}
 use Rattle.plan_model.specs.declared.template.Template.{Template}
 use Rattle.plan_model.specs.Combinations.{Orders}
+use Rattle.planner.specs.Fronts.{begins_test}
 use Rattle.inum_cache.specs.Numbering.{order_in}
-use Rattle.inum_cache.specs.Templates.{StandsBefore}
-use Rattle.inum_cache.specs.inner.Keeping.{begins, any_below}
 use Rattle.inum_cache.specs.inner.Pricing.{least_below}
 
 abbrev pub place_at : Template → ℕ → ℕ
@@ -15,13 +16,15 @@ place_at template slot = slice_index_or template.needs slot 0
 abbrev pub asks : List (List Order) → Template → ℕ → Order
 asks orders template slot = order_in orders slot (place_at template slot)
 
--- whether the order that a template needs of a slot is no front of the combination's
-abbrev pub misses : List (List Order) → Orders → Template → ℕ → Bool
-misses orders needs template slot = not (begins (needs slot) (asks orders template slot))
+-- whether a template needs of each slot below n a front of what the combination has
+abbrev pub fits_below : List (List Order) → Orders → Template → ℕ → Bool
+fits_below orders needs template zero = true
+fits_below orders needs template (suc n) =
+    fits_below orders needs template n && begins_test (needs n) (asks orders template n)
 
--- whether a template needs of each slot a front of what the combination has
+-- whether it does of all slots
 abbrev pub does_fit : List (List Order) → Orders → Template → Bool
-does_fit orders needs template = not (any_below (misses orders needs template) (length orders))
+does_fit orders needs template = fits_below orders needs template (length orders)
 
 -- the same as a fact
 pub record Fits (orders : List (List Order)) (needs : Orders) (template : Template) : Type 0 where
@@ -56,10 +59,18 @@ IsAmong cell template = (number : ℕ) × (number < length cell) × (template_at
 abbrev pub NeedsSame : Template → Template → Type 0
 NeedsSame one other = (slot : ℕ) → place_at one slot ≡ place_at other slot
 
+-- neither of two templates replaces the other
+abbrev pub AreApart : List (List Order) → Template → Template → Type 0
+AreApart orders one other = ¬ Replaces orders one other × ¬ Replaces orders other one
+
+-- the places of what the second template needs don't stand before those of the first
+abbrev pub Precedes : Template → Template → Type 0
+Precedes first second = is_lt (slice_cmp nat_cmp second.needs first.needs) ≡ false
+
 -- no template of the list replaces another, and they stand in order
 pub record IsThin (orders : List (List Order)) (cell : List Template) : Type 0 where
-  pub none : AllPairs (λ one other. ¬ Replaces orders one other × ¬ Replaces orders other one) cell
-  pub in_order : AllPairs StandsBefore cell
+  pub none : AllPairs (AreApart orders) cell
+  pub in_order : AllPairs Precedes cell
 
 -- The list was given templates: all that is new in it was given, and whatever was in it or was given is replaced, perhaps
 -- by itself.

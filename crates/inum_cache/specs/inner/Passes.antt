@@ -1,6 +1,6 @@
 -- What one pass over the sets of slots gives to the list of templates of a set and a front.
-use Rattle.std.specs.Prelude.{◌≡◌, ℕ, ◌^◌, ◌<◌, nat_lt, ◌==◌, Bool, true, false, not, ◌&&◌, ◌||◌, ◌⊎◌, List, [], length, map, All, Some, None, slice_index_or}
-use Rattle.std.specs.List.{list_all, list_any}
+use Rattle.std.specs.Prelude.{◌≡◌, ℕ, ◌^◌, ◌<◌, true, false, ◌⊎◌, List, [], length, map, take, All, Some, None, slice_index_or}
+use Rattle.std.specs.List.{list_all}
 use Rattle.adv_base.specs.Items.{Order}
 use Rattle.adv_base.specs.Offers.{OfferTable}
 use Rattle.adv_base.specs.Sets.{has_slot}
@@ -11,9 +11,8 @@ use Rattle.plan_model.specs.Costs.{rows_in, sort_cost}
 use Rattle.plan_model.specs.Exchange.{choice}
 use Rattle.planner.specs.declared.cut.Cut.{Cut}
 use Rattle.planner.specs.declared.cut.Merge.{Merge}
-use Rattle.planner.specs.declared.front.Link.{Link}
 use Rattle.planner.specs.declared.ways.Ways.{Ways}
-use Rattle.planner.specs.Fronts.{begins_test, head_at, longer_front, meet}
+use Rattle.planner.specs.Fronts.{begins_test, head_at, longer_front}
 use Rattle.planner.specs.Cuts.{cut_at, merge_at, is_covered}
 use Rattle.planner.specs.Rows.{width, order_of, cuts_of, merges_in}
 use Rattle.planner.specs.inner.Built.{IsPlanFor}
@@ -73,15 +72,6 @@ SortGives ways set f input template =
     (0 < f) × (list_all (is_column_of set) (order_of ways f) ≡ true)
     × RaiseGives input (sort_cost ways.task.now.rates (rows_in ways.task.now set)) template
 
--- Whether a link asks for a front by one of its ends, and has the other outside a set. What a set lacks, its parts lack.
-abbrev pub asks_across : Link → ℕ → ℕ → Bool
-asks_across link set f =
-    (link.left_front == f) && not (meet set link.right) || (link.right_front == f) && not (meet set link.left)
-
--- whether a front may be wanted of plans of a set: one of the first two, or what a link asks for that leads out of the set
-abbrev pub is_wanted : Ways → ℕ → ℕ → Bool
-is_wanted ways set f = nat_lt f 2 || list_any (λ link. asks_across link set f) ways.links.items
-
 -- all that a list of a set and a front is given; `input` is the set's list for no order
 abbrev pub IsGiven : Ways → List (List Order) → (ℕ → List (List Template)) → List Template → ℕ → ℕ → Template → Type 0
 IsGiven ways orders rows input set f template =
@@ -100,12 +90,12 @@ pub record IsFor (ways : Ways) (orders : List (List Order)) (set f : ℕ) (templ
   pub reads : (slot : ℕ) → has_slot set slot ≡ true → choice plan slot ≡ place_at template slot
   pub others : (slot : ℕ) → has_slot set slot ≡ false → place_at template slot ≡ 0
 
--- the lists of a set: each that is wanted keeps what it was given, and all in it are of plans
+-- the lists of a set: each keeps what it was given, and all in it are of plans
 pub record IsRowOf (ways : Ways) (orders : List (List Order)) (rows : ℕ → List (List Template)) (set : ℕ) (row : List (List Template)) : Type 0 where
   pub blank : is_covered ways.covered.items set ≡ false → row ≡ []
-  pub takes : (f : ℕ) → f < width ways → is_wanted ways set f ≡ true → Takes orders (IsGiven ways orders rows (cell_in row 0) set f) [] (cell_in row f)
+  pub takes : (f : ℕ) → f < width ways → Takes orders (IsGiven ways orders rows (cell_in row 0) set f) [] (cell_in row f)
   pub plans : (f : ℕ) → All (IsFor ways orders set f) (cell_in row f)
 
--- the rows of the first n sets
-pub record AreRowsOf (ways : Ways) (orders : List (List Order)) (rows : ℕ → List (List Template)) (n : ℕ) : Type 0 where
-  pub each : (s : ℕ) → s < n → IsRowOf ways orders rows s (rows s)
+-- the rows of the first n sets, each by the rows before it
+pub record AreRowsOf (ways : Ways) (orders : List (List Order)) (rows : List (List (List Template))) (n : ℕ) : Type 0 where
+  pub each : (s : ℕ) → s < n → IsRowOf ways orders (row_in (take s rows)) s (row_in rows s)

@@ -1,5 +1,6 @@
 use Rattle.inum_cache.proofs.Kept.{are-kept}
-use Rattle.inum_cache.proofs.Made.{in-order, plain-is-in}
+use Rattle.inum_cache.proofs.Made.{plain-is-in}
+use Rattle.inum_cache.proofs.Thinning.{in-order}
 use Rattle.inum_cache.proofs.building.made.Goals as goal
 
 pub invariant_of-result : goal.invariant_of-result
@@ -17,7 +18,7 @@ returns c =
       slots = are.count;
       orders = are.each;
       kept = are-kept task orders are templates made.enough made.thin.none;
-      in_order = in-order templates made.thin.in_order;
+      in_order = in-order orders templates made.thin;
       internal = plain.0;
       plain = plain.1;
     }

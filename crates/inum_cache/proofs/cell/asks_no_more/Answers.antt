@@ -1,9 +1,12 @@
-use Rattle.std.proofs.Common.{length, not, ap, sym, arith, ◌∙◌}
-use Rattle.inum_cache.specs.inner.Cells.{asks, misses}
-use Rattle.inum_cache.proofs.Testing.{any_below-at}
+use Rattle.std.proofs.Common.{ap, sym, ◌∙◌}
+use Rattle.adv_base.specs.Items.{Order}
+use Rattle.planner.specs.Fronts.{begins_test}
+use Rattle.inum_cache.specs.inner.Cells.{asks}
+use Rattle.inum_cache.proofs.Fitting.{fits-not}
 use Rattle.inum_cache.proofs.cell.asks_no_more.Goals as goal
 
-pub returns-then-misses : goal.returns-then-misses
-returns-then-misses c =
-    let orders = c.args.choices.now.orders in
-    sym (ap not (any_below-at (misses orders (asks orders c.args.other.now) c.args.one.now) (length orders) c.loop-slot.slot (omega (arith, c.slots-slot-end.ensures)) (sym c.misses.ensures ∙ c.if-misses.true)))
+pub returns-then-not-has_front : goal.returns-then-not-has_front
+returns-then-not-has_front c =
+    let needs = asks c.args.choices.now.orders c.args.other.now in
+    let slot = c.loop-slot.slot in
+    sym (fits-not c.args.choices.now.orders needs c.args.one.now slot (ap (begins_test (needs slot)) (sym c.order-front.ensures) ∙ ap (λ (o : Order). begins_test o c.order-front.result.now) (sym c.order.ensures) ∙ sym c.if-not-has_front.ensures))

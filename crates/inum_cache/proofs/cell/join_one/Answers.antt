@@ -1,8 +1,8 @@
-use Rattle.std.proofs.Common.{◌<◌, length, subst, arith}
+use Rattle.std.proofs.Common.{◌<◌, length, sym, ◌∙◌, subst, arith}
 use Rattle.std.proofs.lemmas.List.{get_or_default}
 use Rattle.plan_model.specs.declared.template.Template.{Template}
 use Rattle.inum_cache.specs.inner.Cells.{template_at, no_template, IsJoined}
-use Rattle.inum_cache.proofs.Taking.{joined-like, takes-all, takes-like, takes-more, takes-start}
+use Rattle.inum_cache.proofs.Taking.{like-replaces, takes-all, takes-like, takes-more, takes-start}
 use Rattle.inum_cache.proofs.cell.join_one.Goals as goal
 
 pub loop-other-init : goal.loop-other-init
@@ -19,7 +19,7 @@ loop-other-preserved c =
     let is = get_or_default right j _ no_template within in
     let made = subst (λ (x : Template). IsJoined left x c.args.price c.joined.result) is c.joined.ensures in
     takes-more orders (λ k t. IsJoined left (template_at right k) c.args.price t) j c.args.cell.now.items c.loop-other.cell.items c.insert.new.cell.items c.loop-other.invariant
-    (takes-like orders (IsJoined left (template_at right j) c.args.price) c.loop-other.cell.items c.insert.new.cell.items c.joined.result made (λ t h. joined-like orders left (template_at right j) c.joined.result t c.args.price made h) c.in_ok-insert.ensures)
+    (takes-like orders (IsJoined left (template_at right j) c.args.price) c.loop-other.cell.items c.insert.new.cell.items c.joined.result made (λ t h. like-replaces orders c.joined.result t (made.costs ∙ sym h.costs) (λ slot. made.needs slot ∙ sym (h.needs slot))) c.in_ok-insert.ensures)
 
 pub returns : goal.returns
 returns c =

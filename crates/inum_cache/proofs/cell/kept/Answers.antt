@@ -1,9 +1,8 @@
-use Rattle.std.proofs.Common.{◌≡◌, ◌<◌, List, [], length, sym, ◌∙◌, subst, arith}
+use Rattle.std.proofs.Common.{◌≡◌, ◌<◌, inl, inr, List, [], length, get_or, sym, ◌∙◌, subst, arith}
 use Rattle.std.proofs.lemmas.List.{get_or_default}
 use Rattle.plan_model.specs.declared.template.Template.{Template}
-use Rattle.inum_cache.specs.inner.Cells.{template_at, no_template, IsThin, SomeBelow, Takes}
+use Rattle.inum_cache.specs.inner.Cells.{template_at, no_template, IsThin, Precedes, SomeBelow, Takes}
 use Rattle.inum_cache.proofs.Taking.{takes-all, takes-more, takes-same, takes-start}
-use Rattle.inum_cache.proofs.Thinning.{thin-none}
 use Rattle.inum_cache.proofs.cell.kept.Goals as goal
 
 pub loop-template-init : goal.loop-template-init
@@ -12,7 +11,23 @@ loop-template-init c =
     let none = c.new-templates.ensures.items in
     record {
       takes = subst (λ (xs : List Template). Takes orders (SomeBelow 0 (λ k t. template_at c.args.cell.now k ≡ t)) [] xs) (sym none) (takes-start orders (λ k t. template_at c.args.cell.now k ≡ t) []);
-      thin = subst (IsThin orders) (sym none) (thin-none orders);
+      thin = subst (IsThin orders) (sym none) (record { none = λ i j d less within. absurd (omega (arith, within)); in_order = λ i j d less within. absurd (omega (arith, within)) });
+    }
+
+pub keep-requires : goal.keep-requires
+keep-requires c =
+    let cell = c.args.cell.now in
+    let kept = c.loop-template.templates.items in
+    let k = c.loop-template.template-index in
+    let within : k < length cell = omega (arith, c.loop-template-test.true, c.loop-template.auto.template-index-end) in
+    let is = get_or_default cell k _ no_template within in
+    record {
+      thin = c.loop-template.invariant.thin;
+      behind = λ i d inside.
+          elim (c.loop-template.invariant.takes.from i inside) [
+            | inl old ↦ absurd (omega (arith, old.1))
+            | inr w ↦ subst (λ (x : Template). Precedes (get_or kept i d) x) (sym is) (subst (λ (x : Template). Precedes x (template_at cell k)) (w.2 ∙ sym (get_or_default kept i d no_template inside)) (c.requires w.0 k no_template w.1 within))
+          ];
     }
 
 pub loop-template-preserved : goal.loop-template-preserved

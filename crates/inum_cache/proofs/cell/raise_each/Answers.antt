@@ -1,8 +1,8 @@
-use Rattle.std.proofs.Common.{◌<◌, length, subst, arith}
+use Rattle.std.proofs.Common.{◌<◌, length, sym, ◌∙◌, subst, arith}
 use Rattle.std.proofs.lemmas.List.{get_or_default}
 use Rattle.plan_model.specs.declared.template.Template.{Template}
 use Rattle.inum_cache.specs.inner.Cells.{template_at, no_template, IsRaised}
-use Rattle.inum_cache.proofs.Taking.{raised-like, takes-all, takes-like, takes-more, takes-start}
+use Rattle.inum_cache.proofs.Taking.{like-replaces, takes-all, takes-like, takes-more, takes-start}
 use Rattle.inum_cache.proofs.cell.raise_each.Goals as goal
 
 pub loop-template-init : goal.loop-template-init
@@ -18,7 +18,7 @@ loop-template-preserved c =
     let is = get_or_default from i _ no_template within in
     let made = subst (λ (x : Template). IsRaised x c.args.price c.raised.result) is c.raised.ensures in
     takes-more orders (λ k t. IsRaised (template_at from k) c.args.price t) i c.args.cell.now.items c.loop-template.cell.items c.insert.new.cell.items c.loop-template.invariant
-    (takes-like orders (IsRaised (template_at from i) c.args.price) c.loop-template.cell.items c.insert.new.cell.items c.raised.result made (λ t h. raised-like orders (template_at from i) c.raised.result t c.args.price made h) c.in_ok-insert.ensures)
+    (takes-like orders (IsRaised (template_at from i) c.args.price) c.loop-template.cell.items c.insert.new.cell.items c.raised.result made (λ t h. like-replaces orders c.raised.result t (made.costs ∙ sym h.costs) (λ slot. made.needs slot ∙ sym (h.needs slot))) c.in_ok-insert.ensures)
 
 pub returns : goal.returns
 returns c =

@@ -9,9 +9,8 @@ returns-clause-cached g c = λ task is.
     let cache = c.args.self.now in
     let table = g.O.Offers.table c.args.offers.now in
     let all : c.loop-k.k ≡ length cache.templates = omega (arith, c.loop-k-test.false, c.loop-k.auto, ap length c.as_slice-templates.ensures) in
-    cached-by task table cache.choices.orders cache.templates is.internal c.loop-k.least c.limits.ensures
-    (record { count = is.slots; each = is.orders }) c.requires cache.fit is.plain
-    (c.loop-k.invariant ∙ ap (least_cost table cache.choices.orders cache.templates) all)
+    cached-by task table cache.choices.orders cache.templates c.limits.ensures (record { count = is.slots; each = is.orders }) is.internal c.requires cache.fit is.plain c.loop-k.least
+    (c.loop-k.invariant.least ∙ ap (least_cost table cache.choices.orders cache.templates) all)
 
 pub returns-clause-least : goal.returns-clause-least
 returns-clause-least g c = λ task is.

@@ -11,7 +11,7 @@ pub join-requires-clause-small : goal.join-requires-clause-small
 join-requires-clause-small c =
     let self = c.args.self.now in
     let orders = self.choices.now.orders in
-    rows-small self.ways orders c.args.rows.now (every-limits orders self.choices.now.own) (subst (AreRowsOf self.ways orders (row_in c.args.rows.now)) (sym c.requires.count) c.requires.done)
+    rows-small self.ways orders c.args.rows.now (every-limits orders self.choices.now.own) (subst (AreRowsOf self.ways orders c.args.rows.now) (sym c.requires.count) c.requires.done)
 
 pub sort-requires-clause-small : goal.sort-requires-clause-small
 sort-requires-clause-small c =
@@ -32,5 +32,5 @@ returns c =
     let takes = subst (λ (xs : List Template). Takes orders (IsGiven ways orders rows c.args.input.now set front) xs c.join.new.cell.items) c.new-cell.ensures.items all in
     record {
       takes = takes;
-      plans = cell-for c.args.alloc ways orders rows set c.requires.set_in c.requires.done front c.requires.front_in c.args.input.now c.requires.input c.join.new.cell.items takes;
+      plans = cell-for c.args.alloc ways orders rows set c.requires.set_in (λ s less. (c.requires.done.each s less).plans) front c.requires.front_in c.args.input.now c.requires.input c.join.new.cell.items takes;
     }

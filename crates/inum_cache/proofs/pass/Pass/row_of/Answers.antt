@@ -1,7 +1,7 @@
-use Rattle.std.proofs.Common.{◌≡◌, ◌+◌, ◌++◌, ◌∷◌, [], List, All, true, sym, ap, ◌∙◌, subst, arith}
+use Rattle.std.proofs.Common.{◌≡◌, ◌+◌, ◌++◌, ◌∷◌, [], List, All, sym, ap, ◌∙◌, subst, arith}
 use Rattle.plan_model.specs.declared.template.Template.{Template}
 use Rattle.inum_cache.specs.inner.Cells.{Takes}
-use Rattle.inum_cache.specs.inner.Passes.{cell_in, row_in, is_wanted, IsFor, IsGiven, IsRowOf}
+use Rattle.inum_cache.specs.inner.Passes.{cell_in, row_in, IsFor, IsGiven, IsRowOf}
 use Rattle.inum_cache.proofs.Rowing.{AreCells, cells-push, first-cell, row-is, row-none}
 use Rattle.inum_cache.proofs.pass.Pass.row_of.Goals as goal
 
@@ -18,8 +18,8 @@ loop-front-init c =
     let row : c.push.new.self.items ≡ c.in_ok-first.first ∷ [] = c.in_ok-push.ensures.items ∙ ap (λ (xs : List (List Template)). xs ++ c.in_ok-first.first ∷ []) c.new-row.ensures.items in
     subst (λ (xs : List (List Template)). AreCells self.ways orders rows c.args.set xs 1) (sym row) (first-cell self.ways orders rows c.args.set c.in_ok-first.first c.in_ok-first.ensures.takes c.in_ok-first.ensures.plans)
 
-pub wanted_cell-requires : goal.wanted_cell-requires
-wanted_cell-requires c =
+pub cell_of-requires-in-loop-front : goal.cell_of-requires-in-loop-front
+cell_of-requires-in-loop-front c =
     let self = c.args.self.now in
     let row = c.loop-front.row.items in
     let input : c.cell_at-input.result.now ≡ cell_in row 0 = c.cell_at-input.ensures ∙ ap (λ (r : List (List Template)). cell_in r 0) c.as_slice.ensures.value in
@@ -40,7 +40,7 @@ loop-front-preserved c =
     let front = c.loop-front.front in
     let row = c.loop-front.row.items in
     let input : c.cell_at-input.result.now ≡ cell_in row 0 = c.cell_at-input.ensures ∙ ap (λ (r : List (List Template)). cell_in r 0) c.as_slice.ensures.value in
-    let takes = λ (wanted : is_wanted self.ways c.args.set front ≡ true). subst (λ (x : List Template). Takes orders (IsGiven self.ways orders rows x c.args.set front) [] c.in_ok-cell.cell) input (c.in_ok-cell.ensures.takes wanted) in
+    let takes = subst (λ (x : List Template). Takes orders (IsGiven self.ways orders rows x c.args.set front) [] c.in_ok-cell.cell) input c.in_ok-cell.ensures.takes in
     subst (λ (xs : List (List Template)). AreCells self.ways orders rows c.args.set xs (front + 1)) (sym c.in_ok-push-2.ensures.items)
     (cells-push self.ways orders rows c.args.set row c.in_ok-cell.cell front (omega (arith, c.loop-front.auto.front)) c.loop-front.invariant takes c.in_ok-cell.ensures.plans)
 

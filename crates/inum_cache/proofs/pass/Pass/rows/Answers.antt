@@ -1,4 +1,4 @@
-use Rattle.std.proofs.Common.{◌≡◌, ◌+◌, ◌<◌, List, length, ◌∙◌, ap, sym, subst, arith}
+use Rattle.std.proofs.Common.{◌≡◌, ◌+◌, List, length, ◌∙◌, ap, sym, subst, arith}
 use Rattle.std.proofs.lemmas.List.{length_push}
 use Rattle.plan_model.specs.declared.template.Template.{Template}
 use Rattle.planner.specs.Rows.{sets_of}
@@ -17,7 +17,7 @@ row_of-requires c =
     record {
       set_in = omega (arith, c.loop-set-test.true, c.loop-set.auto.set-end, c.len-set-end.ensures);
       count = ap length is ∙ c.loop-set.invariant.count;
-      done = subst (λ (rows : List (List (List Template))). AreRowsOf self.ways self.choices.now.orders (row_in rows) c.loop-set.set) (sym is) c.loop-set.invariant.done;
+      done = subst (λ (rows : List (List (List Template))). AreRowsOf self.ways self.choices.now.orders rows c.loop-set.set) (sym is) c.loop-set.invariant.done;
     }
 
 pub loop-set-preserved : goal.loop-set-preserved
@@ -27,11 +27,10 @@ loop-set-preserved c =
     let set = c.loop-set.set in
     let rows = c.loop-set.rows.items in
     let row = c.in_ok-row.row in
-    let within : set < sets_of self.ways = omega (arith, c.loop-set-test.true, c.loop-set.auto.set-end, c.len-set-end.ensures) in
     let here = subst (λ (xs : List (List (List Template))). IsRowOf self.ways orders (row_in xs) set row) c.as_slice.ensures.value c.in_ok-row.ensures in
     record {
       count = ap length c.in_ok-push.ensures.items ∙ length_push rows row ∙ ap (λ n. n + 1) c.loop-set.invariant.count;
-      done = subst (λ (xs : List (List (List Template))). AreRowsOf self.ways orders (row_in xs) (set + 1)) (sym c.in_ok-push.ensures.items) (rows-push self.ways orders rows row set within c.loop-set.invariant.count c.loop-set.invariant.done here);
+      done = subst (λ (xs : List (List (List Template))). AreRowsOf self.ways orders xs (set + 1)) (sym c.in_ok-push.ensures.items) (rows-push self.ways orders rows row set c.loop-set.invariant.count c.loop-set.invariant.done here);
     }
 
 pub returns : goal.returns
@@ -41,5 +40,5 @@ returns c =
     let same : c.loop-set.set ≡ sets_of self.ways = omega (arith, c.loop-set-test.false, c.loop-set.auto.set-end, c.len-set-end.ensures) in
     record {
       count = all ∙ same;
-      done = subst (AreRowsOf self.ways self.choices.now.orders (row_in c.loop-set.rows.items)) same c.loop-set.invariant.done;
+      done = subst (AreRowsOf self.ways self.choices.now.orders c.loop-set.rows.items) same c.loop-set.invariant.done;
     }

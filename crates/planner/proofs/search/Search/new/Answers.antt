@@ -1,6 +1,6 @@
 use Rattle.std.proofs.Common.{◌*◌, length, ap, ◌∙◌}
 use Rattle.planner.proofs.Tabling.{blank_table}
-use Rattle.planner.proofs.search.Search.made.Goals as goal
+use Rattle.planner.proofs.search.Search.new.Goals as goal
 
 pub invariant_of-result : goal.invariant_of-result
 invariant_of-result c =
