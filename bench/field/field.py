@@ -8,6 +8,7 @@ from __future__ import annotations
 
 import argparse
 import json
+import random
 import signal
 import sys
 import time
@@ -130,9 +131,10 @@ class Field:
         kept(file, found, **more, calls_of={it.name: it.calls for it in self.statements})
 
     def again(self) -> None:
-        """A further round under all indexes that were chosen before."""
+        """A further round under all indexes that were chosen before, in an order of its own."""
         done: dict[frozenset[str], Measured] = {}
-        for file in sorted(self.folder.glob("*.json")):
+        files = sorted(self.folder.glob("*.json"))
+        for file in random.sample(files, len(files)):
             result = json.loads(file.read_text())
             key = frozenset(result["pages"])
             if key not in done:

@@ -268,6 +268,16 @@ class Advise(unittest.TestCase):
         told = r"it saves [\d.]+ % by our model, [\d.]+ % by the server's planner; 30 % are asked for\Z"
         self.assertTrue(why and all(re.match(told, it) for it in why), why)
 
+    def test_what_saves_less_than_planning_takes_longer_is_left_out(self) -> None:
+        found = self.advise("--planning", "1000000", status=3)
+        self.assertEqual((found["picks"], found["options"]["planning"]), ([], 1e6))
+        why = {it["why"] for it in found["left_out"] if it["table"] == "sales_orders"}
+        self.assertEqual(why, {"it saves less time than planning and writing take longer for it"})
+        found = self.advise("--planning", "0")
+        self.assertEqual([it["table"] for it in found["picks"]], [it["table"] for it in self.first["picks"]])
+        words = ("advise", "--sql", str(self.sql), "--budget", "1MB", "--planning", "-1")
+        self.assertIn("argument --planning: invalid", self.call(*words, status=2).stderr)
+
     def test_statements_are_chosen_by_calls_tables_and_users(self) -> None:
         found = self.advise("--min-calls", "2")
         self.assertEqual([it["line"] for it in found["statements"]], [3])

@@ -11,7 +11,7 @@ from typing import Any
 
 from cophy_lint.checks import catalogue_remarks, lines, workload_remarks
 from cophy_text import files
-from cophy_text.answers import Advice, Prices, read_advice, read_candidates
+from cophy_text.answers import Advice, Candidate, Prices, read_advice, read_candidates
 from cophy_pg import export, folder, inputs, unlimited
 from cophy_pg.advise_words import add_words
 from cophy_pg.beside import Beside
@@ -29,7 +29,8 @@ from cophy_pg.outcomes import Verdict, outcomes
 from cophy_pg.overview import lines_of
 from cophy_pg.page import NoReport, page_of
 from cophy_pg.picks import home_of
-from cophy_pg.plans import costs_without, plans_of
+from cophy_pg.planning import DEAR, Planning, dear_picks
+from cophy_pg.plans import Plan, costs_without, plans_of, under
 from cophy_pg.program import NoCommand, Program, program_file
 from cophy_pg.progress import say
 from cophy_pg.ranking import rank
@@ -222,6 +223,7 @@ class Run:
                 "since": words.since,
                 "min_calls": words.min_calls,
                 "min_saving": words.min_saving,
+                "planning": words.planning,
                 "most_per_table": words.most_per_table,
                 "include": words.include,
                 "long_columns": words.long_columns,
@@ -285,7 +287,8 @@ class Run:
         each pick has to save so much by our model, nothing is added."""
         exchange = self.searches.exchange(schema, self.rules)
         for _ in range(0 if self.words.min_saving else ADDITIONS):
-            beside = Beside(choice, judged.verdicts, exchange, workload.divisor)
+            planning = Planning(schema, judged.verdicts, self.words.planning)
+            beside = Beside(choice, judged.verdicts, exchange, workload.divisor, planning.longer)
             trades = []
             for it in beside.narrower():
                 users = self._asked(server, schema, workload, beside.with_trade(it), beside.users(it)).verdicts
@@ -321,8 +324,29 @@ class Run:
                 is_less = drop_by_server(choice, schema, judged.outcomes, self.rules.asks_for)
                 worth = partial(self._worth, server, schema, workload, choice.advice, judged.verdicts)
                 is_less |= drop_by_limits(choice, self.program, limits, self.steps, self.rules.asks_for, worth)
-            if not is_less:
+            if not is_less and not self._drop_dear(server, schema, workload.divisor, choice, judged.verdicts):
                 return judged
+
+    def _drop_dear(self, server: Server, schema: Schema, divisor: float, choice: Choice, found: list[Verdict]) -> bool:
+        """Leaves out what saves less time than planning and writing take longer for it; whether anything was."""
+
+        def ask(picks: list[Candidate], listed: list[Verdict]) -> dict[int, Plan]:
+            return under(server, schema, replace(choice.advice, picks=picks), listed, self.steps)
+
+        if not self.words.planning:
+            return False
+        planning = Planning(schema, found, self.words.planning)
+        with self.steps.step("planning", "leaving out what takes longer to plan than it saves"):
+            dear = dear_picks(
+                choice.advice.picks,
+                planning,
+                lambda number: divisor * self.searches.upkeep(number),
+                self.rules.asks_for,
+                ask,
+            )
+            for it in dear:
+                choice.drop(it, DEAR)
+        return bool(dear)
 
     def _asked(
         self, server: Server, schema: Schema, workload: Workload, advice: Advice, known: list[Verdict] | None = None

@@ -6,6 +6,7 @@ import argparse
 from cophy_pg import export, unlimited
 from cophy_pg.amounts import amount, whole
 from cophy_pg.clustering import add_clustering
+from cophy_pg.planning import MICROSECONDS
 from cophy_pg.program import add_program
 from cophy_pg.selection import add_selection, count
 from cophy_pg.server import add_connection
@@ -51,6 +52,14 @@ def _add_limits(parser: argparse.ArgumentParser) -> None:
         help="what each index has to save by our model, by the server's planner or of the measured time, whichever is the most",
     )
     parser.add_argument(
+        "--planning",
+        type=microseconds,
+        default=MICROSECONDS,
+        metavar="MICROSECONDS",
+        help="how much longer it takes to plan a statement for each index on a table that it reads: an index has to save more "
+        f"({MICROSECONDS:g}; 0 leaves none out for that)",
+    )
+    parser.add_argument(
         "--rules", metavar="FILE", help="what has to be made and what never may, as cophy-pg rules takes them"
     )
     parser.add_argument(
@@ -69,5 +78,12 @@ def _add_limits(parser: argparse.ArgumentParser) -> None:
 def percent(text: str) -> float:
     """A share from 0 to 100."""
     if not 0 <= float(text) <= 100:
+        raise ValueError
+    return float(text)
+
+
+def microseconds(text: str) -> float:
+    """A short time, at most a second."""
+    if not 0 <= float(text) <= 1e6:
         raise ValueError
     return float(text)

@@ -2,7 +2,7 @@
 that picks leave of which it takes the first columns alone."""
 from __future__ import annotations
 
-from collections.abc import Iterable, Mapping
+from collections.abc import Callable, Iterable, Mapping
 from dataclasses import dataclass, replace
 
 from cophy_text.answers import Advice, Candidate, explained
@@ -38,12 +38,13 @@ class Trade:
 @dataclass
 class Beside:
     """The picks that stay, with what the server's planner says of each statement under them. `divisor` is what calls were
-    divided by for the weights of our model."""
+    divided by for the weights of our model, and `longer` what planning takes longer for a candidate."""
 
     choice: Choice
     verdicts: list[Verdict]
     exchange: Exchange
     divisor: float = 1.0
+    longer: Callable[[Candidate], float] = lambda _: 0.0
 
     def __post_init__(self) -> None:
         self.chosen: Chosen = frozenset(it.number for it in self.choice.advice.picks)
@@ -124,13 +125,14 @@ class Beside:
         return self.exchange.sizes[trade.pick] - self.exchange.sizes[trade.other]
 
     def _worth(self, gains: Saved) -> Saved:
-        """Those that save enough, and much more than what they cost where rows are written, by our model: EXPLAIN takes pages
-        that lie in memory for dear, and counts no writes."""
+        """Those that save enough, more than planning takes longer for them, and much more than what they cost where rows are
+        written, by our model: EXPLAIN takes pages that lie in memory for dear, and counts no writes."""
         pricing = self.exchange.pricing
         least = LEAST * sum(it.calls * (it.before or 0.0) for it in self.verdicts)
         now, listed = pricing.cost(self.chosen), sorted(gains)
         costs = pricing.costs(self.chosen, [self.chosen | {it} for it in listed])
         upkeep = {it: WRITES * self.divisor * explained(max(0, cost - now)) for it, cost in zip(listed, costs)}
+        upkeep = {it: cost + self.longer(pricing.candidates[it]) for it, cost in upkeep.items()}
         return {it: gains[it] - upkeep[it] for it in listed if gains[it] - upkeep[it] > least}
 
     def _weak(self) -> list[int]:

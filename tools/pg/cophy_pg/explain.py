@@ -47,6 +47,11 @@ class Statement:
         """Whether it reads nothing."""
         return not self.text
 
+    def tables(self) -> set[int]:
+        """The numbers of the tables that it reads."""
+        named = {(it.schemaname, it.relname) for it in nodes_of(self.tree) if isinstance(it, ast.RangeVar)}
+        return {self.numbers[it] for it in named if it in self.numbers}
+
 
 def statement_of(text: str, path: tuple[str, ...] | None = None) -> Statement:
     """The statement that a text stands for, whose names a path or else the role's own looks up. Of one that writes it is

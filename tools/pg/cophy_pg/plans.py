@@ -3,7 +3,7 @@ from __future__ import annotations
 
 from collections.abc import Iterable
 from dataclasses import dataclass, field, replace
-from typing import Any
+from typing import Any, NamedTuple
 
 from cophy_text.answers import Advice, Candidate
 from cophy_pg.explain import Explainer
@@ -14,6 +14,13 @@ from cophy_pg.progress import Progress
 from cophy_pg.schema import Schema
 from cophy_pg.server import Server, ServerFault, reading
 from cophy_pg.workload import Workload
+
+
+class Plan(NamedTuple):
+    """What a call of a statement costs, and the picks that it takes, by their numbers."""
+
+    cost: float
+    taken: frozenset[int]
 
 
 @dataclass
@@ -69,6 +76,17 @@ def costs_without(
     with reading(server, "READ COMMITTED"):
         home_of(server)
         return _costs_without(Explainer(server, Columns()), schema, advice, pick, users, progress)
+
+
+def under(
+    server: Server, schema: Schema, advice: Advice, listed: Iterable[Verdict], progress: Progress
+) -> dict[int, Plan]:
+    """The plans of some statements under picks, by the numbers of their verdicts."""
+    with reading(server, "READ COMMITTED"):
+        _, made = make(server, schema, advice)
+        plans = _each(Explainer(server, Columns()), listed, progress)
+    taken = {at: frozenset(made[name] for name in index_names(it) if name in made) for at, it in plans.items()}
+    return {at: Plan(float(it["Total Cost"]), taken[at]) for at, it in plans.items()}
 
 
 def _costs_without(

@@ -72,6 +72,11 @@ class Pricing:
                 found[at] = self.weights[at] * it
         return found
 
+    def upkeep_of(self, number: int) -> int:
+        """What statements cost more with a candidate alone than without any."""
+        none, alone = (self.statement_costs(it) for it in (frozenset[int](), frozenset((number,))))
+        return sum(max(0, after - before) for before, after in zip(none, alone))
+
     def forget(self) -> None:
         """Forgets what was asked for."""
         for it in self._groups.values():

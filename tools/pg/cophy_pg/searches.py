@@ -5,7 +5,7 @@ import os
 from dataclasses import dataclass, field, replace
 
 from cophy_text import files
-from cophy_text.answers import Advice, Candidate, counted, read_advice
+from cophy_text.answers import Advice, Candidate, counted, explained, read_advice
 from cophy_text.rules import Rule, read_rule
 from cophy_text.shown import MOST_PAGES, grouped, space
 from cophy_pg import folder
@@ -142,6 +142,10 @@ class Searches:
         but = ["what was left out"] * bool(left_out) + ["what rules speak of"] * bool(rules.given)
         told = "by our model no other index that fits saves anything" + (f", but for {' or '.join(but)}" if but else "")
         return f"{space(left)} stay free: {told}"
+
+    def upkeep(self, number: int) -> float:
+        """What statements cost more for a candidate where rows are written, in units of EXPLAIN's cost."""
+        return explained(self._prices().upkeep_of(number))
 
     def _prices(self) -> Pricing:
         self.pricing = self.pricing or Pricing(self.program)
