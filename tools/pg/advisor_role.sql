@@ -1,10 +1,12 @@
 -- Makes the role cophy_advisor with the rights that `cophy-pg export` and `cophy-pg verify` need and no others, and the
--- extension hypopg in a schema of its own. To be run as a superuser, once in each database:
+-- extension hypopg in a schema of its own; says what pg_stat_statements lacks, with the lines that mend it. `cophy-pg setup`
+-- runs it, or a superuser does, once in each database:
 --
 --     psql -X -d DATABASE -f advisor_role.sql
+--     psql -X -d DATABASE -v statements=counted -f advisor_role.sql
 --     psql -X -d DATABASE -v tables=granted -f advisor_role.sql
 --
--- The second form lets the role read no table. Then grant it USAGE of the schemas and SELECT of the tables whose statements
+-- The second form makes the extension pg_stat_statements too, in a schema of its own. The third lets the role read no table. Then grant it USAGE of the schemas and SELECT of the tables whose statements
 -- are to be looked at; it is right where the tables of several applications, which mustn't read each other's, stand in one
 -- database. The role has no password: \password cophy_advisor gives it one. Statements are read with the role's own path:
 -- where the application has another than the database, ALTER ROLE cophy_advisor SET search_path gives it that.
@@ -12,9 +14,16 @@
 \if :{?tables} \else
     \set tables all
 \endif
+\if :{?statements} \else
+    \set statements kept
+\endif
 SET search_path TO pg_catalog, pg_temp;
+SET client_min_messages TO warning;
 SELECT NOT EXISTS (SELECT FROM pg_catalog.pg_roles WHERE rolname = 'cophy_advisor') AS is_new,
        :'tables' = 'all' AS reads_all,
+       :'statements' = 'counted' AND NOT EXISTS (
+           SELECT FROM pg_catalog.pg_extension WHERE extname = 'pg_stat_statements') AS makes_statements,
+       EXISTS (SELECT FROM pg_catalog.pg_namespace WHERE nspname = 'counted') AS has_counted,
        current_setting('server_version_num')::int >= 140000 AS has_read_all \gset
 BEGIN;
 
@@ -57,9 +66,9 @@ GRANT pg_read_all_stats TO cophy_advisor;
 DO $$
 BEGIN
     IF EXISTS (SELECT FROM pg_catalog.pg_extension WHERE extname = 'hypopg') THEN
-        RAISE NOTICE 'the extension hypopg is there, and stays in its schema';
+        NULL;
     ELSIF NOT EXISTS (SELECT FROM pg_catalog.pg_available_extensions WHERE name = 'hypopg') THEN
-        RAISE NOTICE 'the extension hypopg is not installed here, so that verify will not run';
+        RAISE WARNING 'the extension hypopg is not installed here, so that verify will not run';
     ELSE
         CREATE SCHEMA hypopg;
         CREATE EXTENSION hypopg SCHEMA hypopg;
@@ -69,5 +78,31 @@ SELECT n.nspname AS home FROM pg_catalog.pg_extension e JOIN pg_catalog.pg_names
 WHERE e.extname = 'hypopg'
 UNION ALL SELECT 'pg_catalog' LIMIT 1 \gset
 GRANT USAGE ON SCHEMA :"home" TO cophy_advisor;
+
+-- A schema that no other role owns, so that nobody may put another view in the place of the extension's.
+\if :makes_statements
+    \if :has_counted \else
+        CREATE SCHEMA counted;
+        GRANT USAGE ON SCHEMA counted TO PUBLIC;
+    \endif
+    CREATE EXTENSION pg_stat_statements SCHEMA counted;
+\endif
 COMMIT;
+
+SELECT NOT EXISTS (SELECT FROM pg_catalog.pg_extension WHERE extname = 'pg_stat_statements') AS lacks_statements,
+       loaded !~ '(^|[ ,"/])pg_stat_statements($|[ ,"])' AS is_unloaded,
+       (SELECT pg_catalog.string_agg(pg_catalog.quote_literal(pg_catalog.btrim(it, ' "')), ', ')
+        FROM pg_catalog.regexp_split_to_table(pg_catalog.concat_ws(',', nullif(loaded, ''), 'pg_stat_statements'), ',') AS it) AS wanted
+FROM pg_catalog.current_setting('shared_preload_libraries') AS loaded \gset
+\if :lacks_statements
+    \warn 'The extension pg_stat_statements is missing in' :DBNAME', so nobody knows its statements. A superuser makes it there:'
+    \warn '    CREATE SCHEMA counted; GRANT USAGE ON SCHEMA counted TO PUBLIC;'
+    \warn '    CREATE EXTENSION pg_stat_statements SCHEMA counted;'
+\endif
+\if :is_unloaded
+    \warn 'The server counts no statements until pg_stat_statements is loaded. Two lines do that; the second ends all connections:'
+    \warn '    sudo -u postgres psql -p' :PORT '-c "ALTER SYSTEM SET shared_preload_libraries =' :wanted'"'
+    \warn '    sudo systemctl restart postgresql'
+    \warn 'Then let the application run for a while.'
+\endif
 \echo the role cophy_advisor is ready in :DBNAME

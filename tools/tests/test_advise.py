@@ -34,7 +34,7 @@ UPDATE customer SET city = 'City 9' WHERE id = 12;
 SELECT name FROM customer WHERE no_function(city) = 1;
 """
 FILES = (
-    "advice.json advice.txt catalogue.toml certificate check.txt commands.txt curve.json export.txt indexes.sql kept.txt lint.txt "
+    "advice.json advice.txt catalogue.toml certificate check.txt commands.txt curve.json details.txt export.txt indexes.sql kept.txt lint.txt "
     "plans.json ruled.txt rules.txt summary.txt verify.json workload.sql"
 ).split()
 HAS_JINJA = importlib.util.find_spec("jinja2") is not None
@@ -178,8 +178,17 @@ class Advise(unittest.TestCase):
 
     def test_text_for_people(self) -> None:
         words = ("advise", "--sql", str(self.sql), "--budget", "2560", "--folder", str(self.folder))
-        text = self.call(*words).stdout
-        self.assertEqual(text, (self.folder / "summary.txt").read_text())
+        short = self.call(*words).stdout
+        self.assertEqual(short, (self.folder / "summary.txt").read_text())
+        self.assertRegex(
+            short, r"\AMake these \d+ indexes, [0-9.]+ MB: the workload then costs [\d.]+ % less by the server's"
+        )
+        self.assertRegex(short, r"\n 1\. +[\d.]+  +[\d.]+ %  sales_orders\(total\) +SELECT id FROM sales")
+        self.assertLessEqual(len(short.split()), 150)
+        before = (self.folder / "details.txt").read_text()
+        text = self.call(*words, "-v").stdout
+        self.assertEqual(text, (self.folder / "details.txt").read_text())
+        self.assertEqual(re.sub("advised in .*", "", text), re.sub("advised in .*", "", before))
         self.assertRegex(
             text, r"\A\d+ indexes to make, [0-9.]+ MB of 20\.0 MB: database 'shop', 5 of 5 statements; advised in "
         )
@@ -194,6 +203,7 @@ class Advise(unittest.TestCase):
         place = f"-h {self.server.folder} -p 5432 -d shop -U cophy -f {self.folder}/indexes.sql"
         command = f"let their owner run: psql -X {place}"
         self.assertEqual(text.splitlines()[-1], f"to make them in about 1 second, {command}")
+        self.assertEqual(short.splitlines()[-1], f"psql -X {place}")
 
     def test_what_no_plan_takes_is_left_out(self) -> None:
         self.sql.write_text(QUERIES + "SELECT id FROM product WHERE stock > 0;\n")
@@ -223,7 +233,7 @@ class Advise(unittest.TestCase):
         few = {**os.environ, "STAND_IN_MOST": "1"}
         said = subprocess.run(ruled, capture_output=True, check=True, env=few).stdout
         self.assertEqual(said, (self.folder / "ruled.txt").read_bytes())
-        summary = (self.folder / "summary.txt").read_text()
+        summary = (self.folder / "details.txt").read_text()
         gap = "most of the gap is customer(name): no plan of the server takes it"
         self.assertIn(f"cost less than the bound; {gap}", summary)
         self.assertEqual(found["gap"], {"index": "customer(name)", "why": "no plan of the server takes it"})
@@ -237,7 +247,7 @@ class Advise(unittest.TestCase):
         picks = {f"{it['table']}({', '.join(it['columns'])})": it["outcome"] for it in found["picks"]}
         self.assertEqual(picks.get("product(stock)"), "not taken")
         self.assertNotIn("sales_orders(total)", picks)
-        summary = (self.folder / "summary.txt").read_text()
+        summary = (self.folder / "details.txt").read_text()
         self.assertIn("a rule asks for it, no plan takes it", summary)
         if HAS_JINJA:
             self.assertIn("A rule asks for it", (self.folder / "report.html").read_text())
@@ -300,7 +310,8 @@ class Advise(unittest.TestCase):
     def test_statuses(self) -> None:
         self.sql.write_text("SELECT id FROM customer WHERE id = 3;\n")
         self.assertEqual(self.advise(status=3)["picks"], [])
-        self.assertIn("no index is worth making: database 'shop'", (self.folder / "summary.txt").read_text())
+        self.assertIn("No index is worth making for 'shop', judged by", (self.folder / "summary.txt").read_text())
+        self.assertIn("no index is worth making: database 'shop'", (self.folder / "details.txt").read_text())
         words = ("advise", "--sql", str(self.sql), "--folder", str(self.folder), "--budget")
         for budget in ("2PB", "-1", "lots"):
             self.assertIn("is no amount of space", self.call(*words, budget, status=2).stderr)

@@ -162,15 +162,16 @@ class FirstPage(unittest.TestCase):
 
     def test_it_is_read_in_less_than_two_minutes_and_has_all_commands(self) -> None:
         page, _ = (ROOT / "docs/POSTGRES.md").read_text().split("\nThat is all that is needed.")
-        self.assertLessEqual(len(page.split()), 250)
-        places = [
-            page.index(it)
-            for it in ("apt-get", "advisor_role.sql", ".pgpass", "advise --budget 2GB --min", "psql -X -U")
-        ]
+        before, result, _ = page.rsplit("```\n", 2)
+        self.assertLessEqual(len(before.split()), 150)
+        self.assertLessEqual(len(result.split()), 150)
+        places = [page.index(it) for it in ("apt-get", "cophy-pg setup", "advise --budget 2GB", "undo=1")]
         self.assertEqual(places, sorted(places))
-        minutes = re.search(r"first call takes some (\d+) minutes", (ROOT / "README.md").read_text())
-        assert minutes is not None
-        self.assertIn(f"some {minutes[1]} minutes on four processors", page)
+
+    def test_the_readme_leads_an_administrator_there_at_once(self) -> None:
+        first = (ROOT / "README.md").read_text().split("\n\n")[1]
+        self.assertIn("(docs/POSTGRES.md)", first)
+        self.assertLessEqual(len(first.split()), 50)
 
     def test_no_line_is_wider_than_a_screen(self) -> None:
         text = FENCED.sub("", (ROOT / "docs/POSTGRES.md").read_text())

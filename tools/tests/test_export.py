@@ -267,7 +267,9 @@ class Export(OverShop):
     def test_without_the_extension_it_says_who_makes_it(self) -> None:
         ran = called(self.server, "export", *map(str, self.files[:2]), database="postgres")
         self.assertEqual(ran.returncode, 1)
-        self.assertIn("let a superuser CREATE EXTENSION pg_stat_statements in this database, or give", ran.stderr)
+        self.assertIn(
+            "CREATE EXTENSION pg_stat_statements SCHEMA counted; (cophy-pg setup does it); or give", ran.stderr
+        )
 
     def test_odd_names_and_bytes_break_no_file(self) -> None:
         name = "odd \"'\\ \n[[table]] # \u00fc"

@@ -273,9 +273,15 @@ class Made(OverTables):
                 self.assertEqual(self.server.value(clusters, "laid"), "1")
                 self.run_script(text, "-v", "undo=1")
                 self.assertEqual(self.server.value(clusters, "laid"), "0")
+                numbers = f"SELECT array_agg(indexrelid::oid) FROM pg_index WHERE indrelid = $q${QUOTED}.{QUOTED}$q$::regclass"
+                before = self.server.value(numbers, "laid")
                 self.server.psql(plain, "laid")
                 self.assertEqual(self.server.value(clusters, "laid"), "1")
                 self.run_script(text, "-v", "undo=1")
+                self.assertEqual(self.server.value(clusters, "laid"), "0")
+                # What the script didn't make stays.
+                drop = numbers.replace("array_agg(indexrelid::oid)", "format('DROP INDEX %s', indexrelid::regclass)")
+                self.server.psql(f"{drop} AND indexrelid <> ALL ('{before}'::oid[]) \\gexec", "laid")
         self.assertEqual(self.server.value("SELECT count(*) FROM keep", "laid"), "0")
         count = f"SELECT count(*) FROM pg_index WHERE indrelid = $q${QUOTED}.{QUOTED}$q$::regclass"
         self.assertEqual(self.server.value(count, "laid"), "1")
@@ -342,7 +348,7 @@ class Judged(OverTables):
         self.assertEqual((pick["clustered"], pick["outcome"], pick["name"]), (True, "taken", "mixed_c_idx"))
         self.assertEqual([it.split()[0] for it in pick["statements"]], ["CREATE", "CLUSTER", "ANALYZE"])
         old = self.folder / "old"
-        summary = (old / "summary.txt").read_text()
+        summary = (old / "details.txt").read_text()
         self.assertIn('\n   CLUSTER "public"."mixed" USING "mixed_c_idx";\n   ANALYZE "public"."mixed";\n', summary)
         for note in ("   CLUSTER locks the table against all others", "   hypopg shows no rows in another order"):
             self.assertIn(note, summary)

@@ -49,7 +49,9 @@ class Remainder(unittest.TestCase):
         self.assertIsNone(knee_of(points[:1] * 3, 1000))
 
     def test_space_that_is_left_behind_the_search_is_told(self) -> None:
-        text = "5.0 MB stay free, since 2 picks were left out: a rule never for each lets others in"
+        text = (
+            "5.0 MB stay free: 2 picks of the search were left out; forbid them in a file for --rules to let others in"
+        )
         self.assertEqual(freed(1280, 640, 2), text)
         self.assertIsNone(freed(1280, 640, 0))
         self.assertIsNone(freed(1280, 1270, 2))

@@ -209,6 +209,31 @@ class Script(unittest.TestCase):
         self.run_script(text, "-v", "undo=1")
         self.assertEqual(self.names(), [])
 
+    def test_what_others_made_stays(self) -> None:
+        text, other = self.script(("plain(a)", "plain(b)")), self.script(("plain(b)", "plain(a)", "parent(a)"))
+        self.server.psql("CREATE INDEX plain_b_idx ON plain (b)", "making")
+        self.run_script(text)
+        said = self.run_script(other)
+        self.assertEqual(said.count("it is there already"), 2)
+        said = self.run_script(other, "-v", "undo=1")
+        self.assertIn("1: plain_b_idx stays: this script did not make it\n", said)
+        self.assertEqual(self.names(), ["plain_a_idx", "plain_b_idx"])
+        mark = self.server.value("SELECT obj_description('plain_a_idx'::regclass)", "making")
+        self.assertRegex(mark, r"\Acophy-pg, script [0-9a-f]{12}\Z")
+        self.run_script(text, "-v", "undo=1")
+        self.assertEqual(self.names(), ["plain_b_idx"])
+        self.server.psql("DROP INDEX plain_b_idx", "making")
+
+    def test_what_is_not_recommended_is_made_where_that_is_asked_for(self) -> None:
+        text = self.script(("plain(a)", "plain(b)"), "--unadvised", "2")
+        self.assertIn("-- 2. plain(b): not recommended\n", text)
+        self.assertIn("2 is left out\n", self.run_script(text))
+        self.assertEqual(self.names(), ["plain_a_idx"])
+        self.run_script(text, "-v", "all=1")
+        self.assertEqual(self.names(), ["plain_a_idx", "plain_b_idx"])
+        self.run_script(text, "-v", "undo=1")
+        self.assertEqual(self.names(), [])
+
     def test_a_name_that_another_index_has_is_left_alone(self) -> None:
         text = self.script(("plain(a)",))
         self.server.psql("CREATE INDEX plain_a_idx ON plain (c)", "making")

@@ -1,4 +1,4 @@
-"""What `advise` prints for a document: short, with each pick's statement, measured times and warnings."""
+"""What `advise` prints for a document: the verdict, which is short, and all details with measured times and warnings."""
 from __future__ import annotations
 
 import unittest
@@ -77,10 +77,8 @@ class Summary(unittest.TestCase):
             self.document["picks"][0]["changes"] = [it, *changes[1:]]
             self.assertFalse([it for it in lines_of(self.document) if "rests on" in it])
 
-    def test_the_summary_of_five_picks_is_short(self) -> None:
-        from cophy_pg.closing import next_of
-        from cophy_pg.overview import lines_of
-
+    def five(self) -> None:
+        """Gives the document five plain picks."""
         pick = self.document["picks"][0]
         plain = {"notes": [], "outcome": "taken", "unknown_for": [], "clustered": False}
         changes = [change(at, "SELECT customer_name, count(*) FROM customer GROUP BY 1", 9.0, 9.0) for at in (1, 2)]
@@ -92,6 +90,7 @@ class Summary(unittest.TestCase):
                 "changes": changes,
                 "table": f"t{at}",
                 "statements": pick["statements"][:1],
+                "reserve": None,
             }
             for at in range(5)
         ]
@@ -100,8 +99,76 @@ class Summary(unittest.TestCase):
         self.document["knee"] = "by our model 12.3 MB save nine tenths of what any indexes can"
         skipped = self.document["statements"].pop()
         self.assertTrue(skipped["skipped"])
-        lines = [*lines_of(self.document), *next_of(self.document, "/home/you/advice/indexes.sql")]
-        self.assertLessEqual(len(" ".join(lines).split()), 250)
+        self.document["recommended"] = {"picks": 5, "stored_pages": 2560, "cost": 1800000, "server_cost": 1000.0}
+
+    def verdict(self) -> list[str]:
+        from cophy_pg.folder import Folder
+        from cophy_pg.verdict import verdict
+
+        return verdict(self.document, Folder("/home/you/advice"))
+
+    def test_the_verdict_on_five_picks_is_short_and_says_what_to_do(self) -> None:
+        self.five()
+        lines = self.verdict()
+        self.assertLessEqual(len(" ".join(lines).split()), 150)
+        sentence = "Make these 5 indexes, 20.0 MB: the workload then costs 88.9 % less by the server's planner, 80.0 %"
+        sentence += " less by our model, the most that this budget can save (proved); judged by 2 of 2 statements with"
+        self.assertTrue(" ".join(lines).startswith(sentence), lines)
+        at = next(at for at, it in enumerate(lines) if it.startswith(" 1."))
+        self.assertRegex(lines[at], r" 1\.    0\.2   88\.9 %  t0\(a\) +SELECT customer_name, count\(\*\).*")
+        self.assertEqual(
+            lines[-3:-1],
+            ["all else: /home/you/advice/details.txt", "make them (about 37 seconds, reads and writes go on):"],
+        )
+        self.assertTrue(lines[-1].endswith("-U app -f /home/you/advice/indexes.sql"))
+        self.assertEqual([it for it in lines if "MB" in it], [lines[0], lines[at - 1]])
+
+    def test_what_isnt_recommended_stands_below_with_its_reason(self) -> None:
+        self.five()
+        picks = self.document["picks"]
+        picks[1]["reserve"], picks[3]["reserve"] = "it saves 0.4 %", "it would fail"
+        picks[0]["superfluous"] = ['"public"."old"']
+        self.document["warnings"] = [
+            "statements that ran once have 33.3 % of the cost: --min-calls 2 leaves them out",
+            "x",
+        ]
+        self.document["recommended"] |= {"picks": 3, "cost": 2700000}
+        lines = self.verdict()
+        text = " ".join(lines)
+        self.assertIn("Make these 3 indexes", text)
+        self.assertIn("70.0 % less by our model (proved: at most 80.0 % within this budget); judged by", text)
+        self.document["gap"] = {"index": "t(c)", "why": "no plan of the server takes it"}
+        missing = "within this budget; the rest is mostly t(c): no plan of the server takes it); judged by"
+        self.assertIn(missing, " ".join(self.verdict()))
+        at = lines.index("not recommended, so left out (psql -v all=1 makes them too):")
+        self.assertEqual(
+            lines[at + 1 : at + 3],
+            [" 2.    0.2  t1(a, b): it saves 0.4 %", " 4.    0.2  t3(a, b, c, d): it would fail"],
+        )
+        for it in (
+            'superfluous beside them: "public"."old"',
+            self.document["warnings"][0],
+            "2 warnings, all else: /home/you/advice/details.txt",
+        ):
+            self.assertIn(it, lines)
+        for it in picks:
+            it["reserve"] = "it saves 0.4 %"
+        lines = self.verdict()
+        self.assertTrue(lines[0].startswith("No index is plainly worth making for 'shop & <b>', judged by"), lines)
+        self.assertIn("    and 2 more", lines)
+        self.assertTrue(lines[-1].endswith("-U app -v all=1 -f /home/you/advice/indexes.sql"), lines[-1])
+        self.document["picks"] = []
+        self.assertTrue(self.verdict()[0].startswith("No index is worth making for"))
+
+    def test_the_owner_who_is_a_user_here_needs_no_password(self) -> None:
+        from cophy_pg.closing import command_of
+
+        at = {"owners": ["root"], "host": "localhost", "port": 5432}
+        self.assertEqual(
+            command_of(self.document | at, "/a/b c"), "sudo -u root psql -X -p 5432 -d 'shop & <b>' < '/a/b c'"
+        )
+        there = command_of(self.document | at | {"host": "db"}, "/a")
+        self.assertEqual(there, "psql -X -h db -p 5432 -d 'shop & <b>' -U root -f /a")
 
     def test_what_the_bound_says_is_told_in_plain_words(self) -> None:
         from cophy_pg.overview import lines_of
@@ -120,7 +187,7 @@ class Summary(unittest.TestCase):
     def test_how_one_index_is_left_out_is_told_below_them(self) -> None:
         from cophy_pg.overview import lines_of
 
-        line = "-v without=2 behind psql leaves out number 2"
+        line = "psql passes over numbers of your choice with -v without=N,N"
         self.assertNotIn(line, lines_of(self.document))
         self.document["picks"] *= 2
         self.assertIn(line, lines_of(self.document))

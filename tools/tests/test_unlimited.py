@@ -9,7 +9,7 @@ from typing import Any
 
 from cophy_text.answers import Candidate
 from cophy_pg.schema import Column, Schema, Table
-from cophy_pg.unlimited import compared_columns, exceeding, never, told, warning
+from cophy_pg.unlimited import compared_columns, exceeding, likely, never, told, warning
 from fixtures import ADVISOR, COPHY, InFolder, called, shop
 from patience import LONG
 from private_server import PrivateServer, has_extension, missing, program
@@ -54,6 +54,12 @@ SELECT DISTINCT b FROM u, t x WHERE x.h NOT LIKE ?"""
         self.assertEqual(never(schema, picks, text, ["must t(g, A)", "never t.c"]), ["never t.b"])
         found = [exceeding(schema, it) for it in picks]
         self.assertEqual(found, [[*"cab"], ["c", "a"], ["b", "a"], [*"def"], [], []])
+        columns = schema.tables["public", "t"].columns
+        columns["a"].type = columns["b"].type = "text"
+        columns["b"].sizes, columns["c"].width = [9, 30], 40
+        self.assertEqual([likely(schema, it) for it in picks[:3]], [["a"], ["a"], ["a"]])
+        columns["c"].width = 400
+        self.assertEqual(likely(schema, picks[0]), ["c", "a"])
         self.assertEqual(warning(["c"]), "an INSERT of more than 2,704 bytes in c would fail")
         self.assertEqual(warning([*"def"]), "an INSERT of more than 2,704 bytes in d and e and f together would fail")
         self.assertEqual((warning([]), told([])), ("", ""))
@@ -110,10 +116,10 @@ class Made(InFolder):
         self.assertLessEqual({*found["long_columns"]}, {*found["rules"]})
         kept = self.folder / "found"
         fails = "an INSERT of more than 2,704 bytes in guid would fail"
-        for name in ("summary.txt", "indexes.sql", "report.html"):
-            self.assertEqual((kept / name).read_text().count(fails), 1, name)
+        for name, count in (("details.txt", 1), ("report.html", 1), ("summary.txt", 0), ("indexes.sql", 0)):
+            self.assertEqual((kept / name).read_text().count(fails), count, name)
         told_once = "no index has entry.title, entry.link: an INSERT over 2,704 bytes there would fail"
-        self.assertEqual((kept / "summary.txt").read_text().count(told_once), 1)
+        self.assertEqual((kept / "details.txt").read_text().count(told_once), 1)
         self.assertIn(told_once[1:], (kept / "report.html").read_text())
         self.make()
         self.assertEqual((self.insert("title"), self.insert("link")), ("", ""))
@@ -125,7 +131,7 @@ class Made(InFolder):
         wide = next(it for it in found["picks"] if it["columns"][0] == "entered")
         self.assertEqual([*wide["columns"][1:], *wide["long"]], ["title", "link"] * 2)
         self.addCleanup(self.server.psql, f'DROP INDEX IF EXISTS {wide["name"]}, entry_guid_id_idx', "news")
-        text = (self.folder / "found" / "summary.txt").read_text()
+        text = (self.folder / "found" / "details.txt").read_text()
         self.assertIn("an INSERT of more than 2,704 bytes in title and link together would fail", text)
         self.make()
         self.assertIn("exceeds btree version 4 maximum 2704", self.insert("title"))

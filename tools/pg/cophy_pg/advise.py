@@ -17,7 +17,7 @@ from cophy_pg.advise_words import add_words
 from cophy_pg.beside import Beside
 from cophy_pg.catalogue import read_schema
 from cophy_pg.choice import UNTAKEN, Choice, Limits, drop_by_limits, drop_by_server
-from cophy_pg.closing import next_of
+from cophy_pg.closing import ending
 from cophy_pg.clustering import permit
 from cophy_pg.commands import commands_text
 from cophy_pg.curve import as_json as as_json_of_point
@@ -34,6 +34,7 @@ from cophy_pg.plans import Plan, costs_without, plans_of, under
 from cophy_pg.program import NoCommand, Program, program_file
 from cophy_pg.progress import say
 from cophy_pg.ranking import rank
+from cophy_pg.recommended import Costs, Recommended, without_reserves
 from cophy_pg.remainder import freed, gap_of, knee_of
 from cophy_pg.report import summary
 from cophy_pg.result import Result
@@ -48,6 +49,7 @@ from cophy_pg.snapshots import taken_of
 from cophy_pg.statistics import Found
 from cophy_pg.steps import Steps
 from cophy_pg.trust import owners_of, refuse_powers
+from cophy_pg.verdict import verdict
 from cophy_pg.verify import Judged, advice_text, as_json, judge, look_up
 from cophy_pg.why import Reason, reasons
 from cophy_pg.workload import Workload, made
@@ -87,9 +89,10 @@ def advise(words: argparse.Namespace) -> int:
     files.check([kept.path(it) for it in (folder.CATALOGUE, folder.WORKLOAD, folder.RESULT)], given)
     with kept.unless_empty(), Steps(words.json).all() as steps:
         document = Run(words, kept, steps).document()
-    last = [f"all files are in {files.shown(kept.name)}", *next_of(document, files.shown(kept.path(folder.DDL)))]
-    text = "\n".join([*lines_of(document), *last]) + "\n"
-    kept.write({folder.RESULT: json.dumps(document, indent=2) + "\n", folder.SUMMARY: text})
+    details = "\n".join([*lines_of(document), *ending(document, kept)]) + "\n"
+    text = details if words.verbose else "\n".join(verdict(document, kept)) + "\n"
+    result = json.dumps(document, indent=2) + "\n"
+    kept.write({folder.RESULT: result, folder.SUMMARY: text, folder.DETAILS: details})
     try:
         kept.write({folder.REPORT: page_of(kept)})
     except NoReport as fault:
@@ -116,7 +119,7 @@ class Run:
         """Takes the steps in turn."""
         files_of_steps = (folder.ADVICE, folder.CERTIFICATE, folder.CHECK, folder.VERIFY, folder.KEPT, folder.DDL)
         self.folder.clear(*files_of_steps, folder.PLANS, folder.SUMMARY, folder.RESULT, folder.REPORT)
-        self.folder.clear(folder.RULES, folder.RULED, folder.CURVE)
+        self.folder.clear(folder.RULES, folder.RULED, folder.CURVE, folder.DETAILS)
         with self.steps.step("export", "reading the database and its statements"):
             found, workload = self._export()
         with self.steps.step("lint", "looking for what is probably wrong"):
@@ -147,6 +150,9 @@ class Run:
         self._tell_rest(found.schema, advice, choice, unused)
         self.head["knee"] = knee_of(points, none.total)
         result = Result(*parts, self.head, told, self.steps.seconds)
+        with self.steps.step("recommend", "telling what is plainly worth it"):
+            asked = {it.number for it in choice.advice.picks if self.rules.asks_for(it)}
+            result.recommended = self._recommended(result, workload, asked)
         self._write(result)
         if points:
             curve = [as_json_of_point(it, none.total) for it in points]
@@ -159,19 +165,37 @@ class Run:
         self.head["unused"] = unused or freed(self.words.budget, stored, len(choice.left_out))
         self.head["gap"] = gap_of(self.program, advice, choice, self.rules, self.head["long_columns"])
 
+    def _recommended(self, result: Result, workload: Workload, asked: set[int]) -> Recommended:
+        """Which picks stay when those are left out that there are reserves about, and that no rule asks for."""
+        picks, judged, choice = result.plain_picks(), result.judged, result.choice.advice
+        reserves = {number: why for number, why in result.reserves().items() if number not in asked}
+        all_, whole = (result.prices[1].total, judged.sums()[2]), (result.prices[0].total, judged.sums()[1])
+        if not reserves:
+            return Recommended({}, all_)
+
+        def costs_of(kept: list[int]) -> Costs:
+            advice = replace(choice, picks=[it for it in choice.picks if it.number in kept])
+            found = self._asked(server, result.schema, workload, advice, judged.verdicts)
+            return self.program.whatif(kept).total, found.sums()[2]
+
+        with connected(self.words.dsn, self.words.timeout) as server:
+            return without_reserves(picks, reserves, all_, whole, costs_of)
+
     def _write(self, result: Result) -> None:
         """Writes what the last steps found."""
         none, kept, _ = result.prices
-        picks, order = result.choice.advice.picks, result.numbers()
+        picks, order, unadvised = result.choice.advice.picks, result.numbers(), result.places_left_out()
         text = advice_text(replace(result.advice, picks=picks), [it.number for it in picks], kept.total)
         self.folder.write(
             {
                 folder.VERIFY: json.dumps(as_json(result.judged, [none, kept, kept]), indent=2) + "\n",
                 folder.KEPT: text,
-                folder.DDL: ddl_text(result.schema, in_order(read_advice(text), order), is_script=True),
+                folder.DDL: ddl_text(
+                    result.schema, in_order(read_advice(text), order), is_script=True, unadvised=unadvised
+                ),
                 folder.PLANS: json.dumps(result.plans.document(result.workload)) + "\n",
                 folder.COMMANDS: commands_text(
-                    self.words, self.folder, result.advice.budget, bool(result.told["rules"]), order
+                    self.words, self.folder, result.advice.budget, bool(result.told["rules"]), order, unadvised
                 ),
             }
         )

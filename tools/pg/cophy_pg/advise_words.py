@@ -31,6 +31,9 @@ def add_words(parser: argparse.ArgumentParser) -> None:
     )
     parser.add_argument("--nodes", type=whole, metavar="N", help="the node budget of the search")
     parser.add_argument("--json", action="store_true", help="print all that was found as JSON instead")
+    parser.add_argument(
+        "-v", "--verbose", action="store_true", help="print all warnings, notes and costs, which details.txt has too"
+    )
     source = parser.add_mutually_exclusive_group()
     source.add_argument("--sql", metavar="FILE", help="statements from a file of SQL, as export takes them")
     source.add_argument("--log", metavar="FILE", help="statements from a log, as export takes them")

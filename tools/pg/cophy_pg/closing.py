@@ -1,11 +1,19 @@
 """The end of what `advise` prints: what the workload costs, what the bound says, and who makes the indexes how."""
 from __future__ import annotations
 
+import pwd
 import shlex
+from contextlib import suppress
 from typing import Any
 
+from cophy_text import files
 from cophy_text.shown import grouped, share, space
+from cophy_pg import folder
+from cophy_pg.folder import Folder
 from cophy_pg.speed import duration
+
+HERE = ("", "localhost", "127.0.0.1", "::1")
+"""Hosts that are this machine; so are folders of sockets."""
 
 
 def costs(document: dict[str, Any]) -> list[str]:
@@ -46,18 +54,36 @@ def next_of(document: dict[str, Any], script: str) -> list[str]:
     if not document["picks"]:
         return [*document.get("doubts", [])]
     owners = [*map(_plain, document["owners"])]
-    who = owners[0] if len(owners) == 1 else "OWNER"
     whose = "their owner" if len(owners) < 2 else f"a member of {' and '.join(owners)}, who own the tables,"
     known = [it["build_seconds"] for it in document["picks"] if it.get("build_seconds") is not None]
     time = f" in about {duration(sum(known))}" if known else ""
-    at = [
-        word
-        for key, word in (("host", "-h"), ("port", "-p"), ("database", "-d"))
-        if document.get(key)
-        for word in (word, _plain(str(document[key])))
-    ]
-    command = shlex.join(["psql", "-X", *at, "-U", who, "-f", script])
-    return [f"to make them{time}, let {whose} run: {command}", *document.get("doubts", [])]
+    return [f"to make them{time}, let {whose} run: {command_of(document, script)}", *document.get("doubts", [])]
+
+
+def command_of(document: dict[str, Any], script: str, more: str = "") -> str:
+    """What the owner of the tables runs. One that is a user of this machine needs no password."""
+    owners, host = [*map(_plain, document["owners"])], str(document.get("host") or "")
+    who = owners[0] if len(owners) == 1 else "OWNER"
+    keys = [("port", "-p"), ("database", "-d")]
+    is_user = _is_user(who) and (host in HERE or host.startswith("/"))
+    given = [it for it in ([] if is_user else [("host", "-h")]) + keys if document.get(it[0])]
+    at = [word for key, word in given for word in (word, _plain(str(document[key])))]
+    if is_user:
+        return f"{shlex.join(['sudo', '-u', who, 'psql', '-X', *at])}{more} < {shlex.quote(script)}"
+    return f"{shlex.join(['psql', '-X', *at, '-U', who])}{more} -f {shlex.quote(script)}"
+
+
+def _is_user(name: str) -> bool:
+    """Whether this machine has a user of that name."""
+    with suppress(KeyError, ValueError):
+        return bool(pwd.getpwnam(name))
+    return False
+
+
+def ending(document: dict[str, Any], kept: Folder) -> list[str]:
+    """Where all files are, and who may run the script."""
+    script = files.shown(kept.path(folder.DDL))
+    return [f"all files are in {files.shown(kept.name)}", *next_of(document, script)]
 
 
 def _plain(name: str) -> str:

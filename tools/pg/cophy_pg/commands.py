@@ -12,9 +12,14 @@ from cophy_pg.rewrite.options import words_of
 
 
 def commands_text(
-    words: argparse.Namespace, kept: Folder, budget: int, has_rules: bool, order: Sequence[int] = ()
+    words: argparse.Namespace,
+    kept: Folder,
+    budget: int,
+    has_rules: bool,
+    order: Sequence[int] = (),
+    unadvised: Sequence[int] = (),
 ) -> str:
-    """A line for each step, without the connection. The budget is the program's, in pages; the order is that of the picks."""
+    """A line for each step, without the connection. The budget is the program's, in pages; the order is that of the picks, of which the ones at the unadvised places aren't recommended."""
     both = [kept.path(folder.CATALOGUE), kept.path(folder.WORKLOAD)]
     chosen, written = _chosen(words), [*words_of(words), *clustering.words_of(words)]
     nodes = ["--nodes", str(words.nodes)] if words.nodes else []
@@ -22,6 +27,7 @@ def commands_text(
     advice, certificate, curve = kept.path(folder.ADVICE), kept.path(folder.CERTIFICATE), kept.path(folder.CURVE)
     included = ["--include", both[1]] if words.include else []
     ordered = ["--order", ",".join(map(str, order))] if len(order) > 1 else []
+    ordered += ["--unadvised", ",".join(map(str, unadvised))] if unadvised else []
     ruled: list[list[str]] = []
     if has_rules:
         ruled = [[words.program, "ruled", *both, str(budget), kept.path(folder.RULES), *nodes]]

@@ -16,7 +16,7 @@ ADVICE, CERTIFICATE, CHECK = "advice.txt", "certificate", "check.txt"
 RULES, RULED = "rules.txt", "ruled.txt"
 VERIFY, KEPT, DDL, PLANS = "verify.json", "kept.txt", "indexes.sql", "plans.json"
 SUMMARY, RESULT, REPORT, COMMANDS = "summary.txt", "advice.json", "report.html", "commands.txt"
-CURVE = "curve.json"
+CURVE, DETAILS = "curve.json", "details.txt"
 CHANGES, CHANGES_JSON = "changes.txt", "changes.json"
 
 

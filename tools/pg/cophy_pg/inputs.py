@@ -49,7 +49,8 @@ def from_server(server: Server, warn: Callable[[str], None] = say, is_trusted: b
     found = view_of(server, EXTENSION)
     if found is None:
         raise NoInput(
-            f"the extension {EXTENSION} isn't there: let a superuser CREATE EXTENSION {EXTENSION} in this database, "
+            f"the extension {EXTENSION} isn't there: let a superuser run in this database: CREATE SCHEMA counted; "
+            f"GRANT USAGE ON SCHEMA counted TO PUBLIC; CREATE EXTENSION {EXTENSION} SCHEMA counted; (cophy-pg setup does it); "
             "or give the statements by --sql or --log"
         )
     where, number, others = found
@@ -135,7 +136,7 @@ def _rows_of(server: Server, query: str) -> list[Row]:
     try:
         return server.rows(query)
     except ServerFault as fault:
-        raise NoInput(f"pg_stat_statements can't be read: is it in shared_preload_libraries? ({fault})") from None
+        raise NoInput(f"pg_stat_statements can't be read ({fault}): cophy-pg setup says how it is loaded") from None
 
 
 class NoInput(Exception):

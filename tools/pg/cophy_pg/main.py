@@ -25,6 +25,7 @@ from cophy_pg.program import ProgramFault
 from cophy_pg.progress import say
 from cophy_pg.rules import add_rules
 from cophy_pg.server import ServerFault
+from cophy_pg.setup import add_setup
 from cophy_pg.snapshots import add_snapshot
 from cophy_pg.verify import add_verify
 from cophy_pg.why import add_why
@@ -38,6 +39,7 @@ def main() -> int:
     parser.add_argument("--version", action="version", version=f"cophy-pg {VERSION}")
     commands = parser.add_subparsers(required=True, metavar="COMMAND")
     for add in (
+        add_setup,
         add_advise,
         add_report,
         add_health,

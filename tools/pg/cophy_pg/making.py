@@ -4,6 +4,7 @@ from __future__ import annotations
 import argparse
 import json
 import os
+from collections.abc import Sequence
 from contextlib import suppress
 from dataclasses import replace
 from textwrap import wrap
@@ -63,6 +64,13 @@ def add_ddl(commands: argparse._SubParsersAction[argparse.ArgumentParser]) -> No
         metavar="N,N,..",
         help="the order of the picks, by their numbers in the advice",
     )
+    parser.add_argument(
+        "--unadvised",
+        type=numbers,
+        default=[],
+        metavar="N,N,..",
+        help="the places of picks that the script makes with -v all=1 alone",
+    )
     _add_speeds(parser)
     parser.add_argument("--json", action="store_true", help="print JSON instead")
     parser.set_defaults(run=ddl)
@@ -120,7 +128,7 @@ def ddl(words: argparse.Namespace) -> int:
     else:
         more = [f"-- {NEWER}"] if is_newer else []
         speed = Speed(words.rows_a_second, words.pages_a_second)
-        print(ddl_text(schema, advice, speed, words.script, more), end="")
+        print(ddl_text(schema, advice, speed, words.script, more, words.unadvised), end="")
     return 0
 
 
@@ -142,9 +150,14 @@ def made_of(schema: Schema, advice: Advice) -> list[Made]:
 
 
 def ddl_text(
-    schema: Schema, advice: Advice, speed: Speed = Speed(), is_script: bool = False, more: list[str] | None = None
+    schema: Schema,
+    advice: Advice,
+    speed: Speed = Speed(),
+    is_script: bool = False,
+    more: list[str] | None = None,
+    unadvised: Sequence[int] = (),
 ) -> str:
-    """The statements with comments on what they are of, or a script."""
+    """The statements with comments on what they are of, or a script, which makes what isn't advised where it is asked to."""
     end = "the bound is reached: no other choice costs less" if advice.is_finished else "these picks cost more than it"
     made = made_of(schema, advice)
     budget, size = both(advice.budget, None), both(advice.size, sum(stored_of(schema, it) for it in made))
@@ -153,7 +166,7 @@ def ddl_text(
     head.append(f"-- {UNIT}")
     left_out = [f"-- pick {it.pick.number} is left out, {_comment(it.why_not)}" for it in made if it.why_not]
     if is_script:
-        return script_text(schema, made, [*(more or []), *left_out], speed)
+        return script_text(schema, made, [*(more or []), *left_out], speed, unadvised)
     lines = [*head, *OWNERS]
     for it in made:
         lines += ["", f"-- pick {it.pick.number}: {both(it.pick.pages, stored_of(schema, it) or None)}"]

@@ -54,7 +54,7 @@ class Verdict:
 class Outcome:
     """A pick as `taken`, `not taken` or `unknown`, the latter with its reasons and the statements of each; `exists` is the
     index of the server that has the pick's columns in its order, or begins with them, and `stored` the pages that PostgreSQL
-    takes for it."""
+    takes for it; `superfluous` are indexes that serve nothing beside it, as they are written."""
 
     pick: Candidate
     name: str = "unknown"
@@ -63,6 +63,7 @@ class Outcome:
     exists: str = ""
     begins: str = ""
     stored: int | None = None
+    superfluous: list[str] = field(default_factory=list)
 
     def shown(self) -> str:
         """The outcome in a few words."""

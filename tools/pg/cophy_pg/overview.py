@@ -8,13 +8,11 @@ from cophy_text.shown import grouped, percent, share, short, space
 from cophy_pg.choice import ASKED, UNTAKEN
 from cophy_pg.closing import costs, last_of
 from cophy_pg.guesses import doubt_of, gains, seconds_of, warning_of
+from cophy_pg.recommended import KINDS, LITTLE
 from cophy_pg.unlimited import told, warning
 
 MOST_CHANGES = 5
 SAVES = f"   {'size':>9} {'our model':>9} {'server':>9}  % of the cost saved; statement, "
-KINDS = ("ours", "server", "measured")
-LITTLE = 1
-"""What an index has to save, in percent, so that nothing is said of that."""
 MUCH = 20
 """A skipped statement is named that has this part of the whole."""
 MOST_NUMBERS, SQL = 5, 45
@@ -26,7 +24,7 @@ WIDE = 5
 def lines_of(document: dict[str, Any]) -> list[str]:
     """The summary of a document."""
     lines = [_head(document), *(f"warning: {it}" for it in document["warnings"])]
-    time = "measured time" if _measured(document) == "seconds" else "calls"
+    time = "measured time" if measured(document) == "seconds" else "calls"
     lines += [SAVES + time] if document["picks"] else [""]
     for at, it in enumerate(document["picks"], 1):
         lines += [*_pick(at, it, document), *_longer(it, document["picks"])]
@@ -63,13 +61,26 @@ def _left_out(left_out: list[dict[str, Any]]) -> list[str]:
     return [f"left out, see the report: {shown}", ""] if left_out else []
 
 
+def much_skipped(document: dict[str, Any]) -> str:
+    """What part of the time, or of the calls, the skipped statements have that have much of it each; nothing where none has."""
+    what = measured(document)
+    whole = sum(it[what] for it in document["statements"])
+    much = _much_skipped(document)
+    return share(sum(it[what] for it in much), whole) if much else ""
+
+
+def _much_skipped(document: dict[str, Any]) -> list[dict[str, Any]]:
+    every, what = document["statements"], measured(document)
+    whole = sum(it[what] for it in every)
+    return [it for it in every if not it["numbers"] and it[what] * MUCH >= whole > 0]
+
+
 def _skipped(document: dict[str, Any]) -> list[str]:
     """The skipped statements that have much of the time, or of the calls."""
-    every, what = document["statements"], _measured(document)
-    whole = sum(it[what] for it in every)
-    much = [it for it in every if not it["numbers"] and it[what] * MUCH >= whole > 0]
+    much, what = _much_skipped(document), measured(document)
     if not much:
         return []
+    whole = sum(it[what] for it in document["statements"])
     lines = [f"  {share(it[what], whole)}: {it['skipped']}: {short(it['sql'])}" for it in much[:MOST_CHANGES]]
     name = "time" if what == "seconds" else "calls"
     return [f"skipped, with much of the {name}, so no index is advised for them:", *lines, ""]
@@ -89,8 +100,11 @@ def _hints(document: dict[str, Any]) -> list[str]:
         have = "has" if len(wide) == 1 else "have"
         what = f"{_numbers(wide)} {have} {WIDE} columns or more"
         lines += [f"{what}: --include puts what is only read behind INCLUDE"]
+    unadvised = [at for at, it in enumerate(picks, 1) if it.get("reserve")]
+    if unadvised:
+        lines += [f"{_numbers(unadvised)} not recommended: the script makes such with -v all=1 alone"]
     if len(picks) > 1:
-        lines += ["-v without=2 behind psql leaves out number 2"]
+        lines += ["psql passes over numbers of your choice with -v without=N,N"]
     return [*lines, ""] if lines else []
 
 
@@ -122,24 +136,24 @@ def headline(document: dict[str, Any]) -> str:
 
 
 def _head(document: dict[str, Any]) -> str:
-    picks, count = document["picks"], len(document["statements"])
-    written = sum(bool(it["numbers"]) for it in document["statements"])
+    picks = document["picks"]
     size = f", {space(document['stored_pages'])} of {space(document['asked_pages'])}" if picks else ""
-    what = f"database {document['database']!a}, {grouped(written)} of {counted(count, 'statement')}{_part(document)}"
+    what = f"database {document['database']!a}, {part_of(document)}"
     return f"{headline(document)}{size}: {what}; advised in {sum(document['seconds'].values()):,.1f} s"
 
 
-def _part(document: dict[str, Any]) -> str:
-    """What the statements that are priced have of the measured time, or of all calls where some were skipped."""
-    every, what = document["statements"], _measured(document)
+def part_of(document: dict[str, Any]) -> str:
+    """How many statements are priced, and what they have of the measured time, or of all calls where some were skipped."""
+    every, what = document["statements"], measured(document)
+    text = f"{grouped(sum(bool(it['numbers']) for it in every))} of {counted(len(every), 'statement')}"
     whole = sum(it[what] for it in every)
     if not whole or what == "calls" and all(it["numbers"] for it in every):
-        return ""
+        return text
     of = f"the {_seconds(whole)} measured" if what == "seconds" else "the calls"
-    return f" with {share(sum(it[what] for it in every if it['numbers']), whole)} of {of}"
+    return f"{text} with {share(sum(it[what] for it in every if it['numbers']), whole)} of {of}"
 
 
-def _measured(document: dict[str, Any]) -> str:
+def measured(document: dict[str, Any]) -> str:
     """What statements are compared by: their time, or their calls where some time isn't known."""
     return "calls" if any(it["seconds"] is None for it in document["statements"]) else "seconds"
 
@@ -156,6 +170,7 @@ def _pick(at: int, pick: dict[str, Any], document: dict[str, Any]) -> list[str]:
     lines += [f"   {it}" for it in (doubt_of(pick) or warning_of(pick, document), warning(pick.get("long", []))) if it]
     lines += [f"   unknown: {it}" for it in pick["unknown_for"]]
     lines += [f"   {pick['begins']} begins with its columns"] if pick["begins"] else []
+    lines += [f"   beside it {name} is superfluous" for name in pick.get("superfluous", [])]
     return lines + [f"   {it}" for it in pick["notes"]]
 
 

@@ -136,7 +136,16 @@ def _pick(pick: dict[str, Any], document: dict[str, Any]) -> dict[str, Any]:
         {"seconds": None} | it | {"anchor": _anchor(it), "name": name_of(it)} for it in pick["changes"] if is_seen(it)
     ]
     more = {"warning": warning_of(pick, document), "doubt": doubt_of(pick), "may_fail": warning(pick.get("long", []))}
-    return {"notes": [], "build_seconds": None, **pick, "index": named(pick), "listed": changes, **more}
+    return {
+        "notes": [],
+        "build_seconds": None,
+        "reserve": None,
+        "superfluous": [],
+        **pick,
+        "index": named(pick),
+        "listed": changes,
+        **more,
+    }
 
 
 def _anchor(statement: dict[str, Any]) -> str:

@@ -16,7 +16,13 @@ from cophy_pg.trust import callable_of
 _INDEXES = """
 SELECT n.nspname::text, x.relname::text, i.indisclustered, i.indnkeyatts::int4,
     ARRAY(SELECT a.attname::text FROM unnest(i.indkey::int2[]) WITH ORDINALITY k(number, at)
-        JOIN pg_catalog.pg_attribute a ON a.attrelid = i.indrelid AND a.attnum = k.number ORDER BY k.at)
+        JOIN pg_catalog.pg_attribute a ON a.attrelid = i.indrelid AND a.attnum = k.number ORDER BY k.at),
+    NOT (i.indisunique OR i.indisclustered OR i.indisreplident) AND i.indnkeyatts = i.indnatts AND NOT EXISTS (
+        SELECT FROM unnest(i.indkey::int2[], i.indclass::oid[], i.indcollation::oid[], i.indoption::int2[])
+            p(number, class, coll, way)
+        JOIN pg_catalog.pg_attribute a ON a.attrelid = i.indrelid AND a.attnum = p.number
+        JOIN pg_catalog.pg_opclass o ON o.oid = p.class
+        WHERE p.way <> 0 OR p.coll <> a.attcollation OR NOT o.opcdefault)
 FROM pg_catalog.pg_index i JOIN pg_catalog.pg_class x ON x.oid = i.indexrelid
 JOIN pg_catalog.pg_namespace n ON n.oid = x.relnamespace JOIN pg_catalog.pg_am m ON m.oid = x.relam
 JOIN pg_catalog.pg_class c ON c.oid = i.indrelid JOIN pg_catalog.pg_namespace s ON s.oid = c.relnamespace
@@ -82,7 +88,7 @@ def make(server: Server, schema: Schema, advice: Advice) -> tuple[list[Outcome],
         (table, columns), keys = names_of(schema, it), key_count(it, schema.searched)
         outcome.stored = stored_pages(schema, it)
         try:
-            name = _there(server, table, columns, outcome)
+            name = _there(server, table, columns, keys, outcome)
             if outcome.reasons:
                 continue
             name = name or hypothetical(server, home, table, columns, keys)
@@ -97,11 +103,14 @@ def make(server: Server, schema: Schema, advice: Advice) -> tuple[list[Outcome],
     return found, made
 
 
-def _there(server: Server, table: Table, columns: list[str], outcome: Outcome) -> str | None:
-    """The name of an index over these columns alone; another that begins with them is noted. Where the rows don't lie in its
+def _there(server: Server, table: Table, columns: list[str], new_keys: int, outcome: Outcome) -> str | None:
+    """The name of an index over these columns alone; another that begins with them is noted, and those with which their keys
+    begin. Where the rows don't lie in its
     order, it is the one of a clustered pick, of which plans show nothing."""
     same = ""
-    for schema, name, clusters, count, keys in server.rows(_INDEXES, (table.schema, table.name)):
+    for schema, name, clusters, count, keys, is_plain in server.rows(_INDEXES, (table.schema, table.name)):
+        if is_plain and len(keys) < len(columns) and keys == columns[:new_keys][: len(keys)]:
+            outcome.superfluous.append(f"{quoted_name(str(schema))}.{quoted_name(str(name))}")
         if keys[: len(columns)] != columns or len(columns) > int(count):
             continue
         shown, is_same = f"{str(schema)!a}.{str(name)!a}", len(keys) == len(columns)

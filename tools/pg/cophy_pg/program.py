@@ -14,6 +14,7 @@ from cophy_text.answers import Advice, Prices, read_advice, read_candidates, rea
 from cophy_text.files import shown
 
 SCRIPT = Path(__file__).resolve().parents[3] / "cophy"
+BUILT = SCRIPT.parent / "crates" / "cophy_cli" / "out" / "cophy_cli"
 NAME = "cophy"
 MOST_POINTS = 16
 """How many points a sweep has at most."""
@@ -39,14 +40,21 @@ def add_program(parser: argparse.ArgumentParser) -> None:
 
 def found_program() -> str:
     """The program where no word names it: that of COPHY_PROGRAM, the script of the repository that this module stands in, or
-    the one on the path."""
-    return os.environ.get("COPHY_PROGRAM") or (str(SCRIPT) if SCRIPT.is_file() else NAME)
+    the one on the path, which comes first where the script would have to build one and can't."""
+    if given := os.environ.get("COPHY_PROGRAM"):
+        return given
+    has_program = BUILT.is_file() or _on_path("rt") is not None or _on_path(NAME) is None
+    return str(SCRIPT) if SCRIPT.is_file() and has_program else NAME
+
+
+def _on_path(name: str) -> str | None:
+    """A file on the path, of which only folders that are named whole count."""
+    return shutil.which(name, path=os.pathsep.join(it for it in os.get_exec_path() if os.path.isabs(it)))
 
 
 def program_file(name: str) -> str:
-    """The file of a program; a name alone is one on the path, of which only folders that are named whole count."""
-    path = os.pathsep.join(it for it in os.get_exec_path() if os.path.isabs(it))
-    found = name if os.sep in name else shutil.which(name, path=path)
+    """The file of a program; a name alone is one on the path."""
+    found = name if os.sep in name else _on_path(name)
     if found is None or not os.path.isfile(found):
         raise ProgramFault(f"the program {shown(name)} isn't there: name it by --program or COPHY_PROGRAM")
     return found

@@ -58,5 +58,5 @@ def freed(asked: int, stored: int, left_out: int) -> str | None:
     left = asked - stored
     if not left_out or left <= asked * (1 - WELL_FILLED):
         return None
-    what = f"{counted(left_out, 'pick')} {'was' if left_out == 1 else 'were'} left out"
-    return f"{space(left)} stay free, since {what}: a rule never for each lets others in"
+    what = f"{counted(left_out, 'pick')} of the search {'was' if left_out == 1 else 'were'} left out"
+    return f"{space(left)} stay free: {what}; forbid them in a file for --rules to let others in"

@@ -12,10 +12,11 @@ from cophy_pg.ddl import Made, create, taken_names
 from cophy_pg.guesses import is_guessed, is_judged
 from cophy_pg.outcomes import ORDINARY, Outcome
 from cophy_pg.plans import Plans
+from cophy_pg.recommended import Recommended, reserve_of
 from cophy_pg.schema import Schema
 from cophy_pg.sizes import stored_size
 from cophy_pg.speed import Speed
-from cophy_pg.unlimited import exceeding
+from cophy_pg.unlimited import exceeding, likely
 from cophy_pg.verify import Judged
 from cophy_pg.why import Reason
 from cophy_pg.workload import Record, Workload
@@ -39,6 +40,7 @@ class Result:
     head: dict[str, Any]
     told: dict[str, list[str]]
     seconds: dict[str, float] = field(default_factory=dict)
+    recommended: Recommended | None = None
 
     def document(self) -> dict[str, Any]:
         """The document."""
@@ -59,11 +61,12 @@ class Result:
                 "finished": self.advice.is_finished,
             },
             "server_cost": {"statements": count, "before": before, "after": after},
+            "recommended": self._recommended(),
             "proved": self.proved,
             "calls_divided_by": self.workload.divisor,
             **self.told,
             "functions": self.judged.functions,
-            "picks": self._picks(),
+            "picks": [it | {"reserve": self._reserve(it["number"])} for it in self.plain_picks()],
             "left_out": [{**_index(it), "why": why} for it, why in self.choice.left_out],
             "statements": [self._statement(at, it) for at, it in enumerate(self.workload.records, 1)],
             "seconds": {name: round(it, 3) for name, it in self.seconds.items()},
@@ -71,9 +74,33 @@ class Result:
 
     def numbers(self) -> list[int]:
         """The numbers of the picks in the order in which they are shown and made."""
-        return [it["number"] for it in self._picks()]
+        return [it["number"] for it in self.plain_picks()]
 
-    def _picks(self) -> list[dict[str, Any]]:
+    def reserves(self) -> dict[int, str]:
+        """Why picks aren't recommended where all are there, by their numbers."""
+        statements = [{"seconds": it.input.seconds} for it in self.workload.records]
+        found = {it["number"]: reserve_of(it, {"statements": statements}) for it in self.plain_picks()}
+        return {number: why for number, why in found.items() if why}
+
+    def places_left_out(self) -> list[int]:
+        """The places, from 1, of the picks that aren't recommended."""
+        return [at for at, number in enumerate(self.numbers(), 1) if self._reserve(number)]
+
+    def _reserve(self, number: int) -> str | None:
+        return self.recommended.why_not.get(number) if self.recommended else None
+
+    def _recommended(self) -> dict[str, Any]:
+        """What those picks take and bring that are recommended."""
+        picks = [it for it in self.choice.advice.picks if not self._reserve(it.number)]
+        ours, server = self.recommended.costs if self.recommended else (self.prices[1].total, self.judged.sums()[2])
+        return {
+            "picks": len(picks),
+            "stored_pages": stored_size(self.schema, picks),
+            "cost": ours,
+            "server_cost": server,
+        }
+
+    def plain_picks(self) -> list[dict[str, Any]]:
         """The picks, those that save the most first, by names that are given in this order."""
         outcomes = {it.pick.number: it for it in self.judged.outcomes}
         listed: list[dict[str, Any]] = [
@@ -100,6 +127,8 @@ class Result:
             "begins": outcome.begins or None,
             "notes": self._notes(made),
             "long": exceeding(self.schema, pick),
+            "long_likely": likely(self.schema, pick),
+            "superfluous": [*outcome.superfluous],
         }
 
     def _build(self, made: Made) -> float:

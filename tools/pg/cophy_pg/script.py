@@ -1,7 +1,9 @@
 """`ddl --script`: a script of psql that makes the picks of an advice, says what went wrong, and takes them back."""
 from __future__ import annotations
 
+import hashlib
 import re
+from collections.abc import Sequence
 
 from cophy_text import VERSION
 from cophy_text.answers import counted
@@ -11,7 +13,7 @@ from cophy_pg.schema import Schema, Table
 from cophy_pg.server import OWN
 from cophy_pg.sizes import stored_pages
 from cophy_pg.speed import Speed, duration
-from cophy_pg.unlimited import exceeding, warning
+from cophy_pg.unlimited import likely, warning
 
 BRIEF, PATIENT = "5s", "30min"
 
@@ -23,9 +25,15 @@ SET standard_conforming_strings TO on;
 SET statement_timeout TO 0;
 SET client_min_messages TO warning;
 \\if :{{?without}}
-\\else
+\\elif :{{?all}}
     \\set without ''
+\\elif :{{?undo}}
+    \\set without ''
+\\else
+    \\set without 'UNADVISED'
 \\endif
+-- What is made here is marked, so that nothing else is dropped.
+\\set mark 'MARK'
 -- An index that another run is making looks like one that was left INVALID.
 SELECT pg_try_advisory_lock(1668247673, 1) AS is_alone \\gset
 \\if :is_alone
@@ -38,9 +46,10 @@ SELECT pg_try_advisory_lock(1668247673, 1) AS is_alone \\gset
 \\set patient '{PATIENT}'
 PREPARE cophy_state (text, text, text, text[]) AS {OWN}
 SELECT count(*) FILTER (WHERE NOT is_it) > 0 AS is_other, count(*) FILTER (WHERE is_it AND is_valid) > 0 AS is_there,
-    count(*) FILTER (WHERE is_it AND NOT is_valid) > 0 AS is_invalid
+    count(*) FILTER (WHERE is_it AND NOT is_valid) > 0 AS is_invalid,
+    count(*) FILTER (WHERE is_it AND (NOT is_valid OR mark = :'mark')) > 0 AS is_own
 FROM (
-    SELECT i.indisvalid AND i.indisready AS is_valid, coalesce(m.nspname = $1 AND t.relname = $3 AND $4 = ARRAY(
+    SELECT i.indisvalid AND i.indisready AS is_valid, obj_description(c.oid, 'pg_class') AS mark, coalesce(m.nspname = $1 AND t.relname = $3 AND $4 = ARRAY(
         SELECT a.attname::text FROM unnest(i.indkey::int2[]) WITH ORDINALITY k(number, at)
         JOIN pg_attribute a ON a.attrelid = i.indrelid AND a.attnum = k.number ORDER BY k.at), false) AS is_it
     FROM pg_class c JOIN pg_namespace n ON n.oid = c.relnamespace LEFT JOIN pg_index i ON i.indexrelid = c.oid
@@ -121,13 +130,26 @@ FROM names \gset
 """
 
 
-def script_text(schema: Schema, made: list[Made], head: list[str], speed: Speed) -> str:
-    """The script. It can be run again after a fault, and with `-v undo=1` it drops what it made."""
+def script_text(schema: Schema, made: list[Made], head: list[str], speed: Speed, unadvised: Sequence[int] = ()) -> str:
+    """The script. It can be run again after a fault, and with `-v undo=1` it drops what it made. What stands at the unadvised
+    places is made where that is asked for."""
+    text = _text(schema, made, head, speed, unadvised)
+    mark = f"cophy-pg, script {hashlib.sha256(text.encode()).hexdigest()[:12]}"
+    return text.replace("'MARK'", f"'{mark}'", 1)
+
+
+def _text(schema: Schema, made: list[Made], head: list[str], speed: Speed, unadvised: Sequence[int]) -> str:
+    """The script without what marks it."""
     listed = [it for it in made if not it.why_not]
     prepared = [_PARTS] * any(_table(schema, it).is_partitioned for it in listed)
     prepared += [_LAID] * any(it.laid is not None for it in listed)
-    lines = [*_told(schema, listed, speed), *head, ""]
-    lines += [_HEAD + _refuse(listed) + "".join(prepared) + "\\if :{?undo}"]
+    lines = [*_told(schema, listed, speed, unadvised), *head, ""]
+    lines += [
+        _HEAD.replace("UNADVISED", ",".join(map(str, unadvised)))
+        + _refuse(listed)
+        + "".join(prepared)
+        + "\\if :{?undo}"
+    ]
     for it in reversed(listed):
         lines += _unless_out(it, _undo(_table(schema, it), it))
     lines += ["\\else"]
@@ -136,7 +158,7 @@ def script_text(schema: Schema, made: list[Made], head: list[str], speed: Speed)
         if it.indexes:
             size = space(stored_pages(schema, it.pick) or it.pick.pages)
             about = f"about {size} and {speed.of_index(table)}"
-        fails = warning(exceeding(schema, it.pick))
+        fails = warning(likely(schema, it.pick))
         lines += [
             "",
             *[f"-- {fails}"] * bool(fails),
@@ -160,20 +182,23 @@ def _marked(text: str) -> str:
     return "\n".join(lines)
 
 
-def _told(schema: Schema, listed: list[Made], speed: Speed) -> list[str]:
+def _told(schema: Schema, listed: list[Made], speed: Speed, unadvised: Sequence[int]) -> list[str]:
     """What the script makes, how long that takes, whom it locks out, and how to take it back, for who runs it."""
-    size = space(sum(stored_pages(schema, it.pick) or it.pick.pages for it in listed if it.indexes))
-    time = duration(sum(speed.seconds(_table(schema, it), bool(it.indexes), it.laid is not None) for it in listed))
-    lines = [f"-- Made by cophy-pg {VERSION}: {counted(len(listed), 'step')}, about {size} of indexes and {time}."]
+    making = [it for it in listed if it.place not in unadvised]
+    size = space(sum(stored_pages(schema, it.pick) or it.pick.pages for it in making if it.indexes))
+    time = duration(sum(speed.seconds(_table(schema, it), bool(it.indexes), it.laid is not None) for it in making))
+    lines = [f"-- Made by cophy-pg {VERSION}: {counted(len(making), 'step')}, about {size} of indexes and {time}."]
     lines += ["-- The owner of the tables runs it: psql -X -f FILE. It may be run again after a fault."]
     lines += [
-        "-- Each index is made CONCURRENTLY: reads and writes go on. It waits for open transactions, 30 minutes at most."
+        "-- Each is made CONCURRENTLY: reads and writes go on. It waits for open transactions, 30 minutes at most."
     ]
-    if any(it.laid is not None for it in listed):
+    if any(it.laid is not None for it in making):
         lines += ["-- CLUSTER locks its table against all others, readers too."]
-    lines += ["-- To leave out number 2 and 5: psql -X -v without=2,5 -f FILE"]
-    lines += ["-- To drop what it made: psql -X -v undo=1 -f FILE"]
-    return [*lines, *(f"-- {it.place}. {it.pick.shown()}" for it in sorted(listed, key=lambda it: it.place))]
+    lines += ["-- With -v undo=1 it drops what it made, and nothing else; -v without=N,N passes over these numbers."]
+    lines += ["-- What isn't recommended is made with -v all=1 alone."] * bool(unadvised)
+    marks = {it: ": not recommended" for it in unadvised}
+    order = sorted(listed, key=lambda it: it.place)
+    return [*lines, *(f"-- {it.place}. {it.pick.shown()}{marks.get(it.place, '')}" for it in order)]
 
 
 def _unless_out(made: Made, steps: list[str]) -> list[str]:
@@ -203,7 +228,7 @@ def _make(made: Made) -> list[str]:
         lines += ["\\if :is_there", "    \\echo 'it is there already'", "\\else", "    \\if :is_invalid"]
         lines += ["        \\echo 'an earlier run left it INVALID, so it is dropped first'"]
         lines += [f"        DROP INDEX CONCURRENTLY {index.shown()};", "    \\endif"]
-        lines += _tried(index.statement(), state, "is_there")
+        lines += _tried(index.statement(), state, "is_there", _mark(index))
         lines += ["        \\if :is_invalid"]
         lines += [
             "            \\warn 'it is left INVALID: it serves no query, and each write pays for it'",
@@ -227,10 +252,15 @@ def _lay(made: Made, laid: Laid, told: list[str]) -> list[str]:
     return [*lines, "    \\endif", "\\endif", "SET lock_timeout TO :'patient';", analyse]
 
 
-def _tried(statement: str, asked: str, flag: str) -> list[str]:
-    """Tries a statement that may fail, asks what came of it, and begins what is said where it failed."""
-    tried = ["\\set ON_ERROR_STOP off", statement, "\\set ON_ERROR_STOP on", asked, f"\\if :{flag}", "\\else"]
-    return [f"    {it}" for it in tried]
+def _tried(statement: str, asked: str, flag: str, then: str = "") -> list[str]:
+    """Tries a statement that may fail, asks what came of it, takes what follows, and begins what is said where it failed."""
+    tried = ["\\set ON_ERROR_STOP off", statement, "\\set ON_ERROR_STOP on", asked, f"\\if :{flag}"]
+    return [f"    {it}" for it in [*tried, *[f"    {then}"] * bool(then), "\\else"]]
+
+
+def _mark(index: Named) -> str:
+    """Marks an index as one that this script made."""
+    return f"COMMENT ON INDEX {index.shown()} IS :'mark';"
 
 
 def _is_laid(laid: Laid) -> str:
@@ -239,11 +269,12 @@ def _is_laid(laid: Laid) -> str:
 
 
 def _make_parts(table: Table, made: Made) -> list[str]:
-    state = _state(made.indexes[0])
+    state, mark = _state(made.indexes[0]), _mark(made.indexes[0])
     lines = ["SET lock_timeout TO :'patient';", state, *_refuse_other(made), _step(table, made, 1)]
     lines += [
         "SET lock_timeout TO :'brief';",
         _step(table, made, 2),
+        *["\\if :is_there", "\\elif :is_invalid", "\\else", f"    {mark}", "\\endif"],
         "SET lock_timeout TO :'patient';",
         _step(table, made, 3),
     ]
@@ -260,10 +291,12 @@ def _undo(table: Table, made: Made) -> list[str]:
     for index in made.indexes:
         wait, how = ("brief", "") if table.is_partitioned else ("patient", "CONCURRENTLY ")
         lines += [f"SET lock_timeout TO :'{wait}';", _state(index)]
-        lines += ["SELECT :'is_there'::bool OR :'is_invalid'::bool AS is_it \\gset", "\\if :is_it"]
         lines += [
+            "\\if :is_own",
             f"    DROP INDEX {how}{index.shown()};",
             f"    \\echo '{made.place}: {_named(index)} is dropped'",
+            "\\elif :is_there",
+            f"    \\echo '{made.place}: {_named(index)} stays: this script did not make it'",
             "\\endif",
         ]
     return lines + (["SET lock_timeout TO :'patient';", _step(table, made, 5)] if table.is_partitioned else [])

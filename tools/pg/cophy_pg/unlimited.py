@@ -15,6 +15,9 @@ from cophy_pg.schema import Column, Schema, Table
 
 WORD = "--long-columns"
 MOST_NAMED = 2
+TEXTS = frozenset(("text", "varchar", "bpchar"))
+FAR_LONGER = 16
+"""Of a type whose lengths the statistics don't have, a value may be so many times as long as they are on average."""
 
 
 def may_exceed(columns: Iterable[Column]) -> list[str]:
@@ -32,6 +35,20 @@ def exceeding(schema: Schema, pick: Candidate) -> list[str]:
     except NoIndex:
         return []
     return may_exceed(table.columns[it] for it in columns)
+
+
+def likely(schema: Schema, pick: Candidate) -> list[str]:
+    """Those of them of which a value may be as long by the statistics: where they have the lengths of values, none is."""
+    try:
+        table, columns = names_of(schema, pick)
+    except NoIndex:
+        return []
+    return may_exceed(it for it in map(table.columns.__getitem__, columns) if _may_be_long(it))
+
+
+def _may_be_long(column: Column) -> bool:
+    """Whether values are long, or their lengths aren't known: those of texts are, unless one of them is long."""
+    return not column.sizes and (column.type in TEXTS or FAR_LONGER * column.width >= ENTRY)
 
 
 def warning(names: list[str]) -> str:

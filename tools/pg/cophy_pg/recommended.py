@@ -1,0 +1,71 @@
+"""Which picks are recommended: those that plainly save something, and under which no write fails. The script makes these alone
+unless it is told otherwise."""
+from __future__ import annotations
+
+from collections.abc import Callable, Iterable
+from dataclasses import dataclass, field
+from typing import Any
+
+from cophy_text.shown import percent
+from cophy_pg.guesses import doubt_of, is_judged, warning_of
+from cophy_pg.unlimited import warning
+
+LITTLE = 1
+"""What an index has to save, in percent, by our model, by the server or of the measured time."""
+KINDS = ("ours", "server", "measured")
+MOST_CHARGED = 0.5
+"""Of what a pick saves at reading writes may take so much."""
+Costs = tuple[int, float]
+"""What the workload costs by our model and by the server's planner."""
+
+
+@dataclass(frozen=True)
+class Recommended:
+    """Why each pick that isn't recommended isn't, by its number, and what the workload costs with all others."""
+
+    why_not: dict[int, str] = field(default_factory=dict)
+    costs: Costs = (0, 0.0)
+
+
+def reserve_of(pick: dict[str, Any], document: dict[str, Any]) -> str:
+    """Why a pick isn't recommended as it stands among all others; nothing where it is. Of one that was allowed to lay the rows of
+    its table anew the server says too little."""
+    if fails := warning(pick["long_likely"]):
+        return fails
+    if pick["outcome"] == "unknown" and not pick["clustered"]:
+        return "whether plans take it isn't known"
+    saved = max(pick["saves"].get(it) or 0 for it in KINDS)
+    if saved < LITTLE:
+        return f"it saves {percent(saved)}"
+    charged = -sum(min(0.0, it["ours"]) for it in pick["changes"])
+    gained = sum(max(0.0, it["ours"]) for it in pick["changes"])
+    if charged > MOST_CHARGED * gained and is_judged(pick):
+        return f"writes pay {percent(charged)} for it, reads save {percent(gained)}"
+    return doubt_of(pick) or warning_of(pick, document)
+
+
+def without_reserves(
+    picks: Iterable[dict[str, Any]],
+    reserves: dict[int, str],
+    all_: Costs,
+    wholes: Costs,
+    costs_of: Callable[[list[int]], Costs],
+) -> Recommended:
+    """Leaves out the picks that there are reserves about: at once those under which a write fails, and of the others each as long
+    as the workload costs no more for it than it does where all others are there, since one may stand for another. `all_` are
+    the costs with all picks, `wholes` without any."""
+    listed = sorted(picks, key=lambda it: float(it["saves"]["server"]))
+    failing = {it["number"] for it in listed if it["long_likely"] and it["number"] in reserves}
+    kept = [it["number"] for it in listed if it["number"] not in failing]
+    now = costs_of(kept) if failing else all_
+    waiting = [it for it in listed if it["number"] in kept and it["number"] in reserves]
+    for some in [waiting, *([it] for it in waiting if len(waiting) > 1)]:
+        without = [it for it in kept if it not in {one["number"] for one in some}]
+        if not some or len(without) == len(kept):
+            continue
+        costs = costs_of(without)
+        allowed = [LITTLE + sum(it["saves"][key] for it in some) for key in ("ours", "server")]
+        rises = [100 * (new - old) / (whole or 1) for new, old, whole in zip(costs, now, wholes)]
+        if all(rise <= most for rise, most in zip(rises, allowed)):
+            kept, now = without, costs
+    return Recommended({number: why for number, why in reserves.items() if number not in kept}, now)

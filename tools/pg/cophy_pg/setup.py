@@ -1,0 +1,155 @@
+"""`setup`: the role and the extensions that `advise` needs, made once by a superuser; what is missing, and the next command."""
+from __future__ import annotations
+
+import argparse
+import base64
+import getpass
+import hashlib
+import hmac
+import os
+import secrets
+import shlex
+import subprocess
+import sys
+from contextlib import suppress
+from pathlib import Path
+
+from cophy_text import files
+from cophy_text.answers import counted
+from cophy_pg.picks import home_of
+from cophy_pg.inputs import EXTENSION, NoInput
+from cophy_pg.progress import say
+from cophy_pg.server import OWN, Server, ServerFault, connected, quoted_name, reading
+from cophy_pg.trust import view_of
+
+ROLE = "cophy_advisor"
+SCRIPT = Path(__file__).resolve().parents[1] / "advisor_role.sql"
+ROUNDS = 4096
+LOCAL = ("localhost", "127.0.0.1", "::1")
+HYPOPG = (
+    "the extension hypopg is missing: install it (apt-get install postgresql-NN-hypopg, NN being the server's version)"
+)
+_COUNT = f"""SELECT count(*) FROM {{}} WHERE strpos(query, '{OWN}') = 0
+AND dbid = (SELECT oid FROM pg_catalog.pg_database WHERE datname = current_database())"""
+_SIZE = f"""SELECT coalesce(sum(pg_relation_size(c.oid)), 0)::int8 FROM pg_class c JOIN pg_namespace n ON n.oid = c.relnamespace
+WHERE c.relkind IN ('r', 'm') AND n.nspname NOT IN ('pg_catalog', 'information_schema') AND n.nspname !~ '^pg_toast'"""
+
+
+def add_setup(commands: argparse._SubParsersAction[argparse.ArgumentParser]) -> None:
+    """The words of `setup`."""
+    parser = commands.add_parser(
+        "setup",
+        help="make the role and the extensions that advise needs, and say what is missing",
+        description="Lets a superuser run advisor_role.sql in a database: the role cophy_advisor, which only reads, and the "
+        "extensions hypopg and pg_stat_statements, each in a schema of its own. Gives the role a password, which goes to "
+        "~/.pgpass, unless one there serves; says what is missing, and prints the next command.",
+        epilog="The status is 0 where advise can be called, and 1 where something is missing.",
+    )
+    parser.add_argument("database", metavar="DATABASE", nargs="?", help="the database (PGDATABASE)")
+    parser.add_argument(
+        "--psql",
+        metavar="COMMAND",
+        help="how psql is called as a superuser (sudo -u postgres psql); elsewhere such as 'psql -h HOST -U postgres'",
+    )
+    parser.set_defaults(run=setup)
+
+
+def setup(words: argparse.Namespace) -> int:
+    """Makes what is to be made, and says what is missing."""
+    database = words.database or os.environ.get("PGDATABASE")
+    if not database:
+        raise NoInput("name the database: cophy-pg setup DATABASE")
+    host, port = os.environ.get("PGHOST") or "localhost", os.environ.get("PGPORT") or "5432"
+    superuser = shlex.split(words.psql) if words.psql else _superuser(host, port)
+    kept = {it: value for it, value in os.environ.items() if not it.startswith("PG") or words.psql and it != "PGUSER"}
+    _run([*superuser, "-d", database], kept, files.read(str(SCRIPT)).decode())
+    os.environ |= {"PGHOST": host, "PGPORT": port, "PGDATABASE": database, "PGUSER": ROLE}
+    if not _is_known():
+        secret = secrets.token_urlsafe(24)
+        _run([*superuser, "-d", database], kept, f"ALTER ROLE {ROLE} PASSWORD '{verifier_of(secret)}';")
+        _keep(host, port, secret)
+    with connected() as server, reading(server):
+        return _tell(server, database, host, port)
+
+
+def _run(superuser: list[str], environment: dict[str, str], text: str) -> None:
+    """Hands a script to psql, whose standard output says nothing that isn't said here."""
+    given = [*superuser, "-X", "-q", "-v", "statements=counted", "-v", "ON_ERROR_STOP=1"]
+    try:
+        ran = subprocess.run(given, input=text, text=True, env=environment, stdout=subprocess.DEVNULL, check=False)
+    except OSError as fault:
+        raise NoInput(f"{given[0]}: {fault.strerror}") from None
+    if ran.returncode:
+        raise NoInput(f"the superuser's script failed: {shlex.join(superuser)} answers with status {ran.returncode}")
+
+
+def _superuser(host: str, port: str) -> list[str]:
+    """How psql is called as the superuser postgres of this machine."""
+    if host not in LOCAL and not host.startswith("/"):
+        raise NoInput("the server is on another machine: --psql 'psql -h HOST -U postgres' names its superuser")
+    user = getpass.getuser()
+    known: dict[str, list[str]] = {"postgres": [], "root": ["runuser", "-u", "postgres", "--"]}
+    before = known.get(user, ["sudo", "-u", "postgres"])
+    return [*before, "psql", "-p", port, *(["-h", host] if host.startswith("/") else [])]
+
+
+def _is_known() -> bool:
+    """Whether the role may connect with what is there."""
+    with suppress(ServerFault), connected():
+        return True
+    return False
+
+
+def verifier_of(secret: str) -> str:
+    """What the server keeps of a password: it can't be turned back (SCRAM-SHA-256, RFC 5803)."""
+    salt = os.urandom(16)
+    salted = hashlib.pbkdf2_hmac("sha256", secret.encode(), salt, ROUNDS)
+    keys = [hmac.digest(salted, it, "sha256") for it in (b"Client Key", b"Server Key")]
+    shown = [base64.b64encode(it).decode() for it in (salt, hashlib.sha256(keys[0]).digest(), keys[1])]
+    return f"SCRAM-SHA-256${ROUNDS}:{shown[0]}${shown[1]}:{shown[2]}"
+
+
+def _keep(host: str, port: str, secret: str) -> None:
+    """Puts the password before the other lines of the file of passwords, in the place of the one before."""
+    name = os.environ.get("PGPASSFILE") or os.path.expanduser("~/.pgpass")
+    place = ":".join(it.replace("\\", "\\\\").replace(":", "\\:") for it in (host, port))
+    begin = f"{place}:*:{ROLE}:"
+    lines = files.read(name).decode(errors="surrogateescape").splitlines() if os.path.lexists(name) else []
+    text = "\n".join([begin + secret, *(it for it in lines if not it.startswith(begin))]) + "\n"
+    files.write([files.File(name, text.encode(errors="surrogateescape"))])
+
+
+def _tell(server: Server, database: str, host: str, port: str) -> int:
+    """Says what is there, what is missing, and the next command."""
+    count, has_hypopg = _counted(server), _has_hypopg(server)
+    if not has_hypopg:
+        say(HYPOPG)
+    if count is None or not has_hypopg:
+        say("call this again when that is done")
+        return 1
+    print(f"{ROLE} may read {database!a}, where {counted(count, 'statement')} are counted. Next:")
+    names = {"PGHOST": host, "PGPORT": port if port != "5432" else "", "PGDATABASE": database, "PGUSER": ROLE}
+    print("export " + " ".join(f"{name}={shlex.quote(it)}" for name, it in names.items() if it))
+    print(f"{shlex.quote(sys.argv[0])} advise --budget {fifth_of(int(server.value(_SIZE)))}")
+    return 0
+
+
+def _has_hypopg(server: Server) -> bool:
+    with suppress(ServerFault), server.savepoint():
+        return bool(home_of(server))
+    return False
+
+
+def _counted(server: Server) -> int | None:
+    """How many statements of the database are counted; nothing where none is, which the script has told."""
+    with suppress(ServerFault), server.savepoint():
+        found = view_of(server, EXTENSION)
+        if found is not None:
+            return int(server.value(_COUNT.format(f"{quoted_name(found[0])}.{EXTENSION}")))
+    return None
+
+
+def fifth_of(size: int) -> str:
+    """A fifth of the bytes of tables, as a budget."""
+    megabytes = max(1, round(size / 5 / 2**20))
+    return f"{round(megabytes / 1024)}GB" if megabytes >= 10240 else f"{megabytes}MB"

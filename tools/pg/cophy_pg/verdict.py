@@ -1,0 +1,113 @@
+"""What `advise` prints: a verdict, the indexes, and the one command that makes them. All else is counted."""
+from __future__ import annotations
+
+import textwrap
+from typing import Any
+
+from cophy_text import files
+from cophy_text.answers import counted
+from cophy_text.shown import percent, share, short, space
+from cophy_pg import folder
+from cophy_pg.closing import command_of
+from cophy_pg.folder import Folder
+from cophy_pg.guesses import gains, is_judged
+from cophy_pg.overview import headline, measured, much_skipped, named, part_of
+from cophy_pg.speed import duration
+
+WIDTH, KEPT = 100, "\N{NO-BREAK SPACE}"
+SQL, LONGEST = 34, 40
+"""So many characters of a statement are shown, and such a name of an index has others in its column."""
+MOST_UNADVISED = 3
+
+
+def verdict(document: dict[str, Any], kept: Folder) -> list[str]:
+    """The summary of a document whose files are in a folder."""
+    picks = [*enumerate(document["picks"], 1)]
+    advised = [it for it in picks if not it[1].get("reserve")]
+    sentence = _sentence(document, len(advised)).replace(" %", f"{KEPT}%")
+    lines = [it.replace(KEPT, " ") for it in textwrap.wrap(sentence, WIDTH, break_on_hyphens=False)]
+    lines += ["", f"{'MB':>10}{'saves':>9}  index, for"] * bool(advised)
+    wide = max((len(named(it)) for _, it in advised if len(named(it)) <= LONGEST), default=0)
+    lines += [_row(at, it, wide) for at, it in advised]
+    lines += _unadvised([it for it in picks if it[1].get("reserve")])
+    lines += ["", *_rest(document, kept)]
+    if picks:
+        known = [it["build_seconds"] for _, it in advised or picks if it.get("build_seconds") is not None]
+        time = f" (about {duration(sum(known))}, reads and writes go on)" if known and not _locks(document) else ""
+        who = ", as a member of " + " and ".join(document["owners"]) if len(document["owners"]) > 1 else ""
+        everything = "" if advised else " -v all=1"
+        lines += [f"make them{time}{who}:", command_of(document, kept.path(folder.DDL), everything)]
+    return lines
+
+
+def _locks(document: dict[str, Any]) -> bool:
+    return any(it.get("clustered") for it in document["picks"])
+
+
+def _sentence(document: dict[str, Any], count: int) -> str:
+    """What to do, what that brings, and how sure it is."""
+    judged = f"judged by {part_of(document)}"
+    if not count:
+        what = headline(document) if not document["picks"] else "No index is plainly worth making"
+        return f"{what[0].upper()}{what[1:]} for {document['database']!a}, {judged}."
+    found = document.get("recommended") or {
+        "stored_pages": document["stored_pages"],
+        "cost": document["cost"]["after"],
+        "server_cost": document["server_cost"]["after"],
+    }
+    ours, server = document["cost"], document["server_cost"]
+    what = f"Make {'this index' if count == 1 else f'these {count} indexes'}, {space(found['stored_pages'])}"
+    saved = _saved(found["server_cost"], server["before"])
+    by_model, most = _saved(found["cost"], ours["before"]), _saved(ours["bound"], ours["before"])
+    text = f"{what}: the workload then costs {saved} less by the server's planner"
+    text += f", {by_model} less by our model"
+    proved = "proved" if document["proved"].startswith("proved ") else "not checked"
+    if found["cost"] == ours["bound"]:
+        text += f", the most that this budget can save ({proved})"
+    else:
+        gap = document.get("gap")
+        rest = f"; the rest is mostly {gap['index']}: {gap['why']}" if gap else ""
+        text += f" ({proved}: at most {most} within this budget{rest})"
+    return f"{text}; {judged}."
+
+
+def _saved(after: float, before: float) -> str:
+    return share(before - after, before)
+
+
+def _row(at: int, pick: dict[str, Any], wide: int) -> str:
+    """An index with its size, what it saves, and the statement that gains the most."""
+    saves = pick["saves"]["server"] if is_judged(pick) else pick["saves"]["ours"]
+    mark = " " if is_judged(pick) else "~"
+    users = gains(pick)
+    sql = f"  {short(users[0]['sql'], SQL)}" if users else ""
+    return f"{_begin(at, pick)} {mark}{percent(saves):>7}  {named(pick):<{wide}}{sql}".rstrip()
+
+
+def _begin(at: int, pick: dict[str, Any]) -> str:
+    size = space(pick["stored_pages"])
+    return f"{at:>2}. {size.removesuffix(' MB'):>6}" if size.endswith(" MB") else f"{at:>2}. {size}"
+
+
+def _unadvised(listed: list[tuple[int, dict[str, Any]]]) -> list[str]:
+    """The picks that the script leaves out, with the reasons."""
+    if not listed:
+        return []
+    lines = ["", "not recommended, so left out (psql -v all=1 makes them too):"]
+    lines += [f"{_begin(at, it)}  {named(it)}: {it['reserve']}" for at, it in listed[:MOST_UNADVISED]]
+    return lines + [f"    and {len(listed) - MOST_UNADVISED} more"] * bool(listed[MOST_UNADVISED:])
+
+
+def _rest(document: dict[str, Any], kept: Folder) -> list[str]:
+    """What changes the advice, and how much there is to read beside it."""
+    lines = []
+    if names := [*dict.fromkeys(name for it in document["picks"] for name in it.get("superfluous", []))]:
+        lines += [f"superfluous beside them: {', '.join(names)}"]
+    if much := much_skipped(document):
+        what = "time" if measured(document) == "seconds" else "calls"
+        lines += [f"no index is advised for skipped statements with {much} of the {what}"]
+    lines += [it for it in document["warnings"] if it.endswith(" leaves them out")]
+    count = len([*document["warnings"], *document.get("doubts", [])])
+    notes = [counted(count, "warning")] * bool(count)
+    notes += [f"{len(document['left_out'])} left out"] * bool(document["left_out"])
+    return [*lines, f"{', '.join([*notes, 'all else'])}: {files.shown(kept.path(folder.DETAILS))}"]

@@ -1,0 +1,113 @@
+"""`cophy-pg setup`: what a superuser's script makes and says, on a server that counts statements and on one that doesn't."""
+from __future__ import annotations
+
+import base64
+import hashlib
+import hmac
+import shlex
+import stat
+import subprocess
+import unittest
+from pathlib import Path
+
+from fixtures import ADVISOR, InFolder, called
+from private_server import PrivateServer, has_extension, missing, program
+
+MISSING = missing() or ("" if has_extension("hypopg") else "postgresql-15-hypopg isn't installed")
+
+
+@unittest.skipIf(MISSING, MISSING)
+class Setup(InFolder):
+    server: PrivateServer
+
+    @classmethod
+    def setUpClass(cls) -> None:
+        cls.server = PrivateServer()
+        cls.addClassCleanup(cls.server.stop)
+
+    def setUp(self) -> None:
+        super().setUp()
+        self.server.psql("CREATE DATABASE odd")
+        self.addCleanup(self.server.psql, "DROP DATABASE odd")
+
+    def call(self, server: PrivateServer, *words: str, status: int = 0) -> subprocess.CompletedProcess[str]:
+        superuser = shlex.join([str(program("psql")), "-h", str(server.folder), "-U", "cophy"])
+        more = {"HOME": str(self.folder)}
+        ran = called(server, "setup", *words, "--psql", superuser, database="", **more)
+        self.assertNotIn("Traceback", ran.stderr)
+        self.assertEqual(ran.returncode, status, ran.stderr)
+        return ran
+
+    def test_it_makes_all_and_prints_the_next_command(self) -> None:
+        self.server.psql("CREATE TABLE t AS SELECT generate_series(1, 300000) AS a", "odd")
+        ran = self.call(self.server, "odd")
+        self.assertEqual(ran.stderr, "")
+        first, names, command = ran.stdout.splitlines()
+        self.assertRegex(first, r"\Acophy_advisor may read 'odd', where \d+ statements are counted\. Next:\Z")
+        self.assertEqual(names, f"export PGHOST={self.server.folder} PGDATABASE=odd PGUSER=cophy_advisor")
+        self.assertTrue(command.endswith("cophy-pg advise --budget 2MB"), command)
+        homes = "SELECT string_agg(e.extname || ' in ' || n.nspname, ', ' ORDER BY 1) FROM pg_extension e"
+        homes += " JOIN pg_namespace n ON n.oid = e.extnamespace WHERE e.extname <> 'plpgsql'"
+        self.assertEqual(self.server.value(homes, "odd"), "hypopg in hypopg, pg_stat_statements in counted")
+        # Here each role connects without a password, so none is made.
+        self.assertFalse((self.folder / ".pgpass").exists())
+        self.assertEqual(self.call(self.server, "odd").stdout.splitlines()[1:], [names, command])
+
+    def test_a_server_that_counts_nothing_is_told_with_the_lines_that_mend_it(self) -> None:
+        other = PrivateServer(settings=("shared_preload_libraries=auto_explain",))
+        self.addCleanup(other.stop)
+        other.psql("CREATE DATABASE odd")
+        ran = self.call(other, "odd", status=1)
+        for line in (
+            "The server counts no statements until pg_stat_statements is loaded.",
+            """sudo -u postgres psql -p 5432 -c "ALTER SYSTEM SET shared_preload_libraries = 'auto_explain', 'pg_stat_statements'\"""",
+            "sudo systemctl restart postgresql",
+            "call this again when that is done",
+        ):
+            self.assertIn(line, ran.stderr)
+        self.assertEqual(ran.stdout, "")
+        said = other.psql(ADVISOR.read_text()).stderr
+        self.assertIn("CREATE EXTENSION pg_stat_statements SCHEMA counted;", said)
+
+    def test_faults_are_told(self) -> None:
+        ran = self.call(self.server, "nowhere", status=1)
+        self.assertIn("the superuser's script failed", ran.stderr)
+        ran = self.call(self.server, status=1)
+        self.assertIn("name the database", ran.stderr)
+
+
+class Password(InFolder):
+    def test_the_server_gets_what_cant_be_turned_back(self) -> None:
+        from cophy_pg.setup import verifier_of
+
+        kind, rounds, keys = verifier_of("secret").split("$")
+        count, salt = rounds.split(":")
+        stored, server = (base64.b64decode(it) for it in keys.split(":"))
+        salted = hashlib.pbkdf2_hmac("sha256", b"secret", base64.b64decode(salt), int(count))
+        self.assertEqual((kind, count), ("SCRAM-SHA-256", "4096"))
+        self.assertEqual(stored, hashlib.sha256(hmac.digest(salted, b"Client Key", "sha256")).digest())
+        self.assertEqual(server, hmac.digest(salted, b"Server Key", "sha256"))
+
+    def test_it_stands_before_the_other_lines_in_the_place_of_the_last_one(self) -> None:
+        from unittest import mock
+
+        from cophy_pg.setup import _keep
+
+        name = Path(self.folder) / "pass"
+        name.write_text("localhost:5432:*:cophy_advisor:old\n*:*:*:me:mine")
+        with mock.patch.dict("os.environ", {"PGPASSFILE": str(name)}):
+            _keep("localhost", "5432", "new")
+            _keep("::1", "5433", "third")
+        lines = [r"\:\:1:5433:*:cophy_advisor:third", "localhost:5432:*:cophy_advisor:new", "*:*:*:me:mine"]
+        self.assertEqual(name.read_text().splitlines(), lines)
+        self.assertEqual(stat.S_IMODE(name.stat().st_mode), 0o600)
+
+    def test_a_fifth_of_the_tables_is_a_budget(self) -> None:
+        from cophy_pg.setup import fifth_of
+
+        table = {0: "1MB", 250 * 2**20: "50MB", 100 * 2**30: "20GB"}
+        self.assertEqual([fifth_of(it) for it in table], [*table.values()])
+
+
+if __name__ == "__main__":
+    unittest.main()
