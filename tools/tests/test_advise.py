@@ -279,8 +279,10 @@ class Advise(unittest.TestCase):
         self.assertTrue(why and all(re.match(told, it) for it in why), why)
 
     def test_what_saves_less_than_planning_takes_longer_is_left_out(self) -> None:
-        found = self.advise("--planning", "1000000", status=3)
-        self.assertEqual((found["picks"], found["options"]["planning"]), ([], 1e6))
+        found = self.advise("--planning", "1000000")
+        # A statement that names customer can't be explained, so what an index on it saves isn't known.
+        self.assertEqual([it["table"] for it in found["picks"]], ["customer"])
+        self.assertEqual(found["options"]["planning"], 1e6)
         why = {it["why"] for it in found["left_out"] if it["table"] == "sales_orders"}
         self.assertEqual(why, {"it saves less time than planning and writing take longer for it"})
         found = self.advise("--planning", "0")

@@ -27,12 +27,16 @@ Err(BadNumber(5))|explain a b c +1
 Err(BadNumber(5))|explain a b c 1001
 Err(BadNumber(5))|explain a b c 18446744073709551617
 Err(Extra(6))|explain a b c 1000 d
+Ok(Explain { cat: "a", load: "b", conf: "c", number: 1 })|explain a b c 1
 Ok(Explain { cat: "a", load: "b", conf: "c", number: 1000 })|explain a b c 1000
 Err(BadNumber(2))|bench x
 Err(BadNumber(2))|bench 18446744073709551616
 Err(Missing(3))|bench 18446744073709551615
 Err(BadNumber(3))|bench 1 1 5 0
+Err(BadNumber(3))|bench 1 21 5 0
 Err(BadNumber(4))|bench 1 20 501 0
+Err(BadNumber(4))|bench 1 20 0 0
+Ok(Bench { seed: 1, tables: 20, statements: 1, budget: 0 })|bench 1 20 1 0
 Err(BadNumber(5))|bench 1 20 500 1000000000001
 Ok(Bench { seed: 0, tables: 2, statements: 500, budget: 1000000000000 })|bench 0 2 500 1000000000000
 Ok(Advise { cat: "c", load: "l", budget: 10, nodes: 20000, cert: None })|advise c l 10
@@ -51,6 +55,8 @@ Err(Missing(6))|advise c l 10 --cert
 Err(Missing(6))|advise c l 10 --nodes
 Ok(Ruled { cat: "c", load: "l", budget: 4, rules: "r", nodes: 20000, cert: None })|ruled c l 4 r
 Ok(Ruled { cat: "c", load: "l", budget: 4, rules: "--r", nodes: 7, cert: Some("f") })|ruled c l 4 --r --cert f --nodes 7
+Ok(Ruled { cat: "c", load: "l", budget: 1000000000000, rules: "r", nodes: 20000, cert: None })|ruled c l 1000000000000 r
+Err(BadNumber(4))|ruled c l 1000000000001 r
 Err(BadNumber(4))|ruled c l r 4
 Err(Missing(5))|ruled c l 4
 Err(UnknownOption(6))|ruled c l 4 r --fast
