@@ -92,17 +92,21 @@ COMMIT;
 SELECT NOT EXISTS (SELECT FROM pg_catalog.pg_extension WHERE extname = 'pg_stat_statements') AS lacks_statements,
        loaded !~ '(^|[ ,"/])pg_stat_statements($|[ ,"])' AS is_unloaded,
        (SELECT pg_catalog.string_agg(pg_catalog.quote_literal(pg_catalog.btrim(it, ' "')), ', ')
-        FROM pg_catalog.regexp_split_to_table(pg_catalog.concat_ws(',', nullif(loaded, ''), 'pg_stat_statements'), ',') AS it) AS wanted
-FROM pg_catalog.current_setting('shared_preload_libraries') AS loaded \gset
+        FROM pg_catalog.regexp_split_to_table(pg_catalog.concat_ws(',', nullif(loaded, ''), 'pg_stat_statements'), ',') AS it) AS wanted,
+       coalesce('postgresql@' || cluster[1] || '-' || cluster[2], 'postgresql') AS service,
+       coalesce('of the cluster ' || cluster[1] || '/' || cluster[2], 'of each PostgreSQL on its machine') AS whose
+FROM pg_catalog.current_setting('shared_preload_libraries') AS loaded
+CROSS JOIN (SELECT pg_catalog.regexp_match(pg_catalog.current_setting('data_directory'),
+    '^/var/lib/postgresql/([0-9.]+)/([A-Za-z0-9_.]+)/?$') AS cluster) AS place \gset
 \if :lacks_statements
     \warn 'The extension pg_stat_statements is missing in' :DBNAME', so nobody knows its statements. A superuser makes it there:'
     \warn '    CREATE SCHEMA counted; GRANT USAGE ON SCHEMA counted TO PUBLIC;'
     \warn '    CREATE EXTENSION pg_stat_statements SCHEMA counted;'
 \endif
 \if :is_unloaded
-    \warn 'The server counts no statements until pg_stat_statements is loaded. Two lines do that; the second ends all connections:'
+    \warn 'The server counts no statements until pg_stat_statements is loaded. Two lines do that; the second ends all connections' :whose':'
     \warn '    sudo -u postgres psql -p' :PORT '-c "ALTER SYSTEM SET shared_preload_libraries =' :wanted'"'
-    \warn '    sudo systemctl restart postgresql'
-    \warn 'Then let the application run for a while.'
+    \warn '    sudo systemctl restart' :service
+    \warn 'Then let the application run for a working day, or for one round of all that matters.'
 \endif
 \echo the role cophy_advisor is ready in :DBNAME

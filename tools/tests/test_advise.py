@@ -412,7 +412,7 @@ class Advise(unittest.TestCase):
             1
         ]
         for it in ("searching for the best indexes +\u2501+ 1/1", "asking the server's planner +\u2501+ 10/10"):
-            self.assertIsNotNone(re.search(rf"\n{it} +\d:\d\d:\d\d\r", text), text[-2000:])
+            self.assertIsNotNone(re.search(rf"\nround 1 of at most 4, {it} +\d:\d\d:\d\d\r", text), text[-2000:])
 
     @unittest.skipUnless(COPHY.exists(), "the program isn't built")
     def test_with_the_program_itself(self) -> None:

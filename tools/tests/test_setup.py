@@ -41,7 +41,7 @@ class Setup(InFolder):
     def test_it_makes_all_and_prints_the_next_command(self) -> None:
         self.server.psql("CREATE TABLE t AS SELECT generate_series(1, 300000) AS a", "odd")
         ran = self.call(self.server, "odd")
-        self.assertEqual(ran.stderr, "")
+        self.assertRegex(ran.stderr, r"\Acophy-pg: statements have been counted for .* alone: a working day.*\n\Z")
         first, names, command = ran.stdout.splitlines()
         self.assertRegex(first, r"\Acophy_advisor may read 'odd', where \d+ statements are counted\. Next:\Z")
         self.assertEqual(names, f"export PGHOST={self.server.folder} PGDATABASE=odd PGUSER=cophy_advisor")
@@ -71,9 +71,18 @@ class Setup(InFolder):
 
     def test_faults_are_told(self) -> None:
         ran = self.call(self.server, "nowhere", status=1)
-        self.assertIn("the superuser's script failed", ran.stderr)
+        self.assertIn("the server knows no such database: look at PGDATABASE; it has 'odd', 'postgres'", ran.stderr)
+        self.assertNotIn("FATAL", ran.stderr)
         ran = self.call(self.server, status=1)
         self.assertIn("name the database", ran.stderr)
+
+
+class Elsewhere(unittest.TestCase):
+    def test_running_clusters_of_other_ports_are_listed(self) -> None:
+        from cophy_pg.elsewhere import clusters
+
+        listed = "14 old 5432 online postgres /a /b\n15 main 5433 online,recovery postgres /a /b\n16 new 5434 down postgres /a /b\n"
+        self.assertEqual(clusters(listed, "5432"), ["    the cluster 15/main runs: export PGPORT=5433"])
 
 
 class Password(InFolder):

@@ -13,7 +13,7 @@ from cophy_lint.checks import catalogue_remarks, lines, workload_remarks
 from cophy_text import files
 from cophy_text.answers import Advice, Candidate, Prices, read_advice, read_candidates
 from cophy_pg import export, folder, inputs, unlimited
-from cophy_pg.advise_words import add_words
+from cophy_pg.advise_words import parser_of
 from cophy_pg.beside import Beside
 from cophy_pg.catalogue import read_schema
 from cophy_pg.choice import UNTAKEN, Choice, Limits, drop_by_limits, drop_by_server
@@ -65,17 +65,7 @@ ADDITIONS = 3
 
 def add_advise(commands: argparse._SubParsersAction[argparse.ArgumentParser]) -> None:
     """The words of `advise`."""
-    parser = commands.add_parser(
-        "advise",
-        help="from a server to its indexes in one command",
-        description="Exports a database and its statements, advises on them with a certificate, checks that, asks the "
-        "server's planner about the picks, searches again without what no plan takes, and prints which indexes to make and "
-        "what each saves. All files are kept in a folder. Nothing is made on the server.",
-        epilog="The status is 0 where there are indexes to make, 3 where there are none; 1 says that it couldn't be done, "
-        "2 that the words are faulty.",
-    )
-    add_words(parser)
-    parser.set_defaults(run=advise, is_silent=False)
+    parser_of(commands).set_defaults(run=advise, is_silent=False)
 
 
 def advise(words: argparse.Namespace) -> int:
@@ -126,7 +116,7 @@ class Run:
             lint = self._lint()
         self._take_rules()
         try:
-            first = self._searched(found.schema)
+            first = self._searched(found.schema, 1)
             with connected(self.words.dsn, self.words.timeout) as server:
                 choice, judged = self._rounds(server, found.schema, workload, first)
                 with self.steps.step("plans", "comparing plans", 2 * len(judged.verdicts)):
@@ -150,6 +140,7 @@ class Run:
         self._tell_rest(found.schema, advice, choice, unused)
         self.head["knee"] = knee_of(points, none.total)
         result = Result(*parts, self.head, told, self.steps.seconds)
+        self.steps.begin("recommending")
         with self.steps.step("recommend", "telling what is plainly worth it"):
             asked = {it.number for it in choice.advice.picks if self.rules.asks_for(it)}
             result.recommended = self._recommended(result, workload, asked)
@@ -214,6 +205,7 @@ class Run:
                 home_of(server)
                 if given is None:
                     given = inputs.from_server(server, doubts.append, words.is_trusted)
+                    inputs.tell_short(server, words.since)
                     contents[folder.SNAPSHOT] = taken_of(server, given).text()
                 version, place = version_of(server), server.place()
             listed, found, self.warnings, name = export.read(server, given, selection_of(words), self.steps)
@@ -275,8 +267,9 @@ class Run:
         self.rules.given = [*self.rules.given, *own]
         self.head["long_columns"] = own
 
-    def _searched(self, schema: Schema) -> Choice:
-        """What fills the budget under the rules so far."""
+    def _searched(self, schema: Schema, number: int) -> Choice:
+        """What fills the budget under the rules so far, at the begin of a round."""
+        self.steps.begin(f"round {number} of at most {ROUNDS}")
         with self.steps.step("advise", "searching for the best indexes"):
             advice, rules = self.searches.filling(schema, self.rules)
         return Choice(advice, [(it, UNTAKEN) for it in self.rules.forbidden], rules=rules)
@@ -294,11 +287,12 @@ class Run:
             if number == ROUNDS or not self.rules.forbid(choice.untaken):
                 break
             try:
-                choice = self._searched(schema)
+                choice = self._searched(schema, number + 1)
             except NoCommand:
                 break
         assert best is not None
         best = self._filled(server, schema, workload, *best)
+        self.steps.begin("")
         tables = {it.table for it in best[0].advice.picks}
         with reading(server):
             self.head["owners"] = owners_of(server, [it.oid for it in schema.tables.values() if it.shown in tables])
@@ -310,7 +304,8 @@ class Run:
         """Adds what the server's planner takes in the space that is left, as long as it says that this saves something. Where
         each pick has to save so much by our model, nothing is added."""
         exchange = self.searches.exchange(schema, self.rules)
-        for _ in range(0 if self.words.min_saving else ADDITIONS):
+        for number in range(0 if self.words.min_saving else ADDITIONS):
+            self.steps.begin(f"space left over, round {number + 1} of at most {ADDITIONS}")
             planning = Planning(schema, judged.verdicts, self.words.planning)
             beside = Beside(choice, judged.verdicts, exchange, workload.divisor, planning.longer)
             trades = []
@@ -380,7 +375,9 @@ class Run:
         found = [Verdict(at, it.input, workload.times(it)) for at, it in records if it.numbers]
         if known is not None:
             found = [Verdict(it.number, it.input, it.times, before=it.before, fault=it.fault) for it in known]
-        with self.steps.step("verify", "asking the server's planner", 2 * len(found)):
+        self.steps.ask()
+        asked = len(found) + sum(it.before is None for it in found)
+        with self.steps.step("verify", "asking the server's planner", asked):
             with reading(server):
                 home_of(server)
             listed, functions = judge(server, schema, advice, found, self.words.is_trusted, self.steps)

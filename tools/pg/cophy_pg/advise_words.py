@@ -13,6 +13,21 @@ from cophy_pg.server import add_connection
 from cophy_pg.verify import add_trust
 
 
+def parser_of(commands: argparse._SubParsersAction[argparse.ArgumentParser]) -> argparse.ArgumentParser:
+    """The parser of `advise`."""
+    parser = commands.add_parser(
+        "advise",
+        help="from a server to its indexes in one command",
+        description="Exports a database and its statements, advises on them with a certificate, checks that, asks the "
+        "server's planner about the picks, searches again without what no plan takes, and prints which indexes to make and "
+        "what each saves. All files are kept in a folder. Nothing is made on the server.",
+        epilog="The status is 0 where there are indexes to make, 3 where there are none; 1 says that it couldn't be done, "
+        "2 that the words are faulty.",
+    )
+    add_words(parser)
+    return parser
+
+
 def add_words(parser: argparse.ArgumentParser) -> None:
     """The words that say what to advise on, and how."""
     parser.add_argument(

@@ -6,6 +6,7 @@ import io
 import json
 import re
 from collections.abc import Callable, Iterator
+from contextlib import suppress
 from dataclasses import dataclass
 
 from pglast.parser import ParseError
@@ -16,9 +17,12 @@ from cophy_pg.pieces import pieces
 from cophy_pg.progress import say
 from cophy_pg.rewrite.parse import fingerprint_of
 from cophy_pg.server import OWN, Row, Server, ServerFault, quoted_name, version_of
+from cophy_pg.speed import duration
 from cophy_pg.trust import has_power, view_of
 
 EXTENSION = "pg_stat_statements"
+SHORT = 3600
+"""The seconds that counting should have taken at least."""
 
 _LOGGED = re.compile(
     r"(?:LOG|DEBUG\d?):\s+(?:duration: (?P<ms>[0-9]{1,15}(?:\.[0-9]+)?) ms\s+)?"
@@ -83,6 +87,24 @@ def from_server(server: Server, warn: Callable[[str], None] = say, is_trusted: b
     for it in inputs.values():
         it.rows = (it.rows or 0.0) / it.calls
     return [*inputs.values()]
+
+
+def tell_short(server: Server, since: str | None = None) -> None:
+    """Says so where statements have been counted for less than an hour; behind a snapshot nothing is said."""
+    seconds = SHORT if since else _counted_for(server)
+    if seconds < SHORT:
+        better = "a working day, or one round of all that matters, is better"
+        say(f"statements have been counted for {duration(seconds)} alone: {better}")
+
+
+def _counted_for(server: Server) -> float:
+    """For how many seconds statements have been counted, or else the server runs."""
+    info = f"{EXTENSION}_info"
+    with suppress(ServerFault), server.savepoint():
+        if found := view_of(server, EXTENSION, info):
+            view = f"{quoted_name(found[0])}.{info}"
+            return float(server.value(f"SELECT extract(epoch FROM now() - stats_reset)::float8 FROM {view}"))
+    return float(server.value("SELECT extract(epoch FROM now() - pg_postmaster_start_time())::float8"))
 
 
 def _doubt(server: Server, who: str, where: str, warn: Callable[[str], None], is_trusted: bool) -> None:

@@ -1,7 +1,7 @@
 """The server's plans of statements without the picks of an advice, with them, and with all picks but one."""
 from __future__ import annotations
 
-from collections.abc import Iterable
+from collections.abc import Iterable, Sequence
 from dataclasses import dataclass, field, replace
 from typing import Any, NamedTuple
 
@@ -84,7 +84,7 @@ def under(
     """The plans of some statements under picks, by the numbers of their verdicts."""
     with reading(server, "READ COMMITTED"):
         _, made = make(server, schema, advice)
-        plans = _each(Explainer(server, Columns()), listed, progress)
+        plans = _each(Explainer(server, Columns()), [*listed], progress)
     taken = {at: frozenset(made[name] for name in index_names(it) if name in made) for at, it in plans.items()}
     return {at: Plan(float(it["Total Cost"]), taken[at]) for at, it in plans.items()}
 
@@ -104,10 +104,10 @@ def _but(advice: Advice, pick: Candidate) -> Advice:
     return replace(advice, picks=[it for it in advice.picks if it.number != pick.number])
 
 
-def _each(explainer: Explainer, listed: Iterable[Verdict], progress: Progress) -> dict[int, Any]:
+def _each(explainer: Explainer, listed: Sequence[Verdict], progress: Progress) -> dict[int, Any]:
     found: dict[int, Any] = {}
-    for it in listed:
-        progress(f"plans of {it.shown()}")
+    for at, it in enumerate(listed, 1):
+        progress(f"plan {at} of {len(listed)}")
         if it.statement is None:
             continue
         try:

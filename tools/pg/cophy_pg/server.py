@@ -50,6 +50,8 @@ _WHERE_THERE = {
     # It takes longer than the queries of the catalogs do.
     "jit": "off",
 }
+UNKNOWN_DATABASE = "the server knows no such database: look at PGDATABASE"
+UNKNOWN = "the connection failed"
 _CONNECTION_FAULTS = (
     (
         "password authentication failed",
@@ -58,7 +60,7 @@ _CONNECTION_FAULTS = (
     ("no password supplied", "the server asks for a password: give it in ~/.pgpass, or another file by PGPASSFILE"),
     ("authentication failed", "the server refuses the user"),
     ("FATAL:  role", "the server knows no such user, or it may not log in"),
-    ("FATAL:  database", "the server knows no such database: look at PGDATABASE"),
+    ("FATAL:  database", UNKNOWN_DATABASE),
     ("permission denied for database", "the user may not connect to the database"),
     ("too many ", "the server has no connection left"),
     ("no pg_hba.conf entry", "the server's pg_hba.conf lets no such connection in"),
@@ -126,7 +128,7 @@ def reason(fault: BaseException) -> str:
         or "invalid integer" in text
     ):
         return "the connection string can't be read"
-    return next((why for word, why in _CONNECTION_FAULTS if word in text), "the connection failed")
+    return next((why for word, why in _CONNECTION_FAULTS if word in text), UNKNOWN)
 
 
 class Server:

@@ -16,10 +16,11 @@ from pathlib import Path
 
 from cophy_text import files
 from cophy_text.answers import counted
+from cophy_pg.elsewhere import failed
 from cophy_pg.picks import home_of
-from cophy_pg.inputs import EXTENSION, NoInput
+from cophy_pg.inputs import EXTENSION, NoInput, tell_short
 from cophy_pg.progress import say
-from cophy_pg.server import OWN, Server, ServerFault, connected, quoted_name, reading
+from cophy_pg.server import OWN, UNKNOWN, Server, ServerFault, connected, quoted_name, reading, reason
 from cophy_pg.trust import view_of
 
 ROLE = "cophy_advisor"
@@ -29,7 +30,9 @@ LOCAL = ("localhost", "127.0.0.1", "::1")
 HYPOPG = (
     "the extension hypopg is missing: install it (apt-get install postgresql-NN-hypopg, NN being the server's version)"
 )
-_COUNT = f"""SELECT count(*) FROM {{}} WHERE strpos(query, '{OWN}') = 0
+_COUNT = f"""SELECT count(*) FROM {{}} s JOIN pg_catalog.pg_roles r ON r.oid = s.userid
+WHERE strpos(query, '{OWN}') = 0 AND r.rolname <> current_user
+AND (NOT r.rolsuper OR query ~* '^\\s*(/[*].*[*]/\\s*)?[(]*(select|insert|update|delete|merge|with|values)\\M')
 AND dbid = (SELECT oid FROM pg_catalog.pg_database WHERE datname = current_database())"""
 _SIZE = f"""SELECT coalesce(sum(pg_relation_size(c.oid)), 0)::int8 FROM pg_class c JOIN pg_namespace n ON n.oid = c.relnamespace
 WHERE c.relkind IN ('r', 'm') AND n.nspname NOT IN ('pg_catalog', 'information_schema') AND n.nspname !~ '^pg_toast'"""
@@ -73,12 +76,17 @@ def setup(words: argparse.Namespace) -> int:
 
 
 def _run(superuser: list[str], environment: dict[str, str], text: str) -> None:
-    """Hands a script to psql, whose standard output says nothing that isn't said here."""
+    """Hands a script to psql, whose standard output says nothing that isn't said here. Its status 2 says that it didn't connect."""
     given = [*superuser, "-X", "-q", "-v", "statements=counted", "-v", "ON_ERROR_STOP=1"]
     try:
-        ran = subprocess.run(given, input=text, text=True, env=environment, stdout=subprocess.DEVNULL, check=False)
+        how = {"stdout": subprocess.DEVNULL, "stderr": subprocess.PIPE, "env": environment, "errors": "replace"}
+        ran = subprocess.run(given, input=text, text=True, check=False, **how)  # type: ignore[call-overload]
     except OSError as fault:
         raise NoInput(f"{given[0]}: {fault.strerror}") from None
+    if ran.returncode == 2 and reason(Exception(ran.stderr)) != UNKNOWN:
+        host, port = environment.get("PGHOST", ""), os.environ.get("PGPORT") or "5432"
+        raise NoInput(failed(superuser, environment, port, ran.stderr, host in ("", *LOCAL) or host.startswith("/")))
+    sys.stderr.write(ran.stderr)
     if ran.returncode:
         raise NoInput(f"the superuser's script failed: {shlex.join(superuser)} answers with status {ran.returncode}")
 
@@ -127,6 +135,7 @@ def _tell(server: Server, database: str, host: str, port: str) -> int:
     if count is None or not has_hypopg:
         say("call this again when that is done")
         return 1
+    tell_short(server)
     print(f"{ROLE} may read {database!a}, where {counted(count, 'statement')} are counted. Next:")
     names = {"PGHOST": host, "PGPORT": port if port != "5432" else "", "PGDATABASE": database, "PGUSER": ROLE}
     print("export " + " ".join(f"{name}={shlex.quote(it)}" for name, it in names.items() if it))

@@ -25,12 +25,24 @@ class Steps(Progress):
         self.shown: Any = None
         self.task: Any = None
         self.is_quiet = is_quiet
+        self.part, self.question = "", 0
 
     def __call__(self, text: str) -> None:
         if self.shown is not None:
             self.shown.advance(self.task)
         elif not self.is_quiet:
-            super().__call__(text)
+            super().__call__(self._within(f"question {self.question}, {text}" if self.question else text))
+
+    def begin(self, part: str) -> None:
+        """Begins a part, whose name stands before all that is told until the next one begins."""
+        self.part, self.question = part, 0
+
+    def ask(self) -> None:
+        """Begins the next question of a part; each has a bar of its own, or else its number in the lines."""
+        self.question += 1
+
+    def _within(self, text: str) -> str:
+        return f"{self.part}, {text}" if self.part else text
 
     @contextmanager
     def all(self) -> Iterator[Steps]:
@@ -55,7 +67,7 @@ class Steps(Progress):
         """One step; `count` says how often it is told that something is done. Steps of one name add up."""
         begun = time.monotonic()
         if self.shown is not None:
-            self.task = self.shown.add_task(text, total=count)
+            self.task = self.shown.add_task(self._within(text), total=count)
         else:
             self(text)
         yield

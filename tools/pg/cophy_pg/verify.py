@@ -97,12 +97,13 @@ def judge(
         if functions:
             say_once(f"PostgreSQL may run these functions of users while it plans: {'; '.join(functions)}")
         explainer = Explainer(server, Columns.read(server, tables))
-        for it in (it for it in found if it.before is None):
-            progress(f"explaining {it.shown()}")
+        unknown = [it for it in found if it.before is None]
+        for at, it in enumerate(unknown, 1):
+            progress(f"explaining statement {at} of {len(unknown)} without the picks")
             _explain(explainer, it, {}, False)
         listed, made = make(server, schema, advice)
-        for it in found:
-            progress(f"explaining {it.shown()} with the picks")
+        for at, it in enumerate(found, 1):
+            progress(f"explaining statement {at} of {len(found)} with the picks")
             _explain(explainer, it, made, True)
     return listed, functions
 

@@ -47,8 +47,8 @@ def reasons(program: Program, advice: Advice, progress: Progress) -> tuple[Price
     numbers = {it.number for it in advice.picks}
     none, all_ = program.whatif(()), program.whatif(numbers)
     found = []
-    for pick in advice.picks:
-        progress(f"pricing without pick {pick.number}")
+    for at, pick in enumerate(advice.picks, 1):
+        progress(f"pricing without pick {at} of {len(advice.picks)}")
         without = program.whatif(numbers - {pick.number})
         changes = {
             number: it.weight * (without.statements[number].cost - it.cost)
