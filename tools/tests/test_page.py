@@ -57,6 +57,7 @@ def document(folder: str) -> dict[str, Any]:
         "since": None,
         "min_calls": 1,
         "min_saving": 0.0,
+        "planning": 10.0,
         "most_per_table": None,
         "include": False,
         "long_columns": False,

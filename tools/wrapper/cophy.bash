@@ -36,7 +36,7 @@ _cophy_pg() {
     local rewriting=" --no-ranges --no-rows --no-limits --no-look-ups --no-deletes --no-insert-share"
     COMPREPLY=()
     if [ "$COMP_CWORD" -eq 1 ]; then
-        local words="advise report health daily changes edits snapshot export rewrite rules ddl verify why curve"
+        local words="advise report health daily changes edits setup snapshot export rewrite rules ddl verify why curve"
         _cophy_words "$words --help --version" "$current"
         return
     fi
@@ -44,18 +44,19 @@ _cophy_pg() {
         advise | daily)
             if [ "$command" = daily ]; then options+=" --keep"; fi
             options+=" --budget --folder --since --min-calls --min-saving --planning --rules --long-columns --most-per-table --no-curve --table --user --nodes --sql --log"
-            options+=" --may-cluster --include"
+            options+=" --may-cluster --include --verbose"
             options+="$rewriting --dsn --timeout --i-trust-the-statements --program --json"
             ;;
         health) options+=" --folder --min-size --dsn --timeout --program --json" ;;
         changes) options+=" --json" ;;
         edits) options+=" --output --advise" ;;
         report) options+=" --output" ;;
+        setup) options+=" --psql" ;;
         snapshot) options+=" --dsn --timeout" ;;
         export) options+=" --dsn --sql --log --report --since --min-calls --table --user --may-cluster --timeout$rewriting --program" ;;
         rewrite) options+=" --report$rewriting --program" ;;
         rules) options+=" --skip-unknown" ;;
-        ddl) options+=" --script --include --rows-a-second --order --pages-a-second --json" ;;
+        ddl) options+=" --script --include --unadvised --rows-a-second --order --pages-a-second --json" ;;
         verify)
             options+=" --dsn --sql --log --since --min-calls --table --user --timeout --i-trust-the-statements"
             options+=" --advice --rules --json --program"
