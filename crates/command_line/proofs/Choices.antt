@@ -9,7 +9,7 @@ use Rattle.adv_base.specs.Readings.{◌>>=◌}
 use Rattle.command_line.specs.declared.fault.WordFault.{WordFault}
 use Rattle.command_line.specs.declared.fault.WordFault.TheVariants.{Extra, Twice, UnknownOption, Missing}
 use Rattle.command_line.specs.CommandLine.{PlainOptions, no_options, word_at, number_at, nodes_option, cert_option, option_of, option_at, options_from}
-use Rattle.command_line.specs.Spellings.{IsWithin, Choice, Nodes, Cert, words_of, Choose}
+use Rattle.command_line.specs.Spellings.{IsWithin, Choice, Nodes, Cert, words_of, Choose, IsAllowed}
 use Rattle.command_line.proofs.OptionLaws.{options_from-end, options_from-next}
 use Rattle.command_line.proofs.Results.{pick, pick_else, not_ok, bind_ok}
 use Rattle.command_line.proofs.WordLaws.{one_longer, moved, word_is, no_word, number_here, within}
@@ -205,10 +205,6 @@ two_reads certifies plain one two new newer =
     turn_reads certifies plain one (words_of (two ∷ []) ++ []) 2 no_options new
     ∙ turn_reads certifies (plain ++ words_of (one ∷ [])) two [] 1 (added one no_options) newer
     ∙ end_reads certifies ((plain ++ words_of (one ∷ [])) ++ words_of (two ∷ [])) 0 (added two (added one no_options))
-
--- a certificate is given only where one may be
-abbrev pub IsAllowed : Bool → Option (List ℕ) → Type 0
-IsAllowed certifies cert = is_some cert ≡ true → certifies ≡ true
 
 -- what options choose, where a certificate is allowed or not
 abbrev IsChosen : Bool → List Choice → PlainOptions → Type 0

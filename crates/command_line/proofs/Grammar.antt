@@ -1,8 +1,7 @@
 -- What is read as a command is in the grammar as that command, and the other way round.
-use Rattle.std.proofs.Common.{◌≡◌, ◌∙◌, ◌⊎◌, inl, inr, ℕ, suc, ◌+◌, ◌<◌, ◌≤◌, ◌^◌, Bool, true, false, cond, nat_le, List, [], ◌∷◌, ◌++◌, length, codes, Option, Some, None, Result, Ok, Err, refl, sym, ap, subst, arith}
-use Rattle.std.specs.Prelude.{decimal}
+use Rattle.std.proofs.Common.{◌≡◌, ◌∙◌, inl, inr, ℕ, suc, ◌+◌, ◌<◌, ◌^◌, Bool, true, false, cond, List, [], ◌∷◌, ◌++◌, length, Option, Some, None, Result, Ok, Err, refl, sym, ap, subst, arith}
+use Rattle.std.specs.Prelude.{decimal, if◌then◌else◌}
 use Rattle.std.specs.Str.{bytes_eq}
-use Rattle.std.proofs.lemmas.Bool.{leb-true, le-leb}
 use Rattle.std.proofs.lemmas.Bool.Decides.{nat_tests}
 use Rattle.std.proofs.lemmas.List.{length-append}
 use Rattle.std.proofs.lemmas.Slice.Eq.{bytes_eq-Decides}
@@ -10,39 +9,14 @@ use Rattle.adv_base.specs.Readings.{◌>>=◌, or_fault}
 use Rattle.command_line.specs.declared.fault.WordFault.{WordFault}
 use Rattle.command_line.specs.declared.fault.WordFault.TheVariants.{BadNumber, Extra, Missing, NoCommand, UnknownCommand}
 use Rattle.command_line.specs.Numbers.{number_within}
-use Rattle.command_line.specs.CommandLine.{PlainCommand, Cost, WhatIf, Explain, Candidates, Advise, Ruled, Sweep, Retune, Check, CheckRuled, Fold, Bench, PlainOptions, no_options, nodes_of, last_budget, asked_sweep, WordKind, File, Number, Takes, Row, Plain, Search, end_at, options_from, cost_row, what_if_row, explain_row, candidates_row, advise_row, ruled_row, sweep_row, retune_row, check_row, check_ruled_row, fold_row, bench_row, commands, name_of, read_plain, read_row, read_named, named_command, command_of}
-use Rattle.command_line.specs.Spellings.{IsWithin, AreSweepBudgets, Choice, words_of, Choose, IsCommandLine}
-use Rattle.command_line.proofs.Choices.{IsAllowed, chosen_reads, chosen_back}
+use Rattle.command_line.specs.CommandLine.{PlainCommand, PlainOptions, no_options, WordKind, File, Number, Takes, Row, Plain, Search, end_at, options_from, commands, name_of, read_plain, read_row, read_named, named_command, command_of}
+use Rattle.command_line.specs.Spellings.{Values, spelled, AreWithin, of_values, Choice, words_of, Choose, IsAllowed, IsPlainLine, IsSearchLine, IsLineOf, SomeRow, IsCommandLine, IsInRange}
+use Rattle.command_line.proofs.Choices.{chosen_reads, chosen_back}
+use Rattle.command_line.proofs.Ranges.{AreSmall, IsSmall, IsFit, fit_too, all_fit}
 use Rattle.command_line.proofs.Results.{pick, not_ok, bind_ok}
 use Rattle.command_line.proofs.WordLaws.{one_longer, moved, word_is, no_word, number_of_word, no_number, number_here, within}
 
 -- ## Plain words
-
--- what plain words of these kinds are, how they are spelled, and what is asked for by them
-abbrev Values : List WordKind → Type 0
-Values [] = Unit {0}
-Values (File ∷ kinds) = List ℕ × Values kinds
-Values (Number least most ∷ kinds) = ℕ × Values kinds
-
-abbrev spelled : (kinds : List WordKind) → Values kinds → List (List ℕ)
-spelled [] values = []
-spelled (File ∷ kinds) values = values.0 ∷ spelled kinds values.1
-spelled (Number least most ∷ kinds) values = decimal values.0 ∷ spelled kinds values.1
-
-abbrev AreWithin : (kinds : List WordKind) → Values kinds → Type 0
-AreWithin [] values = Unit {0}
-AreWithin (File ∷ kinds) values = AreWithin kinds values.1
-AreWithin (Number least most ∷ kinds) values = IsWithin least most values.0 × AreWithin kinds values.1
-
-abbrev AreSmall : List WordKind → Type 0
-AreSmall [] = Unit {0}
-AreSmall (File ∷ kinds) = AreSmall kinds
-AreSmall (Number least most ∷ kinds) = (most < 2 ^ 64) × AreSmall kinds
-
-abbrev of_values : {X : Type 0} (kinds : List WordKind) → Takes kinds X → Values kinds → X
-of_values [] asked values = asked
-of_values (File ∷ kinds) asked values = of_values kinds (asked values.0) values.1
-of_values (Number least most ∷ kinds) asked values = of_values kinds (asked values.0) values.1
 
 spelled_length : (kinds : List WordKind) (values : Values kinds) → length (spelled kinds values) ≡ length kinds
 spelled_length [] values = refl
@@ -126,17 +100,10 @@ search_reads certifies name kinds asked values command choices given cert small 
     read
     ∙ (ap go told ∙ ap (λ (r : Result PlainOptions WordFault). r >>= λ said. Ok (command said)) options)
 
--- the plain words of a row, with nothing behind them
-record RowRead (words : List (List ℕ)) (kinds : List WordKind) (asked : Takes kinds PlainCommand) (c : PlainCommand) : Type 0 where
-  values : Values kinds
-  words_are : words ≡ spelled kinds values
-  are : AreWithin kinds values
-  same : of_values kinds asked values ≡ c
-
-row_back : (name w : List ℕ) (words : List (List ℕ)) (kinds : List WordKind) (asked : Takes kinds PlainCommand) (c : PlainCommand) →
-    read_row (w ∷ words) (Plain name kinds asked) ≡ Ok c → RowRead words kinds asked c
-row_back name w words kinds asked c e =
-    let r = plain_back (w ∷ []) words kinds asked (λ command. end_at (w ∷ words) (length kinds + 1) >>= λ _. Ok command) c e in
+row_back : (name : List ℕ) (words : List (List ℕ)) (kinds : List WordKind) (asked : Takes kinds PlainCommand) (c : PlainCommand) →
+    read_row (name ∷ words) (Plain name kinds asked) ≡ Ok c → IsPlainLine (name ∷ words) c name kinds asked
+row_back name words kinds asked c e =
+    let r = plain_back (name ∷ []) words kinds asked (λ command. end_at (name ∷ words) (length kinds + 1) >>= λ _. Ok command) c e in
     ended r.values r.back r.words_are r.are r.goes_on
   where
     no_more : (xs : List (List ℕ)) → xs ++ [] ≡ xs
@@ -144,178 +111,100 @@ row_back name w words kinds asked c e =
     no_more (x ∷ xs) = ap (λ (ys : List (List ℕ)). x ∷ ys) (no_more xs)
 
     ended : (values : Values kinds) (back : List (List ℕ)) → words ≡ spelled kinds values ++ back → AreWithin kinds values →
-        (end_at (w ∷ words) (length kinds + 1) >>= λ _. Ok (of_values kinds asked values)) ≡ Ok c → RowRead words kinds asked c
+        (end_at (name ∷ words) (length kinds + 1) >>= λ _. Ok (of_values kinds asked values)) ≡ Ok c → IsPlainLine (name ∷ words) c name kinds asked
     ended values [] line are goes =
         let all : words ≡ spelled kinds values = line ∙ no_more (spelled kinds values) in
         let size : length words ≡ length kinds = ap length all ∙ spelled_length kinds values in
-        let here = end_here (w ∷ words) (length kinds + 1) (omega (arith, size)) in
+        let here = end_here (name ∷ words) (length kinds + 1) (omega (arith, size)) in
         let is : Ok (of_values kinds asked values) ≡ Ok c = rw here at goes in
-        record { values = values; words_are = all; are = are; same = cc }
+        record { values = values; within = are; words_are = ap (λ (xs : List (List ℕ)). name ∷ xs) all; command_is = cc }
     ended values (b ∷ back) line are goes =
         let size : length words ≡ length (spelled kinds values) + suc (length back) = ap length line ∙ length-append (spelled kinds values) (b ∷ back) in
         let plain = spelled_length kinds values in
-        let beyond = end_beyond (w ∷ words) (length kinds + 1) (omega (arith, size, plain)) in
+        let beyond = end_beyond (name ∷ words) (length kinds + 1) (omega (arith, size, plain)) in
         absurd (not_ok (Extra (length kinds + 1 + 1)) c (rw beyond at goes))
-
--- the plain words of a search, and its options
-record SearchRead (certifies : Bool) (words : List (List ℕ)) (kinds : List WordKind) (asked : Takes kinds (Option (PlainOptions → PlainCommand))) (c : PlainCommand) : Type 0 where
-  values : Values kinds
-  are : AreWithin kinds values
-  command : PlainOptions → PlainCommand
-  told : of_values kinds asked values ≡ Some command
-  options : PlainOptions
-  choices : List Choice
-  chosen : Choose choices options.nodes options.cert
-  may : IsAllowed certifies options.cert
-  words_are : words ≡ spelled kinds values ++ words_of choices
-  same : command options ≡ c
 
 known : {A : Type 0} (fault : WordFault) (o : Option A) (x : A) → or_fault fault o ≡ Ok x → o ≡ Some x
 known fault None x e = absurd (not_ok fault x e)
 known fault (Some y) x e = let same : y ≡ x = cc in ap Some same
 
-search_back : (certifies : Bool) (name w : List ℕ) (words : List (List ℕ)) (kinds : List WordKind) (asked : Takes kinds (Option (PlainOptions → PlainCommand))) (c : PlainCommand) →
-    read_row (w ∷ words) (Search name certifies kinds asked) ≡ Ok c → SearchRead certifies words kinds asked c
-search_back certifies name w words kinds asked c e =
-    let r = plain_back (w ∷ []) words kinds asked (λ o. or_fault (BadNumber (length kinds + 1)) o >>= λ asks. options_from certifies (w ∷ words) 3 (length kinds + 2) no_options >>= λ options. Ok (asks options)) c e in
+search_back : (certifies : Bool) (name : List ℕ) (words : List (List ℕ)) (kinds : List WordKind) (asked : Takes kinds (Option (PlainOptions → PlainCommand))) (c : PlainCommand) →
+    read_row (name ∷ words) (Search name certifies kinds asked) ≡ Ok c → IsSearchLine (name ∷ words) c name certifies kinds asked
+search_back certifies name words kinds asked c e =
+    let r = plain_back (name ∷ []) words kinds asked (λ o. or_fault (BadNumber (length kinds + 1)) o >>= λ asks. options_from certifies (name ∷ words) 3 (length kinds + 2) no_options >>= λ options. Ok (asks options)) c e in
     let told = bind_ok (or_fault (BadNumber (length kinds + 1)) (of_values kinds asked r.values)) _ c r.goes_on in
-    let read = bind_ok (options_from certifies (w ∷ words) 3 (length kinds + 2) no_options) _ c told.1.1 in
+    let read = bind_ok (options_from certifies (name ∷ words) 3 (length kinds + 2) no_options) _ c told.1.1 in
     let size = spelled_length kinds r.values in
-    let place : length kinds + 2 ≡ suc (length (w ∷ spelled kinds r.values)) = omega (arith, size) in
-    let behind : options_from certifies ((w ∷ spelled kinds r.values) ++ r.back) 3 (suc (length (w ∷ spelled kinds r.values))) no_options ≡ Ok read.0 =
-    subst (λ (k : ℕ). options_from certifies ((w ∷ spelled kinds r.values) ++ r.back) 3 k no_options ≡ Ok read.0) place
-    (ap (λ (xs : List (List ℕ)). options_from certifies (w ∷ xs) 3 (length kinds + 2) no_options) (sym r.words_are) ∙ read.1.0) in
-    let chosen = chosen_back certifies (w ∷ spelled kinds r.values) r.back read.0 behind in
+    let place : length kinds + 2 ≡ suc (length (name ∷ spelled kinds r.values)) = omega (arith, size) in
+    let behind : options_from certifies ((name ∷ spelled kinds r.values) ++ r.back) 3 (suc (length (name ∷ spelled kinds r.values))) no_options ≡ Ok read.0 =
+    subst (λ (k : ℕ). options_from certifies ((name ∷ spelled kinds r.values) ++ r.back) 3 k no_options ≡ Ok read.0) place
+    (ap (λ (xs : List (List ℕ)). options_from certifies (name ∷ xs) 3 (length kinds + 2) no_options) (sym r.words_are) ∙ read.1.0) in
+    let chosen = chosen_back certifies (name ∷ spelled kinds r.values) r.back read.0 behind in
     let is : Ok (told.0 read.0) ≡ Ok c = read.1.1 in
     record {
       values = r.values;
-      are = r.are;
-      command = told.0;
-      told = known (BadNumber (length kinds + 1)) (of_values kinds asked r.values) told.0 told.1.0;
+      within = r.are;
+      asks = told.0;
+      go_together = known (BadNumber (length kinds + 1)) (of_values kinds asked r.values) told.0 told.1.0;
       options = read.0;
       choices = chosen.0;
       chosen = chosen.1.1.0;
-      may = chosen.1.1.1;
-      words_are = r.words_are ∙ ap (λ (xs : List (List ℕ)). spelled kinds r.values ++ xs) chosen.1.0;
-      same = cc;
+      allowed = chosen.1.1.1;
+      words_are = ap (λ (xs : List (List ℕ)). name ∷ xs) (r.words_are ∙ ap (λ (xs : List (List ℕ)). spelled kinds r.values ++ xs) chosen.1.0);
+      command_is = cc;
     }
 
--- ## What is in the grammar is read
+-- ## The table
 
-in_row : {A : Type 0} (x y : A) → Some x ≡ Some y → x ≡ y
-in_row x y e = cc
+-- what some row has
+some_row : {P : Row → Type 0} {X : Type 0} (rows : List Row) → ((row : Row) → P row → X) → SomeRow P rows → X
+some_row [] is h = absurd h
+some_row (row ∷ rows) is (inl h) = is row h
+some_row (row ∷ rows) is (inr h) = some_row rows is h
 
-named_cost : (words : List (List ℕ)) → command_of (codes "cost" ∷ words) ≡ read_row (codes "cost" ∷ words) cost_row
-unfolding command_of named_command
-named_cost words = refl
+map_row : {P Q : Row → Type 0} (rows : List Row) → ((row : Row) → P row → Q row) → SomeRow P rows → SomeRow Q rows
+map_row [] is h = h
+map_row (row ∷ rows) is (inl h) = inl (is row h)
+map_row (row ∷ rows) is (inr h) = inr (map_row rows is h)
 
-named_what_if : (words : List (List ℕ)) → command_of (codes "whatif" ∷ words) ≡ read_row (codes "whatif" ∷ words) what_if_row
-unfolding command_of named_command
-named_what_if words = refl
-
-named_explain : (words : List (List ℕ)) → command_of (codes "explain" ∷ words) ≡ read_row (codes "explain" ∷ words) explain_row
-unfolding command_of named_command
-named_explain words = refl
-
-named_candidates : (words : List (List ℕ)) → command_of (codes "candidates" ∷ words) ≡ read_row (codes "candidates" ∷ words) candidates_row
-unfolding command_of named_command
-named_candidates words = refl
-
-named_advise : (words : List (List ℕ)) → command_of (codes "advise" ∷ words) ≡ read_row (codes "advise" ∷ words) advise_row
-unfolding command_of named_command
-named_advise words = refl
-
-named_ruled : (words : List (List ℕ)) → command_of (codes "ruled" ∷ words) ≡ read_row (codes "ruled" ∷ words) ruled_row
-unfolding command_of named_command
-named_ruled words = refl
-
-named_sweep : (words : List (List ℕ)) → command_of (codes "sweep" ∷ words) ≡ read_row (codes "sweep" ∷ words) sweep_row
-unfolding command_of named_command
-named_sweep words = refl
-
-named_retune : (words : List (List ℕ)) → command_of (codes "retune" ∷ words) ≡ read_row (codes "retune" ∷ words) retune_row
-unfolding command_of named_command
-named_retune words = refl
-
-named_check : (words : List (List ℕ)) → command_of (codes "check" ∷ words) ≡ read_row (codes "check" ∷ words) check_row
-unfolding command_of named_command
-named_check words = refl
-
-named_check_ruled : (words : List (List ℕ)) → command_of (codes "check-ruled" ∷ words) ≡ read_row (codes "check-ruled" ∷ words) check_ruled_row
-unfolding command_of named_command
-named_check_ruled words = refl
-
-named_fold : (words : List (List ℕ)) → command_of (codes "fold" ∷ words) ≡ read_row (codes "fold" ∷ words) fold_row
-unfolding command_of named_command
-named_fold words = refl
-
-named_bench : (words : List (List ℕ)) → command_of (codes "bench" ∷ words) ≡ read_row (codes "bench" ∷ words) bench_row
-unfolding command_of named_command
-named_bench words = refl
-
--- the budgets of a sweep go together exactly where the last is one
-steps_told : (cat load : List ℕ) (first step count : ℕ) → AreSweepBudgets first step count → asked_sweep cat load first step count ≡ Some (λ options. Sweep cat load first step count (nodes_of options) options.cert)
-steps_told cat load first step count steps = rw (le-leb (last_budget first step count) 1000000000000 steps.last_is.high)
-
-told_steps : (cat load : List ℕ) (first step count : ℕ) (command : PlainOptions → PlainCommand) → asked_sweep cat load first step count ≡ Some command →
-    (last_budget first step count ≤ 1000000000000) × ((λ options. Sweep cat load first step count (nodes_of options) options.cert) ≡ command)
-told_steps cat load first step count command e =
-    by_test (nat_le (last_budget first step count) 1000000000000) _ command refl e
-  where
-    by_test : (test : Bool) (asks command : PlainOptions → PlainCommand) → nat_le (last_budget first step count) 1000000000000 ≡ test → cond test (Some asks) None ≡ Some command →
-        (last_budget first step count ≤ 1000000000000) × (asks ≡ command)
-    by_test true asks command is told = (leb-true (last_budget first step count) 1000000000000 is, in_row asks command told)
-    by_test false asks command is told = absurd cc
-
--- what is in the grammar is read
-pub reads : (words : List (List ℕ)) (command : PlainCommand) → IsCommandLine words command → command_of words ≡ Ok command
-reads words (Cost cat load) h =
-    rw h (named_cost (cat ∷ load ∷ []) ∙ row_reads (codes "cost") (File ∷ File ∷ []) Cost (cat, (load, tt)) tt tt)
-reads words (WhatIf cat load third) h =
-    rw h (named_what_if (cat ∷ load ∷ third ∷ []) ∙ row_reads (codes "whatif") (File ∷ File ∷ File ∷ []) WhatIf (cat, (load, (third, tt))) tt tt)
-reads words (Explain cat load conf number) h =
-    rw h.0 (named_explain (cat ∷ load ∷ conf ∷ decimal number ∷ []) ∙ row_reads (codes "explain") (File ∷ File ∷ File ∷ Number 1 1000 ∷ []) Explain (cat, (load, (conf, (number, tt)))) (omega arith, tt) (h.1, tt))
-reads words (Candidates cat load) h =
-    rw h (named_candidates (cat ∷ load ∷ []) ∙ row_reads (codes "candidates") (File ∷ File ∷ []) Candidates (cat, (load, tt)) tt tt)
-reads words (Advise cat load budget nodes cert) h =
-    rw (h.0.words_are, h.0.nodes_are) (named_advise (cat ∷ load ∷ decimal budget ∷ words_of h.0.choices)
-    ∙ search_reads true (codes "advise") (File ∷ File ∷ Number 0 1000000000000 ∷ []) (λ cat load budget. Some (λ options. Advise cat load budget (nodes_of options) options.cert))
-    (cat, (load, (budget, tt))) (λ options. Advise cat load budget (nodes_of options) options.cert) h.0.choices h.0.given cert (omega arith, tt) (h.1, tt) refl (λ e. refl) h.0.chosen)
-reads words (Ruled cat load budget rules nodes cert) h =
-    rw (h.0.words_are, h.0.nodes_are) (named_ruled (cat ∷ load ∷ decimal budget ∷ rules ∷ words_of h.0.choices)
-    ∙ search_reads true (codes "ruled") (File ∷ File ∷ Number 0 1000000000000 ∷ File ∷ []) (λ cat load budget rules. Some (λ options. Ruled cat load budget rules (nodes_of options) options.cert))
-    (cat, (load, (budget, (rules, tt)))) (λ options. Ruled cat load budget rules (nodes_of options) options.cert) h.0.choices h.0.given cert (omega arith, tt) (h.1, tt) refl (λ e. refl) h.0.chosen)
-reads words (Sweep cat load first step count nodes cert) h =
-    rw (h.0.words_are, h.0.nodes_are) (named_sweep (cat ∷ load ∷ decimal first ∷ decimal step ∷ decimal count ∷ words_of h.0.choices)
-    ∙ search_reads true (codes "sweep") (File ∷ File ∷ Number 0 1000000000000 ∷ Number 1 1000000000000 ∷ Number 1 16 ∷ []) asked_sweep
-    (cat, (load, (first, (step, (count, tt))))) (λ options. Sweep cat load first step count (nodes_of options) options.cert) h.0.choices h.0.given cert
-    (omega arith, (omega arith, (omega arith, tt))) (h.1.first_is, (h.1.step_is, (h.1.count_is, tt))) (steps_told cat load first step count h.1) (λ e. refl) h.0.chosen)
-reads words (Retune cat load edits budget nodes) h =
-    rw (h.0.words_are, h.0.nodes_are) (named_retune (cat ∷ load ∷ edits ∷ decimal budget ∷ words_of h.0.choices)
-    ∙ search_reads false (codes "retune") (File ∷ File ∷ File ∷ Number 0 1000000000000 ∷ []) (λ cat load edits budget. Some (λ options. Retune cat load edits budget (nodes_of options)))
-    (cat, (load, (edits, (budget, tt)))) (λ options. Retune cat load edits budget (nodes_of options)) h.0.choices h.0.given None (omega arith, tt) (h.1, tt) refl (λ e. e) h.0.chosen)
-reads words (Check cat load third) h =
-    rw h (named_check (cat ∷ load ∷ third ∷ []) ∙ row_reads (codes "check") (File ∷ File ∷ File ∷ []) Check (cat, (load, (third, tt))) tt tt)
-reads words (CheckRuled cat load rules cert) h =
-    rw h (named_check_ruled (cat ∷ load ∷ rules ∷ cert ∷ []) ∙ row_reads (codes "check-ruled") (File ∷ File ∷ File ∷ File ∷ []) CheckRuled (cat, (load, (rules, (cert, tt)))) tt tt)
-reads words (Fold cat load out) h =
-    rw h (named_fold (cat ∷ load ∷ out ∷ []) ∙ row_reads (codes "fold") (File ∷ File ∷ File ∷ []) Fold (cat, (load, (out, tt))) tt tt)
-reads words (Bench seed tables statements budget) h =
-    rw h.0 (named_bench (decimal seed ∷ decimal tables ∷ decimal statements ∷ decimal budget ∷ [])
-    ∙ row_reads (codes "bench") (Number 0 18446744073709551615 ∷ Number 2 20 ∷ Number 1 500 ∷ Number 0 1000000000000 ∷ []) Bench (seed, (tables, (statements, (budget, tt))))
-    (omega arith, (omega arith, (omega arith, (omega arith, tt)))) (h.1.0, (h.1.1.0, (h.1.1.1.0, (h.1.1.1.1, tt)))))
-
--- ## What is read is in the grammar
-
--- some row of a table has P
-abbrev OneOf : List Row → (Row → Type 0) → Type 0
-OneOf [] P = ⊥
-OneOf (row ∷ rows) P = P row ⊎ OneOf rows P
-
+-- a row's name is a word, and the words give the command by the row
 abbrev Reads : List ℕ → List (List ℕ) → PlainCommand → Row → Type 0
 Reads name words c row = (name ≡ name_of row) × (read_row words row ≡ Ok c)
 
-named_back : (name : List ℕ) (words : List (List ℕ)) (rows : List Row) (c : PlainCommand) → read_named name words rows ≡ Ok c → OneOf rows (Reads name words c)
+-- no row of a table has that name, and each has a name of its own
+abbrev no_name : List ℕ → List Row → Bool
+no_name name [] = true
+no_name name (row ∷ rows) = if bytes_eq (name_of row) name then false else no_name name rows
+
+abbrev apart : List Row → Bool
+apart [] = true
+apart (row ∷ rows) = if no_name (name_of row) rows then apart rows else false
+
+not_there : (b x : Bool) → cond b false x ≡ true → (b ≡ false) × (x ≡ true)
+not_there true x e = absurd cc
+not_there false x e = (refl, e)
+
+there : (b x : Bool) → cond b x false ≡ true → (b ≡ true) × (x ≡ true)
+there true x e = (refl, e)
+there false x e = absurd cc
+
+later_name : (name first : List ℕ) (words : List (List ℕ)) (rows : List Row) (c : PlainCommand) → no_name first rows ≡ true → SomeRow (Reads name words c) rows → bytes_eq name first ≡ false
+later_name name first words [] c e h = absurd h
+later_name name first words (row ∷ rows) c e (inl h) = rw h.0 (not_there (bytes_eq (name_of row) first) (no_name first rows) e).0
+later_name name first words (row ∷ rows) c e (inr h) = later_name name first words rows c (not_there (bytes_eq (name_of row) first) (no_name first rows) e).1 h
+
+-- by names of their own, some row that gives a command is the first of its name
+first_named : (name : List ℕ) (words : List (List ℕ)) (rows : List Row) (c : PlainCommand) → apart rows ≡ true → SomeRow (Reads name words c) rows → read_named name words rows ≡ Ok c
+first_named name words [] c e h = absurd h
+first_named name words (row ∷ rows) c e (inl h) =
+    let is : bytes_eq name (name_of row) ≡ true = (bytes_eq-Decides name (name_of row)).1 h.0 in
+    rw is h.1
+first_named name words (row ∷ rows) c e (inr h) =
+    let tests = there (no_name (name_of row) rows) (apart rows) e in
+    let other = later_name name (name_of row) words rows c tests.0 h in
+    rw other (first_named name words rows c tests.1 h)
+
+named_back : (name : List ℕ) (words : List (List ℕ)) (rows : List Row) (c : PlainCommand) → read_named name words rows ≡ Ok c → SomeRow (Reads name words c) rows
 named_back name words [] c e = not_ok (UnknownCommand 1) c e
 named_back name words (row ∷ rows) c e =
     elim (pick (bytes_eq name (name_of row)) (read_row words row) (read_named name words rows) c e) [
@@ -323,75 +212,41 @@ named_back name words (row ∷ rows) c e =
       | inr more ↦ inr (named_back name words rows c more)
     ]
 
-in_row_of : (w : List ℕ) (words : List (List ℕ)) (c : PlainCommand) → OneOf commands (Reads w (w ∷ words) c) → IsCommandLine (w ∷ words) c
-in_row_of w words c (inl h) =
-    let r = row_back (codes "cost") w words (File ∷ File ∷ []) Cost c h.1 in
-    let line : w ∷ words ≡ codes "cost" ∷ r.values.0 ∷ r.values.1.0 ∷ [] = cc (h.0, r.words_are) in
-    subst (IsCommandLine (w ∷ words)) r.same line
-in_row_of w words c (inr (inl h)) =
-    let r = row_back (codes "whatif") w words (File ∷ File ∷ File ∷ []) WhatIf c h.1 in
-    let line : w ∷ words ≡ codes "whatif" ∷ r.values.0 ∷ r.values.1.0 ∷ r.values.1.1.0 ∷ [] = cc (h.0, r.words_are) in
-    subst (IsCommandLine (w ∷ words)) r.same line
-in_row_of w words c (inr (inr (inl h))) =
-    let r = row_back (codes "explain") w words (File ∷ File ∷ File ∷ Number 1 1000 ∷ []) Explain c h.1 in
-    let line : w ∷ words ≡ codes "explain" ∷ r.values.0 ∷ r.values.1.0 ∷ r.values.1.1.0 ∷ decimal r.values.1.1.1.0 ∷ [] = cc (h.0, r.words_are) in
-    subst (IsCommandLine (w ∷ words)) r.same (line, r.are.0)
-in_row_of w words c (inr (inr (inr (inl h)))) =
-    let r = row_back (codes "candidates") w words (File ∷ File ∷ []) Candidates c h.1 in
-    let line : w ∷ words ≡ codes "candidates" ∷ r.values.0 ∷ r.values.1.0 ∷ [] = cc (h.0, r.words_are) in
-    subst (IsCommandLine (w ∷ words)) r.same line
-in_row_of w words c (inr (inr (inr (inr (inl h))))) =
-    let r = search_back true (codes "advise") w words (File ∷ File ∷ Number 0 1000000000000 ∷ []) (λ cat load budget. Some (λ options. Advise cat load budget (nodes_of options) options.cert)) c h.1 in
-    let line : w ∷ words ≡ codes "advise" ∷ r.values.0 ∷ r.values.1.0 ∷ decimal r.values.1.1.0 ∷ words_of r.choices = cc (h.0, r.words_are) in
-    let asks = in_row (λ (options : PlainOptions). Advise r.values.0 r.values.1.0 r.values.1.1.0 (nodes_of options) options.cert) r.command r.told in
-    let same : Advise r.values.0 r.values.1.0 r.values.1.1.0 (nodes_of r.options) r.options.cert ≡ c = ap (λ (f : PlainOptions → PlainCommand). f r.options) asks ∙ r.same in
-    subst (IsCommandLine (w ∷ words)) same (record { choices = r.choices; given = r.options.nodes; chosen = r.chosen; nodes_are = refl; words_are = line }, r.are.0)
-in_row_of w words c (inr (inr (inr (inr (inr (inl h)))))) =
-    let r = search_back true (codes "ruled") w words (File ∷ File ∷ Number 0 1000000000000 ∷ File ∷ []) (λ cat load budget rules. Some (λ options. Ruled cat load budget rules (nodes_of options) options.cert)) c h.1 in
-    let line : w ∷ words ≡ codes "ruled" ∷ r.values.0 ∷ r.values.1.0 ∷ decimal r.values.1.1.0 ∷ r.values.1.1.1.0 ∷ words_of r.choices = cc (h.0, r.words_are) in
-    let asks = in_row (λ (options : PlainOptions). Ruled r.values.0 r.values.1.0 r.values.1.1.0 r.values.1.1.1.0 (nodes_of options) options.cert) r.command r.told in
-    let same : Ruled r.values.0 r.values.1.0 r.values.1.1.0 r.values.1.1.1.0 (nodes_of r.options) r.options.cert ≡ c = ap (λ (f : PlainOptions → PlainCommand). f r.options) asks ∙ r.same in
-    subst (IsCommandLine (w ∷ words)) same (record { choices = r.choices; given = r.options.nodes; chosen = r.chosen; nodes_are = refl; words_are = line }, r.are.0)
-in_row_of w words c (inr (inr (inr (inr (inr (inr (inl h))))))) =
-    let r = search_back true (codes "sweep") w words (File ∷ File ∷ Number 0 1000000000000 ∷ Number 1 1000000000000 ∷ Number 1 16 ∷ []) asked_sweep c h.1 in
-    let v = r.values.1.1 in
-    let line : w ∷ words ≡ codes "sweep" ∷ r.values.0 ∷ r.values.1.0 ∷ decimal v.0 ∷ decimal v.1.0 ∷ decimal v.1.1.0 ∷ words_of r.choices = cc (h.0, r.words_are) in
-    let told = told_steps r.values.0 r.values.1.0 v.0 v.1.0 v.1.1.0 r.command r.told in
-    let steps : AreSweepBudgets v.0 v.1.0 v.1.1.0 = record { first_is = r.are.0; step_is = r.are.1.0; count_is = r.are.1.1.0; last_is = record { low = omega arith; high = told.0 } } in
-    let same : Sweep r.values.0 r.values.1.0 v.0 v.1.0 v.1.1.0 (nodes_of r.options) r.options.cert ≡ c = ap (λ (f : PlainOptions → PlainCommand). f r.options) told.1 ∙ r.same in
-    subst (IsCommandLine (w ∷ words)) same (record { choices = r.choices; given = r.options.nodes; chosen = r.chosen; nodes_are = refl; words_are = line }, steps)
-in_row_of w words c (inr (inr (inr (inr (inr (inr (inr (inl h)))))))) =
-    let r = search_back false (codes "retune") w words (File ∷ File ∷ File ∷ Number 0 1000000000000 ∷ []) (λ cat load edits budget. Some (λ options. Retune cat load edits budget (nodes_of options))) c h.1 in
-    let v = r.values.1.1 in
-    let line : w ∷ words ≡ codes "retune" ∷ r.values.0 ∷ r.values.1.0 ∷ v.0 ∷ decimal v.1.0 ∷ words_of r.choices = cc (h.0, r.words_are) in
-    let asks = in_row (λ (options : PlainOptions). Retune r.values.0 r.values.1.0 v.0 v.1.0 (nodes_of options)) r.command r.told in
-    let same : Retune r.values.0 r.values.1.0 v.0 v.1.0 (nodes_of r.options) ≡ c = ap (λ (f : PlainOptions → PlainCommand). f r.options) asks ∙ r.same in
-    let chosen = subst (Choose r.choices r.options.nodes) (no_cert r.options.cert r.may) r.chosen in
-    subst (IsCommandLine (w ∷ words)) same (record { choices = r.choices; given = r.options.nodes; chosen = chosen; nodes_are = refl; words_are = line }, r.are.0)
-  where
-    no_cert : (cert : Option (List ℕ)) → IsAllowed false cert → cert ≡ None
-    no_cert None may = refl
-    no_cert (Some name) may = absurd (let e : false ≡ true = may refl in cc)
-in_row_of w words c (inr (inr (inr (inr (inr (inr (inr (inr (inl h))))))))) =
-    let r = row_back (codes "check") w words (File ∷ File ∷ File ∷ []) Check c h.1 in
-    let line : w ∷ words ≡ codes "check" ∷ r.values.0 ∷ r.values.1.0 ∷ r.values.1.1.0 ∷ [] = cc (h.0, r.words_are) in
-    subst (IsCommandLine (w ∷ words)) r.same line
-in_row_of w words c (inr (inr (inr (inr (inr (inr (inr (inr (inr (inl h)))))))))) =
-    let r = row_back (codes "check-ruled") w words (File ∷ File ∷ File ∷ File ∷ []) CheckRuled c h.1 in
-    let line : w ∷ words ≡ codes "check-ruled" ∷ r.values.0 ∷ r.values.1.0 ∷ r.values.1.1.0 ∷ r.values.1.1.1.0 ∷ [] = cc (h.0, r.words_are) in
-    subst (IsCommandLine (w ∷ words)) r.same line
-in_row_of w words c (inr (inr (inr (inr (inr (inr (inr (inr (inr (inr (inl h))))))))))) =
-    let r = row_back (codes "fold") w words (File ∷ File ∷ File ∷ []) Fold c h.1 in
-    let line : w ∷ words ≡ codes "fold" ∷ r.values.0 ∷ r.values.1.0 ∷ r.values.1.1.0 ∷ [] = cc (h.0, r.words_are) in
-    subst (IsCommandLine (w ∷ words)) r.same line
-in_row_of w words c (inr (inr (inr (inr (inr (inr (inr (inr (inr (inr (inr (inl h)))))))))))) =
-    let r = row_back (codes "bench") w words (Number 0 18446744073709551615 ∷ Number 2 20 ∷ Number 1 500 ∷ Number 0 1000000000000 ∷ []) Bench c h.1 in
-    let line : w ∷ words ≡ codes "bench" ∷ decimal r.values.0 ∷ decimal r.values.1.0 ∷ decimal r.values.1.1.0 ∷ decimal r.values.1.1.1.0 ∷ [] = cc (h.0, r.words_are) in
-    subst (IsCommandLine (w ∷ words)) r.same (line, (r.are.0, (r.are.1.0, (r.are.1.1.0, r.are.1.1.1.0))))
-in_row_of w words c (inr (inr (inr (inr (inr (inr (inr (inr (inr (inr (inr (inr none)))))))))))) = absurd none
+-- ## Lines
+
+line_reads : (w : List ℕ) (words : List (List ℕ)) (c : PlainCommand) (row : Row) → IsSmall row → IsLineOf (w ∷ words) c row → Reads w (w ∷ words) c row
+line_reads w words c (Plain name kinds asked) small h =
+    let line = h.words_are in
+    let named : w ≡ name = cc in
+    (named, rw line (row_reads name kinds asked h.values small h.within ∙ ap Ok h.command_is))
+line_reads w words c (Search name certifies kinds asked) small h =
+    let line = h.words_are in
+    let named : w ≡ name = cc in
+    (named, rw line (search_reads certifies name kinds asked h.values h.asks h.choices h.options.nodes h.options.cert small h.within h.go_together h.allowed h.chosen ∙ ap Ok h.command_is))
+
+line_back : (w : List ℕ) (words : List (List ℕ)) (c : PlainCommand) (row : Row) → Reads w (w ∷ words) c row → IsLineOf (w ∷ words) c row
+line_back w words c (Plain name kinds asked) h =
+    rw h.0 (row_back name words kinds asked c (rw h.0 at h.1))
+line_back w words c (Search name certifies kinds asked) h =
+    rw h.0 (search_back certifies name words kinds asked c (rw h.0 at h.1))
+
+-- a line has a word
+some_word : (c : PlainCommand) (row : Row) → IsLineOf [] c row → ⊥
+some_word c (Plain name kinds asked) h = let line = h.words_are in cc
+some_word c (Search name certifies kinds asked) h = let line = h.words_are in cc
+
+-- what is in the grammar is read
+pub reads : (words : List (List ℕ)) (command : PlainCommand) → IsCommandLine words command → command_of words ≡ Ok command
+unfolding command_of named_command
+reads [] command h = absurd (some_row commands (some_word command) h)
+reads (w ∷ words) command h = first_named w (w ∷ words) commands command refl (map_row commands (λ row (line : IsFit row × IsLineOf (w ∷ words) command row). line_reads w words command row line.0.0 line.1) (fit_too (IsLineOf (w ∷ words) command) commands all_fit h))
 
 -- what is read is in the grammar
 pub in_grammar : (words : List (List ℕ)) (command : PlainCommand) → command_of words ≡ Ok command → IsCommandLine words command
 unfolding command_of named_command
 in_grammar [] c e = absurd (not_ok NoCommand c e)
-in_grammar (w ∷ words) c e = in_row_of w words c (named_back w (w ∷ words) commands c e)
+in_grammar (w ∷ words) c e = map_row commands (line_back w words c) (named_back w (w ∷ words) commands c e)
+
+-- a command that was read is in range
+pub in_range : (words : List (List ℕ)) (command : PlainCommand) → command_of words ≡ Ok command → IsInRange command
+in_range words command is = some_row commands (λ row (line : IsFit row × IsLineOf words command row). line.0.1 words command line.1) (fit_too (IsLineOf words command) commands all_fit (in_grammar words command is))

@@ -4,5 +4,5 @@ pub mod WordLaws
 pub mod OptionLaws
 pub mod Choices
 pub mod Rows
-pub mod Grammar
 pub mod Ranges
+pub mod Grammar

@@ -5,7 +5,7 @@ use Rattle.std.proofs.lemmas.Slice.Eq.{bytes_eq-Decides}
 use Rattle.adv_base.specs.Readings.{◌>>=◌}
 use Rattle.command_line.specs.declared.fault.WordFault.{WordFault}
 use Rattle.command_line.specs.declared.fault.WordFault.TheVariants.{BadNumber}
-use Rattle.command_line.specs.declared.command.Command.{Command}
+use Rattle.command_line.specs.declared.commands.Command.{Command}
 use Rattle.command_line.specs.CommandLine.{PlainCommand, PlainOptions, WordKind, File, Number, Takes, Row, Plain, Search, GivesBy, plain_command, no_options, name_of, read_row, named_command, word_at, number_at, end_at, options_from}
 use Rattle.command_line.specs.inner.Arguments.{Tail, Nothing, Options, Asked, rest}
 

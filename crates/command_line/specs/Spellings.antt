@@ -1,12 +1,40 @@
--- The command lines, one form a command. A number stands as its decimal digits.
-use Rattle.std.specs.Prelude.{◌≡◌, ℕ, ◌≤◌, List, [], ◌∷◌, ◌++◌, codes, decimal, option_to_list, unwrap_or, Option, None, IfSome}
-use Rattle.command_line.specs.CommandLine.{PlainCommand, Cost, WhatIf, Explain, Candidates, Advise, Ruled, Sweep, Retune, Check, CheckRuled, Fold, Bench, last_budget}
+-- The words of each command, by the table of commands. A number stands as its decimal digits.
+use Rattle.std.specs.Prelude.{◌≡◌, ◌⊎◌, ℕ, ◌≤◌, Bool, true, List, [], ◌∷◌, ◌++◌, codes, decimal, is_some, option_to_list, Option, Some, IfSome}
+use Rattle.command_line.specs.CommandLine.{PlainCommand, Advise, Ruled, Sweep, Retune, Bench, PlainOptions, WordKind, File, Number, Takes, Row, Plain, Search, last_budget, commands}
 
 pub record IsWithin (least most n : ℕ) : Type 0 where
   pub low : least ≤ n
   pub high : n ≤ most
 
--- an option of a search, with its value
+-- ## Plain words
+
+-- what plain words of these kinds mean: names and numbers
+abbrev pub Values : List WordKind → Type 0
+Values [] = Unit {0}
+Values (File ∷ kinds) = List ℕ × Values kinds
+Values (Number least most ∷ kinds) = ℕ × Values kinds
+
+-- the words
+abbrev pub spelled : (kinds : List WordKind) → Values kinds → List (List ℕ)
+spelled [] values = []
+spelled (File ∷ kinds) values = values.0 ∷ spelled kinds values.1
+spelled (Number least most ∷ kinds) values = decimal values.0 ∷ spelled kinds values.1
+
+-- each number is in its range
+abbrev pub AreWithin : (kinds : List WordKind) → Values kinds → Type 0
+AreWithin [] values = Unit {0}
+AreWithin (File ∷ kinds) values = AreWithin kinds values.1
+AreWithin (Number least most ∷ kinds) values = IsWithin least most values.0 × AreWithin kinds values.1
+
+-- what is asked for by them
+abbrev pub of_values : {X : Type 0} (kinds : List WordKind) → Takes kinds X → Values kinds → X
+of_values [] asked values = asked
+of_values (File ∷ kinds) asked values = of_values kinds (asked values.0) values.1
+of_values (Number least most ∷ kinds) asked values = of_values kinds (asked values.0) values.1
+
+-- ## The options of a search
+
+-- an option, with its value
 pub data Choice : Type 0 where
   Nodes : ℕ → Choice
   Cert : List ℕ → Choice
@@ -34,54 +62,61 @@ pub record Choose (choices : List Choice) (nodes : Option ℕ) (cert : Option (L
   pub cert_once : certs_in choices ≡ option_to_list cert
   pub range : IfSome nodes (IsWithin 1 1000000)
 
--- the plain words of a search, and behind them its options
-pub record IsSearch (words plain : List (List ℕ)) (nodes : ℕ) (cert : Option (List ℕ)) : Type 0 where
+-- a certificate is given only where one may be
+abbrev pub IsAllowed : Bool → Option (List ℕ) → Type 0
+IsAllowed certifies cert = is_some cert ≡ true → certifies ≡ true
+
+-- ## Command lines
+
+-- a name and plain words, by which a command is asked for
+pub record IsPlainLine (words : List (List ℕ)) (command : PlainCommand) (name : List ℕ) (kinds : List WordKind) (asked : Takes kinds PlainCommand) : Type 0 where
+  pub values : Values kinds
+  pub within : AreWithin kinds values
+  pub words_are : words ≡ name ∷ spelled kinds values
+  pub command_is : of_values kinds asked values ≡ command
+
+-- a name, plain words that go together, and the options of a search
+pub record IsSearchLine (words : List (List ℕ)) (command : PlainCommand) (name : List ℕ) (certifies : Bool) (kinds : List WordKind) (asked : Takes kinds (Option (PlainOptions → PlainCommand))) : Type 0 where
+  pub values : Values kinds
+  pub within : AreWithin kinds values
+  pub asks : PlainOptions → PlainCommand
+  pub go_together : of_values kinds asked values ≡ Some asks
+  pub options : PlainOptions
   pub choices : List Choice
-  pub given : Option ℕ
-  pub chosen : Choose choices given cert
-  pub nodes_are : nodes ≡ unwrap_or given 20000
-  pub words_are : words ≡ plain ++ words_of choices
+  pub chosen : Choose choices options.nodes options.cert
+  pub allowed : IsAllowed certifies options.cert
+  pub words_are : words ≡ name ∷ spelled kinds values ++ words_of choices
+  pub command_is : asks options ≡ command
 
--- a space budget in pages
-abbrev pub IsBudget : ℕ → Type 0
-IsBudget budget = IsWithin 0 1000000000000 budget
+abbrev pub IsLineOf : List (List ℕ) → PlainCommand → Row → Type 0
+IsLineOf words command (Plain name kinds asked) = IsPlainLine words command name kinds asked
+IsLineOf words command (Search name certifies kinds asked) = IsSearchLine words command name certifies kinds asked
 
--- the budgets of a sweep: the first, the step from one to the next, and how many there are; the last is a budget, too
-pub record AreSweepBudgets (first step count : ℕ) : Type 0 where
-  pub first_is : IsBudget first
-  pub step_is : IsWithin 1 1000000000000 step
-  pub count_is : IsWithin 1 16 count
-  pub last_is : IsBudget (last_budget first step count)
+-- some row of a table has P
+abbrev pub SomeRow : (Row → Type 0) → List Row → Type 0
+SomeRow P [] = ⊥
+SomeRow P (row ∷ rows) = P row ⊎ SomeRow P rows
 
 -- the words are this command
 abbrev pub IsCommandLine : List (List ℕ) → PlainCommand → Type 0
-IsCommandLine words (Cost cat load) = words ≡ codes "cost" ∷ cat ∷ load ∷ []
-IsCommandLine words (WhatIf cat load conf) = words ≡ codes "whatif" ∷ cat ∷ load ∷ conf ∷ []
-IsCommandLine words (Explain cat load conf number) =
-    (words ≡ codes "explain" ∷ cat ∷ load ∷ conf ∷ decimal number ∷ []) × IsWithin 1 1000 number
-IsCommandLine words (Candidates cat load) = words ≡ codes "candidates" ∷ cat ∷ load ∷ []
-IsCommandLine words (Advise cat load budget nodes cert) =
-    IsSearch words (codes "advise" ∷ cat ∷ load ∷ decimal budget ∷ []) nodes cert × IsBudget budget
-IsCommandLine words (Ruled cat load budget rules nodes cert) =
-    IsSearch words (codes "ruled" ∷ cat ∷ load ∷ decimal budget ∷ rules ∷ []) nodes cert × IsBudget budget
-IsCommandLine words (Sweep cat load first step count nodes cert) =
-    IsSearch words (codes "sweep" ∷ cat ∷ load ∷ decimal first ∷ decimal step ∷ decimal count ∷ []) nodes cert × AreSweepBudgets first step count
-IsCommandLine words (Retune cat load edits budget nodes) =
-    IsSearch words (codes "retune" ∷ cat ∷ load ∷ edits ∷ decimal budget ∷ []) nodes None × IsBudget budget
-IsCommandLine words (Check cat load cert) = words ≡ codes "check" ∷ cat ∷ load ∷ cert ∷ []
-IsCommandLine words (CheckRuled cat load rules cert) = words ≡ codes "check-ruled" ∷ cat ∷ load ∷ rules ∷ cert ∷ []
-IsCommandLine words (Fold cat load out) = words ≡ codes "fold" ∷ cat ∷ load ∷ out ∷ []
-IsCommandLine words (Bench seed tables statements budget) =
-    (words ≡ codes "bench" ∷ decimal seed ∷ decimal tables ∷ decimal statements ∷ decimal budget ∷ [])
-    × (IsWithin 0 18446744073709551615 seed × (IsWithin 2 20 tables × (IsWithin 1 500 statements × IsBudget budget)))
+IsCommandLine words command = SomeRow (IsLineOf words command) commands
 
--- the budgets of a search are in their ranges
+-- ## Numbers in their ranges
+
+-- the budgets of a search are
 pub record AreBudgets (budget nodes : ℕ) : Type 0 where
   pub budget_most : budget ≤ 1000000000000
   pub some_node : 1 ≤ nodes
   pub nodes_most : nodes ≤ 1000000
 
--- so are the budgets of a sweep, with its nodes
+-- the budgets of a sweep: the first, the step from one to the next, and how many there are; the last is a budget, too
+pub record AreSweepBudgets (first step count : ℕ) : Type 0 where
+  pub first_is : IsWithin 0 1000000000000 first
+  pub step_is : IsWithin 1 1000000000000 step
+  pub count_is : IsWithin 1 16 count
+  pub last_is : IsWithin 0 1000000000000 (last_budget first step count)
+
+-- so are these, with its nodes
 pub record AreSweepNumbers (first step count nodes : ℕ) : Type 0 where
   pub steps : AreSweepBudgets first step count
   pub some_node : 1 ≤ nodes

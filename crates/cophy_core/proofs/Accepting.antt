@@ -13,7 +13,7 @@ use Rattle.report.specs.declared.done.Ruled.{Ruled as UnderRules}
 use Rattle.command_line.specs.CommandLine.{Ruled, CheckRuled}
 use Rattle.cophy_core.specs.Answers.{Answers}
 use Rattle.cophy_core.specs.Endings.{Put, put_all}
-use Rattle.cophy_core.specs.Files.{InputFile, AreInputs, ruled_files}
+use Rattle.cophy_core.specs.Files.{InputFile, AreInputs, three_files}
 use Rattle.cophy_core.specs.Laws.{RuledChecksStandAlone}
 use Rattle.cophy_core.specs.Replies.{ArePuts}
 use Rattle.cophy_core.proofs.Advising.{at_most}
@@ -47,8 +47,8 @@ accepted laws alone cat load rules file budget nodes files words under puts text
     let proves = proving laws h.setting root own.programme under.advice.budget nodes answer own.stands is.flags (subst (λ (b : ℕ). IsBest h.setting b nodes root answer) (sym is.budget_is) is.best) in
     let after = put_file (Some files) file put.bytes in
     let there : put_all (Some files) puts ≡ after = ap (put_all (Some files)) put.puts_are in
-    let apart : Apart file (ruled_files cat load rules) = (λ x. not_cat (sym x), (λ x. not_load (sym x), (λ x. not_rules (sym x), tt))) in
-    let are = stay files file put.bytes (ruled_files cat load rules) h.inputs apart h.inputs_are in
+    let apart : Apart file (three_files cat load rules) = (λ x. not_cat (sym x), (λ x. not_load (sym x), (λ x. not_rules (sym x), tt))) in
+    let are = stay files file put.bytes (three_files cat load rules) h.inputs apart h.inputs_are in
     let few = laws.fit put.bytes (answer_cert own.programme (version_of h.setting.shapes) under.advice.budget answer) own.is_text in
     let all = with_fourth after cat load rules file h.inputs put.bytes are (record { whole = put_is_there files file put.bytes; short = few }) in
     let want = Checked (record { budget = budget; cost = answer.cost; bound = answer.bound }) in

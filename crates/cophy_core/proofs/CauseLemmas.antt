@@ -14,9 +14,10 @@ use Rattle.report.specs.declared.done.Done.{Done}
 use Rattle.report.specs.declared.done.Done.TheVariants.{Usage, ReadFault, WriteFault, Refused, Memory, NotProved as NotProvedDone}
 use Rattle.report.specs.declared.done.NotProved.{NotProved}
 use Rattle.command_line.specs.declared.fault.WordFault.{WordFault}
-use Rattle.cophy_core.specs.Answers.{GivesOver, files_put, OfSetting, Answers}
+use Rattle.cophy_core.specs.Answers.{OfSetting, Answers}
+use Rattle.cophy_core.specs.commands.{GivesOver, files_put}
 use Rattle.cophy_core.specs.Causes.{IsAnswered, IsOrMemory, IsSteady, UsageIsTrue, ReadFaultIsTrue, WriteFaultIsTrue, RefusalIsTrue, MemoryWritesNothing, IsSound, IsWritten, IsBounded, IsUnproved, NotProvedIsTrue}
-use Rattle.command_line.specs.CommandLine.{PlainCommand, Candidates, Cost, WhatIf, Explain, Advise, Ruled, Sweep, Retune, Check, CheckRuled, Fold, Bench, command_of}
+use Rattle.command_line.specs.CommandLine.{PlainCommand, Check, CheckRuled, command_of}
 use Rattle.cophy_core.specs.Endings.{Put, Outside, outside, put_all, put_answer, IsPutFault, IsUnput, EndsWhole, EndsUnput, Ends}
 use Rattle.cophy_core.specs.Left.{PutsFileTo, IsCutShort}
 use Rattle.cophy_core.specs.Files.{ReadCounts, counts}
@@ -292,16 +293,7 @@ unproved (CheckRuled cat load rules cert) files why h =
         holds = record { root = is.root; root_is = is.root_is; first = is.gives };
       };
     }
-unproved (Candidates cat load) files why h = absurd h.holds
-unproved (Cost cat load) files why h = absurd h.holds
-unproved (WhatIf cat load conf) files why h = absurd h.holds
-unproved (Explain cat load conf number) files why h = absurd h.holds
-unproved (Advise cat load budget nodes cert) files why h = absurd h.holds
-unproved (Ruled cat load budget rules nodes cert) files why h = absurd h.holds
-unproved (Sweep cat load first step count nodes cert) files why h = absurd h.holds
-unproved (Retune cat load edits budget nodes) files why h = absurd h.holds
-unproved (Fold cat load out) files why h = absurd h.holds
-unproved (Bench seed tables statements budget) files why h = absurd h.holds
+unproved command files why h = absurd h.holds
 
 not_proved_of : (words : Result PlainCommand WordFault) (before after : Outside) (done : Done) → IsAnswered words before after done → NotProvedIsTrue words before.files done
 not_proved_of (Ok command) before after (NotProvedDone why) h = unproved command before.files why h

@@ -24,7 +24,8 @@ use Rattle.cophy_core.specs.commands.Advise.{IsAdvice, PutsFor}
 use Rattle.cophy_core.specs.Answers.{Answers}
 use Rattle.cophy_core.specs.Causes.{IsSteady, WriteFaultIsTrue, gap_status, status_of}
 use Rattle.cophy_core.specs.Endings.{Put, Outside, put_all, EndsWhole}
-use Rattle.cophy_core.specs.Files.{InputFile, IsInput, AreInputs, input, input_file, setting_files, files_of, IsTooLong, ReadCounts}
+use Rattle.cophy_core.specs.Files.{InputFile, IsInput, AreInputs, input, input_file, setting_files, IsTooLong, ReadCounts}
+use Rattle.cophy_core.specs.commands.{files_of}
 use Rattle.cophy_core.specs.Headline.{Asked, asked_command, IsAccepted, IsEnd, proved, Certifies, Headline}
 use Rattle.command_line.specs.CommandLine.{PlainCommand, Check, command_of}
 use Rattle.cophy_core.specs.Replies.{MayAnswer, MayAnswerWords, ArePuts, ArePutsTo, IsRun}

@@ -16,9 +16,10 @@ use Rattle.report.specs.declared.done.Role.{Role}
 use Rattle.sql_reader.proofs.Unique.{one_workload, workload_or_fault, one_sql_fault}
 use Rattle.sql_reader.specs.declared.parsed.ParsedStatement.{ParsedStatement}
 use Rattle.sql_reader.specs.declared.parsed.SqlFault.{SqlFault}
-use Rattle.cophy_core.specs.Answers.{RefusesOver, GivesOver, OfFiles, OfSetting, Answers}
+use Rattle.cophy_core.specs.Answers.{OfFiles, OfSetting, Answers}
+use Rattle.cophy_core.specs.commands.{RefusesOver, GivesOver, files_of}
 use Rattle.command_line.specs.CommandLine.{PlainCommand, WhatIf, Explain, Advise, Ruled, Sweep, Retune, Check, CheckRuled, Fold, Bench}
-use Rattle.cophy_core.specs.Files.{InputFile, AreInputs, IsTooLong, files_of, input}
+use Rattle.cophy_core.specs.Files.{InputFile, AreInputs, IsTooLong, input}
 use Rattle.cophy_core.specs.Inputs.{HasInputs}
 use Rattle.cophy_core.specs.Settings.{IsCatalogueOf, IsSetting, HasCatFault, IsSqlRefusal, IsBindRefusal}
 use Rattle.cophy_core.specs.commands.Check.{OneAnswer}

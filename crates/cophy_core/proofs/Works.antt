@@ -1,6 +1,6 @@
 -- What a command gives over what was read for it is given over its files.
 use Rattle.std.proofs.Common.{◌≡◌, inl, inr, ℕ, ◌≤◌, List, [], ◌∷◌, ◌++◌, length, Option, None, Some, refl, ap, ◌∙◌, append_assoc, sym, subst}
-use Rattle.std.specs.Prelude.{IsSomeAnd, IfErr, Result, Ok, Err}
+use Rattle.std.specs.Prelude.{IsSomeAnd, option_to_list}
 use Rattle.adv_base.specs.Settings.{TheSetting}
 use Rattle.adv_base.specs.declared.limits.TheConstants.{MOST_CERTIFICATE_BYTES, MOST_FILE_BYTES}
 use Rattle.adv_shelf.specs.Shelf.{Files}
@@ -10,11 +10,11 @@ use Rattle.report.specs.declared.done.Done.{Done}
 use Rattle.report.specs.declared.done.Refusal.TheVariants.{TooLong}
 use Rattle.report.specs.declared.done.Role.{Role}
 use Rattle.report.specs.declared.done.Role.TheVariants.{Third, Fourth}
-use Rattle.cophy_core.specs.Answers.{GivesOver, PutsOver}
+use Rattle.cophy_core.specs.commands.{whole_files, certificate_of, files_of, GivesOver, PutsOver}
 use Rattle.cophy_core.specs.Endings.{Put}
-use Rattle.command_line.specs.CommandLine.{PlainCommand, Ruled, Check, CheckRuled}
-use Rattle.cophy_core.specs.Files.{InputFile, IsInput, SomeInput, AreInputs, ReadCounts, input, input_file, setting_files, ruled_files, files_of}
-use Rattle.cophy_core.specs.Inputs.{HasInputs, HasRead}
+use Rattle.command_line.specs.CommandLine.{PlainCommand, Ruled, Check, CheckRuled, Bench}
+use Rattle.cophy_core.specs.Files.{InputFile, IsInput, SomeInput, AreInputs, ReadCounts, input, input_file, setting_files, three_files}
+use Rattle.cophy_core.specs.Inputs.{HasInputs, HasWhole, HasRead}
 use Rattle.cophy_core.specs.Reading.{IsUnreadFile, StopsReading, StopsAtFiles}
 use Rattle.cophy_core.specs.Settings.{IsSetting, IsSettingRefusal}
 use Rattle.command_line.specs.Spellings.{IsInRange}
@@ -57,7 +57,7 @@ pub record RuledTexts (files : Option Files) (cat load rules cert : List ℕ) (w
   pub third : input texts.texts 2 ≡ input whole 2
   pub fourth : input texts.texts 3 ≡ bytes
 
-pub with_fourth : (files : Option Files) (cat load rules cert : List ℕ) (whole : List (List ℕ)) (bytes : List ℕ) → AreInputs files (ruled_files cat load rules) whole → IsInput files (certificate_file Fourth cert) bytes →
+pub with_fourth : (files : Option Files) (cat load rules cert : List ℕ) (whole : List (List ℕ)) (bytes : List ℕ) → AreInputs files (three_files cat load rules) whole → IsInput files (certificate_file Fourth cert) bytes →
     RuledTexts files cat load rules cert whole bytes
 with_fourth files cat load rules cert [] bytes are is = absurd are
 with_fourth files cat load rules cert (a ∷ []) bytes are is = absurd are.1
@@ -81,7 +81,7 @@ texts_read (Check cat load cert) files read h =
 texts_read (CheckRuled cat load rules cert) files read h =
     let bytes = scanned files (certificate_file Fourth cert) read.scanner h.1 in
     (with_fourth files cat load rules cert read.whole bytes.0 h.0 bytes.1).texts
-texts_read command files read h = record { texts = read.whole; texts_are = h; first = refl; second = refl }
+texts_read command files read h = record { texts = read.whole; texts_are = h.0; first = refl; second = refl }
 
 pub workload_short : (command : PlainCommand) (files : Option Files) (read : Inputs) → IsInRange command → HasRead files command read → length (input read.whole 1) ≤ MOST_FILE_BYTES
 workload_short command files read range h =
@@ -97,7 +97,7 @@ third_file files cat load file (a ∷ b ∷ c ∷ inputs) are = are.1.1.0.short
 
 -- and so are rules
 pub rules_short : (files : Option Files) (cat load rules : List ℕ) (budget nodes : ℕ) (cert : Option (List ℕ)) (read : Inputs) → HasRead files (Ruled cat load budget rules nodes cert) read → length (input read.whole 2) ≤ MOST_FILE_BYTES
-rules_short files cat load rules budget nodes cert read h = third_file files cat load (input_file Third rules MOST_FILE_BYTES) read.whole h
+rules_short files cat load rules budget nodes cert read h = third_file files cat load (input_file Third rules MOST_FILE_BYTES) read.whole h.0
 
 pub own_rules_short : (files : Option Files) (cat load rules cert : List ℕ) (read : Inputs) → HasRead files (CheckRuled cat load rules cert) read → length (input read.whole 2) ≤ MOST_FILE_BYTES
 own_rules_short files cat load rules cert read h = third_file files cat load (input_file Third rules MOST_FILE_BYTES) read.whole h.0
@@ -113,18 +113,24 @@ front_stops files uses more before after (Refused (TooLong role)) h =
     record { front = h.front; file = h.file; rest = h.rest ++ more; inputs = h.inputs; uses_are = ap (λ (us : List InputFile). us ++ more) h.uses_are ∙ append_assoc h.front (h.file ∷ h.rest) more; earlier = h.earlier; bad = h.bad }
 front_stops files uses more before after (Refused why) h = absurd h
 
--- so a result says, of the files before a certificate
-pub read_stops : {X : Type 0} (result : Result X Stop) (files : Option Files) (command : PlainCommand) (front : List InputFile) (last : InputFile) (before after : ReadCounts) → files_of command ≡ front ++ last ∷ [] →
-    IfErr result (StopsReading files front before after) → IfErr result (StopsAtFiles command files before after)
-read_stops (Ok x) files command front last before after are h = tt
-read_stops (Err stop) files command front last before after are h =
-    reading_stops command files before after stop (subst (λ (uses : List InputFile). StopsReading files uses before after stop) (sym are) (front_stops files front (last ∷ []) before after stop h))
+-- at one of those that a command reads whole
+pub whole_stops : (command : PlainCommand) (files : Option Files) (before after : ReadCounts) (stop : Stop) → StopsReading files (whole_files command) before after stop → StopsAtFiles command files before after stop
+whole_stops command files before after stop h =
+    reading_stops command files before after stop (front_stops files (whole_files command) (option_to_list (certificate_of command)) before after stop h)
 
 -- at the certificate, be it at the first reading of it or at the second
 pub certificate_stops : (files : Option Files) (command : PlainCommand) (front : List InputFile) (last : InputFile) (whole : List (List ℕ)) (start before after : ReadCounts) (stop : Stop) → files_of command ≡ front ++ last ∷ [] →
     AreInputs files front whole → start.all ≤ before.all → ((n : List ℕ) → start.at n ≤ before.at n) → IsUnreadFile files before after last stop → StopsAtFiles command files start after stop
 certificate_stops files command front last whole start before after stop uses are all at why =
     reading_stops command files start after stop (first_stops files (files_of command) front [] last whole start before after stop uses are all at why)
+
+-- at the first
+pub scanning_stops : (files : Option Files) (command : PlainCommand) (last : InputFile) (whole : List (List ℕ)) (start before after : ReadCounts) (stop : Stop) → Some last ≡ certificate_of command →
+    HasWhole files command whole → start.all ≤ before.all → ((n : List ℕ) → start.at n ≤ before.at n) → IsUnreadFile files before after last stop → StopsAtFiles command files start after stop
+scanning_stops files (Bench seed tables statements budget) last whole start before after stop e are all at why = absurd cc
+scanning_stops files command last whole start before after stop e are all at why =
+    certificate_stops files command (whole_files command) last whole start before after stop
+    (ap (λ (file : Option InputFile). whole_files command ++ option_to_list file) (sym e)) are all at why
 
 -- ## Over a setting
 
@@ -146,9 +152,9 @@ work_stopped (CheckRuled cat load rules cert) files start before after read sett
     let own : StopsAt (check_ruled.Refuses (input texts.texts 2) setting) stop = rw all_texts.third refused in
     work_stops (CheckRuled cat load rules cert) files start after texts.texts setting left_over stop texts.texts_are (rw (texts.first, texts.second) is) own
 work_stopped (CheckRuled cat load rules cert) files start before after read setting left_over stop h is all at (inr unread) =
-    certificate_stops files (CheckRuled cat load rules cert) (ruled_files cat load rules) (certificate_file Fourth cert) read.whole start before after stop refl h.0 all at unread
+    certificate_stops files (CheckRuled cat load rules cert) (three_files cat load rules) (certificate_file Fourth cert) read.whole start before after stop refl h.0 all at unread
 work_stopped command files start before after read setting left_over stop h is all at why =
-    work_stops command files start after read.whole setting left_over stop h is why
+    work_stops command files start after read.whole setting left_over stop h.0 is why
 
 -- what a command gives over its setting, and the texts of that
 pub record Given (files : Option Files) (command : PlainCommand) (whole : List (List ℕ)) (setting : TheSetting) (left_over : ℕ) (done : Done) : Type 0 where
@@ -167,4 +173,4 @@ work_given (CheckRuled cat load rules cert) files read setting left_over done h 
     let all = with_fourth files cat load rules cert read.whole gives.0 h.0 gives.1 in
     record { texts = all.texts.texts; texts_are = all.texts.texts_are; setting_is = rw (all.texts.first, all.texts.second) is; gives = rw (all.third, all.fourth) gives.2; puts_are = λ puts h. h }
 work_given command files read setting left_over done h is gives =
-    record { texts = read.whole; texts_are = h; setting_is = is; gives = gives; puts_are = λ puts h. h }
+    record { texts = read.whole; texts_are = h.0; setting_is = is; gives = gives; puts_are = λ puts h. h }

@@ -17,7 +17,8 @@ use Rattle.report.specs.declared.done.NotProved.{NotProved}
 use Rattle.command_line.specs.declared.fault.WordFault.{WordFault}
 use Rattle.cophy_core.specs.Answers.{Answers, OfSetting}
 use Rattle.command_line.specs.CommandLine.{PlainCommand, command_of, Sweep, Check, CheckRuled}
-use Rattle.cophy_core.specs.Files.{files_of, IsReadFault, input}
+use Rattle.cophy_core.specs.Files.{IsReadFault, input}
+use Rattle.cophy_core.specs.commands.{files_of}
 use Rattle.cophy_core.specs.Endings.{Outside}
 use Rattle.cophy_core.specs.Left.{PutsFileTo, IsCutShort}
 use Rattle.cophy_core.specs.commands.Check as check

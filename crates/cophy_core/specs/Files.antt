@@ -1,12 +1,11 @@
--- The files that a command reads, and what they hold.
+-- Files that a command may read, and what they hold.
 use Rattle.std.specs.Prelude.{◌≡◌, ℕ, ◌<◌, ◌≤◌, List, [], ◌∷◌, ◌++◌, length, map, slice_index_or, Option}
 use Rattle.adv_base.specs.declared.limits.TheConstants.{MOST_FILE_BYTES, MOST_CERTIFICATE_BYTES}
 use Rattle.adv_shelf.specs.Faults.{Rose}
 use Rattle.adv_shelf.specs.Shelf.{Files, HasFile, IsFile}
 use Rattle.report.specs.declared.done.Role.{Role}
-use Rattle.report.specs.declared.done.Role.TheVariants.{Catalogue, Workload, Third, Fourth}
+use Rattle.report.specs.declared.done.Role.TheVariants.{Catalogue, Workload, Third}
 use Rattle.cophy_core.specs.declared.files.FileUse.{FileUse}
-use Rattle.command_line.specs.CommandLine.{PlainCommand, Candidates, Cost, WhatIf, Explain, Advise, Ruled, Sweep, Retune, Check, CheckRuled, Fold, Bench}
 
 -- a file that a command reads: in which role, by what name, and of how many bytes at most
 pub record InputFile : Type 0 where
@@ -24,24 +23,9 @@ plain_uses uses = map (λ file. input_file file.role file.name.now file.most) us
 abbrev pub setting_files : List ℕ → List ℕ → List InputFile
 setting_files cat load = input_file Catalogue cat MOST_FILE_BYTES ∷ input_file Workload load MOST_FILE_BYTES ∷ []
 
--- and the rules behind them
-abbrev pub ruled_files : List ℕ → List ℕ → List ℕ → List InputFile
-ruled_files cat load rules = setting_files cat load ++ input_file Third rules MOST_FILE_BYTES ∷ []
-
--- the files that a command reads, in the order in which it reads them; `bench` reads none
-abbrev pub files_of : PlainCommand → List InputFile
-files_of (Candidates cat load) = setting_files cat load
-files_of (Cost cat load) = setting_files cat load
-files_of (WhatIf cat load conf) = setting_files cat load ++ input_file Third conf MOST_FILE_BYTES ∷ []
-files_of (Explain cat load conf number) = setting_files cat load ++ input_file Third conf MOST_FILE_BYTES ∷ []
-files_of (Advise cat load budget nodes cert) = setting_files cat load
-files_of (Ruled cat load budget rules nodes cert) = ruled_files cat load rules
-files_of (Sweep cat load first step count nodes cert) = setting_files cat load
-files_of (Retune cat load edits budget nodes) = setting_files cat load ++ input_file Third edits MOST_FILE_BYTES ∷ []
-files_of (Check cat load cert) = setting_files cat load ++ input_file Third cert MOST_CERTIFICATE_BYTES ∷ []
-files_of (CheckRuled cat load rules cert) = ruled_files cat load rules ++ input_file Fourth cert MOST_CERTIFICATE_BYTES ∷ []
-files_of (Fold cat load out) = setting_files cat load
-files_of (Bench seed tables statements budget) = []
+-- and a configuration, rules or edits behind them
+abbrev pub three_files : List ℕ → List ℕ → List ℕ → List InputFile
+three_files cat load third = setting_files cat load ++ input_file Third third MOST_FILE_BYTES ∷ []
 
 -- where the shelf tells its files, these bytes are the whole file, and no longer than its limit
 pub record IsInput (files : Option Files) (file : InputFile) (bytes : List ℕ) : Type 0 where

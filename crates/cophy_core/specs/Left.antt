@@ -5,7 +5,7 @@ use Rattle.report.specs.Advices.{needs_setting}
 use Rattle.report.specs.declared.done.Done.{Done}
 use Rattle.report.specs.declared.done.Done.TheVariants.{WriteFault, Memory}
 use Rattle.command_line.specs.declared.fault.WordFault.{WordFault}
-use Rattle.cophy_core.specs.Answers.{files_put}
+use Rattle.cophy_core.specs.commands.{files_put}
 use Rattle.command_line.specs.CommandLine.{PlainCommand, command_of}
 use Rattle.cophy_core.specs.Endings.{Put, Outside, put_all, EndsUnwritten, EndsUnput}
 use Rattle.cophy_core.specs.Replies.{ArePuts, IsReply}

@@ -6,7 +6,8 @@ use Rattle.cophy_core.specs.declared.stop.Stop.{Stop}
 use Rattle.cophy_core.specs.declared.stop.Stop.TheVariants.{Memory, Failed, Refused}
 use Rattle.cophy_core.specs.Answers.{Answers}
 use Rattle.command_line.specs.CommandLine.{PlainCommand}
-use Rattle.cophy_core.specs.Files.{InputFile, ReadCounts, IsUnread, IsLong, IsReadFault, IsTooLong, files_of}
+use Rattle.cophy_core.specs.Files.{InputFile, ReadCounts, IsUnread, IsLong, IsReadFault, IsTooLong}
+use Rattle.cophy_core.specs.commands.{files_of}
 use Rattle.report.specs.declared.done.Done.TheVariants as answers
 
 -- of one file

@@ -7,10 +7,11 @@ use Rattle.report.specs.Texts.{done_text}
 use Rattle.report.specs.declared.done.Done.{Done}
 use Rattle.report.specs.declared.done.Done.TheVariants.{Usage, ReadFault, Memory}
 use Rattle.command_line.specs.declared.fault.WordFault.{WordFault}
-use Rattle.cophy_core.specs.Answers.{GivesOver, files_put, PutsOver, OfSetting, Answers}
+use Rattle.cophy_core.specs.Answers.{OfSetting, Answers}
+use Rattle.cophy_core.specs.commands.{GivesOver, files_put, PutsOver, files_of}
 use Rattle.command_line.specs.CommandLine.{PlainCommand, command_of}
 use Rattle.cophy_core.specs.Endings.{Put, Outside, Ends}
-use Rattle.cophy_core.specs.Files.{files_of, ReadCounts, IsReadFault}
+use Rattle.cophy_core.specs.Files.{ReadCounts, IsReadFault}
 
 -- What may be answered to a command between these counts of faults: a read fault, want of memory, or what the files
 -- answer.

@@ -1,20 +1,16 @@
 //! The files of a command.
 ghost use Rattle.std.specs.Prelude.{◌≡◌, ◌≤◌, ◌<◌, ◌∷◌, [], ◌++◌, ℕ, List, Some, IfOk, IfErr, OnOk, length, slice_get};
 ghost use Rattle.adv_base.specs.declared.limits.TheConstants.{MOST_CERTIFICATE_BYTES, MOST_FILE_BYTES};
-ghost use Rattle.command_line.specs.CommandLine.{plain_command};
-ghost use Rattle.command_line.specs.Spellings.{IsInRange};
 ghost use Rattle.certificate.specs.Scanners.{StandsFor};
+ghost use Rattle.cophy_core.specs.Files as spec;
 ghost use Rattle.cophy_core.specs.Files.{counts, input, input_file, plain_uses, IsInput, SomeInput, AreInputs};
-ghost use Rattle.cophy_core.specs.Inputs.{HasWhole, HasRead};
-ghost use Rattle.cophy_core.specs.Reading.{IsUnreadFile, StopsReading, StopsAtFiles};
+ghost use Rattle.cophy_core.specs.Reading.{IsUnreadFile, StopsReading};
 
-use crate::made::made_inputs;
 use crate::stop::Stop;
 use adv_base::limits::{MOST_CERTIFICATE_BYTES, MOST_FILE_BYTES};
 use adv_base::{Bytes, List, NoMemory};
 use adv_shelf::{GetFault, Shelf, feed_all, read_all};
 use certificate::Scanner;
-use command_line::Command;
 use report::{Refusal, Role};
 use std::alloc::Global;
 
@@ -34,7 +30,7 @@ pub(crate) struct Inputs {
     pub scanner: Option<Scanner>,
 }
 
-/// A catalogue, a workload, a configuration or rules.
+/// A file that is read whole.
 fn plain_file<'a>(role: Role, name: &'a str) -> FileUse<'a>
     ensures { input_file result.role result.name.now result.most ≡ input_file role name.now MOST_FILE_BYTES }
 {
@@ -43,6 +39,27 @@ fn plain_file<'a>(role: Role, name: &'a str) -> FileUse<'a>
         name,
         most: MOST_FILE_BYTES,
     }
+}
+
+/// A catalogue and a workload.
+pub(crate) fn setting_files<'a>(cat: &'a str, load: &'a str) -> [FileUse<'a>; 2]
+    ensures { plain_uses result ≡ spec.setting_files cat.now load.now }
+{
+    [
+        plain_file(Role::Catalogue, cat),
+        plain_file(Role::Workload, load),
+    ]
+}
+
+/// These and a configuration, rules or edits.
+pub(crate) fn three_files<'a>(cat: &'a str, load: &'a str, third: &'a str) -> [FileUse<'a>; 3]
+    ensures { plain_uses result ≡ spec.three_files cat.now load.now third.now }
+{
+    [
+        plain_file(Role::Catalogue, cat),
+        plain_file(Role::Workload, load),
+        plain_file(Role::Third, third),
+    ]
 }
 
 /// A certificate, the last file of a command.
@@ -76,7 +93,11 @@ fn read_file<S: Shelf>(alloc: Global, shelf: &mut S, file: &FileUse<'_>) -> Resu
 }
 
 /// A scanner that was handed a file, piece by piece to its end.
-fn scan_file<S: Shelf>(alloc: Global, shelf: &mut S, file: &FileUse<'_>) -> Result<Scanner, Stop>
+pub(crate) fn scan_file<S: Shelf>(
+    alloc: Global,
+    shelf: &mut S,
+    file: &FileUse<'_>,
+) -> Result<Scanner, Stop>
     ensures scanned { IfOk result (λ scanner. SomeInput (S.files shelf.old) (input_file file.now.role file.now.name.now file.now.most) (StandsFor scanner)) }
     ensures stop { IfErr result (IsUnreadFile (S.files shelf.old) (counts (S.read_faults shelf.old) (S.read_faults_at shelf.old))
         (counts (S.read_faults shelf.new) (S.read_faults_at shelf.new)) (input_file file.now.role file.now.name.now file.now.most)) }
@@ -111,7 +132,7 @@ pub(crate) fn put(inputs: &mut Vec<Bytes>, bytes: Bytes) -> Result<(), NoMemory>
 }
 
 /// The bytes of files, read in their order.
-fn read_each<S: Shelf>(
+pub(crate) fn read_each<S: Shelf>(
     alloc: Global,
     shelf: &mut S,
     files: &[FileUse<'_>],
@@ -132,133 +153,6 @@ fn read_each<S: Shelf>(
         put(&mut inputs, bytes)?;
     }
     Ok(List { items: inputs })
-}
-
-/// The bytes of the files that a command reads whole, in the order in which it names them; for `bench`, which reads none,
-/// those that are made.
-fn whole_of<S: Shelf>(
-    alloc: Global,
-    shelf: &mut S,
-    command: &Command<'_>,
-) -> Result<List<Bytes>, Stop>
-    requires { IsInRange (plain_command command.now) }
-    ensures whole { IfOk result (HasWhole (S.files shelf.old) (plain_command command.now)) }
-    ensures stop { IfErr result (StopsAtFiles (plain_command command.now) (S.files shelf.old)
-        (counts (S.read_faults shelf.old) (S.read_faults_at shelf.old)) (counts (S.read_faults shelf.new) (S.read_faults_at shelf.new))) }
-
-    ensures files { S.files shelf.new ≡ S.files shelf.old }
-    ensures counts { S.read_faults shelf.old ≤ S.read_faults shelf.new }
-    ensures counts_at { (n : List ℕ) → S.read_faults_at shelf.old n ≤ S.read_faults_at shelf.new n }
-    ensures puts { S.put_faults shelf.new ≡ S.put_faults shelf.old }
-{
-    match *command {
-        Command::Candidates { cat, load }
-        | Command::Cost { cat, load }
-        | Command::Advise { cat, load, .. }
-        | Command::Sweep { cat, load, .. }
-        | Command::Fold { cat, load, .. } => {
-            let files = [
-                plain_file(Role::Catalogue, cat),
-                plain_file(Role::Workload, load),
-            ];
-            read_each(alloc, shelf, &files)
-        }
-        Command::Check { cat, load, .. } => {
-            let files = [
-                plain_file(Role::Catalogue, cat),
-                plain_file(Role::Workload, load),
-            ];
-            read_each(alloc, shelf, &files)
-        }
-        Command::CheckRuled {
-            cat,
-            load,
-            rules,
-            ..
-        } => {
-            let files = [
-                plain_file(Role::Catalogue, cat),
-                plain_file(Role::Workload, load),
-                plain_file(Role::Third, rules),
-            ];
-            read_each(alloc, shelf, &files)
-        }
-        Command::WhatIf {
-            cat,
-            load,
-            conf: third,
-        }
-        | Command::Explain {
-            cat,
-            load,
-            conf: third,
-            ..
-        }
-        | Command::Ruled {
-            cat,
-            load,
-            rules: third,
-            ..
-        }
-        | Command::Retune {
-            cat,
-            load,
-            edits: third,
-            ..
-        } => {
-            let files = [
-                plain_file(Role::Catalogue, cat),
-                plain_file(Role::Workload, load),
-                plain_file(Role::Third, third),
-            ];
-            read_each(alloc, shelf, &files)
-        }
-        Command::Bench {
-            seed,
-            tables,
-            statements,
-            ..
-        } => Ok(made_inputs(alloc, seed, tables, statements)?),
-    }
-}
-
-/// What a command answers from, read in the order in which it names its files. A certificate is scanned, whatever it holds.
-pub(crate) fn inputs_of<S: Shelf>(
-    alloc: Global,
-    shelf: &mut S,
-    command: &Command<'_>,
-) -> Result<Inputs, Stop>
-    requires { IsInRange (plain_command command.now) }
-    ensures inputs { IfOk result (HasRead (S.files shelf.old) (plain_command command.now)) }
-    ensures stop { IfErr result (StopsAtFiles (plain_command command.now) (S.files shelf.old)
-        (counts (S.read_faults shelf.old) (S.read_faults_at shelf.old)) (counts (S.read_faults shelf.new) (S.read_faults_at shelf.new))) }
-
-    ensures files { S.files shelf.new ≡ S.files shelf.old }
-    ensures counts { S.read_faults shelf.old ≤ S.read_faults shelf.new }
-    ensures counts_at { (n : List ℕ) → S.read_faults_at shelf.old n ≤ S.read_faults_at shelf.new n }
-    ensures puts { S.put_faults shelf.new ≡ S.put_faults shelf.old }
-{
-    let whole = whole_of(alloc, shelf, command)?;
-    match *command {
-        Command::Check { cert, .. } => {
-            let scanner = scan_file(alloc, shelf, &certificate_file(Role::Third, cert))?;
-            Ok(Inputs {
-                whole,
-                scanner: Some(scanner),
-            })
-        }
-        Command::CheckRuled { cert, .. } => {
-            let scanner = scan_file(alloc, shelf, &certificate_file(Role::Fourth, cert))?;
-            Ok(Inputs {
-                whole,
-                scanner: Some(scanner),
-            })
-        }
-        _ => Ok(Inputs {
-            whole,
-            scanner: None,
-        }),
-    }
 }
 
 /// The bytes of the file of a number, from 0.

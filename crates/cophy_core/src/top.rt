@@ -72,18 +72,14 @@ fn status(done: &Done) -> u8
         Done::ReadFault(_) => 3,
         Done::WriteFault => 4,
         Done::Refused(_) => 5,
-        Done::Memory => 7,
-        Done::Priced(_) => 0,
-        Done::Listed(_) => 0,
-        Done::Explained(_) => 0,
-        Done::Advised(advice) => advice_status(advice),
-        Done::Checked(_) => 0,
         Done::NotProved(_) => 6,
+        Done::Memory => 7,
+        Done::Advised(advice) => advice_status(advice),
         Done::Ruled(ruled) => advice_status(&ruled.advice),
-        Done::Swept(points) => sweep_status(points.as_slice()),
-        Done::Retuned(all) => tuned_status(all.as_slice()),
-        Done::Folded(_) => 0,
         Done::Benched(bench) => advice_status(&bench.advice),
+        Done::Retuned(all) => tuned_status(all.as_slice()),
+        Done::Swept(points) => sweep_status(points.as_slice()),
+        _ => 0,
     }
 }
 

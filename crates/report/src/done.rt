@@ -1,5 +1,17 @@
-//! Answers.
-use adv_base::{Bytes, IndexShape, List};
+//! Answers, and the text of each.
+ghost use Rattle.std.specs.Prelude.{◌≡◌, ◌++◌, OnOk, IfOk, map, string_bytes, option_map};
+ghost use Rattle.adv_base.specs.Settings.{the_setting};
+ghost use Rattle.report.specs.Texts.{done_text, FitsSetting};
+
+use crate::advised::{push_advised, push_benched, push_ruled};
+use crate::checked::{push_checked, push_unproved};
+use crate::printed::{
+    push_explained, push_folded, push_listed, push_prices, push_read_fault, push_refused,
+    push_usage, statements_of,
+};
+use crate::retuned::push_retuned;
+use crate::swept::push_swept;
+use adv_base::{Bytes, IndexShape, List, NoMemory, Setting};
 use binder::BindFault;
 use bip_model::{Answer, Point};
 use candidates::Candidates;
@@ -9,6 +21,7 @@ use dba_rules::RuleFault;
 use gap_checker::{CheckFault, Checked};
 use plan_model::Whole;
 use sql_reader::SqlFault;
+use std::alloc::{AllocError, Global};
 
 /// Which file is meant, in the order of the words.
 #[derive(Clone, Copy, Debug, PartialEq, Eq)]
@@ -156,4 +169,55 @@ pub enum Done {
     NotProved(NotProved),
     Folded(FoldDone),
     Benched(Bench),
+}
+
+/// Adds the text of an answer.
+fn push_done(
+    alloc: Global,
+    out: &mut Vec<u8>,
+    done: &Done,
+    words: &[String],
+    setting: Option<&Setting<'_>>,
+) -> Result<(), AllocError>
+    requires { FitsSetting (option_map (λ s. the_setting s.now) setting) done.now }
+    ensures { OnOk result (out.new.items ≡ out.old.items
+        ++ done_text (map string_bytes words.now) (option_map (λ s. the_setting s.now) setting.entry) done.now) }
+{
+    match done {
+        Done::Usage(fault) => push_usage(alloc, out, *fault),
+        Done::ReadFault(role) => push_read_fault(out, words, *role),
+        Done::Refused(why) => push_refused(alloc, out, words, *why),
+        Done::Priced(prices) => push_prices(alloc, out, statements_of(setting), prices),
+        Done::Listed(found) => push_listed(alloc, out, setting, found),
+        Done::Explained(explained) => push_explained(alloc, out, explained),
+        Done::Advised(advice) => push_advised(alloc, out, setting, advice),
+        Done::Ruled(ruled) => push_ruled(alloc, out, setting, ruled),
+        Done::Swept(points) => push_swept(alloc, out, setting, points.as_slice()),
+        Done::Retuned(tuned) => push_retuned(alloc, out, setting, tuned.as_slice()),
+        Done::Checked(checked) => push_checked(alloc, out, checked),
+        Done::NotProved(why) => push_unproved(alloc, out, *why),
+        Done::Folded(folded) => push_folded(alloc, out, folded),
+        Done::Benched(bench) => push_benched(alloc, out, setting, bench),
+        Done::WriteFault => Ok(()),
+        Done::Memory => Ok(()),
+    }
+}
+
+/// The text of an answer to the words. Prices want the setting whose statements they price, one price each; candidates that
+/// whose catalogue has their tables and columns, also where a script asks for advice over them; other advice and the points of
+/// a sweep that whose candidates they pick. Of a sweep nothing is told without it. `NoMemory` is want of memory.
+pub fn text(
+    alloc: Global,
+    done: &Done,
+    words: &[String],
+    setting: Option<&Setting<'_>>,
+) -> Result<Bytes, NoMemory>
+    requires { FitsSetting (option_map (λ s. the_setting s.now) setting) done.now }
+    ensures { IfOk result (λ bytes. bytes ≡ done_text (map string_bytes words.now) (option_map (λ s. the_setting s.now) setting.entry) done.now) }
+{
+    let mut out = Vec::new(alloc);
+    match push_done(alloc, &mut out, done, words, setting) {
+        Ok(()) => Ok(Bytes { items: out }),
+        Err(_) => Err(NoMemory),
+    }
 }

@@ -30,7 +30,6 @@ mod usage;
 pub use command_line::WordFault;
 pub use done::{
     Advice, Bench, Done, EditFault, Explained, FoldDone, NotProved, Prices, Refusal, Role, Ruled,
-    Tuned,
+    Tuned, text,
 };
-pub use printed::text;
 pub use swept::{has_no_gap, have_no_gap};

@@ -1,19 +1,16 @@
-//! The text of an answer.
-ghost use Rattle.std.specs.Prelude.{◌≡◌, ◌++◌, OnOk, IfOk, All, length, map, codes, string_bytes, option_map, Some};
+//! The texts of prices, of candidates and plans, of a folded workload, and of faults.
+ghost use Rattle.std.specs.Prelude.{◌≡◌, ◌++◌, OnOk, All, length, map, codes, string_bytes, option_map, Some};
 ghost use Rattle.adv_base.specs.Named.{NamesShape};
 ghost use Rattle.adv_base.specs.Settings.{the_setting};
-ghost use Rattle.report.specs.Texts.{size_line, cost_line, cost_lines, prices_text, plan_part, explained_text, folding_text, done_text, word_fault, file_name, refusal, statements_in, listed_text, AreNamedIn, FitsSetting};
+ghost use Rattle.report.specs.Texts.{size_line, cost_line, cost_lines, prices_text, plan_part, explained_text, folding_text, word_fault, file_name, refusal, statements_in, listed_text, AreNamedIn};
 ghost use Rattle.report.specs.Words.{line, numbered};
 
-use crate::advised::{push_advised, push_benched, push_ruled};
-use crate::checked::{push_checked, push_unproved};
+use crate::advised::push_line_of;
 use crate::listed::push_candidates;
 use crate::refusal::{push_about_file, push_refusal};
-use crate::retuned::push_retuned;
-use crate::swept::push_swept;
 use crate::usage::{push_both, push_numbered, push_word_fault};
-use crate::{Done, Explained, FoldDone, Prices, Refusal, Role, WordFault};
-use adv_base::{Bytes, NoMemory, Setting, Statement};
+use crate::{Explained, FoldDone, Prices, Refusal, Role, WordFault};
+use adv_base::{Setting, Statement};
 use candidates::Candidates;
 use std::alloc::{AllocError, Global};
 
@@ -23,10 +20,7 @@ fn push_size(alloc: Global, out: &mut Vec<u8>, size: Option<u128>) -> Result<(),
 {
     match size {
         None => Ok(()),
-        Some(pages) => {
-            push_numbered(alloc, out, b"size ", pages)?;
-            out.extend_from_slice(b"\n")
-        }
+        Some(pages) => push_line_of(alloc, out, b"size ", pages),
     }
 }
 
@@ -65,7 +59,7 @@ fn push_costs(
 }
 
 /// Adds the text of prices.
-fn push_prices(
+pub(crate) fn push_prices(
     alloc: Global,
     out: &mut Vec<u8>,
     statements: &[Statement],
@@ -76,8 +70,7 @@ fn push_prices(
 {
     push_size(alloc, out, prices.size)?;
     push_costs(alloc, out, statements, prices.costs.as_slice())?;
-    push_numbered(alloc, out, b"total ", prices.total)?;
-    out.extend_from_slice(b"\n")
+    push_line_of(alloc, out, b"total ", prices.total)
 }
 
 /// Adds the text of candidates of a setting.
@@ -91,12 +84,11 @@ fn push_found(
     ensures { OnOk result (out.new.items ≡ out.old.items ++ listed_text (Some (the_setting setting.now)) found.now) }
 {
     push_candidates(alloc, out, setting.cat, found.list.as_slice())?;
-    push_numbered(alloc, out, b"left over ", found.left_over as u128)?;
-    out.extend_from_slice(b"\n")
+    push_line_of(alloc, out, b"left over ", found.left_over as u128)
 }
 
 /// Adds the text of candidates over the setting that is there.
-fn push_listed(
+pub(crate) fn push_listed(
     alloc: Global,
     out: &mut Vec<u8>,
     setting: Option<&Setting<'_>>,
@@ -122,7 +114,11 @@ fn push_plan(alloc: Global, out: &mut Vec<u8>, explained: &Explained) -> Result<
 }
 
 /// Adds the text of an explained plan.
-fn push_explained(alloc: Global, out: &mut Vec<u8>, explained: &Explained) -> Result<(), AllocError>
+pub(crate) fn push_explained(
+    alloc: Global,
+    out: &mut Vec<u8>,
+    explained: &Explained,
+) -> Result<(), AllocError>
     ensures { OnOk result (out.new.items ≡ out.old.items ++ explained_text explained.now) }
 {
     push_numbered(alloc, out, b"statement ", explained.number as u128)?;
@@ -133,7 +129,11 @@ fn push_explained(alloc: Global, out: &mut Vec<u8>, explained: &Explained) -> Re
 }
 
 /// Adds the line of a faulty command line.
-fn push_usage(alloc: Global, out: &mut Vec<u8>, fault: WordFault) -> Result<(), AllocError>
+pub(crate) fn push_usage(
+    alloc: Global,
+    out: &mut Vec<u8>,
+    fault: WordFault,
+) -> Result<(), AllocError>
     ensures { OnOk result (out.new.items ≡ out.old.items ++ line (codes "usage: " ++ word_fault fault)) }
 {
     out.extend_from_slice(b"usage: ")?;
@@ -142,7 +142,11 @@ fn push_usage(alloc: Global, out: &mut Vec<u8>, fault: WordFault) -> Result<(), 
 }
 
 /// Adds the line of a file that could not be read.
-fn push_read_fault(out: &mut Vec<u8>, words: &[String], role: Role) -> Result<(), AllocError>
+pub(crate) fn push_read_fault(
+    out: &mut Vec<u8>,
+    words: &[String],
+    role: Role,
+) -> Result<(), AllocError>
     ensures { OnOk result (out.new.items ≡ out.old.items
         ++ line (codes "read fault: " ++ file_name (map string_bytes words.now) role)) }
 {
@@ -151,7 +155,7 @@ fn push_read_fault(out: &mut Vec<u8>, words: &[String], role: Role) -> Result<()
 }
 
 /// Adds the line of a refusal.
-fn push_refused(
+pub(crate) fn push_refused(
     alloc: Global,
     out: &mut Vec<u8>,
     words: &[String],
@@ -176,7 +180,11 @@ fn push_folding(alloc: Global, out: &mut Vec<u8>, folded: &FoldDone) -> Result<(
 }
 
 /// Adds the line of a folded workload.
-fn push_folded(alloc: Global, out: &mut Vec<u8>, folded: &FoldDone) -> Result<(), AllocError>
+pub(crate) fn push_folded(
+    alloc: Global,
+    out: &mut Vec<u8>,
+    folded: &FoldDone,
+) -> Result<(), AllocError>
     ensures { OnOk result (out.new.items ≡ out.old.items ++ folding_text folded.now) }
 {
     push_folding(alloc, out, folded)?;
@@ -184,62 +192,11 @@ fn push_folded(alloc: Global, out: &mut Vec<u8>, folded: &FoldDone) -> Result<()
 }
 
 /// The statements of a setting, where there is one.
-fn statements_of<'a>(setting: Option<&Setting<'a>>) -> &'a [Statement]
+pub(crate) fn statements_of<'a>(setting: Option<&Setting<'a>>) -> &'a [Statement]
     ensures { result.now ≡ statements_in (option_map (λ s. the_setting s.now) setting.entry) }
 {
     match setting {
         None => &[],
         Some(setting) => setting.statements,
-    }
-}
-
-/// Adds the text of an answer.
-fn push_done(
-    alloc: Global,
-    out: &mut Vec<u8>,
-    done: &Done,
-    words: &[String],
-    setting: Option<&Setting<'_>>,
-) -> Result<(), AllocError>
-    requires { FitsSetting (option_map (λ s. the_setting s.now) setting) done.now }
-    ensures { OnOk result (out.new.items ≡ out.old.items
-        ++ done_text (map string_bytes words.now) (option_map (λ s. the_setting s.now) setting.entry) done.now) }
-{
-    match done {
-        Done::Usage(fault) => push_usage(alloc, out, *fault),
-        Done::ReadFault(role) => push_read_fault(out, words, *role),
-        Done::Refused(why) => push_refused(alloc, out, words, *why),
-        Done::Priced(prices) => push_prices(alloc, out, statements_of(setting), prices),
-        Done::Listed(found) => push_listed(alloc, out, setting, found),
-        Done::Explained(explained) => push_explained(alloc, out, explained),
-        Done::Advised(advice) => push_advised(alloc, out, setting, advice),
-        Done::Ruled(ruled) => push_ruled(alloc, out, setting, ruled),
-        Done::Swept(points) => push_swept(alloc, out, setting, points.as_slice()),
-        Done::Retuned(tuned) => push_retuned(alloc, out, setting, tuned.as_slice()),
-        Done::Checked(checked) => push_checked(alloc, out, checked),
-        Done::NotProved(why) => push_unproved(alloc, out, *why),
-        Done::Folded(folded) => push_folded(alloc, out, folded),
-        Done::Benched(bench) => push_benched(alloc, out, setting, bench),
-        Done::WriteFault => Ok(()),
-        Done::Memory => Ok(()),
-    }
-}
-
-/// The text of an answer to the words. Prices want the setting whose statements they price, one price each; candidates that
-/// whose catalogue has their tables and columns, also where a script asks for advice over them; other advice and the points of
-/// a sweep that whose candidates they pick. Of a sweep nothing is told without it. `NoMemory` is want of memory.
-pub fn text(
-    alloc: Global,
-    done: &Done,
-    words: &[String],
-    setting: Option<&Setting<'_>>,
-) -> Result<Bytes, NoMemory>
-    requires { FitsSetting (option_map (λ s. the_setting s.now) setting) done.now }
-    ensures { IfOk result (λ bytes. bytes ≡ done_text (map string_bytes words.now) (option_map (λ s. the_setting s.now) setting.entry) done.now) }
-{
-    let mut out = Vec::new(alloc);
-    match push_done(alloc, &mut out, done, words, setting) {
-        Ok(()) => Ok(Bytes { items: out }),
-        Err(_) => Err(NoMemory),
     }
 }

@@ -9,7 +9,7 @@ use Rattle.cophy_core.specs.declared.files.Inputs.{Inputs}
 use Rattle.cophy_core.specs.declared.stop.Stop.{Stop}
 use Rattle.cophy_core.specs.commands.Check as check
 use Rattle.cophy_core.specs.commands.CheckRuled as check_ruled
-use Rattle.cophy_core.specs.Answers.{GivesOver, RefusesOver}
+use Rattle.cophy_core.specs.commands.{GivesOver, RefusesOver}
 use Rattle.command_line.specs.CommandLine.{PlainCommand, Check, CheckRuled}
 use Rattle.cophy_core.specs.Files.{InputFile, input, input_file, SomeInput, ReadCounts}
 use Rattle.cophy_core.specs.Reading.{IsUnreadFile}

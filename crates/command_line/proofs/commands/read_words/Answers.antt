@@ -2,10 +2,9 @@ use Rattle.std.proofs.Common.{ℕ, List, Result, Ok, Err}
 use Rattle.std.specs.Prelude.{IfOk}
 use Rattle.command_line.specs.CommandLine.{texts, plain_command, GivesBy, command_of}
 use Rattle.command_line.specs.Spellings.{IsInRange}
-use Rattle.command_line.specs.declared.command.Command.{Command}
+use Rattle.command_line.specs.declared.commands.Command.{Command}
 use Rattle.command_line.specs.declared.fault.WordFault.{WordFault}
-use Rattle.command_line.proofs.Ranges.{in_range}
-use Rattle.command_line.proofs.Grammar.{reads, in_grammar}
+use Rattle.command_line.proofs.Grammar.{reads, in_grammar, in_range}
 use Rattle.command_line.proofs.commands.read_words.Goals as goal
 
 pub returns-clause-grammar : goal.returns-clause-grammar

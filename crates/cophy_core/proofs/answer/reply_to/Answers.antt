@@ -1,7 +1,7 @@
 use Rattle.cophy_core.specs.Endings.{plain_puts}
 use Rattle.command_line.specs.CommandLine.{plain_command, texts}
 use Rattle.cophy_core.proofs.CauseLemmas.{told_reply, told_stop}
-use Rattle.command_line.proofs.Ranges.{in_range}
+use Rattle.command_line.proofs.Grammar.{in_range}
 use Rattle.cophy_core.proofs.answer.reply_to.Goals as goal
 
 pub answer-requires : goal.answer-requires
