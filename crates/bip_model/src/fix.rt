@@ -30,7 +30,7 @@ pub struct Fix {
 }
 
 /// Whether a candidate is in.
-fn is_in(state: State) -> bool
+pub fn is_in(state: State) -> bool
     ensures { result ≡ views.is_in state }
 {
     match state {
@@ -40,7 +40,7 @@ fn is_in(state: State) -> bool
 }
 
 /// Whether it is out.
-fn is_out(state: State) -> bool
+pub fn is_out(state: State) -> bool
     ensures { result ≡ views.is_out state }
 {
     match state {

@@ -35,13 +35,13 @@ mod space;
 
 pub use answer::{Answer, Node};
 pub use costs::{part_cost, value};
-pub use fix::{Fix, State};
+pub use fix::{Fix, State, is_in, is_out};
 pub use grant::Grant;
 pub use laws::{
     fixing_never_lowers, none_useful_is_total, programme_decides, shown_bounds, trees_stay_small,
     value_is_total, values_never_fall,
 };
-pub use multipliers::{Multipliers, grant_count};
+pub use multipliers::{Multipliers, grant_count, part_grants};
 pub use part::Part;
 pub use point::Point;
 pub use programme::Programme;

@@ -18,7 +18,7 @@ pub struct Multipliers {
 }
 
 /// How many grants a part has.
-fn part_grants(part: &Part) -> usize
+pub fn part_grants(part: &Part) -> usize
     ensures exact { result ≡ values.part_grants part.now }
     ensures most { result ≤ MOST_SLOTS * MOST_CANDIDATES }
 {

@@ -9,7 +9,7 @@ ghost use Rattle.certificate.specs.inner.Writing as writing;
 
 use crate::cert::Entry;
 use crate::lines::{push_entry, push_set_line};
-use bip_model::{Grant, Multipliers, Part, Programme, SlotPart};
+use bip_model::{Grant, Multipliers, Part, Programme, SlotPart, part_grants};
 use std::alloc::{AllocError, Global};
 
 /// Adds the entry of a candidate at a slot, which is counted from 0, where its rent isn't 0.
@@ -97,17 +97,6 @@ fn push_parts(
         rest = more;
     }
     Ok(())
-}
-
-/// How many grants a part has.
-fn part_grants(part: &Part) -> usize
-    ensures { result ≡ values.part_grants part.now }
-{
-    part.slots
-        .as_slice()
-        .iter()
-        .map(|slot| slot.grants.len())
-        .sum()
 }
 
 /// How many rents aren't 0.

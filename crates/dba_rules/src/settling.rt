@@ -10,7 +10,7 @@ ghost use Rattle.dba_rules.specs.Settled as settled;
 use crate::fault::RuleFault;
 use adv_base::limits::MOST_CANDIDATES;
 use adv_base::{Config, Setting, first_clash};
-use bip_model::{Fix, State};
+use bip_model::{Fix, is_in, is_out};
 use hypo_indexes::config_pages;
 
 /// Judges whether the candidates that rules make in fit a budget of pages, no two of them clustered on one table. Else
@@ -61,26 +61,6 @@ pub fn broken(root: &Fix, config: &Config) -> Option<u16>
         }
     }
     None
-}
-
-/// Whether a candidate is in.
-fn is_in(state: State) -> bool
-    ensures { result ≡ views.is_in state }
-{
-    match state {
-        State::In => true,
-        State::Free | State::Out => false,
-    }
-}
-
-/// Whether it is out.
-fn is_out(state: State) -> bool
-    ensures { result ≡ views.is_out state }
-{
-    match state {
-        State::Out => true,
-        State::Free | State::In => false,
-    }
 }
 
 /// How many candidates a root makes in.

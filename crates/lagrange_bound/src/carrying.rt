@@ -11,9 +11,9 @@ use crate::bounds::value_of_plans;
 use crate::candidates::available;
 use crate::earnings::earned_rents;
 use crate::kept::Terms;
-use crate::pricing::{part_grants, rented_cost};
+use crate::pricing::rented_cost;
 use adv_base::Config;
-use bip_model::{Fix, Grant, Multipliers, NO_ROWS, Part, Programme, Rows};
+use bip_model::{Fix, Grant, Multipliers, NO_ROWS, Part, Programme, Rows, part_grants};
 
 /// Writes the plan cost of each part.
 pub(crate) fn write_costs(parts: &[Part], config: &Config, rents: &[u64], costs: &mut [u128])

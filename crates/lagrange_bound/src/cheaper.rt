@@ -9,11 +9,10 @@ ghost use Rattle.lagrange_bound.specs.Ledgers as ledgers;
 ghost use Rattle.lagrange_bound.specs.inner.Marks as marks;
 
 use crate::prices::PriceLists;
-use crate::pricing::part_grants;
 use crate::uses::{WeightedGrant, all_uses};
 use adv_base::limits::{MOST_CANDIDATES, MOST_STATEMENTS};
 use adv_base::{List, NoMemory};
-use bip_model::{Grant, Part, Programme, SlotPart};
+use bip_model::{Grant, Part, Programme, SlotPart, part_grants};
 use std::alloc::Global;
 
 /// For each candidate 1000 flags, of which that of a part is on where the candidate gives some order of a slot of it

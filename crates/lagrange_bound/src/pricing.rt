@@ -2,7 +2,7 @@
 ghost use Rattle.std.specs.Prelude.{◌≡◌, ◌+◌, ◌*◌, ◌<◌, ◌≤◌, All, drop, length, min, sum_by};
 ghost use Rattle.std.specs.Option.{ForSome, option_map};
 ghost use Rattle.adv_base.specs.Configs.{has_candidate};
-ghost use Rattle.adv_base.specs.declared.limits.TheConstants.{MOST_CANDIDATES, MOST_PRICE, MOST_RENT, MOST_SLOTS};
+ghost use Rattle.adv_base.specs.declared.limits.TheConstants.{MOST_PRICE, MOST_RENT, MOST_SLOTS};
 ghost use Rattle.bip_model.specs.Values as values;
 ghost use Rattle.bip_model.specs.Words as words;
 ghost use Rattle.lagrange_bound.specs.Rented as rented;
@@ -175,16 +175,4 @@ pub(crate) fn rented_cost(
         cost: cost_by_rows(part, rows),
         next,
     }
-}
-
-/// How many grants a part has.
-pub(crate) fn part_grants(part: &Part) -> usize
-    ensures exact { result ≡ values.part_grants part.now }
-    ensures most { result ≤ MOST_SLOTS * MOST_CANDIDATES }
-{
-    let mut count = 0;
-    for slot in part.slots.as_slice() {
-        count += slot.grants.len();
-    }
-    count
 }

@@ -9,9 +9,8 @@ ghost use Rattle.lagrange_bound.specs.Rents as rents_spec;
 ghost use Rattle.lagrange_bound.specs.inner.Limits as limits;
 
 use crate::candidates::candidate_cost;
-use crate::pricing::part_grants;
 use adv_base::limits::{MOST_CANDIDATES, MOST_RENT};
-use bip_model::{Grant, Multipliers, Part, Programme, SlotPart};
+use bip_model::{Grant, Multipliers, Part, Programme, SlotPart, part_grants};
 
 /// How many grants each candidate has.
 type Uses = [u64; MOST_CANDIDATES];
