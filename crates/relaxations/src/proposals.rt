@@ -172,7 +172,7 @@ impl Proposals {
         let whole = cost.min(MOST_COST) as i128;
         let task = task_of(&self.matrix, &self.limits);
         if self.planned != Some(whole) {
-            self.planner.aim(whole);
+            self.planner.aim(self.finder.tree.reach(whole));
             self.planner.begin(&task, &self.root);
             if self.planner.has_room(&task) {
                 let _ = self.planner.add_own(&task, &mut self.finder);

@@ -4,9 +4,10 @@ use adv_base::NoMemory;
 use bip_model::{Fix, State};
 use interior_point::append;
 use std::alloc::Global;
+use std::num::saturating_f64_to_i64;
 
-/// The most nodes.
-pub(crate) const MOST_NODES: usize = 4096;
+/// The most nodes: as many as a search has where nothing is said.
+pub(crate) const MOST_NODES: usize = 20_000;
 /// In place of a candidate where a node has no branch.
 pub(crate) const NO_BRANCH: u16 = u16::MAX;
 /// In place of a node where there is none.
@@ -117,6 +118,20 @@ impl Tree {
             }
         }
         best
+    }
+
+    /// What a plan along the tree may show: that nothing is cheaper than a cost, or, where something is left open, its bound.
+    pub(crate) fn reach(&self, cost: i128) -> i128 {
+        let bound = match self.least() {
+            Some(open) if open < self.nodes.len() => self.nodes[open].bound,
+            _ => f64::INFINITY,
+        };
+        let whole = saturating_f64_to_i64(bound.floor());
+        if whole < 0 || whole == i64::MAX {
+            cost
+        } else {
+            cost.min(whole as i128)
+        }
     }
 
     /// Whether there is no room for the sides of a branch.
