@@ -7,15 +7,14 @@ use Rattle.std.proofs.lemmas.List.{get_or_default, get_or_past, get_or_push, get
 use Rattle.std.proofs.lemmas.List.Elements.{All-contains_itself, All-filter, filter_passes}
 use Rattle.std.proofs.lemmas.List.Folds.{Any-from_list_any}
 use Rattle.adv_base.specs.Items.{Order, BeginsWith}
-use Rattle.adv_base.proofs.Begins.{begins_nil, begins_self, begins_trans}
+use Rattle.adv_base.proofs.Begins.{begins_nil, begins_trans}
 use Rattle.plan_model.specs.declared.template.Template.{Template}
 use Rattle.plan_model.specs.Combinations.{Orders}
 use Rattle.planner.specs.Fronts.{begins_test}
 use Rattle.planner.proofs.Reading.{begins_from_test, test_from_begins}
-use Rattle.inum_cache.specs.Numbering.{order_in}
 use Rattle.inum_cache.specs.inner.Cells.{place_at, asks, fits_below, does_fit, Fits, does_replace, Replaces, template_at, no_template, IsReplaced, IsAmong, NeedsSame, Takes, fit_cost, least_fit}
 use Rattle.inum_cache.proofs.Pricing.{least_below-le, least_below-is, least_below-most}
-use Rattle.inum_cache.proofs.Taking.{replaces-self, replaces-trans}
+use Rattle.inum_cache.proofs.Taking.{like-replaces, replaces-self, replaces-trans}
 
 -- ## Tests and facts
 
@@ -128,14 +127,6 @@ push-takes orders t cell =
       };
     }
 
--- one that needs the same and costs no more replaces the other
-pub same-replaces : (orders : List (List Order)) (one other : Template) → NeedsSame other one → one.internal ≤ other.internal → Replaces orders one other
-same-replaces orders one other same less =
-    record {
-      less = less;
-      fits = record { fronts = λ slot. subst (λ p. BeginsWith (asks orders other slot) (order_in orders slot p)) (same slot) (begins_self (asks orders other slot)) };
-    }
-
 -- one that needs the same is replaced
 pub lower-takes : (orders : List (List Order)) (t : Template) (cell new : List Template) (place : ℕ) → place < length cell → length new ≡ length cell → NeedsSame (template_at cell place) t → t.internal ≤ (template_at cell place).internal → template_at new place ≡ t → ((k : ℕ) → ¬ (k ≡ place) → template_at new k ≡ template_at cell k) → Takes orders (λ u. u ≡ t) cell new
 lower-takes orders t cell new place within count same less here others =
@@ -149,7 +140,7 @@ lower-takes orders t cell new place within count same less here others =
           ];
       kept = λ u h.
           elim (cases_eq h.number place) [
-            | inl e ↦ by-new u (replaces-trans orders t v u (same-replaces orders t v same less) (subst (λ n. Replaces orders (template_at cell n) u) e h.replaces))
+            | inl e ↦ by-new u (replaces-trans orders t v u (like-replaces orders t v less (λ slot. sym (same slot))) (subst (λ n. Replaces orders (template_at cell n) u) e h.replaces))
             | inr other ↦ record {
               number = h.number;
               within = omega (arith, h.within, count);

@@ -1,7 +1,6 @@
 -- Rows of lists of templates, as they are found one after the other.
-use Rattle.std.proofs.Common.{◌≡◌, inl, inr, ℕ, ◌+◌, ◌-◌, ◌<◌, true, false, List, [], ◌∷◌, ◌++◌, length, take, All, refl, sym, ap, ◌∙◌, subst, arith}
+use Rattle.std.proofs.Common.{◌≡◌, inl, inr, ℕ, ◌+◌, ◌-◌, ◌<◌, true, false, List, [], ◌∷◌, ◌++◌, length, drop, take, All, refl, sym, ap, ◌∙◌, subst, arith}
 use Rattle.std.specs.Prelude.{slice_index}
-use Rattle.std.specs.List.{slice_range}
 use Rattle.std.proofs.lemmas.Bool.{cases_lt, false≢true}
 use Rattle.std.proofs.lemmas.List.{get_or_append_left, get_or_past, get_or_push, length-take, length_push, take-append-le, take_all}
 use Rattle.adv_base.specs.Items.{Order}
@@ -48,21 +47,16 @@ first-cell ways orders rows set cell takes plans =
       takes = λ f below.
           let zeroth : 0 ≡ f = omega arith in
           subst (λ g. Takes orders (IsGiven ways orders rows cell set g) [] (cell_in (cell ∷ []) g)) zeroth
-          (takes-same orders (IsGiven ways orders rows [] set 0) (IsGiven ways orders rows cell set 0) [] cell to-own to-none takes);
+          (takes-same orders (IsGiven ways orders rows [] set 0) (IsGiven ways orders rows cell set 0) [] cell (moved [] cell) (moved cell []) takes);
       plans = λ f below.
           let zeroth : 0 ≡ f = omega arith in
           subst (λ g. All (IsFor ways orders set g) (cell_in (cell ∷ []) g)) zeroth plans;
     }
   where
-    to-own : (t : Template) → IsGiven ways orders rows [] set 0 t → IsGiven ways orders rows cell set 0 t
-    to-own t (inl (inl sort)) = absurd (omega (arith, sort.0))
-    to-own t (inl (inr read)) = inl (inr read)
-    to-own t (inr cuts) = inr cuts
-
-    to-none : (t : Template) → IsGiven ways orders rows cell set 0 t → IsGiven ways orders rows [] set 0 t
-    to-none t (inl (inl sort)) = absurd (omega (arith, sort.0))
-    to-none t (inl (inr read)) = inl (inr read)
-    to-none t (inr cuts) = inr cuts
+    moved : (a b : List Template) (t : Template) → IsGiven ways orders rows a set 0 t → IsGiven ways orders rows b set 0 t
+    moved a b t (inl (inl sort)) = absurd (omega (arith, sort.0))
+    moved a b t (inl (inr read)) = inl (inr read)
+    moved a b t (inr cuts) = inr cuts
 
 pub cells-push : (ways : Ways) (orders : List (List Order)) (rows : ℕ → List (List Template)) (set : ℕ) (row : List (List Template)) (cell : List Template) (n : ℕ) → 0 < n → AreCells ways orders rows set row n → Takes orders (IsGiven ways orders rows (cell_in row 0) set n) [] cell → All (IsFor ways orders set n) cell → AreCells ways orders rows set (row ++ cell ∷ []) (n + 1)
 cells-push ways orders rows set row cell n some h takes plans =
@@ -103,16 +97,12 @@ row-is ways orders rows set row n all on h =
 -- a set that no plan covers has no cuts
 no-cuts : (ways : Ways) (set : ℕ) → set < sets_of ways → is_covered ways.covered.items set ≡ false → length (cuts_of ways set) ≡ 0
 no-cuts ways set within off =
-    cuts-empty ways.cuts.items (slice_index ways.starts.items set) (slice_index ways.starts.items (set + 1)) (ways.known.cut.joined set within off)
-  where
-    cuts-empty : {X : Type 0} (xs : List X) (i j : ℕ) → i ≡ j → length (slice_range xs i j) ≡ 0
-    cuts-empty xs i j same = omega (arith, length-take (j - i) (Rattle.std.proofs.Common.drop i xs))
+    omega (arith, ways.known.cut.joined set within off, length-take (slice_index ways.starts.items (set + 1) - slice_index ways.starts.items set) (drop (slice_index ways.starts.items set) ways.cuts.items))
 
 -- and is given nothing
 pub row-none : (ways : Ways) (orders : List (List Order)) (rows : ℕ → List (List Template)) (set : ℕ) → set < sets_of ways → is_covered ways.covered.items set ≡ false → IsRowOf ways orders rows set []
 row-none ways orders rows set within off =
     let empty : (f : ℕ) → [] ≡ cell_in [] f = λ f. sym (get_or_past {X = List Template} [] f [] (omega arith)) in
-    let none = no-cuts ways set within off in
     record {
       blank = λ _. refl;
       takes = λ f front_in.
@@ -124,7 +114,7 @@ row-none ways orders rows set within off =
                   | inl sort ↦ absurd (omega (arith, sort.2.1, ap length (empty 0)))
                   | inr read ↦ false≢true (sym off ∙ ways.known.cut.slots set read.0 within read.1 read.2.0)
                 ]
-            | inr cuts ↦ absurd (omega (arith, cuts.1, none))
+            | inr cuts ↦ absurd (omega (arith, cuts.1, no-cuts ways set within off))
           ]));
       plans = λ f k d inside. absurd (omega (arith, inside, ap length (empty f)));
     }

@@ -1,5 +1,5 @@
 -- Lists of templates that were given templates.
-use Rattle.std.proofs.Common.{◌≡◌, ◌⊎◌, inl, inr, ℕ, ◌+◌, List, [], All, refl, sym, ◌∙◌, subst, arith}
+use Rattle.std.proofs.Common.{◌≡◌, ◌⊎◌, inl, inr, ℕ, ◌+◌, ◌≤◌, List, [], All, refl, sym, ◌∙◌, subst, arith}
 use Rattle.std.specs.List.Sorted.{IsPermutation}
 use Rattle.std.proofs.lemmas.Bool.{cases_lt, cases_eq}
 use Rattle.std.proofs.lemmas.List.{get_or_default}
@@ -12,8 +12,7 @@ use Rattle.inum_cache.specs.inner.Passes.{IsLeaf}
 use Rattle.inum_cache.specs.inner.Cells.{place_at, asks, template_at, no_template, Replaces, IsReplaced, IsAmong, Takes, SomeBelow}
 
 pub replaces-self : (orders : List (List Order)) (t : Template) → Replaces orders t t
-replaces-self orders t =
-    record { less = omega arith; fits = record { fronts = λ slot. begins_self (asks orders t slot) } }
+replaces-self orders t = record { less = omega arith; fits = record { fronts = λ slot. begins_self (asks orders t slot) } }
 
 pub replaces-trans : (orders : List (List Order)) (a b c : Template) → Replaces orders a b → Replaces orders b c → Replaces orders a c
 replaces-trans orders a b c x y =
@@ -26,17 +25,17 @@ pub replaced-more : (orders : List (List Order)) (cell : List Template) (t u : T
 replaced-more orders cell t u h r =
     record { number = h.number; within = h.within; replaces = replaces-trans orders (template_at cell h.number) t u h.replaces r }
 
--- templates of one cost and the same places replace each other
-pub like-replaces : (orders : List (List Order)) (x t : Template) → x.internal ≡ t.internal → ((slot : ℕ) → place_at x slot ≡ place_at t slot) → Replaces orders x t
+-- one that needs the same and costs no more replaces the other
+pub like-replaces : (orders : List (List Order)) (x t : Template) → x.internal ≤ t.internal → ((slot : ℕ) → place_at x slot ≡ place_at t slot) → Replaces orders x t
 like-replaces orders x t costs places =
     record {
-      less = omega (arith, costs);
+      less = costs;
       fits = record { fronts = λ slot. subst (λ p. BeginsWith (order_in orders slot p) (asks orders x slot)) (places slot) (begins_self (asks orders x slot)) };
     }
 
 pub leaf-like : (orders : List (List Order)) (slot place : ℕ) (x t : Template) → IsLeaf slot place x → IsLeaf slot place t → Replaces orders x t
 leaf-like orders slot place x t a b =
-    like-replaces orders x t (a.costs ∙ sym b.costs) (λ s.
+    like-replaces orders x t (omega (arith, a.costs, b.costs)) (λ s.
     elim (cases_eq s slot) [
       | inl here ↦ subst (λ k. place_at x k ≡ place_at t k) (sym here) (a.here ∙ sym b.here)
       | inr other ↦ a.others s other ∙ sym (b.others s other)

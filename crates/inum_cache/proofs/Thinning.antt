@@ -17,8 +17,8 @@ use Rattle.adv_base.specs.Items.{Order}
 use Rattle.plan_model.specs.declared.template.Template.{Template}
 use Rattle.inum_cache.specs.Templates.{AreInOrder}
 use Rattle.inum_cache.specs.inner.Cells.{does_replace, AreApart, Precedes, Replaces, template_at, no_template, IsThin, Takes}
-use Rattle.inum_cache.proofs.Fitting.{filter-from, filter-keeps, push-takes, replaces-from, replaces-true, same-replaces}
-use Rattle.inum_cache.proofs.Taking.{replaced-more, replaces-trans}
+use Rattle.inum_cache.proofs.Fitting.{filter-from, filter-keeps, push-takes, replaces-from, replaces-true}
+use Rattle.inum_cache.proofs.Taking.{like-replaces, replaced-more, replaces-trans}
 
 -- ## A template more
 
@@ -117,7 +117,7 @@ in-order orders templates h i j first second less f s =
       | inr w ↦ record { slot = w.0; less = w.1; same = w.2 }
       | inl same ↦
           absurd (elim (cases_lt second.internal first.internal) [
-            | inl cheaper ↦ apart.1 (same-replaces orders second first same (omega (arith, cheaper)))
-            | inr most ↦ apart.0 (same-replaces orders first second (λ slot. sym (same slot)) most)
+            | inl cheaper ↦ apart.1 (like-replaces orders second first (omega (arith, cheaper)) (λ slot. sym (same slot)))
+            | inr most ↦ apart.0 (like-replaces orders first second most same)
           ])
     ]

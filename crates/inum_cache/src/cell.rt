@@ -4,19 +4,21 @@ ghost use Rattle.std.specs.List.{list_any};
 ghost use Rattle.adv_base.specs.Items.{Order};
 ghost use Rattle.inum_cache.specs.inner.Cells as cells;
 
-use crate::choices::Choices;
+use crate::choices::{Choices, begins};
 use adv_base::{List, NoMemory};
 use plan_model::Template;
-use planner::has_front;
 use std::alloc::Global;
 
 /// Whether one needs of each slot a front of what the other needs.
 fn asks_no_more(choices: &Choices, one: &Template, other: &Template) -> bool
     ensures { result ≡ cells.does_fit choices.now.orders (cells.asks choices.now.orders other.now) one.now }
 {
+    if one.needs == [0; 8] {
+        return true;
+    }
     for slot in 0..choices.slots() {
         let front = choices.order(slot, one.needs[slot as usize]);
-        if !has_front(choices.order(slot, other.needs[slot as usize]), front) {
+        if !begins(choices.order(slot, other.needs[slot as usize]), front) {
             return false;
         }
     }
@@ -55,7 +57,6 @@ impl Hints {
     }
 
     /// The number of the combination of these orders.
-    #[inline]
     fn number(&self, needs: &[u8; 8]) -> usize {
         let mut number = 0usize;
         for slot in 0..8 {
@@ -64,16 +65,6 @@ impl Hints {
         number
     }
 
-    /// The place that is hinted at.
-    #[inline]
-    fn place(&self, number: usize) -> usize {
-        match self.places.get(number) {
-            None => 0,
-            Some(place) => *place,
-        }
-    }
-
-    #[inline]
     fn put(&mut self, number: usize, place: usize) {
         if let Some(old) = self.places.get_mut(number) {
             *old = place;
@@ -83,7 +74,6 @@ impl Hints {
 
 /// Whether the first template of a list replaces one. The first is mostly that of no orders, which replaces whatever
 /// costs no less.
-#[inline]
 fn first_replaces(choices: &Choices, cell: &[Template], template: &Template) -> bool
     ensures { IsTrue result → cells.IsReplaced choices.now.orders cell.now template.now }
 {
@@ -94,7 +84,6 @@ fn first_replaces(choices: &Choices, cell: &[Template], template: &Template) -> 
 }
 
 /// Whether the template at a place needs the same.
-#[inline]
 fn needs_at(cell: &[Template], place: usize, needs: &[u8; 8]) -> bool
     ensures within { IsTrue result → place < length cell.now }
     ensures same { IsTrue result → (slot : ℕ) → cells.place_at (cells.template_at cell.now place) slot ≡ slice_index_or needs.now slot 0 }
@@ -106,7 +95,6 @@ fn needs_at(cell: &[Template], place: usize, needs: &[u8; 8]) -> bool
 }
 
 /// Puts a template in the place of one that needs the same, where it is cheaper.
-#[inline]
 fn lower(cell: &mut Vec<Template>, place: usize, template: Template)
     requires within { place < length cell.old.items }
     requires same { cells.NeedsSame (cells.template_at cell.old.items place) template }
@@ -131,7 +119,7 @@ pub(crate) fn insert(
         return Ok(());
     }
     let number = hints.number(&template.needs);
-    let place = hints.place(number);
+    let place = *hints.places.get(number).unwrap_or(&0);
     if needs_at(cell.as_slice(), place, &template.needs) {
         lower(cell, place, template);
         return Ok(());

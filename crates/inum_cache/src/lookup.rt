@@ -8,9 +8,9 @@ ghost use Rattle.inum_cache.specs.Numbering.{order_in};
 ghost use Rattle.inum_cache.specs.inner.Pricing as pricing;
 
 use crate::cache::Cache;
+use crate::choices::begins;
 use adv_base::Item;
 use plan_model::{Offers, Template};
-use planner::has_front;
 
 /// Stands for the price of an order that isn't offered; it is above every cost.
 pub(crate) const UNOFFERED: u128 = 1_000_000_000_000_000_000_000_000_000_000;
@@ -23,7 +23,7 @@ fn lowered<O: Offers>(offers: &O, slot: u8, order: &[Item], offer: u32, best: u1
     ensures { result ≡ pricing.lower best (pricing.offer_price (O.table offers.now) slot order.now offer) }
 {
     let price = offers.price(slot, offer) as u128;
-    if price < best && has_front(offers.order(slot, offer), order) {
+    if price < best && begins(offers.order(slot, offer), order) {
         price
     } else {
         best
@@ -43,41 +43,50 @@ fn best_price<O: Offers>(offers: &O, slot: u8, order: &[Item]) -> u128
     best
 }
 
-/// The lower of two costs.
-#[inline(always)]
-fn lower(least: u128, cost: u128) -> u128
-    ensures exact { result ≡ pricing.lower least cost }
-    ensures most { result ≤ least }
-{
-    if cost < least { cost } else { least }
+/// For each slot its least price for any order, and a place with the least price of the order there.
+#[derive(Clone, Copy)]
+pub(crate) struct Known {
+    pub least: [u128; 8],
+    pub places: [u8; 8],
+    pub prices: [u128; 8],
 }
 
 impl Cache {
     /// The least price of each slot, for any order.
     #[inline(always)]
-    fn least_prices<O: Offers>(&self, offers: &O) -> [u128; 8]
-        ensures { pricing.AreLeast (O.table offers.now) (length self.now.choices.orders) result }
+    fn least_prices<O: Offers>(&self, offers: &O) -> Known
+        ensures { pricing.AreKnown (O.table offers.now) self.now.choices.orders result }
     {
-        let mut prices = [0; 8];
+        let mut least = [0; 8];
         for slot in 0..self.choices.slots() {
-            prices[slot as usize] = best_price(offers, slot, &[]);
+            least[slot as usize] = best_price(offers, slot, &[]);
         }
-        prices
+        Known {
+            least,
+            places: [0; 8],
+            prices: least,
+        }
     }
 
-    /// The least price at which a slot gives the order at a place; `least` has the slots' least prices.
+    /// The least price at which a slot gives the order at a place, which is then known.
     #[inline(always)]
-    fn price<O: Offers>(&self, offers: &O, least: &[u128; 8], slot: u8, place: u8) -> u128
+    fn price<O: Offers>(&self, offers: &O, known: &mut Known, slot: u8, place: u8) -> u128
         requires slot { slot < length self.now.choices.orders }
-        requires least { pricing.AreLeast (O.table offers.now) (length self.now.choices.orders) least.now }
+        requires known { pricing.AreKnown (O.table offers.now) self.now.choices.orders known.old }
         ensures exact { result ≡ pricing.best_price (O.table offers.now) slot (order_in self.now.choices.orders slot place) }
         ensures most { result ≤ UNOFFERED }
+        ensures known { pricing.AreKnown (O.table offers.now) self.now.choices.orders known.new }
     {
         if place == 0 {
-            least[slot as usize]
-        } else {
-            best_price(offers, slot, self.choices.order(slot, place))
+            return known.least[slot as usize];
         }
+        if place == known.places[slot as usize] {
+            return known.prices[slot as usize];
+        }
+        let price = best_price(offers, slot, self.choices.order(slot, place));
+        known.places[slot as usize] = place;
+        known.prices[slot as usize] = price;
+        price
     }
 
     /// The lower of a cost and what comes of a template's internal cost and the least prices of the orders that it needs.
@@ -85,23 +94,24 @@ impl Cache {
     fn lowered_by<O: Offers>(
         &self,
         offers: &O,
-        prices: &[u128; 8],
+        known: &mut Known,
         template: &Template,
         least: u128,
     ) -> u128
-        requires prices { pricing.AreLeast (O.table offers.now) (length self.now.choices.orders) prices.now }
+        requires known { pricing.AreKnown (O.table offers.now) self.now.choices.orders known.old }
         requires most { least ≤ UNOFFERED }
         ensures exact { result ≡ pricing.lower least (pricing.template_cost (O.table offers.now) self.now.choices.orders template.now) }
         ensures most { result ≤ least }
+        ensures known { pricing.AreKnown (O.table offers.now) self.now.choices.orders known.new }
     {
         let mut sum = template.internal;
         for slot in 0..self.choices.slots() {
             if sum >= least {
                 return least;
             }
-            sum += self.price(offers, prices, slot, template.needs[slot as usize]);
+            sum += self.price(offers, known, slot, template.needs[slot as usize]);
         }
-        lower(least, sum)
+        if sum < least { sum } else { least }
     }
 
     /// What a least plan of the cache's task costs over these offers, in thousandths of a page read: the least over the
@@ -113,11 +123,11 @@ impl Cache {
         ensures least { (task : Task) → IsCacheOf task self.now → Least task (O.table offers.now) result }
     {
         offers.limits();
-        let prices = self.least_prices(offers);
+        let mut known = self.least_prices(offers);
         let templates = self.templates.as_slice();
         let mut least = UNOFFERED;
         for k in 0..templates.len() {
-            least = self.lowered_by(offers, &prices, &templates[k], least);
+            least = self.lowered_by(offers, &mut known, &templates[k], least);
         }
         least
     }

@@ -14,7 +14,7 @@ lower-requires c =
     let is = c.as_slice-2.ensures.value in
     record {
       within = omega (arith, c.needs_at.ensures.within c.if-needs_at.true, ap length is);
-      same = subst (λ (xs : List Template). (slot : ℕ) → place_at (template_at xs c.place-place.result) slot ≡ place_at c.args.template slot) is (c.needs_at.ensures.same c.if-needs_at.true);
+      same = subst (λ (xs : List Template). (slot : ℕ) → place_at (template_at xs c.unwrap_or-place.result.now) slot ≡ place_at c.args.template slot) is (c.needs_at.ensures.same c.if-needs_at.true);
     }
 
 pub returns-then-needs_at : goal.returns-then-needs_at

@@ -19,7 +19,7 @@ loop-other-preserved c =
     let is = get_or_default right j _ no_template within in
     let made = subst (λ (x : Template). IsJoined left x c.args.price c.joined.result) is c.joined.ensures in
     takes-more orders (λ k t. IsJoined left (template_at right k) c.args.price t) j c.args.cell.now.items c.loop-other.cell.items c.insert.new.cell.items c.loop-other.invariant
-    (takes-like orders (IsJoined left (template_at right j) c.args.price) c.loop-other.cell.items c.insert.new.cell.items c.joined.result made (λ t h. like-replaces orders c.joined.result t (made.costs ∙ sym h.costs) (λ slot. made.needs slot ∙ sym (h.needs slot))) c.in_ok-insert.ensures)
+    (takes-like orders (IsJoined left (template_at right j) c.args.price) c.loop-other.cell.items c.insert.new.cell.items c.joined.result made (λ t h. like-replaces orders c.joined.result t (omega (arith, made.costs, h.costs)) (λ slot. made.needs slot ∙ sym (h.needs slot))) c.in_ok-insert.ensures)
 
 pub returns : goal.returns
 returns c =

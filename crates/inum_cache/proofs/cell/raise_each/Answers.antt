@@ -18,7 +18,7 @@ loop-template-preserved c =
     let is = get_or_default from i _ no_template within in
     let made = subst (λ (x : Template). IsRaised x c.args.price c.raised.result) is c.raised.ensures in
     takes-more orders (λ k t. IsRaised (template_at from k) c.args.price t) i c.args.cell.now.items c.loop-template.cell.items c.insert.new.cell.items c.loop-template.invariant
-    (takes-like orders (IsRaised (template_at from i) c.args.price) c.loop-template.cell.items c.insert.new.cell.items c.raised.result made (λ t h. like-replaces orders c.raised.result t (made.costs ∙ sym h.costs) (λ slot. made.needs slot ∙ sym (h.needs slot))) c.in_ok-insert.ensures)
+    (takes-like orders (IsRaised (template_at from i) c.args.price) c.loop-template.cell.items c.insert.new.cell.items c.raised.result made (λ t h. like-replaces orders c.raised.result t (omega (arith, made.costs, h.costs)) (λ slot. made.needs slot ∙ sym (h.needs slot))) c.in_ok-insert.ensures)
 
 pub returns : goal.returns
 returns c =

@@ -9,4 +9,4 @@ returns-then-sum-least-clause-exact g c =
     let orders = c.args.self.now.choices.orders in
     let t = c.args.template.now in
     let more = sum_below-more (own_price table orders t) (length orders) c.loop-slot.slot (omega (arith, c.loop-slot-test.true, c.slots-slot-end.ensures)) in
-    lower-high c.args.least (template_cost table orders t) (omega (arith, more, c.loop-slot.invariant, c.if-sum-least.true))
+    lower-high c.args.least (template_cost table orders t) (omega (arith, more, c.loop-slot.invariant.sum, c.if-sum-least.true))

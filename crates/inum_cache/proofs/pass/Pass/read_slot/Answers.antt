@@ -1,4 +1,4 @@
-use Rattle.std.proofs.Common.{◌≡◌, ℕ, ◌*◌, ◌%◌, ◌^◌, ◌<◌, ◌≤◌, arith}
+use Rattle.std.proofs.Common.{◌≡◌, ◌^◌, ◌≤◌, arith}
 use Rattle.std.proofs.Math.Pow.{pow_mono}
 use Rattle.inum_cache.specs.Numbering.{size_in}
 use Rattle.inum_cache.specs.inner.Cells.{SomeBelow}
@@ -16,12 +16,6 @@ loop-place-preserved c =
     let orders = c.args.self.now.choices.now.orders in
     takes-more orders (PlaceGives c.args.self.now.ways orders c.args.front c.args.slot) c.loop-place.place c.args.cell.now.items c.loop-place.cell.items c.read_place.new.cell.items c.loop-place.invariant c.in_ok-read_place.ensures
 
-set_of : (slot set : ℕ) → slot < 8 → (1 * 2 ^ slot) % 18446744073709551616 ≡ set → 2 ^ slot ≡ set
-set_of slot set small h =
-    let few : slot ≤ 7 = omega arith in
-    let most : 2 ^ slot ≤ 2 ^ 7 = pow_mono few in
-    omega (arith, h)
-
 pub returns-then-slot-set : goal.returns-then-slot-set
 returns-then-slot-set c =
     let orders = c.args.self.now.choices.now.orders in
@@ -34,5 +28,5 @@ returns c =
     let orders = c.args.self.now.choices.now.orders in
     let slots = c.args.self.now.ways.task.now.limits.slots_most in
     takes-when orders (2 ^ c.args.slot ≡ c.args.set) (SomeBelow (size_in orders c.args.slot) (PlaceGives c.args.self.now.ways orders c.args.front c.args.slot)) c.args.cell.now.items c.loop-place.cell.items
-    (set_of c.args.slot c.args.set (omega (arith, c.requires.slot_in, slots)) c.if-slot-set.false)
+    (let few : c.args.slot ≤ 7 = omega (arith, c.requires.slot_in, slots) in let most : 2 ^ c.args.slot ≤ 2 ^ 7 = pow_mono few in omega (arith, c.if-slot-set.false))
     (takes-all orders (PlaceGives c.args.self.now.ways orders c.args.front c.args.slot) c.loop-place.place (size_in orders c.args.slot) c.args.cell.now.items c.loop-place.cell.items (omega (arith, c.loop-place-test.false, c.loop-place.auto.place-end, c.size-place-end.ensures)) c.loop-place.invariant)
