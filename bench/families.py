@@ -11,36 +11,21 @@ sys.path.insert(0, os.path.dirname(os.path.realpath(__file__)))
 from advice import Advice, add_options, made  # noqa: E402
 from measure import print_row  # noqa: E402
 from printed import programme_of, useful  # noqa: E402
-from search import Row, faults, rows_of, solve, told  # noqa: E402
+from search import Row, faults, print_search, rows_of, solve  # noqa: E402
 from shapes import SHAPES, SHARES, texts  # noqa: E402
 from solvers import MOST_SECONDS, Highs, installed, python_with_scipy  # noqa: E402
 
 HEADS = ("workload", "budget", "closed", "gap %", "nodes", "sets", "useful", "ms", "cbc ms", "glpk ms", "HiGHS ms")
 WIDTHS = (18, 10, 7, 9, 6, 4, 6, 9, 9, 9, 9)
+SOLVERS = ("cbc", "glpk", "HiGHS")
 AMPLE = 10**12
-
-
-def print_search(row: Row) -> None:
-    it = row.told
-    cells = (
-        row.workload,
-        it["budget"],
-        "yes" if row.closed else "no",
-        f"{row.gap:.5f}",
-        it["nodes"],
-        it["sets"],
-        it["useful"],
-        f"{1000 * row.seconds:.1f}",
-        *(told(row.solved.get(name)) for name in ("cbc", "glpk", "HiGHS")),
-    )
-    print_row(cells, WIDTHS)
 
 
 def print_sums(rows: list[Row]) -> None:
     ours = sum(row.seconds for row in rows)
     closed = sum(row.closed for row in rows)
     print(f"closed {closed} of {len(rows)}, nodes {sum(row.told['nodes'] for row in rows)}, seconds {ours:.2f}")
-    for name in ("cbc", "glpk", "HiGHS"):
+    for name in SOLVERS:
         beside = [row for row in rows if name in row.solved]
         if not beside:
             continue
@@ -73,7 +58,7 @@ def searched(options: argparse.Namespace, advice: Advice, name: str, seed: int, 
             solve(row, programme, folder, options.most)
         if python:
             row.solved["HiGHS"] = Highs(python).solve(dump, row.told["budget"], options.most)
-        print_search(row)
+        print_search(row, WIDTHS, SOLVERS)
         for fault in faults(row, programme):
             print(f"  WRONG: {fault}", flush=True)
     return rows

@@ -23,7 +23,7 @@ FULL = (
 )
 WORKLOADS = "1-5-20 3-10-50 4-20-50 6-10-100 7-20-100 9-20-200 12-10-500"
 QUICK = "1-5-20 3-10-50 6-10-100"
-WIDTHS = (10, 13, 7, 8, 6, 4, 6, 9, 9, 9)
+WIDTHS = (10, 13, 7, 9, 6, 4, 6, 9, 9, 9)
 
 
 @dataclass
@@ -97,21 +97,20 @@ def told(solved: Solved | None) -> str:
     return f"{1000 * solved.seconds:.1f}" + ("" if solved.cost is not None else "!")
 
 
-def print_search(row: Row) -> None:
+def print_search(row: Row, widths: tuple[int, ...], solvers: tuple[str, ...]) -> None:
     it = row.told
     cells = (
         row.workload,
         it["budget"],
         "yes" if row.closed else "no",
-        f"{row.gap:.4f}",
+        f"{row.gap:.5f}",
         it["nodes"],
         it["sets"],
         it["useful"],
         f"{1000 * row.seconds:.1f}",
-        told(row.solved.get("cbc")),
-        told(row.solved.get("glpk")),
+        *(told(row.solved.get(name)) for name in solvers),
     )
-    print_row(cells, WIDTHS)
+    print_row(cells, widths)
 
 
 def print_sums(rows: list[Row]) -> None:
@@ -162,7 +161,7 @@ def measured(options: argparse.Namespace, advice: Advice, workloads: list[Worklo
         for row in found:
             if not options.no_solvers:
                 solve(row, programme, folder, options.most)
-            print_search(row)
+            print_search(row, WIDTHS, ("cbc", "glpk"))
             for fault in faults(row, programme):
                 print(f"  WRONG: {fault}", flush=True)
             rows.append(row)

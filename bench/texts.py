@@ -41,6 +41,7 @@ name = "t_c"
 keys = ["c", "d"]
 """
 BOUNDS = 257
+WIDTHS = (10, 6, 9, 9, 9, 9, 10)
 SMALL_WORKLOAD = "SELECT c FROM t ORDER BY d\n"
 
 
@@ -169,55 +170,48 @@ def parse_seconds(library, text):
     return time.perf_counter() - begun
 
 
+def show(name, size, mib, run, beside="", peak=""):
+    cells = (name, size, f"{run.seconds:.3f}", f"{mib / run.seconds:.1f}", f"{run.peak_mib:.1f}", beside, peak)
+    print_row(cells, WIDTHS)
+
+
+def catalogues(options, folder, sizes, name, make, where):
+    """The cost of one statement over catalogues of each size."""
+    workload = put(folder, "one.sql", f"SELECT column_1 FROM t {where}ORDER BY column_2\n")
+    for size in sizes:
+        text = make(size * MIB)
+        catalogue = put(folder, "c.toml", text)
+        run = cost(options, catalogue, workload, f"a catalogue of {size} MiB, {name}")
+        beside = tomllib_run(options, catalogue)
+        show(name, size, len(text) / MIB, run, f"{beside.seconds:.3f}", f"{beside.peak_mib:.1f}")
+
+
 def main():
     parser = arguments(__doc__)
     parser.add_argument("--mib", default="1,4,16", help="the sizes (default: 1,4,16)")
     options = parser.parse_args()
     need_program(options.program)
     sizes = [int(size) for size in options.mib.split(",")]
-    widths = (10, 6, 9, 9, 9, 9, 10)
     library = postgres_parser()
     with tempfile.TemporaryDirectory() as folder:
         small_catalogue = put(folder, "small.toml", SMALL_CATALOGUE)
         small_workload = put(folder, "small.sql", SMALL_WORKLOAD)
         run = cost(options, small_catalogue, small_workload, "small files")
-        print_row(("files", "MiB", "seconds", "MiB/s", "peak MiB", "beside", "its peak"), widths)
-        print_row(("small", "", f"{run.seconds:.3f}", "", f"{run.peak_mib:.1f}", "", ""), widths)
-        for size in sizes:
-            catalogue = put(folder, "c.toml", make_catalogue(size * MIB))
-            one = put(folder, "one.sql", "SELECT column_1 FROM t ORDER BY column_2\n")
-            run = cost(options, catalogue, one, f"a catalogue of {size} MiB")
-            beside = tomllib_run(options, catalogue)
-            print_row(
-                ("catalogue", size, f"{run.seconds:.3f}", f"{size / run.seconds:.1f}", f"{run.peak_mib:.1f}",
-                 f"{beside.seconds:.3f}", f"{beside.peak_mib:.1f}"), widths)
-        for size in sizes:
-            text = make_bounded(size * MIB)
-            catalogue = put(folder, "b.toml", text)
-            one = put(folder, "one.sql", "SELECT column_1 FROM t WHERE column_2 < 100000 ORDER BY column_2\n")
-            run = cost(options, catalogue, one, f"a catalogue of {size} MiB with histograms")
-            beside = tomllib_run(options, catalogue)
-            print_row(
-                ("bounds", size, f"{run.seconds:.3f}", f"{len(text) / MIB / run.seconds:.1f}", f"{run.peak_mib:.1f}",
-                 f"{beside.seconds:.3f}", f"{beside.peak_mib:.1f}"), widths)
+        print_row(("files", "MiB", "seconds", "MiB/s", "peak MiB", "beside", "its peak"), WIDTHS)
+        print_row(("small", "", f"{run.seconds:.3f}", "", f"{run.peak_mib:.1f}", "", ""), WIDTHS)
+        catalogues(options, folder, sizes, "catalogue", make_catalogue, "")
+        catalogues(options, folder, sizes, "bounds", make_bounded, "WHERE column_2 < 100000 ")
         bounded_catalogue = put(folder, "bounded.toml", small_bounded())
         for size in sizes:
             text = make_workload(size * MIB, ("c", "d"))
             workload = put(folder, "w.sql", text)
-            run = cost(options, bounded_catalogue, workload, f"a workload of {size} MiB over a histogram")
-            print_row(
-                ("ranges", size, f"{run.seconds:.3f}", f"{size / run.seconds:.1f}", f"{run.peak_mib:.1f}", "", ""), widths)
+            show("ranges", size, size, cost(options, bounded_catalogue, workload, f"a workload of {size} MiB over a histogram"))
             run = cost(options, small_catalogue, workload, f"a workload of {size} MiB")
-            beside = f"{parse_seconds(library, text):.3f}" if library else "-"
-            print_row(
-                ("workload", size, f"{run.seconds:.3f}", f"{size / run.seconds:.1f}", f"{run.peak_mib:.1f}", beside, ""),
-                widths)
+            show("workload", size, size, run, f"{parse_seconds(library, text):.3f}" if library else "-")
         for size in sizes:
             catalogue = put(folder, "c.toml", make_catalogue(size * MIB))
             workload = put(folder, "w.sql", make_workload(size * MIB, ("column_1", "column_2")))
-            run = cost(options, catalogue, workload, f"both of {size} MiB")
-            print_row(
-                ("both", size, f"{run.seconds:.3f}", f"{2 * size / run.seconds:.1f}", f"{run.peak_mib:.1f}", "", ""), widths)
+            show("both", size, 2 * size, cost(options, catalogue, workload, f"both of {size} MiB"))
     print("beside: tomllib on the same catalogue, libpg_query on the same workload" + ("" if library else " (not installed)"))
 
 

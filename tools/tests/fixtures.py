@@ -7,10 +7,12 @@ import os
 import subprocess
 import tempfile
 import unittest
+from collections.abc import Iterable, Iterator
+from contextlib import contextmanager
 from pathlib import Path
 
 from patience import LONG
-from private_server import PrivateServer, missing, program
+from private_server import PrivateServer, has_extension, missing, program
 
 HERE = Path(__file__).resolve().parent
 ROOT = HERE.parents[1]
@@ -18,7 +20,9 @@ TOOL = ROOT / "tools" / "pg" / "cophy-pg"
 DATA = HERE / "data"
 ADVISOR = ROOT / "tools" / "pg" / "advisor_role.sql"
 COPHY = Path(os.environ.get("COPHY_PROGRAM") or ROOT / "crates" / "cophy_cli" / "out" / "cophy_cli")
+STAND_IN = HERE / "stand_in.py"
 MISSING = missing()
+NO_HYPOPG = MISSING or ("" if has_extension("hypopg") else "postgresql-15-hypopg isn't installed")
 
 
 @functools.cache
@@ -72,6 +76,14 @@ class InFolder(unittest.TestCase):
         """Files of the folder, as words of a call."""
         return [str(self.folder / it) for it in names]
 
+    def tool(self, *words: str, status: int = 0) -> subprocess.CompletedProcess[str]:
+        """A call of the tool in the folder, without a server."""
+        ran = subprocess.run(
+            [str(TOOL), *words], cwd=self.folder, capture_output=True, text=True, check=False, timeout=LONG
+        )
+        self.assertEqual(ran.returncode, status, ran.stderr)
+        return ran
+
     def lay_program(self, text: str, name: str = "program") -> str:
         """Lays a script in the place of the program."""
         (self.folder / name).write_text(text)
@@ -83,13 +95,58 @@ class OverShop(InFolder):
     """Such tests over the database `shop`, of which the advisor's role asks."""
 
     server: PrivateServer
+    database = "shop"
+    given: dict[str, str] = {}
+    """The environment of calls, beside that of the role."""
 
     @classmethod
     def setUpClass(cls) -> None:
         cls.server = shop()
 
-    def call(self, *words: str, **more: str) -> subprocess.CompletedProcess[str]:
-        """A call of the tool that does its work."""
-        ran = called(self.server, *words, **{"PGUSER": "cophy_advisor"} | more)
-        self.assertEqual(ran.returncode, 0, ran.stderr)
+    def call(self, *words: str, status: int = 0, **more: str) -> subprocess.CompletedProcess[str]:
+        """A call of the tool that ends with a status."""
+        ran = called(self.server, *words, database=self.database, **{"PGUSER": "cophy_advisor"} | self.given | more)
+        self.assertNotIn("Traceback", ran.stderr)
+        self.assertEqual(ran.returncode, status, ran.stderr)
         return ran
+
+
+class OverOwn(OverShop):
+    """Such tests over a database of their own."""
+
+    content: str
+
+    @classmethod
+    def setUpClass(cls) -> None:
+        super().setUpClass()
+        cls.server.psql(f"CREATE DATABASE {cls.database}")
+        cls.addClassCleanup(cls.server.psql, f"DROP DATABASE {cls.database}")
+        cls.server.psql(cls.content + ADVISOR.read_text(), cls.database)
+
+    def lay_advice(self, picks: Iterable[str]) -> str:
+        """Lays an advice of these picks into the folder."""
+        lines = "".join(f"pick {at} {it} 3 pages\n" for at, it in enumerate(picks, 1))
+        end = "size 9\ncost 9\nbound 9\ngap 0\nnodes 1 of 9\nfinished\n"
+        (self.folder / "advice").write_text(f"budget 99\ncandidates 9 left over 0\n{lines}{end}")
+        return str(self.folder / "advice")
+
+    def run_script(self, text: str, *more: str, status: int = 0, **environment: str) -> str:
+        """What psql says of a script."""
+        self.server.release(self.database)
+        words = [str(program("psql")), "-X", *more, "-f", "-"]
+        given = self.server.environment(self.database, **environment)
+        ran = subprocess.run(words, input=text, capture_output=True, text=True, env=given, check=False, timeout=LONG)
+        self.assertEqual(ran.returncode, status, ran.stderr)
+        return ran.stdout + ran.stderr
+
+    @contextmanager
+    def held(self, text: str) -> Iterator[None]:
+        """While another session holds the locks that statements take."""
+        words, given = [str(program("psql")), "-X", "-q"], self.server.environment(self.database)
+        with subprocess.Popen(words, stdin=subprocess.PIPE, stdout=subprocess.PIPE, text=True, env=given) as holder:
+            assert holder.stdin is not None and holder.stdout is not None
+            holder.stdin.write(f"BEGIN; {text}; \\echo held\n")
+            holder.stdin.flush()
+            holder.stdout.readline()
+            yield
+            holder.communicate("ROLLBACK;\n", timeout=LONG)

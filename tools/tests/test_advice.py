@@ -4,17 +4,14 @@ from __future__ import annotations
 import importlib.util
 import json
 import re
-import subprocess
 import tomllib
 import unittest
 from pathlib import Path
 
 from cophy_text import answers
-from fixtures import ADVISOR, TOOL, InFolder, OverShop, called
-from patience import LONG
-from private_server import has_extension, missing
+from fixtures import ADVISOR, MISSING, InFolder, OverShop, called
+from private_server import has_extension
 
-MISSING = missing()
 ADVICE = """budget 3000
 candidates 9 left over 0
 pick 1 customer(city) 30 pages
@@ -85,10 +82,7 @@ class Programs(InFolder):
         (self.folder / "l.sql").write_text("-- weight 10\nSELECT c\n  FROM t;\nUPDATE t SET c = 1;\n")
 
     def call(self, command: str, *more: str) -> str:
-        words = [str(TOOL), command, "c.toml", "l.sql", *more, "--program", self.program]
-        ran = subprocess.run(words, cwd=self.folder, capture_output=True, text=True, check=False, timeout=LONG)
-        self.assertEqual(ran.returncode, 0, ran.stderr)
-        return ran.stdout
+        return self.tool(command, "c.toml", "l.sql", *more, "--program", self.program).stdout
 
     def test_why_tells_who_gains_and_who_loses(self) -> None:
         text = self.call("why", "advice")
@@ -109,9 +103,8 @@ class Programs(InFolder):
 
     def test_a_refusal_of_the_program_is_told(self) -> None:
         self.lay_program("#!/bin/sh\necho 'refused: not toml'; exit 5\n")
-        words = [str(TOOL), "why", "c.toml", "l.sql", "advice", "--program", self.program]
-        ran = subprocess.run(words, cwd=self.folder, capture_output=True, text=True, check=False, timeout=LONG)
-        self.assertEqual((ran.returncode, ran.stdout), (1, ""))
+        ran = self.tool("why", "c.toml", "l.sql", "advice", "--program", self.program, status=1)
+        self.assertEqual(ran.stdout, "")
         self.assertIn("cophy whatif answers: refused: not toml", ran.stderr)
 
 

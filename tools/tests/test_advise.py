@@ -1,7 +1,6 @@
 """`cophy-pg advise`, each of its steps alone, and `snapshot`: over a stand-in for the program, and over the program itself."""
 from __future__ import annotations
 
-import argparse
 import importlib.util
 import json
 import os
@@ -16,15 +15,10 @@ from contextlib import suppress
 from pathlib import Path
 from typing import Any
 
-from cophy_text import answers, shown
-from cophy_text.tokens import statements
-from fixtures import COPHY, HERE, ROOT, TOOL, called, shop
+from fixtures import ADVISOR, COPHY, NO_HYPOPG, ROOT, STAND_IN, TOOL, OverShop, called
 from patience import LONG
-from private_server import PrivateServer, has_extension, missing
 from schema_check import faults
 
-MISSING = missing() or ("" if has_extension("hypopg") else "postgresql-15-hypopg isn't installed")
-STAND_IN = HERE / "stand_in.py"
 SCHEMA = json.loads((ROOT / "tools" / "pg" / "cophy_pg" / "advice.schema.json").read_text())
 QUERIES = """SELECT id, name FROM customer WHERE city = 'City 3';
 -- weight 40
@@ -41,82 +35,33 @@ HAS_JINJA = importlib.util.find_spec("jinja2") is not None
 HAS_RICH = importlib.util.find_spec("rich") is not None
 
 
-class Shown(unittest.TestCase):
-    def test_amounts_are_pages_or_have_a_unit(self) -> None:
-        table = {"0": 0, "12800": 12800, "1 page": 1, "7pages": 7, "100MB": 12800, "2GB": 262144, "1.5 gb": 196608}
-        table |= {"8kB": 1, "7kB": 0, "1TB": 134217728, " 64 MB ": 8192, "0.5MB": 64}
-        for text, pages in table.items():
-            with self.subTest(text=text):
-                self.assertEqual(shown.pages_of(text), pages)
-        for text in ("", "-1", "1PB", "MB", "1 2", "1e3", "1000000000001", "8000TB", "0x10", "1,000"):
-            with self.subTest(text=text):
-                self.assertRaises(ValueError, shown.pages_of, text)
-
-    def test_numbers_and_statements(self) -> None:
-        self.assertEqual((shown.grouped(1234567), shown.grouped(1234.6)), ("1,234,567", "1,235"))
-        self.assertEqual(
-            (shown.space(1280), shown.space(1310720), shown.space(262144)), ("10.0 MB", "10.0 GB", "2,048.0 MB")
-        )
-        self.assertEqual((shown.percent(-0.01), shown.percent(1234.56)), ("0.0 %", "1,234.6 %"))
-        self.assertEqual((answers.counted(1, "call"), answers.counted(1000, "call")), ("1 call", "1,000 calls"))
-        self.assertEqual(shown.short("-- a\n/* b */ SELECT  a,\n\tb\x1b[2J FROM t"), "SELECT a, b?[2J FROM t")
-        self.assertEqual(len(shown.short("SELECT " + "x" * 200)), 60)
-
-    def test_no_name_of_a_folder_ends_a_comment_of_its_commands(self) -> None:
-        from cophy_pg.commands import commands_text
-        from cophy_pg.folder import Folder
-        from cophy_pg.rewrite.options import TEXTS
-
-        given: dict[str, object] = {"nodes": None, "is_trusted": False, **dict.fromkeys(TEXTS, True), "min_calls": 1}
-        given |= {"program": "cophy", "sql": None, "log": None, "since": None}
-        given |= {"tables": [], "users": [], "may_cluster": [], "include": False}
-        text = commands_text(argparse.Namespace(**given), Folder("a\nb '$(c)"), 5, False)
-        head, steps = text.split("cophy-pg export", 1)
-        self.assertTrue(all(it.startswith("#") for it in head.splitlines()), head)
-        self.assertEqual(shlex.split(steps)[0], "a\nb '$(c)/catalogue.toml")
-
-    def test_statements_of_a_workload_by_their_numbers(self) -> None:
-        found = statements(b"-- from 1\n-- weight 5\nSELECT ';' FROM t; ; -- x\nSELECT 2\n FROM u")
-        self.assertEqual(found, {1: "SELECT ';' FROM t", 2: "SELECT 2\n FROM u"})
-
-
-@unittest.skipIf(MISSING, MISSING)
-class Advise(unittest.TestCase):
-    server: PrivateServer
+@unittest.skipIf(NO_HYPOPG, NO_HYPOPG)
+class Advise(OverShop):
     kept: Path
     first: dict[str, Any]
+    given = {"COPHY_PROGRAM": str(STAND_IN)}
 
     @classmethod
     def setUpClass(cls) -> None:
-        cls.server = shop()
+        super().setUpClass()
         folder = tempfile.TemporaryDirectory()
         cls.addClassCleanup(folder.cleanup)
         cls.kept = Path(folder.name) / "found"
         sql = Path(folder.name) / "queries.sql"
         sql.write_text(QUERIES)
         words = ("advise", "--sql", str(sql), "--budget", "20MB", "--folder", str(cls.kept), "--json")
-        ran = called(cls.server, *words, PGUSER="cophy_advisor", COPHY_PROGRAM=str(STAND_IN))
+        ran = called(cls.server, *words, PGUSER="cophy_advisor", **cls.given)
         assert ran.returncode == 0, ran.stderr
         cls.first = json.loads(ran.stdout)
 
     def setUp(self) -> None:
-        folder = tempfile.TemporaryDirectory()
-        self.addCleanup(folder.cleanup)
-        self.here = Path(folder.name)
-        self.sql = self.here / "queries.sql"
+        super().setUp()
+        self.sql, self.found = self.folder / "queries.sql", self.folder / "found"
         self.sql.write_text(QUERIES)
-        self.folder = self.here / "found"
-
-    def call(self, *words: str, status: int = 0, **more: str) -> subprocess.CompletedProcess[str]:
-        given = {"PGUSER": "cophy_advisor", "COPHY_PROGRAM": str(STAND_IN)} | more
-        ran = called(self.server, *words, **given)
-        self.assertNotIn("Traceback", ran.stderr)
-        self.assertEqual(ran.returncode, status, ran.stderr)
-        return ran
 
     def advise(self, *more: str, status: int = 0, **environment: str) -> dict[str, Any]:
         """The document of a call over the file of SQL."""
-        words = ("advise", "--sql", str(self.sql), "--budget", "20MB", "--folder", str(self.folder), "--json")
+        words = ("advise", "--sql", str(self.sql), "--budget", "20MB", "--folder", str(self.found), "--json")
         found: dict[str, Any] = json.loads(self.call(*words, *more, status=status, **environment).stdout)
         self.assertEqual([*faults(found, SCHEMA, SCHEMA)], [])
         return found
@@ -177,17 +122,17 @@ class Advise(unittest.TestCase):
         self.assertEqual((self.kept / "kept.txt").read_text(), kept)
 
     def test_text_for_people(self) -> None:
-        words = ("advise", "--sql", str(self.sql), "--budget", "2560", "--folder", str(self.folder))
+        words = ("advise", "--sql", str(self.sql), "--budget", "2560", "--folder", str(self.found))
         short = self.call(*words).stdout
-        self.assertEqual(short, (self.folder / "summary.txt").read_text())
+        self.assertEqual(short, (self.found / "summary.txt").read_text())
         self.assertRegex(
             short, r"\AMake these \d+ indexes, [0-9.]+ MB: the workload then costs [\d.]+ % less by the server's"
         )
         self.assertRegex(short, r"\n 1\. +[\d.]+  +[\d.]+ %  sales_orders\(total\) +SELECT id FROM sales")
         self.assertLessEqual(len(short.split()), 150)
-        before = (self.folder / "details.txt").read_text()
+        before = (self.found / "details.txt").read_text()
         text = self.call(*words, "-v").stdout
-        self.assertEqual(text, (self.folder / "details.txt").read_text())
+        self.assertEqual(text, (self.found / "details.txt").read_text())
         self.assertEqual(re.sub("advised in .*", "", text), re.sub("advised in .*", "", before))
         self.assertRegex(
             text, r"\A\d+ indexes to make, [0-9.]+ MB of 20\.0 MB: database 'shop', 5 of 5 statements; advised in "
@@ -200,7 +145,7 @@ class Advise(unittest.TestCase):
         self.assertIn("statement 5: 42883 a function or an operator isn't there", text)
         end = r"by our model no (other )?indexes of [\d.,]+ MB cost less.*; certificate checked\n"
         self.assertRegex(text, end)
-        place = f"-h {self.server.folder} -p 5432 -d shop -U cophy -f {self.folder}/indexes.sql"
+        place = f"-h {self.server.folder} -p 5432 -d shop -U cophy -f {self.found}/indexes.sql"
         command = f"let their owner run: psql -X {place}"
         self.assertEqual(text.splitlines()[-1], f"to make them in about 1 second, {command}")
         self.assertEqual(short.splitlines()[-1], f"psql -X {place}")
@@ -213,8 +158,8 @@ class Advise(unittest.TestCase):
         self.assertEqual(found["rules"], ["never product.title"])
         self.assertEqual(found["long_columns"], found["rules"])
         self.assertGreater(found["cost"]["after"], found["cost"]["bound"])
-        self.assertNotIn("product(stock)", (self.folder / "kept.txt").read_text())
-        self.assertIn("product(stock)", (self.folder / "advice.txt").read_text())
+        self.assertNotIn("product(stock)", (self.found / "kept.txt").read_text())
+        self.assertIn("product(stock)", (self.found / "advice.txt").read_text())
 
     def test_what_no_plan_takes_makes_room_for_others(self) -> None:
         self.sql.write_text(
@@ -225,21 +170,21 @@ class Advise(unittest.TestCase):
         self.assertEqual(found["rules"], ["never customer(name)"])
         why = [(it["columns"], it["why"]) for it in found["left_out"]]
         self.assertEqual(why, [(["name"], "no plan of the server takes it")])
-        self.assertIn("customer(name)", (self.folder / "advice.txt").read_text())
-        self.assertNotIn("customer(name)", (self.folder / "ruled.txt").read_text())
+        self.assertIn("customer(name)", (self.found / "advice.txt").read_text())
+        self.assertNotIn("customer(name)", (self.found / "ruled.txt").read_text())
         self.assertIn(f"budget {found['budget_pages']}", found["proved"])
-        steps = [shlex.split(it) for it in (self.folder / "commands.txt").read_text().splitlines()[2:]]
+        steps = [shlex.split(it) for it in (self.found / "commands.txt").read_text().splitlines()[2:]]
         (ruled,) = [it for it in steps if it[1] == "ruled"]
         few = {**os.environ, "STAND_IN_MOST": "1"}
         said = subprocess.run(ruled, capture_output=True, check=True, env=few).stdout
-        self.assertEqual(said, (self.folder / "ruled.txt").read_bytes())
-        summary = (self.folder / "details.txt").read_text()
+        self.assertEqual(said, (self.found / "ruled.txt").read_bytes())
+        summary = (self.found / "details.txt").read_text()
         gap = "most of the gap is customer(name): no plan of the server takes it"
         self.assertIn(f"cost less than the bound; {gap}", summary)
         self.assertEqual(found["gap"], {"index": "customer(name)", "why": "no plan of the server takes it"})
 
     def test_rules_say_what_has_to_be_and_what_never_may(self) -> None:
-        rules = self.here / "rules"
+        rules = self.folder / "rules"
         rules.write_text("# ours\nnever sales.orders(total)\nmust product(stock)\nnever nowhere\n")
         self.sql.write_text(QUERIES + "SELECT id FROM product WHERE stock > 0;\n")
         found = self.advise("--rules", str(rules))
@@ -247,10 +192,10 @@ class Advise(unittest.TestCase):
         picks = {f"{it['table']}({', '.join(it['columns'])})": it["outcome"] for it in found["picks"]}
         self.assertEqual(picks.get("product(stock)"), "not taken")
         self.assertNotIn("sales_orders(total)", picks)
-        summary = (self.folder / "details.txt").read_text()
+        summary = (self.found / "details.txt").read_text()
         self.assertIn("a rule asks for it, no plan takes it", summary)
         if HAS_JINJA:
-            self.assertIn("A rule asks for it", (self.folder / "report.html").read_text())
+            self.assertIn("A rule asks for it", (self.found / "report.html").read_text())
         self.assertIn("rules, line 4: the catalogue has no table 'nowhere'", found["warnings"])
         rules.write_text("must product\n")
         words = (
@@ -260,7 +205,7 @@ class Advise(unittest.TestCase):
             "--budget",
             "1MB",
             "--folder",
-            str(self.folder),
+            str(self.found),
             "--rules",
             str(rules),
         )
@@ -304,7 +249,7 @@ class Advise(unittest.TestCase):
             "--user",
             "cophy",
             "--folder",
-            str(self.folder),
+            str(self.found),
             status=1,
         )
         self.assertIn("it is known who ran it", ran.stderr)
@@ -312,54 +257,52 @@ class Advise(unittest.TestCase):
     def test_statuses(self) -> None:
         self.sql.write_text("SELECT id FROM customer WHERE id = 3;\n")
         self.assertEqual(self.advise(status=3)["picks"], [])
-        self.assertIn("No index is worth making for 'shop', judged by", (self.folder / "summary.txt").read_text())
-        self.assertIn("no index is worth making: database 'shop'", (self.folder / "details.txt").read_text())
-        words = ("advise", "--sql", str(self.sql), "--folder", str(self.folder), "--budget")
+        self.assertIn("No index is worth making for 'shop', judged by", (self.found / "summary.txt").read_text())
+        self.assertIn("no index is worth making: database 'shop'", (self.found / "details.txt").read_text())
+        words = ("advise", "--sql", str(self.sql), "--folder", str(self.found), "--budget")
         for budget in ("2PB", "-1", "lots"):
             self.assertIn("is no amount of space", self.call(*words, budget, status=2).stderr)
         ran = self.call(*words, "1MB", status=1, COPHY_PROGRAM="/nowhere/cophy")
         self.assertIn("the program /nowhere/cophy isn't there", ran.stderr)
-        self.assertTrue((self.folder / "advice.json").exists())
+        self.assertTrue((self.found / "advice.json").exists())
         self.call(*words, "1MB", status=1, COPHY_PROGRAM="/bin/false")
-        self.assertFalse((self.folder / "advice.json").exists())
+        self.assertFalse((self.found / "advice.json").exists())
         self.call(*words, "1MB", "--since", str(self.sql), status=1)
 
     def test_a_role_with_powers_is_refused_before_anything_is_made(self) -> None:
-        words = ("advise", "--sql", str(self.sql), "--budget", "1MB", "--folder", str(self.folder))
+        words = ("advise", "--sql", str(self.sql), "--budget", "1MB", "--folder", str(self.found))
         ran = self.call(*words, status=1, PGUSER="cophy")
         self.assertIn("verify doesn't explain statements as a superuser", ran.stderr)
-        self.assertFalse(self.folder.exists())
+        self.assertFalse(self.found.exists())
         self.call(*words, "--i-trust-the-statements", PGUSER="cophy")
 
     def test_a_folder_of_others_or_behind_a_link_is_refused(self) -> None:
         words = ("advise", "--sql", str(self.sql), "--budget", "1MB", "--folder")
-        (self.here / "real").mkdir()
-        (self.here / "link").symlink_to(self.here / "real")
-        self.assertIn("is a symbolic link", self.call(*words, str(self.here / "link"), status=1).stderr)
-        (self.here / "real").chmod(0o777)
-        self.assertIn("others may write to it", self.call(*words, str(self.here / "real"), status=1).stderr)
+        (self.folder / "real").mkdir()
+        (self.folder / "link").symlink_to(self.folder / "real")
+        self.assertIn("is a symbolic link", self.call(*words, str(self.folder / "link"), status=1).stderr)
+        (self.folder / "real").chmod(0o777)
+        self.assertIn("others may write to it", self.call(*words, str(self.folder / "real"), status=1).stderr)
         self.assertIn("is no folder", self.call(*words, str(self.sql), status=1).stderr)
-        self.assertEqual([*(self.here / "real").iterdir()], [])
+        self.assertEqual([*(self.folder / "real").iterdir()], [])
 
     def test_since_a_snapshot_only_what_came_after_it_counts(self) -> None:
         self.server.psql("CREATE DATABASE daily")
         script = "CREATE EXTENSION pg_stat_statements; CREATE TABLE t AS SELECT i AS a, i % 700 AS b, i % 90 AS c, repeat('x', 90) AS d FROM generate_series(1, 9000) i; ANALYZE t;"
-        self.server.psql(script + (ROOT / "tools" / "pg" / "advisor_role.sql").read_text(), "daily")
+        self.server.psql(script + ADVISOR.read_text(), "daily")
         self.addCleanup(self.server.psql, "DROP DATABASE daily")
         self.server.psql("SELECT a FROM t WHERE b = 5;" * 9, "daily")
-        kept = str(self.here / "before.json")
-        given = {"PGUSER": "cophy_advisor", "COPHY_PROGRAM": str(STAND_IN)}
-        self.assertEqual(called(self.server, "snapshot", kept, database="daily", **given).returncode, 0)
+        kept = str(self.folder / "before.json")
+        self.database = "daily"
+        self.call("snapshot", kept)
         self.assertNotIn("SELECT", Path(kept).read_text())
         self.server.psql(
             "SELECT a FROM t WHERE b = 7; SELECT a FROM t WHERE b = 7; SELECT a FROM t WHERE c = 7", "daily"
         )
         words = ("advise", "--budget", "9MB", "--json", "--table", "t", "--user", "cophy")
         for more, counts in (((), [11, 1]), (("--since", kept), [2, 1])):
-            folder = str(self.here / f"f{len(more)}")
-            ran = called(self.server, *words, *more, "--folder", folder, database="daily", **given)
-            self.assertEqual(ran.returncode, 0, ran.stderr)
-            found = json.loads(ran.stdout)
+            folder = str(self.folder / f"f{len(more)}")
+            found = json.loads(self.call(*words, *more, "--folder", folder).stdout)
             listed = {it["sql"]: it["calls"] for it in found["statements"] if it["sql"].startswith("SELECT a")}
             self.assertEqual([listed[f"SELECT a FROM t WHERE {it} = $1"] for it in "bc"], counts)
             self.assertEqual(json.loads((Path(folder) / "snapshot.json").read_text())["version"], 1)
@@ -368,12 +311,12 @@ class Advise(unittest.TestCase):
         taken = json.loads(Path(kept).read_text())
         self.assertEqual(taken["database"], "daily")
         Path(kept).write_text(json.dumps(taken | {"database": "shop"}))
-        ran = called(self.server, *words, "--since", kept, "--folder", str(self.here / "f2"), database="daily", **given)
-        self.assertEqual((ran.returncode, ran.stdout), (1, ""))
+        ran = self.call(*words, "--since", kept, "--folder", *self.in_folder("f2"), status=1)
+        self.assertEqual(ran.stdout, "")
         self.assertIn("the snapshot is of the database 'shop', and this one is 'daily'", ran.stderr)
         older = taken | {"begun": "1700000000.5"}
         Path(kept).write_text(json.dumps(older))
-        ran = called(self.server, *words, "--since", kept, "--folder", str(self.here / "f3"), database="daily", **given)
+        ran = self.call(*words, "--since", kept, "--folder", *self.in_folder("f3"), status=1)
         self.assertIn("began to count anew", ran.stderr)
 
     @unittest.skipUnless(COPHY.exists(), "the program isn't built")
@@ -385,9 +328,9 @@ class Advise(unittest.TestCase):
         self.assertEqual((made["outcome"], made["columns"][0]), ("taken", "city"))
         self.assertLessEqual(found["stored_pages"], found["asked_pages"])
         (step,) = [
-            it for it in (self.folder / "commands.txt").read_text().splitlines() if it.startswith("cophy-pg ddl ")
+            it for it in (self.found / "commands.txt").read_text().splitlines() if it.startswith("cophy-pg ddl ")
         ]
-        script = (self.folder / "indexes.sql").read_text()
+        script = (self.found / "indexes.sql").read_text()
         self.assertEqual(self.call(*shlex.split(step)[1:]).stdout, script)
         self.assertIn(made["statements"][0], script)
         sizes = json.loads(self.call(*shlex.split(step)[1:], "--json").stdout)
@@ -395,7 +338,7 @@ class Advise(unittest.TestCase):
 
     @unittest.skipUnless(HAS_RICH, "python3-rich isn't installed")
     def test_a_terminal_is_shown_a_bar_for_each_step(self) -> None:
-        words = (str(TOOL), "advise", "--sql", str(self.sql), "--budget", "20MB", "--folder", str(self.folder))
+        words = (str(TOOL), "advise", "--sql", str(self.sql), "--budget", "20MB", "--folder", str(self.found))
         more = {"PGUSER": "cophy_advisor", "COPHY_PROGRAM": str(STAND_IN), "TERM": "xterm", "COLUMNS": "100"}
         ours, its = pty.openpty()
         with subprocess.Popen(
@@ -424,10 +367,10 @@ class Advise(unittest.TestCase):
         )
         self.assertLessEqual(found["stored_pages"], found["asked_pages"])
         self.assertIn("customer", {it["table"] for it in found["picks"]})
-        step = (self.folder / "commands.txt").read_text().splitlines()[5]
+        step = (self.found / "commands.txt").read_text().splitlines()[5]
         self.assertEqual(
             subprocess.run(shlex.split(step), capture_output=True, check=True).stdout,
-            (self.folder / "check.txt").read_bytes(),
+            (self.found / "check.txt").read_bytes(),
         )
 
 

@@ -17,10 +17,9 @@ from pathlib import Path
 from typing import Any
 
 from cophy_text.answers import read_prices
-from fixtures import COPHY, called, shop
-from private_server import PrivateServer, missing
+from fixtures import COPHY, MISSING, called, shop
+from private_server import PrivateServer
 
-MISSING = missing()
 # By column: how its values are made of g, which goes from 1 to 60000, and a number r between 0 and 1.
 COLUMNS = {
     "zipf": ("int", "floor(1 / (r + 0.0001))"),

@@ -3,20 +3,16 @@ from __future__ import annotations
 
 import importlib.util
 import json
-import subprocess
 import unittest
-from pathlib import Path
 from unittest import mock
 
 from cophy_lint.checks import Warning, catalogue_remarks
 from cophy_lint.rules import rules_remarks
 from cophy_text import answers
 from cophy_wrapper import hints
-from fixtures import HERE, TOOL, InFolder
-from patience import LONG
+from fixtures import STAND_IN, InFolder
 
 HAS_PARSER = importlib.util.find_spec("pglast") is not None
-STAND_IN = HERE / "stand_in.py"
 # The text for a table that may be clustered and has no index, over `SELECT * FROM t ORDER BY c`.
 ADVICE = """budget 3
 candidates 3 left over 0
@@ -73,9 +69,8 @@ class Statements(InFolder):
     def ddl(self, catalogue: str, *more: str, advice: str = ADVICE) -> str:
         (self.folder / "c.toml").write_text(catalogue)
         (self.folder / "advice").write_text(advice)
-        words = [str(TOOL), "ddl", *self.in_folder("c.toml", "advice"), *more]
-        ran = subprocess.run(words, capture_output=True, text=True, check=False, timeout=LONG)
-        self.assertEqual((ran.returncode, ran.stderr), (0, ""))
+        ran = self.tool("ddl", "c.toml", "advice", *more)
+        self.assertEqual(ran.stderr, "")
         self.assertTrue(ran.stdout.isascii())
         return ran.stdout
 
@@ -182,10 +177,7 @@ class Commands(InFolder):
 
     def call(self, *words: str, status: int = 0) -> str:
         program = ["--program", str(STAND_IN)] if words[0] != "rules" else []
-        ran = subprocess.run(
-            [str(TOOL), *words, *program], cwd=self.folder, capture_output=True, text=True, check=False, timeout=LONG
-        )
-        self.assertEqual(ran.returncode, status, ran.stderr)
+        ran = self.tool(*words, *program, status=status)
         return ran.stdout + ran.stderr * bool(status)
 
     def test_why_prints_it(self) -> None:

@@ -14,12 +14,11 @@ import unittest
 from collections.abc import Iterator
 from pathlib import Path
 
-from private_server import PrivateServer, has_extension, missing
-from fixtures import COPHY, HERE, ROOT, shop
+from private_server import PrivateServer
+from fixtures import COPHY, NO_HYPOPG, ROOT, STAND_IN, shop
 from patience import LONG
 
-MISSING = missing() or ("" if has_extension("hypopg") else "postgresql-15-hypopg isn't installed")
-MISSING = MISSING or ("" if importlib.util.find_spec("jinja2") else "python3-jinja2 isn't installed")
+MISSING = NO_HYPOPG or ("" if importlib.util.find_spec("jinja2") else "python3-jinja2 isn't installed")
 BLOCK = re.compile(r"^```([^\n]*)\n(.*?)^```$", re.MULTILINE | re.DOTALL)
 COMMAND = re.compile(
     r"(?:\./cophy|cophy-[a-z]+|(?:tools|bench)/|apt-get|service|su|useradd|psql|export|rt|pip|python3|make)\b"
@@ -167,10 +166,10 @@ class Walk(unittest.TestCase):
         self.addCleanup(folder.cleanup)
         self.here = Path(folder.name)
         (self.here / "tools").symlink_to(ROOT / "tools")
-        (self.here / "cophy").symlink_to(HERE / "stand_in.py")
+        (self.here / "cophy").symlink_to(STAND_IN)
 
     def bash(self, line: str, **more: str) -> subprocess.CompletedProcess[str]:
-        given = {"PGUSER": "cophy_advisor", "HOME": str(self.here), "COPHY_PROGRAM": str(HERE / "stand_in.py")}
+        given = {"PGUSER": "cophy_advisor", "HOME": str(self.here), "COPHY_PROGRAM": str(STAND_IN)}
         environment = self.server.environment("shop", **given | more)
         return subprocess.run(
             ["bash", "-c", line],

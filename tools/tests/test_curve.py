@@ -4,14 +4,11 @@ from __future__ import annotations
 import importlib.util
 import json
 import random
-import subprocess
-import tempfile
 import unittest
 from pathlib import Path
 
 from cophy_text.answers import Advice, Candidate
-from fixtures import HERE, TOOL
-from patience import LONG
+from fixtures import STAND_IN, InFolder
 
 HAS_PARSER = importlib.util.find_spec("pglast") is not None
 HAS_MATPLOTLIB = importlib.util.find_spec("matplotlib") is not None
@@ -21,7 +18,6 @@ if HAS_PARSER:
     from cophy_pg.drawing import _lines, _scales
     from cophy_pg.program import NoCommand, Program
 
-STAND_IN = HERE / "stand_in.py"
 # Indexes of 3, 40 and 300 pages that save 5000, 2000 and 1000 of 9000; the bound is 100 below the cost.
 SIZES = ((3, 5000), (40, 2000), (300, 1000))
 PROGRAM = """#!/bin/sh
@@ -136,22 +132,15 @@ class Lines(unittest.TestCase):
 
 
 @unittest.skipUnless(HAS_PARSER and Path("/usr/bin/python3").exists(), "python3-pglast isn't installed")
-class Command(unittest.TestCase):
+class Command(InFolder):
     def setUp(self) -> None:
-        folder = tempfile.TemporaryDirectory()
-        self.addCleanup(folder.cleanup)
-        self.folder = Path(folder.name)
-        self.program = self.folder / "program"
-        self.program.write_text(PROGRAM)
-        self.program.chmod(0o755)
+        super().setUp()
+        self.program = self.lay_program(PROGRAM)
         (self.folder / "c.toml").write_text("# The database 'sh$o_p', exported by cophy-pg.\nversion = 2\n")
         (self.folder / "l.sql").write_text("SELECT c FROM t;\n")
 
     def call(self, *more: str) -> str:
-        words = [str(TOOL), "curve", "c.toml", "l.sql", *more, "--program", str(self.program)]
-        ran = subprocess.run(words, cwd=self.folder, capture_output=True, text=True, check=False, timeout=LONG)
-        self.assertEqual(ran.returncode, 0, ran.stderr)
-        return ran.stdout
+        return self.tool("curve", "c.toml", "l.sql", *more, "--program", self.program).stdout
 
     def test_it_has_a_line_for_each_budget(self) -> None:
         lines = self.call("--budgets", "0,2,400kB,343").splitlines()
@@ -170,7 +159,7 @@ class Command(unittest.TestCase):
         self.assertEqual({it["size"] for it in found}, {0, 3, 43, 343})
 
     def test_it_ends_where_nothing_is_unknown(self) -> None:
-        found = Search(Program(str(self.program), "c", "w"), None).along(1000)
+        found = Search(Program(self.program, "c", "w"), None).along(1000)
         self.assertLess(len(found), 40)
         self.assertEqual([it.budget for it in found], sorted({it.budget for it in found}))
         known = {(it.size, it.cost) for it in found}
@@ -190,7 +179,7 @@ class Command(unittest.TestCase):
                 f'[ "$1" != {without} ] || {{ echo "usage: unknown command at word 1"; exit 2; }}',
                 f'exec {STAND_IN} "$@"',
             )
-            self.program.write_text("\n".join(lines) + "\n")
+            self.lay_program("\n".join(lines) + "\n")
             found.append(json.loads(self.call("--even", "--steps", "5", "--json")))
         self.assertEqual(found[0], found[1])
         self.assertEqual([it["budget"] for it in found[0]], [0, 14, 28, 42, 56, 70])

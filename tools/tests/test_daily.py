@@ -8,12 +8,10 @@ from pathlib import Path
 from typing import Any
 from unittest import skipIf
 
-from fixtures import ROOT, InFolder, called, shop
-from private_server import PrivateServer, has_extension, missing
+from fixtures import NO_HYPOPG, ROOT, STAND_IN, InFolder, called, shop
+from private_server import PrivateServer
 from schema_check import faults
 
-MISSING = missing() or ("" if has_extension("hypopg") else "postgresql-15-hypopg isn't installed")
-STAND_IN = Path(__file__).resolve().parent / "stand_in.py"
 SCHEMA = json.loads((ROOT / "tools" / "pg" / "cophy_pg" / "changes.schema.json").read_text())
 MADE = """CREATE EXTENSION pg_stat_statements;
 CREATE TABLE t AS SELECT i AS a, i % 700 AS b, i % 90 AS c, repeat('x', 90) AS d FROM generate_series(1, 9000) i;
@@ -23,7 +21,7 @@ ANALYZE;
 WORDS = ("--budget", "20MB", "--table", "t")
 
 
-@skipIf(MISSING, MISSING)
+@skipIf(NO_HYPOPG, NO_HYPOPG)
 class Daily(InFolder):
     server: PrivateServer
 

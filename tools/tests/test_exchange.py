@@ -4,13 +4,12 @@ from __future__ import annotations
 import importlib.util
 import random
 import sys
-import tempfile
 import unittest
 from collections.abc import Sequence
 from pathlib import Path
 
 from cophy_text.answers import Candidate
-from fixtures import COPHY, HERE, ROOT
+from fixtures import COPHY, ROOT, STAND_IN, InFolder
 
 HAS_PARSER = importlib.util.find_spec("pglast") is not None
 if HAS_PARSER:
@@ -132,10 +131,11 @@ class Steps(unittest.TestCase):
 
 
 @unittest.skipUnless(HAS_PARSER, "python3-pglast isn't installed")
-class OverTheStandIn(unittest.TestCase):
+class OverTheStandIn(InFolder):
     """Over the stand-in, whose pages of an index have nothing to do with how PostgreSQL stores it."""
 
     def setUp(self) -> None:
+        super().setUp()
         column = '[[table.column]]\nname = "{0}"\nkind = "text"\nwidth = 8\ndistinct = 10\npostgres_type = "text"\n'
         tables = "".join(
             f'[[table]]\nname = "{name}"\nrows = {rows}\npages = {pages}\n' + column.format("a") + column.format("b")
@@ -144,12 +144,10 @@ class OverTheStandIn(unittest.TestCase):
         texts = (
             f"-- weight {w}\nselect a from {it}\nwhere b = ?;\n" for it, w in (("small", 1), ("other", 1), ("large", 9))
         )
-        here = tempfile.TemporaryDirectory()
-        self.addCleanup(here.cleanup)
-        self.kept = Folder.made(str(Path(here.name) / "found"))
+        self.kept = Folder.made(*self.in_folder("found"))
         self.kept.write({folder.CATALOGUE: f"version = 2\n{tables}", folder.WORKLOAD: "".join(texts)})
         paths = (self.kept.path(folder.CATALOGUE), self.kept.path(folder.WORKLOAD))
-        self.program = Program(str(HERE / "stand_in.py"), *paths)
+        self.program = Program(str(STAND_IN), *paths)
 
     def test_what_fits_alone_as_stored_is_found_whatever_the_model_takes_it_for(self) -> None:
         schema = read_schema(self.kept.read(folder.CATALOGUE))
@@ -172,51 +170,49 @@ class OverTheStandIn(unittest.TestCase):
 
 
 @unittest.skipUnless(HAS_PARSER and COPHY.exists(), "the program isn't built, or python3-pglast isn't installed")
-class OverTheProgram(unittest.TestCase):
+class OverTheProgram(InFolder):
     """Over the program and a made workload."""
 
     def test_costs_of_sets_beside_one_that_was_never_priced(self) -> None:
         sys.path[:0] = [str(ROOT / "bench")]
         from generator import texts
 
-        with tempfile.TemporaryDirectory() as name:
-            files = [Path(name) / it for it in ("c.toml", "w.sql")]
-            for file, text in zip(files, texts(5, 4, 12)):
-                file.write_text(text)
-            program = Program(str(COPHY), *map(str, files))
-            prices = Pricing(program)
-            base = frozenset(sorted(prices.candidates)[::3])
-            sets = [base - {it} for it in sorted(base)] + [base | {it} for it in prices.candidates if it not in base]
-            self.assertEqual(prices.costs(base, sets), [program.whatif(it).total for it in sets])
+        files = self.in_folder("c.toml", "w.sql")
+        for file, text in zip(files, texts(5, 4, 12)):
+            Path(file).write_text(text)
+        program = Program(str(COPHY), *files)
+        prices = Pricing(program)
+        base = frozenset(sorted(prices.candidates)[::3])
+        sets = [base - {it} for it in sorted(base)] + [base | {it} for it in prices.candidates if it not in base]
+        self.assertEqual(prices.costs(base, sets), [program.whatif(it).total for it in sets])
 
     def test_picks_are_exchanged_and_the_program_finds_them_under_the_rules(self) -> None:
         sys.path[:0] = [str(ROOT / "bench")]
         from generator import texts
 
-        with tempfile.TemporaryDirectory() as name:
-            kept = Folder.made(str(Path(name) / "found"))
-            kept.write(dict(zip((folder.CATALOGUE, folder.WORKLOAD), texts(3, 6, 24))))
-            program = Program(str(COPHY), kept.path(folder.CATALOGUE), kept.path(folder.WORKLOAD))
-            schema = read_schema(kept.read(folder.CATALOGUE))
-            every = stored_size(schema, program.advise(10**9).picks)
-            exchanged = 0
-            for share in (5, 11, 23, 37, 52, 71, 110):
-                asked = every * share // 100
-                searches = Searches(program, kept, asked, (), Progress())
-                before = filled(asked, program.advise, lambda it: stored_size(schema, it.picks))
-                advice, rules = searches.filling(schema, Rules())
-                self.assertLessEqual(stored_size(schema, advice.picks), room_in(asked))
-                self.assertLessEqual(advice.cost, before.cost)
-                self.assertEqual(program.whatif(it.number for it in advice.picks).total, advice.cost)
-                exchanged += bool(rules)
-                unused = searches.unused(schema, Rules(), advice.picks, [])
-                if stored_size(schema, advice.picks) < 0.95 * asked:
-                    self.assertIn("no other index that fits saves anything", str(unused))
-                else:
-                    self.assertIsNone(unused)
-                searches.keep(advice.budget, rules)
-                searches.clear()
-            self.assertGreater(exchanged, 0)
+        kept = Folder.made(*self.in_folder("found"))
+        kept.write(dict(zip((folder.CATALOGUE, folder.WORKLOAD), texts(3, 6, 24))))
+        program = Program(str(COPHY), kept.path(folder.CATALOGUE), kept.path(folder.WORKLOAD))
+        schema = read_schema(kept.read(folder.CATALOGUE))
+        every = stored_size(schema, program.advise(10**9).picks)
+        exchanged = 0
+        for share in (5, 11, 23, 37, 52, 71, 110):
+            asked = every * share // 100
+            searches = Searches(program, kept, asked, (), Progress())
+            before = filled(asked, program.advise, lambda it: stored_size(schema, it.picks))
+            advice, rules = searches.filling(schema, Rules())
+            self.assertLessEqual(stored_size(schema, advice.picks), room_in(asked))
+            self.assertLessEqual(advice.cost, before.cost)
+            self.assertEqual(program.whatif(it.number for it in advice.picks).total, advice.cost)
+            exchanged += bool(rules)
+            unused = searches.unused(schema, Rules(), advice.picks, [])
+            if stored_size(schema, advice.picks) < 0.95 * asked:
+                self.assertIn("no other index that fits saves anything", str(unused))
+            else:
+                self.assertIsNone(unused)
+            searches.keep(advice.budget, rules)
+            searches.clear()
+        self.assertGreater(exchanged, 0)
 
 
 if __name__ == "__main__":

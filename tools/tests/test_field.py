@@ -10,14 +10,10 @@ import unittest
 from pathlib import Path
 from typing import Any
 
+from fixtures import COPHY, NO_HYPOPG, ROOT, STAND_IN
 from patience import LONG
-from private_server import has_extension, missing
 
-HERE = Path(__file__).resolve().parent
-FIELD = HERE.parents[1] / "bench" / "field"
-COPHY = Path(os.environ.get("COPHY_PROGRAM") or HERE.parents[1] / "crates" / "cophy_cli" / "out" / "cophy_cli")
-STAND_IN = HERE / "stand_in.py"
-MISSING = missing() or ("" if has_extension("hypopg") else "postgresql-15-hypopg isn't installed")
+FIELD = ROOT / "bench" / "field"
 sys.path[:0] = [str(FIELD)]
 
 from prices import Prices  # noqa: E402
@@ -80,17 +76,17 @@ class Parts(unittest.TestCase):
             files = [str(Path(folder, it)) for it in ("c.toml", "w.sql")]
             for file, text in zip(files, texts(3, 4, 8)):
                 Path(file).write_text(text)
-            together, alone = (Prices(str(COPHY), *files) for _ in range(2))
+            together = Prices(str(COPHY), *files)
             base = frozenset((1, 3))
             sets = [base ^ {it} for it in together.candidates]
+            before = together.calls
             found = together.costs(base, sets)
-            self.assertLess(together.calls - alone.calls, len(sets))
+            self.assertLess(together.calls - before, len(sets))
             for it, cost in list(zip(sets, found))[:: max(1, len(sets) // 6)]:
-                alone.forget()
-                self.assertEqual(alone.cost(it), cost)
+                self.assertEqual(Prices(str(COPHY), *files).cost(it), cost)
 
 
-@unittest.skipIf(MISSING, MISSING)
+@unittest.skipIf(NO_HYPOPG, NO_HYPOPG)
 class Toy(unittest.TestCase):
     results: dict[str, Any]
     text: str

@@ -8,7 +8,7 @@ import subprocess
 import unittest
 from pathlib import Path
 
-from fixtures import HERE, TOOL, InFolder
+from fixtures import STAND_IN, TOOL, InFolder
 from patience import LONG
 
 HAS_PARSER = importlib.util.find_spec("pglast") is not None
@@ -119,7 +119,7 @@ class Made(unittest.TestCase):
         return Folding(lambda: CATALOGUE.encode(), program, lambda _: None)
 
     def test_the_whole_weight_comes_in_and_inputs_are_found_again(self) -> None:
-        workload = made(self.given, Rewriter(self.schema), lambda _: None, self.folding(str(HERE / "stand_in.py")))
+        workload = made(self.given, Rewriter(self.schema), lambda _: None, self.folding(str(STAND_IN)))
         self.assertEqual(len(workload.statements), 5)
         self.assertEqual(sum(weight for _, weight in workload.statements), sum(it.calls for it in self.given))
         self.assertEqual(workload.remarks, ["2,500 forms were folded into 5, of the same costs under all indexes"])
@@ -154,7 +154,7 @@ class Command(InFolder):
         return (self.folder / "out.sql").read_text(), ran.stderr
 
     def test_a_file_of_many_statements_comes_in_whole(self) -> None:
-        text, said = self.rewritten(str(HERE / "stand_in.py"))
+        text, said = self.rewritten(str(STAND_IN))
         self.assertEqual(re.findall(r"^-- weight (\d+)$", text, re.MULTILINE), ["3000"])
         self.assertIn("1,500 forms were folded into 1", said)
 

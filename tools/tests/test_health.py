@@ -4,17 +4,13 @@ from __future__ import annotations
 import json
 import math
 import subprocess
-import tempfile
 import unittest
-from pathlib import Path
 from typing import Any
 
 from cophy_pg.stored import Part, pages
-from fixtures import ADVISOR, HERE, called, shop
-from patience import LONG
-from private_server import PrivateServer, has_extension, missing, program
+from fixtures import ADVISOR, MISSING, STAND_IN, OverOwn, called
+from private_server import has_extension
 
-MISSING = missing()
 TABLES = """CREATE TABLE city (id int PRIMARY KEY, name text);
 CREATE TABLE people (id int PRIMARY KEY, city int REFERENCES city, boss int REFERENCES people, born date, name text, note text);
 INSERT INTO city SELECT i, 'City ' || i FROM generate_series(1, 90) i;
@@ -82,35 +78,23 @@ class Stored(unittest.TestCase):
 
 
 @unittest.skipIf(MISSING, MISSING)
-class Health(unittest.TestCase):
-    server: PrivateServer
+class Health(OverOwn):
     found: dict[str, Any]
+    database, content = "health", TABLES
 
     @classmethod
     def setUpClass(cls) -> None:
-        cls.server = shop()
-        cls.server.psql("CREATE DATABASE health")
-        cls.server.psql(TABLES, "health")
-        cls.server.psql(ADVISOR.read_text(), "health")
+        super().setUpClass()
         # A session tells its counts when it ends.
         cls.server.psql(SCANS, "health")
         cls.server.psql("DELETE FROM people WHERE id > 6000", "health")
         cls.server.psql("VACUUM ANALYZE people", "health")
-        cls.found = json.loads(cls.call("--json", status=3).stdout)
+        cls.found = json.loads(cls.health("--json", status=3).stdout)
 
     @classmethod
-    def tearDownClass(cls) -> None:
-        cls.server.psql("DROP DATABASE health")
-
-    @classmethod
-    def call(cls, *words: str, status: int = 0, database: str = "health") -> subprocess.CompletedProcess[str]:
-        ran = called(
-            cls.server,
-            *("health", "--min-size", "0", *words),
-            database=database,
-            PGUSER="cophy_advisor",
-            COPHY_PROGRAM=str(HERE / "stand_in.py"),
-        )
+    def health(cls, *words: str, status: int = 0, database: str = "health") -> subprocess.CompletedProcess[str]:
+        given = {"PGUSER": "cophy_advisor", "COPHY_PROGRAM": str(STAND_IN)}
+        ran = called(cls.server, "health", "--min-size", "0", *words, database=database, **given)
         assert ran.returncode == status, ran.stderr
         return ran
 
@@ -172,7 +156,7 @@ class Health(unittest.TestCase):
         self.assertEqual(statements, wanted)
 
     def test_the_text_is_all_comments(self) -> None:
-        text = self.call(status=3).stdout
+        text = self.health(status=3).stdout
         self.assertTrue(all(it.startswith("--") or not it for it in text.splitlines()), text)
         self.assertTrue(text.isascii())
         self.assertIn('-- DROP INDEX CONCURRENTLY "public"."people_name_again";', text)
@@ -181,16 +165,8 @@ class Health(unittest.TestCase):
         self.server.psql(text, "health")
 
     def test_a_lock_costs_the_index_that_it_is_on(self) -> None:
-        words = [str(program("psql")), "-X", "-q", "-A", "-t"]
-        with subprocess.Popen(
-            words, stdin=subprocess.PIPE, stdout=subprocess.PIPE, text=True, env=self.server.environment("health")
-        ) as holder:
-            assert holder.stdin is not None and holder.stdout is not None
-            holder.stdin.write("BEGIN; LOCK TABLE part, wide; REINDEX INDEX w1; DROP INDEX part_kind; \\echo held\n")
-            holder.stdin.flush()
-            holder.stdout.readline()
-            ran = self.call("--json", status=3)
-            holder.communicate("ROLLBACK;\n", timeout=LONG)
+        with self.held("LOCK TABLE part, wide; REINDEX INDEX w1; DROP INDEX part_kind"):
+            ran = self.health("--json", status=3)
         self.assertIn("'public'.'part_kind': 55P03 a lock wasn't given in time", ran.stderr)
         found = {it["name"]: it for it in json.loads(ran.stdout)["indexes"]}
         self.assertIsNone(found["w1"]["pages"])
@@ -198,7 +174,7 @@ class Health(unittest.TestCase):
 
     def test_small_ones_are_counted_alone(self) -> None:
         words = ("--min-size", "1MB")
-        text = self.call(*words, status=3).stdout
+        text = self.health(*words, status=3).stdout
         self.assertRegex(text, r"\n-- \d of under 1\.0 MB that no scan was counted of aren't listed\n\Z")
         self.assertNotIn("part_kind", text)
         self.assertIn("people_name_again", text)
@@ -207,28 +183,22 @@ class Health(unittest.TestCase):
         self.server.psql("CREATE DATABASE well")
         self.addCleanup(self.server.psql, "DROP DATABASE well")
         self.server.psql("CREATE TABLE t (id int PRIMARY KEY);" + ADVISOR.read_text(), "well")
-        self.assertEqual(self.call(database="well").stdout, "-- of 1 indexes 0 to look at\n")
+        self.assertEqual(self.health(database="well").stdout, "-- of 1 indexes 0 to look at\n")
 
     @unittest.skipUnless(has_extension("hypopg"), "postgresql-15-hypopg isn't installed")
     def test_with_a_folder_the_workload_is_priced_without_each(self) -> None:
-        folder = tempfile.TemporaryDirectory()
-        self.addCleanup(folder.cleanup)
-        kept = Path(folder.name)
-        (kept / "q.sql").write_text("SELECT id FROM people WHERE name = 'Name 7';\n")
-        words = ("export", str(kept / "catalogue.toml"), str(kept / "workload.sql"), "--sql", str(kept / "q.sql"))
-        ran = called(self.server, *words, database="health", PGUSER="cophy_advisor")
-        self.assertEqual(ran.returncode, 0, ran.stderr)
-        found = json.loads(self.call("--folder", folder.name, "--json", status=3).stdout)
+        (self.folder / "q.sql").write_text("SELECT id FROM people WHERE name = 'Name 7';\n")
+        catalogue, workload, sql = self.in_folder("catalogue.toml", "workload.sql", "q.sql")
+        self.call("export", catalogue, workload, "--sql", sql)
+        found = json.loads(self.health("--folder", str(self.folder), "--json", status=3).stdout)
         costs = {it["name"]: it["cost"] for it in found["indexes"]}
         self.assertEqual(costs["people_name"], {"before": 900000, "without": 900000})
         self.assertIsNone(costs["people_lower"])
         self.assertIsNone(costs["people_unique"])
-        text = (kept / "catalogue.toml").read_text()
+        text = (self.folder / "catalogue.toml").read_text()
         self.assertIn('name = "people_name"', text)
-        fake = kept / "program"
-        fake.write_text('#!/bin/sh\nn=$(grep -c "table.index" "$2")\necho "total $((90000 - 1000 * n))"\n')
-        fake.chmod(0o755)
-        said = self.call("--folder", folder.name, "--program", str(fake), status=3).stdout
+        fake = self.lay_program('#!/bin/sh\nn=$(grep -c "table.index" "$2")\necho "total $((90000 - 1000 * n))"\n')
+        said = self.health("--folder", str(self.folder), "--program", fake, status=3).stdout
         count = text.count("[[table.index]]")
         self.assertIn(f"--   by our model the workload costs {91 - count} without it, ", said)
 

@@ -10,9 +10,8 @@ import unittest
 from typing import Any
 
 from cophy_text import answers
-from fixtures import ADVISOR, COPHY, HERE, MISSING, ROOT, InFolder, called, shop
+from fixtures import COPHY, MISSING, NO_HYPOPG, ROOT, STAND_IN, OverOwn
 from patience import LONG
-from private_server import PrivateServer, has_extension, program
 from schema_check import faults
 
 if not MISSING:
@@ -22,9 +21,7 @@ if not MISSING:
     from cophy_pg.server import connected
     from cophy_pg.statistics import read_database
 
-STAND_IN = HERE / "stand_in.py"
 SCHEMA = json.loads((ROOT / "tools" / "pg" / "cophy_pg" / "advice.schema.json").read_text())
-NO_HYPOPG = "" if has_extension("hypopg") else "postgresql-15-hypopg isn't installed"
 ROWS = "SELECT i AS id, i * 7919 % 9000 AS c, i % 9 AS n, repeat('x', 90) AS pad FROM generate_series(1, 9000) i"
 # A name that ends statements, comments, texts and formats, where one isn't written as it has to be.
 ODD = "o%s \"'; DROP TABLE keep; --\n\\!%d :brief"
@@ -52,29 +49,15 @@ LIES = "SELECT correlation FROM pg_stats WHERE tablename = '{}' AND attname = '{
 
 
 @unittest.skipIf(MISSING, MISSING)
-class OverTables(InFolder):
+class OverTables(OverOwn):
     """Tests over a database with tables in and out of order."""
 
-    server: PrivateServer
-
-    @classmethod
-    def setUpClass(cls) -> None:
-        cls.server = shop()
-        cls.server.psql("CREATE DATABASE laid")
-        cls.addClassCleanup(cls.server.psql, "DROP DATABASE laid")
-        cls.server.psql(TABLES + ADVISOR.read_text(), "laid")
+    database, content, given = "laid", TABLES, {"COPHY_PROGRAM": str(STAND_IN)}
 
     def setUp(self) -> None:
         super().setUp()
         self.files = self.in_folder("c.toml", "l.sql", "advice", "q.sql")
         (self.folder / "q.sql").write_text(QUERIES)
-
-    def call(self, *words: str, status: int = 0, **more: str) -> subprocess.CompletedProcess[str]:
-        given = {"PGUSER": "cophy_advisor", "COPHY_PROGRAM": str(STAND_IN)} | more
-        ran = called(self.server, *words, database="laid", **given)
-        self.assertNotIn("Traceback", ran.stderr)
-        self.assertEqual(ran.returncode, status, ran.stderr)
-        return ran
 
     def export(self, *more: str, status: int = 0) -> str:
         return self.call("export", *self.files[:2], "--sql", self.files[3], *more, status=status).stderr
@@ -84,21 +67,7 @@ class OverTables(InFolder):
 
     def script(self, *picks: str) -> str:
         """The script that makes picks."""
-        lines = "".join(f"pick {at} {it} 3 pages\n" for at, it in enumerate(picks, 1))
-        end = "size 9\ncost 9\nbound 9\ngap 0\nnodes 1 of 9\nfinished\n"
-        (self.folder / "advice").write_text(f"budget 9\ncandidates 9 left over 0\n{lines}{end}")
-        return self.call("ddl", self.files[0], self.files[2], "--script").stdout
-
-    def run_script(self, text: str, *more: str, status: int = 0) -> str:
-        """What psql says of a script."""
-        self.server.release("laid")
-        words = [str(program("psql")), "-X", "-q", *more, "-f", "-"]
-        environment = self.server.environment("laid")
-        ran = subprocess.run(
-            words, input=text, capture_output=True, text=True, env=environment, check=False, timeout=LONG
-        )
-        self.assertEqual(ran.returncode, status, ran.stderr)
-        return ran.stdout + ran.stderr
+        return self.call("ddl", self.files[0], self.lay_advice(picks), "--script").stdout
 
     def indexes(self, table: str) -> list[str]:
         """The indexes of a table, that which clusters it with a star."""
@@ -245,16 +214,8 @@ class Made(OverTables):
 
     def test_a_lock_of_others_ends_it_soon_and_is_told(self) -> None:
         text = self.script("mixed(c) clustered").replace("'5s'", "'300ms'")
-        words = [str(program("psql")), "-X", "-q"]
-        holder = subprocess.Popen(
-            words, stdin=subprocess.PIPE, stdout=subprocess.PIPE, text=True, env=self.server.environment("laid")
-        )
-        assert holder.stdin is not None and holder.stdout is not None
-        holder.stdin.write("BEGIN; LOCK TABLE mixed IN ACCESS SHARE MODE; \\echo held\n")
-        holder.stdin.flush()
-        holder.stdout.readline()
-        said = self.run_script(text, status=3)
-        holder.communicate("ROLLBACK;\n", timeout=LONG)
+        with self.held("LOCK TABLE mixed IN ACCESS SHARE MODE"):
+            said = self.run_script(text, status=3)
         self.assertIn("canceling statement due to lock timeout", said)
         self.assertIn("the index mixed(c) clustered does not cluster its table yet: run the script again", said)
         self.assertEqual(self.indexes("mixed"), ["mixed_c_idx", "mixed_n"])

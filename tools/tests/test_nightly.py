@@ -11,13 +11,13 @@ from contextlib import contextmanager
 from pathlib import Path
 from unittest import skipIf
 
-from fixtures import ADVISOR, COPHY, HERE, ROOT, InFolder, shop
+from fixtures import ADVISOR, COPHY, ROOT, STAND_IN, InFolder, shop
 from patience import LONG
 from private_server import PrivateServer, missing
 from test_daily import MADE
 
 UNITS = ROOT / "examples" / "systemd"
-PROGRAMS = [HERE / "stand_in.py", *([COPHY] if os.access(COPHY, os.X_OK) else [])]
+PROGRAMS = [STAND_IN, *([COPHY] if os.access(COPHY, os.X_OK) else [])]
 SPACE, PAGES = "16MB", 2048
 
 

@@ -9,12 +9,11 @@ import re
 import shutil
 import stat
 import subprocess
-import tempfile
 import unittest
 from pathlib import Path
 from typing import Any
 
-from fixtures import ROOT, TOOL
+from fixtures import ROOT, InFolder
 from patience import LONG
 from schema_check import faults
 
@@ -150,27 +149,23 @@ def plans() -> dict[str, Any]:
 
 
 @unittest.skipIf(MISSING, MISSING)
-class Page(unittest.TestCase):
+class Page(InFolder):
     def setUp(self) -> None:
-        folder = tempfile.TemporaryDirectory()
-        self.addCleanup(folder.cleanup)
-        self.here = Path(folder.name)
-        self.document = document(folder.name)
+        super().setUp()
+        self.document = document(str(self.folder))
         self.write()
 
     def write(self) -> None:
-        (self.here / "advice.json").write_text(json.dumps(self.document))
-        (self.here / "plans.json").write_text(json.dumps(plans()))
+        (self.folder / "advice.json").write_text(json.dumps(self.document))
+        (self.folder / "plans.json").write_text(json.dumps(plans()))
 
     def call(self, *words: str, status: int = 0) -> str:
-        ran = subprocess.run([str(TOOL), "report", *words], capture_output=True, text=True, check=False, timeout=LONG)
-        self.assertEqual(ran.returncode, status, ran.stderr)
-        return ran.stderr
+        return self.tool("report", *words, status=status).stderr
 
     def page(self) -> str:
         """The page, with blanks in the place of those at which no line ends."""
-        self.call(str(self.here))
-        return (self.here / "report.html").read_text().replace("\N{NO-BREAK SPACE}", " ")
+        self.call(str(self.folder))
+        return (self.folder / "report.html").read_text().replace("\N{NO-BREAK SPACE}", " ")
 
     def test_the_document_is_one_of_advise(self) -> None:
         self.assertEqual([*faults(self.document, SCHEMA, SCHEMA)], [])
@@ -193,14 +188,14 @@ class Page(unittest.TestCase):
             "Index Scan using the new index t(b) on t x  (cost=0.50..100.00 rows=1)\n  Index Cond: (b = $1)",
             "an outer join is an inner one",
             "<li>SHOW: 1 statement<br><code>SHOW x</code></li>",
-            f"cophy check {self.here}/catalogue.toml {self.here}/workload.sql {self.here}/certificate",
+            f"cophy check {self.folder}/catalogue.toml {self.folder}/workload.sql {self.folder}/certificate",
             "proved cost 1800000 bound 1800000 budget 262144",
             "t was never analysed",
         ):
             with self.subTest(part=part):
                 self.assertIn(part, text)
         self.assertNotIn("What a budget buys", text)
-        self.assertEqual(stat.S_IMODE((self.here / "report.html").stat().st_mode), 0o600)
+        self.assertEqual(stat.S_IMODE((self.folder / "report.html").stat().st_mode), 0o600)
 
     def test_no_number_is_parted_from_its_unit_and_doubts_and_rules_are_told(self) -> None:
         left_out = {
@@ -222,7 +217,7 @@ class Page(unittest.TestCase):
         self.assertIn("<li>the advice stands unless you distrust &#39;app&#39;</li>", text)
         self.assertIn('<p class="bad">The server saves 3.3 %: probably not worth 0.2 MB.</p>', text)
         self.assertIn('<p class="bad">With it an INSERT of more than 2,704 bytes in b would fail.</p>', text)
-        raw = (self.here / "report.html").read_text()
+        raw = (self.folder / "report.html").read_text()
         self.assertIn("<b>27.0\N{NO-BREAK SPACE}%</b> by our model", raw)
         self.assertIn("<b>0.2\N{NO-BREAK SPACE}MB</b>", raw)
 
@@ -256,7 +251,7 @@ class Page(unittest.TestCase):
             {"budget": at, "size": at, "cost": cost, "bound": bound, "picks": ["t(b)"] * (at > 0)}
             for at, cost, bound in ((0, 9000000, 9000000), (100, 5000000, 4000000), (200, 1800000, 1800000))
         ]
-        (self.here / "curve.json").write_text(json.dumps(points))
+        (self.folder / "curve.json").write_text(json.dumps(points))
         text = self.page()
         # At each point the cost steps down; the bound, which holds for smaller budgets, has come down before it.
         cost = 'class="cost-line" d="M70.0 28.0H440.8V131.1H594.4V213.6H620.0"'
@@ -300,10 +295,12 @@ class Page(unittest.TestCase):
         self.assertIn("<h3>1. t(b)</h3>", self.page())
 
     def test_what_is_no_folder_of_advise_is_refused(self) -> None:
-        (self.here / "link.html").symlink_to(self.here / "plans.json")
-        self.assertIn("symbolic link", self.call(str(self.here), "--output", str(self.here / "link.html"), status=1))
+        (self.folder / "link.html").symlink_to(self.folder / "plans.json")
         self.assertIn(
-            "it is the same file", self.call(str(self.here), "--output", str(self.here / "plans.json"), status=1)
+            "symbolic link", self.call(str(self.folder), "--output", str(self.folder / "link.html"), status=1)
+        )
+        self.assertIn(
+            "it is the same file", self.call(str(self.folder), "--output", str(self.folder / "plans.json"), status=1)
         )
         lacking = {it: value for it, value in self.document.items() if it != "server"}
         odd: list[dict[str, object]] = [
@@ -314,16 +311,16 @@ class Page(unittest.TestCase):
         ]
         broken = [json.dumps(it) for it in (lacking, *(self.document | it for it in odd))]
         for content in ("{}", "[1]", "no JSON", *broken):
-            (self.here / "advice.json").write_text(content)
-            self.assertIn("is no folder of cophy-pg advise", self.call(str(self.here), status=1))
-        self.call(str(self.here / "nothing"), status=1)
+            (self.folder / "advice.json").write_text(content)
+            self.assertIn("is no folder of cophy-pg advise", self.call(str(self.folder), status=1))
+        self.call(str(self.folder / "nothing"), status=1)
 
     @unittest.skipUnless(BROWSER, "chromium isn't installed")
     def test_a_browser_shows_it_without_errors_at_any_width(self) -> None:
         points = [{"budget": at, "size": at, "cost": 90 - at, "bound": 80 - at, "picks": []} for at in (0, 50)]
-        (self.here / "curve.json").write_text(json.dumps(points))
+        (self.folder / "curve.json").write_text(json.dumps(points))
         text = self.page()
-        said = self.browse(self.here / "report.html", 1280, "--dump-dom")
+        said = self.browse(self.folder / "report.html", 1280, "--dump-dom")
         self.assertIn("Statements before and after", said.stdout)
         self.assertNotIn("CONSOLE", said.stderr)
         # A window has a least width, so a copy is measured in a frame. All is opened there.
@@ -336,8 +333,8 @@ class Page(unittest.TestCase):
             with self.subTest(width=width):
                 style = f"width: {width}px; height: 900px; border: 0"
                 frame = f'<iframe style="{style}" onload="measure(this)" srcdoc="{html.escape(inner)}"></iframe>'
-                (self.here / "measured.html").write_text(f"<script>{script}</script>{frame}")
-                said = self.browse(self.here / "measured.html", 1400, "--dump-dom")
+                (self.folder / "measured.html").write_text(f"<script>{script}</script>{frame}")
+                said = self.browse(self.folder / "measured.html", 1400, "--dump-dom")
                 found = re.search(r"<title>(\d+),(\d+),(\d+)px</title>", said.stdout)
                 self.assertIsNotNone(found, said.stdout[-300:])
                 shown, needed, size = map(int, found.groups() if found else ())
@@ -346,16 +343,16 @@ class Page(unittest.TestCase):
                 self.assertGreaterEqual(size, 15)
         self.assertEqual(*self.colours("--blink-settings=preferredColorScheme=1"))
         self.assertNotEqual(*self.colours("--blink-settings=preferredColorScheme=0"))
-        self.browse(self.here / "report.html", 1280, f"--print-to-pdf={self.here / 'printed.pdf'}")
-        self.assertEqual((self.here / "printed.pdf").read_bytes()[:5], b"%PDF-")
+        self.browse(self.folder / "report.html", 1280, f"--print-to-pdf={self.folder / 'printed.pdf'}")
+        self.assertEqual((self.folder / "printed.pdf").read_bytes()[:5], b"%PDF-")
 
     def colours(self, scheme: str) -> tuple[str, str]:
         """The colour of the page in a scheme, and white."""
         script = "<script>document.title = getComputedStyle(document.body).backgroundColor</script>"
-        text = re.sub(r"<meta http-equiv=.*>\n", "", (self.here / "report.html").read_text()) + script
-        (self.here / "scheme.html").write_text(text)
+        text = re.sub(r"<meta http-equiv=.*>\n", "", (self.folder / "report.html").read_text()) + script
+        (self.folder / "scheme.html").write_text(text)
         found = re.search(
-            r"<title>(rgb.*)</title>", self.browse(self.here / "scheme.html", 1280, "--dump-dom", scheme).stdout
+            r"<title>(rgb.*)</title>", self.browse(self.folder / "scheme.html", 1280, "--dump-dom", scheme).stdout
         )
         return found[1] if found else "none", "rgb(255, 255, 255)"
 
@@ -365,9 +362,9 @@ class Page(unittest.TestCase):
         )
         words += ["--no-sandbox"] * (os.geteuid() == 0) + [
             "--enable-logging=stderr",
-            f"--user-data-dir={self.here / 'user'}",
+            f"--user-data-dir={self.folder / 'user'}",
         ]
-        kept = {**os.environ, "HOME": str(self.here)}
+        kept = {**os.environ, "HOME": str(self.folder)}
         return subprocess.run(
             [str(BROWSER), *words, *more, file.as_uri()],
             capture_output=True,

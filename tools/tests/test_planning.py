@@ -11,7 +11,7 @@ if HAS_PARSER:
     from cophy_pg.explain import statement_of
     from cophy_pg.inputs import Input
     from cophy_pg.outcomes import Verdict
-    from cophy_pg.planning import UNIT, Losses, Planning, dear_picks
+    from cophy_pg.planning import UNIT, Losses, Planning, costly_picks
     from cophy_pg.plans import Plan
     from cophy_pg.schema import Column, Schema, Table
 
@@ -47,24 +47,24 @@ class Picks(unittest.TestCase):
 
     def test_the_one_by_which_the_most_is_lost_goes_first(self) -> None:
         # Beside each other 1 saves 20 and 2 saves 10; what is left of both saves more.
-        for prices, dear in (({1: 25.0, 2: 16.0, 3: 25.0}, 2), ({1: 27.0, 2: 16.0, 3: 25.0}, 1), ({3: 401.0}, 3)):
+        for prices, costly in (({1: 25.0, 2: 16.0, 3: 25.0}, 2), ({1: 27.0, 2: 16.0, 3: 25.0}, 1), ({3: 401.0}, 3)):
             with self.subTest(prices=prices):
                 losses = self.losses()
-                self.assertEqual(losses.dear(prices), [self.picks[dear]])
-                self.assertEqual([*losses.picks], [it for it in self.picks if it != dear])
-        self.assertEqual(self.losses().dear({1: 20.0, 2: 10.0, 3: 400.0}), [])
+                self.assertEqual(losses.costly(prices), [self.picks[costly]])
+                self.assertEqual([*losses.picks], [it for it in self.picks if it != costly])
+        self.assertEqual(self.losses().costly({1: 20.0, 2: 10.0, 3: 400.0}), [])
         losses = self.losses()
-        self.assertEqual(losses.dear({2: 50.0, 4: 15.0}), [self.picks[2]])
+        self.assertEqual(losses.costly({2: 50.0, 4: 15.0}), [self.picks[2]])
         self.assertEqual(losses.plans[2], Plan(98.0, frozenset((4,))))
 
     def test_only_plans_that_had_what_was_left_out_are_asked_for_again(self) -> None:
-        self.losses().dear({1: 25.0, 2: 16.0, 3: 25.0})
+        self.losses().costly({1: 25.0, 2: 16.0, 3: 25.0})
         self.assertEqual(self.asked, [(1,), (2,), (3,), (1,)])
 
     def test_where_a_plan_isnt_known_a_pick_stays(self) -> None:
         losses = self.losses()
         losses.ask = lambda _, listed: {}
-        self.assertEqual(losses.dear({1: 1e9}), [])
+        self.assertEqual(losses.costly({1: 1e9}), [])
 
     def test_what_names_the_table_is_planned_longer(self) -> None:
         column = Column("c1", "c1")
@@ -87,18 +87,18 @@ class Picks(unittest.TestCase):
             # Each saves 10 in all.
             return {it.number: Plan(51.0, frozenset()) for it in users}
 
-        def dear(asked: int = 0, upkeep: float = 0.0) -> list[int]:
+        def costly(asked: int = 0, upkeep: float = 0.0) -> list[int]:
             picks = [self.picks[it] for it in (1, 2, 3)]
             planning = Planning(schema, listed, UNIT / 5)
-            found = dear_picks(picks, planning, lambda _: upkeep, lambda it: it.number == asked, ask)
+            found = costly_picks(picks, planning, lambda _: upkeep, lambda it: it.number == asked, ask)
             return [it.number for it in found]
 
         # Planning takes 6 longer.
-        self.assertEqual(dear(), [])
-        self.assertEqual(dear(upkeep=5.0), [1, 2, 3])
-        self.assertEqual(dear(asked=2, upkeep=5.0), [1, 3])
+        self.assertEqual(costly(), [])
+        self.assertEqual(costly(upkeep=5.0), [1, 2, 3])
+        self.assertEqual(costly(asked=2, upkeep=5.0), [1, 3])
         listed[0].fault = "42883"
-        self.assertEqual(dear(upkeep=5.0), [])
+        self.assertEqual(costly(upkeep=5.0), [])
 
 
 if __name__ == "__main__":

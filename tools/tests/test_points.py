@@ -8,19 +8,17 @@ import subprocess
 import unittest
 import zlib
 from dataclasses import replace
-from pathlib import Path
 from typing import Any
 
 from cophy_fleet.calls import Failed, NoCommand, Refused, Settings, said
 from cophy_fleet.outcomes import Point
 from cophy_fleet.points import fault_of, fold, sweep
 from cophy_text.answers import read_candidates
-from fixtures import HERE, InFolder
+from fixtures import STAND_IN, InFolder
 from patience import LONG
 from test_fleet import MISSING as MISSING_FLEET
 from test_fleet import TOOL
 
-STAND_IN = HERE / "stand_in.py"
 TABLE = """[[table]]
 name = "{name}"
 rows = 1000

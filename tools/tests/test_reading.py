@@ -14,12 +14,10 @@ from pathlib import Path
 from typing import Any
 from unittest import mock
 
-from fixtures import TOOL, InFolder, called, shop
+from fixtures import MISSING, TOOL, InFolder, called, shop
 from patience import LONG
-from private_server import missing
 from test_files import ADVICE, CATALOGUE
 
-MISSING = missing()
 HAS_PARSER = importlib.util.find_spec("pglast") is not None
 
 

@@ -30,8 +30,8 @@ def pick(number: int, ours: float, server: float, **more: Any) -> dict[str, Any]
 
 @unittest.skipIf(MISSING, MISSING)
 class Recommended(unittest.TestCase):
-    def test_each_reserve_has_its_words(self) -> None:
-        from cophy_pg.recommended import reserve_of
+    def test_each_caveat_has_its_words(self) -> None:
+        from cophy_pg.recommended import caveat_of
 
         charged = [change(1, "SELECT 1", 30.0, 20.0), change(2, "UPDATE t", -16.0, 0.0)]
         for given, why in (
@@ -44,10 +44,10 @@ class Recommended(unittest.TestCase):
             (pick(1, 20.0, 10.0, long_likely=["a"]), "an INSERT of more than 2,704 bytes in a would fail"),
         ):
             with self.subTest(why=why):
-                self.assertEqual(reserve_of(given, {"statements": [{"seconds": 3.0}]}), why)
+                self.assertEqual(caveat_of(given, {"statements": [{"seconds": 3.0}]}), why)
 
     def test_one_that_stands_for_another_stays(self) -> None:
-        from cophy_pg.recommended import without_reserves
+        from cophy_pg.recommended import without_caveats
 
         picks = [pick(1, 50.0, 50.0), pick(2, 0.2, 0.1), pick(3, 0.1, 0.0), pick(4, 9.0, 9.0, long_likely=["a"])]
         asked = list[list[int]]()
@@ -58,12 +58,12 @@ class Recommended(unittest.TestCase):
             cost = 300 + 500 * (1 not in kept) + 200 * (not {2, 3} & {*kept}) + 90 * (4 not in kept)
             return cost, float(cost)
 
-        reserves = {2: "it saves 0.2 %", 3: "it saves 0.1 %", 4: "it would fail"}
-        found = without_reserves(picks, reserves, (300, 300.0), (1000, 1000.0), costs_of)
+        caveats = {2: "it saves 0.2 %", 3: "it saves 0.1 %", 4: "it would fail"}
+        found = without_caveats(picks, caveats, (300, 300.0), (1000, 1000.0), costs_of)
         self.assertEqual([*found.why_not], [3, 4])
         self.assertEqual(found.costs, (390, 390.0))
         self.assertEqual(asked, [[1, 2, 3], [1], [1, 2], [1]])
-        found = without_reserves(picks, {2: "it saves 0.2 %"}, (300, 300.0), (1000, 1000.0), costs_of)
+        found = without_caveats(picks, {2: "it saves 0.2 %"}, (300, 300.0), (1000, 1000.0), costs_of)
         self.assertEqual((found.why_not, found.costs), ({2: "it saves 0.2 %"}, (300, 300.0)))
 
 

@@ -6,8 +6,7 @@ import tempfile
 import unittest
 from pathlib import Path
 
-from private_server import missing
-from fixtures import called, shop
+from fixtures import MISSING, STAND_IN, called, shop
 from test_rewrite import HAS_PARSER, PLAIN, schema
 
 if HAS_PARSER:
@@ -20,9 +19,6 @@ if HAS_PARSER:
     from cophy_pg.rewrite.options import TEXTS, word_of
     from cophy_pg.schema import Column, Schema, Table
     from cophy_pg.workload import made
-
-MISSING = missing()
-STAND_IN = Path(__file__).resolve().parent / "stand_in.py"
 
 
 @unittest.skipUnless(HAS_PARSER, "python3-pglast isn't installed")

@@ -3,17 +3,11 @@ from __future__ import annotations
 
 import os
 import re
-import subprocess
-import tempfile
 import unittest
-from pathlib import Path
 
 from cophy_pg.included import searched_columns
-from fixtures import ADVISOR, called, shop
-from patience import LONG
-from private_server import PrivateServer, missing, program
+from fixtures import MISSING, OverOwn
 
-MISSING = missing()
 TABLES = """CREATE TABLE plain (id int PRIMARY KEY, a int, b int, c text);
 INSERT INTO plain SELECT i, i % 70, i % 9, 'c' || i FROM generate_series(1, 9000) i;
 CREATE SCHEMA "Odd: 's";
@@ -50,48 +44,19 @@ UPDATE t SET read7 = 5, read8 = read9 WHERE found = 3; INSERT INTO t (read10) VA
 
 
 @unittest.skipIf(MISSING, MISSING)
-class Script(unittest.TestCase):
-    server: PrivateServer
-
-    @classmethod
-    def setUpClass(cls) -> None:
-        cls.server = shop()
-        cls.server.psql("CREATE DATABASE making")
-        cls.server.psql(TABLES + ADVISOR.read_text(), "making")
-
-    @classmethod
-    def tearDownClass(cls) -> None:
-        cls.server.psql("DROP DATABASE making")
+class Script(OverOwn):
+    database, content = "making", TABLES
 
     def setUp(self) -> None:
-        folder = tempfile.TemporaryDirectory()
-        self.addCleanup(folder.cleanup)
-        self.here = Path(folder.name)
-        self.files = [str(self.here / it) for it in ("c.toml", "l.sql", "advice", "q.sql")]
-        (self.here / "q.sql").write_text(QUERIES)
-        ran = called(
-            self.server, "export", *self.files[:2], "--sql", self.files[3], database="making", PGUSER="cophy_advisor"
-        )
-        self.assertEqual(ran.returncode, 0, ran.stderr)
+        super().setUp()
+        self.files = self.in_folder("c.toml", "l.sql", "advice", "q.sql")
+        (self.folder / "q.sql").write_text(QUERIES)
+        self.call("export", *self.files[:2], "--sql", self.files[3])
 
     def script(self, picks: tuple[str, ...], *more: str) -> str:
-        lines = [f"pick {at} {it} 3 pages\n" for at, it in enumerate(picks, 1)]
-        head, end = "budget 99\ncandidates 9 left over 0\n", "size 12\ncost 9\nbound 9\ngap 0\nnodes 1 of 9\nfinished\n"
-        (self.here / "advice").write_text(head + "".join(lines) + end)
-        ran = called(self.server, "ddl", self.files[0], self.files[2], "--script", *more, database="making")
-        self.assertEqual(ran.returncode, 0, ran.stderr)
-        self.assertTrue(ran.stdout.isascii())
-        return ran.stdout
-
-    def run_script(self, text: str, *more: str, status: int = 0, **environment: str) -> str:
-        """What psql says of a script."""
-        self.server.release("making")
-        (self.here / "script.sql").write_text(text)
-        words = [str(program("psql")), "-X", *more, "-f", str(self.here / "script.sql")]
-        given = self.server.environment("making", **{"PGUSER": "cophy"} | environment)
-        ran = subprocess.run(words, capture_output=True, text=True, env=given, check=False, timeout=LONG)
-        self.assertEqual(ran.returncode, status, ran.stderr)
-        return ran.stdout + ran.stderr
+        text = self.call("ddl", self.files[0], self.lay_advice(picks), "--script", *more).stdout
+        self.assertTrue(text.isascii())
+        return text
 
     def names(self) -> list[str]:
         return self.server.value(NAMES, "making").splitlines()
@@ -134,11 +99,8 @@ class Script(unittest.TestCase):
         self.run_script(text)
         self.run_script(text, "-v", "undo=1")
         self.server.psql("SELECT b FROM plain WHERE a = 3", "making")
-        report = str(self.here / "report")
-        words = ("export", *self.files[:2], "--report", report)
-        ran = called(self.server, *words, database="making", PGUSER="cophy_advisor")
-        self.assertEqual(ran.returncode, 0, ran.stderr)
-        each = Path(report).read_text().partition("each statement,")[2].splitlines()[1:]
+        self.call("export", *self.files[:2], "--report", *self.in_folder("report"))
+        each = (self.folder / "report").read_text().partition("each statement,")[2].splitlines()[1:]
         self.assertTrue(any("SELECT b FROM plain" in it for it in each), each)
         self.assertEqual([it for it in each if re.search("INDEX|cophy_|DO '|SET |is_out|pg_index", it)], [])
 
@@ -190,16 +152,8 @@ class Script(unittest.TestCase):
 
     def test_a_lock_of_others_ends_it_and_is_told(self) -> None:
         text = self.script(("plain(a)", "plain(b)")).replace("'30min'", "'3s'")
-        words = [str(program("psql")), "-X", "-q"]
-        holder = subprocess.Popen(
-            words, stdin=subprocess.PIPE, stdout=subprocess.PIPE, text=True, env=self.server.environment("making")
-        )
-        assert holder.stdin is not None and holder.stdout is not None
-        holder.stdin.write("BEGIN; UPDATE plain SET b = b WHERE id = 1; \\echo held\n")
-        holder.stdin.flush()
-        holder.stdout.readline()
-        said = self.run_script(text, status=3)
-        holder.communicate("ROLLBACK;\n", timeout=LONG)
+        with self.held("UPDATE plain SET b = b WHERE id = 1"):
+            said = self.run_script(text, status=3)
         self.assertIn("canceling statement due to lock timeout", said)
         self.assertIn("it is left INVALID: it serves no query", said)
         self.assertIn("the index plain(a) was not made: run the script again", said)
@@ -255,7 +209,7 @@ class Script(unittest.TestCase):
     def test_a_newer_catalogue_is_told(self) -> None:
         self.script(("plain(a)",))
         os.utime(self.files[2], (1, 1))
-        ran = called(self.server, "ddl", *self.files[:1], self.files[2], database="making")
+        ran = self.call("ddl", self.files[0], self.files[2])
         self.assertIn("the catalogue is newer than the advice", ran.stderr)
         self.assertIn("-- the catalogue is newer than the advice", ran.stdout)
 

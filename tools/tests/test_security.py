@@ -15,11 +15,10 @@ import unittest
 from pathlib import Path
 from unittest import mock
 
-from fixtures import ADVISOR, TOOL, InFolder
+from fixtures import ADVISOR, NO_HYPOPG, TOOL, InFolder
 from patience import LONG
-from private_server import PrivateServer, has_extension, missing, program
+from private_server import PrivateServer, program
 
-MISSING = missing() or ("" if has_extension("hypopg") else "postgresql-15-hypopg isn't installed")
 
 # What is tried, whoever runs it. `strike` is called by all that is planted.
 STRIKE = """
@@ -243,7 +242,7 @@ class Bounds(unittest.TestCase):
         self.assertEqual(asked.call_count, keyable.MOST_WAITS)
 
 
-@unittest.skipIf(MISSING, MISSING)
+@unittest.skipIf(NO_HYPOPG, NO_HYPOPG)
 class Attacks(InFolder):
     server: PrivateServer
 

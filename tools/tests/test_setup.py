@@ -10,13 +10,11 @@ import subprocess
 import unittest
 from pathlib import Path
 
-from fixtures import ADVISOR, InFolder, called
-from private_server import PrivateServer, has_extension, missing, program
-
-MISSING = missing() or ("" if has_extension("hypopg") else "postgresql-15-hypopg isn't installed")
+from fixtures import ADVISOR, NO_HYPOPG, InFolder, called
+from private_server import PrivateServer, program
 
 
-@unittest.skipIf(MISSING, MISSING)
+@unittest.skipIf(NO_HYPOPG, NO_HYPOPG)
 class Setup(InFolder):
     server: PrivateServer
 
@@ -77,9 +75,9 @@ class Setup(InFolder):
         self.assertIn("name the database", ran.stderr)
 
 
-class Elsewhere(unittest.TestCase):
+class Clusters(unittest.TestCase):
     def test_running_clusters_of_other_ports_are_listed(self) -> None:
-        from cophy_pg.elsewhere import clusters
+        from cophy_pg.clusters import clusters
 
         listed = "14 old 5432 online postgres /a /b\n15 main 5433 online,recovery postgres /a /b\n16 new 5434 down postgres /a /b\n"
         self.assertEqual(clusters(listed, "5432"), ["    the cluster 15/main runs: export PGPORT=5433"])

@@ -6,14 +6,12 @@ import itertools
 import json
 import random
 import subprocess
-import tempfile
 import time
 import unittest
 import zlib
-from pathlib import Path
 
 from cophy_text.answers import Advice
-from fixtures import ROOT
+from fixtures import ROOT, InFolder
 from patience import LONG
 
 MISSING = "" if importlib.util.find_spec("scipy") else "python3-scipy isn't installed"
@@ -110,18 +108,16 @@ class Share(unittest.TestCase):
 
 
 @unittest.skipIf(MISSING, MISSING)
-class Command(unittest.TestCase):
+class Command(InFolder):
     """The command, over results that are laid in the place of a run's."""
 
     def setUp(self) -> None:
-        folder = tempfile.TemporaryDirectory()
-        self.addCleanup(folder.cleanup)
-        self.here = Path(folder.name)
+        super().setUp()
         entries = "".join(
             f'[[database]]\nname = "{it}"\nservice = "x"\nweight = {at}\n' for at, it in enumerate("abc", 1)
         )
-        (self.here / "fleet.toml").write_text("version = 1\n" + entries)
-        with opened(str(self.here / "fleet.sqlite"), is_new=True) as store:
+        (self.folder / "fleet.toml").write_text("version = 1\n" + entries)
+        with opened(str(self.folder / "fleet.sqlite"), is_new=True) as store:
             for name, cost in (("a", 900), ("b", 700)):
                 points = (self.point(0, 0, cost), self.point(10**12, 40, cost - 500))
                 store.keep(Answer(name, "digest", "", "one", "two", 1.0, 1.0, points))
@@ -136,7 +132,7 @@ class Command(unittest.TestCase):
 
     def call(self, *words: str, status: int = 0) -> tuple[str, str]:
         ran = subprocess.run(
-            [str(TOOL), "share", words[0], str(self.here / "fleet.toml"), *words[1:]],
+            [str(TOOL), "share", words[0], str(self.folder / "fleet.toml"), *words[1:]],
             capture_output=True,
             text=True,
             check=False,
@@ -156,28 +152,28 @@ class Command(unittest.TestCase):
         self.assertIn("b: its answer is of an earlier run, and the last one failed: nothing listens there", said)
 
     def test_json_and_the_advice_of_each(self) -> None:
-        told = json.loads(self.call("90", "--json", "--advice", str(self.here / "advice"))[0])
+        told = json.loads(self.call("90", "--json", "--advice", str(self.folder / "advice"))[0])
         self.assertEqual((told["size"], told["cost"], told["bound"]), (80, 800, 800))
         self.assertEqual(told["databases"][1]["picks"], ["t(c)"])
-        self.assertIn("pick 1 t(c) 40 pages\n", (self.here / "advice" / "a.txt").read_text())
-        self.assertEqual((self.here / "advice" / "b.cert").read_bytes(), b"cophy certificate 1\n")
-        self.assertEqual({it.stat().st_mode & 0o777 for it in (self.here / "advice").iterdir()}, {0o600})
+        self.assertIn("pick 1 t(c) 40 pages\n", (self.folder / "advice" / "a.txt").read_text())
+        self.assertEqual((self.folder / "advice" / "b.cert").read_bytes(), b"cophy certificate 1\n")
+        self.assertEqual({it.stat().st_mode & 0o777 for it in (self.folder / "advice").iterdir()}, {0o600})
 
     @unittest.skipIf(importlib.util.find_spec("matplotlib") is None, "python3-matplotlib isn't installed")
     def test_picture(self) -> None:
-        self.call("50", "--png", str(self.here / "curve.png"))
-        self.assertTrue((self.here / "curve.png").read_bytes().startswith(b"\x89PNG"))
+        self.call("50", "--png", str(self.folder / "curve.png"))
+        self.assertTrue((self.folder / "curve.png").read_bytes().startswith(b"\x89PNG"))
 
     def test_nothing_is_written_through_a_link(self) -> None:
-        (self.here / "advice").mkdir()
-        others = self.here / "others"
+        (self.folder / "advice").mkdir()
+        others = self.folder / "others"
         others.write_text("as it was")
         for name in ("advice/a.cert", "curve.png", "linked.sqlite"):
-            (self.here / name).symlink_to(others)
-        self.assertIn("symbolic link", self.call("50", "--advice", str(self.here / "advice"), status=2)[1])
-        self.assertIn("symbolic link", self.call("50", "--png", str(self.here / "curve.png"), status=2)[1])
+            (self.folder / name).symlink_to(others)
+        self.assertIn("symbolic link", self.call("50", "--advice", str(self.folder / "advice"), status=2)[1])
+        self.assertIn("symbolic link", self.call("50", "--png", str(self.folder / "curve.png"), status=2)[1])
         for name, why in (("linked.sqlite", "symbolic link"), ("fleet.toml", "it is the same file")):
-            words = ["run", str(self.here / "fleet.toml"), "--results", str(self.here / name)]
+            words = ["run", str(self.folder / "fleet.toml"), "--results", str(self.folder / name)]
             ran = subprocess.run([str(TOOL), *words], capture_output=True, text=True, check=False, timeout=LONG)
             self.assertEqual(ran.returncode, 2)
             self.assertIn(why, ran.stderr)
@@ -187,7 +183,7 @@ class Command(unittest.TestCase):
         self.assertIn("is no amount of space", self.call("5PB", status=2)[1])
         self.assertIn("is no amount of space", self.call("x", status=2)[1])
         self.assertEqual(self.call("400kB")[0], self.call("50")[0])
-        self.assertIn("there are no results", self.call("5", "--results", str(self.here / "none"), status=2)[1])
+        self.assertIn("there are no results", self.call("5", "--results", str(self.folder / "none"), status=2)[1])
 
 
 if __name__ == "__main__":

@@ -11,10 +11,9 @@ import unittest
 from pathlib import Path
 from typing import Any
 
-from private_server import PrivateServer, missing
-from fixtures import called, shop
+from private_server import PrivateServer
+from fixtures import MISSING, called, shop
 
-MISSING = missing()
 ROWS = 60000
 # By column: its type, and how its values are made of g, which goes from 1 to ROWS.
 COLUMNS = {

@@ -90,7 +90,7 @@ class Summary(unittest.TestCase):
                 "changes": changes,
                 "table": f"t{at}",
                 "statements": pick["statements"][:1],
-                "reserve": None,
+                "caveat": None,
             }
             for at in range(5)
         ]
@@ -126,7 +126,7 @@ class Summary(unittest.TestCase):
     def test_what_isnt_recommended_stands_below_with_its_reason(self) -> None:
         self.five()
         picks = self.document["picks"]
-        picks[1]["reserve"], picks[3]["reserve"] = "it saves 0.4 %", "it would fail"
+        picks[1]["caveat"], picks[3]["caveat"] = "it saves 0.4 %", "it would fail"
         picks[0]["superfluous"] = ['"public"."old"']
         self.document["warnings"] = [
             "statements that ran once have 33.3 % of the cost: --min-calls 2 leaves them out",
@@ -152,7 +152,7 @@ class Summary(unittest.TestCase):
         ):
             self.assertIn(it, lines)
         for it in picks:
-            it["reserve"] = "it saves 0.4 %"
+            it["caveat"] = "it saves 0.4 %"
         lines = self.verdict()
         self.assertTrue(lines[0].startswith("No index is plainly worth making for 'shop & <b>', judged by"), lines)
         self.assertIn("    and 2 more", lines)

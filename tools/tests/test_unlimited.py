@@ -2,7 +2,6 @@
 from __future__ import annotations
 
 import json
-import subprocess
 import unittest
 from pathlib import Path
 from typing import Any
@@ -10,11 +9,8 @@ from typing import Any
 from cophy_text.answers import Candidate
 from cophy_pg.schema import Column, Schema, Table
 from cophy_pg.unlimited import compared_columns, exceeding, likely, never, told, warning
-from fixtures import ADVISOR, COPHY, InFolder, called, shop
-from patience import LONG
-from private_server import PrivateServer, has_extension, missing, program
+from fixtures import COPHY, NO_HYPOPG, OverOwn
 
-MISSING = missing() or ("" if has_extension("hypopg") else "postgresql-15-hypopg isn't installed")
 TABLES = """CREATE TABLE entry (id int PRIMARY KEY, entered int NOT NULL, title text, guid text, link text, kind varchar(20),
     wide varchar(700), known text UNIQUE, price numeric, tags text[], address inet);
 INSERT INTO entry SELECT i, i % 900, 'title ' || i, 'guid ' || i, 'link ' || i, 'k', 'w', 'u' || i, i, '{a,b}', '::1'
@@ -67,40 +63,21 @@ SELECT DISTINCT b FROM u, t x WHERE x.h NOT LIKE ?"""
         self.assertTrue(text_of_four.startswith("no index has t.a, t.b and 2 more: an INSERT over"))
 
 
-@unittest.skipIf(MISSING, MISSING)
+@unittest.skipIf(NO_HYPOPG, NO_HYPOPG)
 @unittest.skipUnless(COPHY.exists(), "the program isn't built")
-class Made(InFolder):
-    server: PrivateServer
-
-    @classmethod
-    def setUpClass(cls) -> None:
-        cls.server = shop()
-        cls.server.psql("CREATE DATABASE news")
-        cls.server.psql(TABLES + ADVISOR.read_text(), "news")
-
-    @classmethod
-    def tearDownClass(cls) -> None:
-        cls.server.psql("DROP DATABASE news")
-
-    def call(self, *words: str) -> subprocess.CompletedProcess[str]:
-        ran = called(self.server, *words, database="news", PGUSER="cophy_advisor", COPHY_PROGRAM=str(COPHY))
-        self.assertEqual(ran.returncode, 0, ran.stderr)
-        return ran
+class Made(OverOwn):
+    database, content, given = "news", TABLES, {"COPHY_PROGRAM": str(COPHY)}
 
     def advise(self, *more: str) -> dict[str, Any]:
         (self.folder / "q.sql").write_text(QUERIES)
-        words = ("advise", "--budget", "40MB", "--folder", str(self.folder / "found"), "--no-curve", "--json")
-        found: dict[str, Any] = json.loads(self.call(*words, "--sql", str(self.folder / "q.sql"), *more).stdout)
+        sql, kept = self.in_folder("q.sql", "found")
+        words = ("advise", "--sql", sql, "--budget", "40MB", "--folder", kept, "--no-curve", "--json")
+        found: dict[str, Any] = json.loads(self.call(*words, *more).stdout)
         return found
 
     def make(self) -> None:
         """Makes what was advised, as the owner does."""
-        self.server.release("news")
-        words = [str(program("psql")), "-X", "-f", str(self.folder / "found" / "indexes.sql")]
-        ran = subprocess.run(
-            words, capture_output=True, text=True, env=self.server.environment("news"), check=False, timeout=LONG
-        )
-        self.assertEqual(ran.returncode, 0, ran.stderr)
+        self.run_script((self.folder / "found" / "indexes.sql").read_text())
 
     def insert(self, column: str) -> str:
         """What the server says of an INSERT of a row with a long value, which is taken back."""
@@ -145,11 +122,7 @@ class Made(InFolder):
         most = {name: it.partition("postgres_most = ")[2].split("\n")[0] for name, it in parts.items()}
         self.assertEqual([most[it] for it in ("title", "tags", "wide", "kind")], ["1073741824"] * 2 + ["2804", "84"])
         self.assertEqual({most[it] for it in ("known", "price", "id", "address")}, {""})
-        advice = self.folder / "advice"
-        advice.write_text(
-            "budget 9\npick 1 entry(wide) 3 pages\nsize 3\ncost 9\nbound 9\ngap 0\nnodes 1 of 9\nfinished\n"
-        )
-        said = self.call("ddl", catalogue, str(advice)).stdout
+        said = self.call("ddl", catalogue, self.lay_advice(["entry(wide)"])).stdout
         self.assertIn("\n-- an INSERT of more than 2,704 bytes in wide would fail\nCREATE INDEX", said)
 
 

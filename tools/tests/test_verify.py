@@ -7,19 +7,21 @@ import unittest
 from unittest import mock
 
 from cophy_text.shown import short
-from fixtures import OverShop, called
+from fixtures import NO_HYPOPG, OverShop, called
 from patience import until
-from private_server import has_extension, missing, program
+from private_server import program
 
-MISSING = missing() or ("" if has_extension("hypopg") else "postgresql-15-hypopg isn't installed")
 PROGRAM = """#!/bin/sh
 n=$(wc -l < "$4")
 echo "size $n"; echo "statement 1 weight 1 cost 9000"; echo "total $((9000 - 1000 * n))"
 """
 
 
-@unittest.skipIf(MISSING, MISSING)
+@unittest.skipIf(NO_HYPOPG, NO_HYPOPG)
 class Verify(OverShop):
+    # Without the program the statements stay in the order in which they are given.
+    given = {"COPHY_PROGRAM": "/bin/false"}
+
     def setUp(self) -> None:
         super().setUp()
         names = ("catalogue.toml", "workload.sql", "advice", "given.sql", "program", "kept", "rules")
@@ -30,9 +32,8 @@ class Verify(OverShop):
         (self.folder / "given.sql").write_text(";\n".join(statements) + ";\n")
         self.call("export", "catalogue.toml", "workload.sql", "--sql", self.files["given.sql"])
 
-    def call(self, *words: str, **more: str) -> subprocess.CompletedProcess[str]:
-        # Without the program the statements stay in the order in which they are given.
-        return super().call(*(self.files.get(it, it) for it in words), **{"COPHY_PROGRAM": "/bin/false"} | more)
+    def call(self, *words: str, status: int = 0, **more: str) -> subprocess.CompletedProcess[str]:
+        return super().call(*(self.files.get(it, it) for it in words), status=status, **more)
 
     def verify(self, picks: list[str], *more: str) -> subprocess.CompletedProcess[str]:
         lines = [f"pick {at} {it} 3 pages" for at, it in enumerate(picks, 1)]

@@ -6,17 +6,15 @@ import json
 import os
 from dataclasses import replace
 from datetime import UTC, datetime
-from functools import partial
 from typing import Any
 
 from cophy_lint.checks import catalogue_remarks, lines, workload_remarks
 from cophy_text import files
-from cophy_text.answers import Advice, Candidate, Prices, read_advice, read_candidates
+from cophy_text.answers import Advice, read_advice, read_candidates
 from cophy_pg import export, folder, inputs, unlimited
 from cophy_pg.advise_words import parser_of
-from cophy_pg.beside import Beside
 from cophy_pg.catalogue import read_schema
-from cophy_pg.choice import UNTAKEN, Choice, Limits, drop_by_limits, drop_by_server
+from cophy_pg.choice import Choice
 from cophy_pg.closing import ending
 from cophy_pg.clustering import permit
 from cophy_pg.commands import commands_text
@@ -25,21 +23,21 @@ from cophy_pg.folder import Folder
 from cophy_pg.folding import Folding
 from cophy_pg.included import searched_columns
 from cophy_pg.making import ddl_text, in_order
-from cophy_pg.outcomes import Verdict, outcomes
+from cophy_pg.outcomes import Verdict
 from cophy_pg.overview import lines_of
 from cophy_pg.page import NoReport, page_of
 from cophy_pg.picks import home_of
-from cophy_pg.planning import DEAR, Planning, dear_picks
-from cophy_pg.plans import Plan, costs_without, plans_of, under
-from cophy_pg.program import NoCommand, Program, program_file
+from cophy_pg.plans import plans_of
+from cophy_pg.program import Program, program_file
 from cophy_pg.progress import say
 from cophy_pg.ranking import rank
-from cophy_pg.recommended import Costs, Recommended, without_reserves
+from cophy_pg.recommended import Costs, Recommended, without_caveats
 from cophy_pg.remainder import freed, gap_of, knee_of
 from cophy_pg.report import summary
 from cophy_pg.result import Result
 from cophy_pg.rewrite import Rewriter
 from cophy_pg.rewrite.options import options_of
+from cophy_pg.rounds import Rounds
 from cophy_pg.schema import Schema
 from cophy_pg.searches import Rules, Searches, listed_in
 from cophy_pg.selection import ran_once, selection_of
@@ -50,17 +48,12 @@ from cophy_pg.statistics import Found
 from cophy_pg.steps import Steps
 from cophy_pg.trust import owners_of, refuse_powers
 from cophy_pg.verdict import verdict
-from cophy_pg.verify import Judged, advice_text, as_json, judge, look_up
-from cophy_pg.why import Reason, reasons
+from cophy_pg.verify import advice_text, as_json, look_up
+from cophy_pg.why import reasons
 from cophy_pg.workload import Workload, made
-from cophy_pg.worth import Worth, worth_of
 
 NOTHING = 3
 """The status where no index is worth making."""
-ROUNDS = 4
-"""How often is searched: each time but the first without what no plan took before."""
-ADDITIONS = 3
-"""How often the planner is asked what it takes in the space that is left."""
 
 
 def add_advise(commands: argparse._SubParsersAction[argparse.ArgumentParser]) -> None:
@@ -116,9 +109,12 @@ class Run:
             lint = self._lint()
         self._take_rules()
         try:
-            first = self._searched(found.schema, 1)
+            rounds = Rounds(self.words, self.program, self.searches, self.rules, self.steps, found.schema, workload)
+            first = rounds.searched(1)
             with connected(self.words.dsn, self.words.timeout) as server:
-                choice, judged = self._rounds(server, found.schema, workload, first)
+                choice, judged = rounds.best(server, first)
+                self.steps.begin("")
+                self._tell_owners(server, found.schema, choice)
                 with self.steps.step("plans", "comparing plans", 2 * len(judged.verdicts)):
                     plans = plans_of(server, found.schema, choice.advice, judged.verdicts, self.steps)
             with self.steps.step("check", "checking the certificate"):
@@ -143,12 +139,18 @@ class Run:
         self.steps.begin("recommending")
         with self.steps.step("recommend", "telling what is plainly worth it"):
             asked = {it.number for it in choice.advice.picks if self.rules.asks_for(it)}
-            result.recommended = self._recommended(result, workload, asked)
+            result.recommended = self._recommended(result, rounds, asked)
         self._write(result)
         if points:
             curve = [as_json_of_point(it, none.total) for it in points]
             self.folder.write({folder.CURVE: json.dumps(curve, indent=2) + "\n"})
         return result.document()
+
+    def _tell_owners(self, server: Server, schema: Schema, choice: Choice) -> None:
+        """Who owns the tables of the picks."""
+        tables = {it.table for it in choice.advice.picks}
+        with reading(server):
+            self.head["owners"] = owners_of(server, [it.oid for it in schema.tables.values() if it.shown in tables])
 
     def _tell_rest(self, schema: Schema, advice: Advice, choice: Choice, unused: str | None) -> None:
         """Why the picks cost more than the bound, and why they leave space."""
@@ -156,21 +158,20 @@ class Run:
         self.head["unused"] = unused or freed(self.words.budget, stored, len(choice.left_out))
         self.head["gap"] = gap_of(self.program, advice, choice, self.rules, self.head["long_columns"])
 
-    def _recommended(self, result: Result, workload: Workload, asked: set[int]) -> Recommended:
-        """Which picks stay when those are left out that there are reserves about, and that no rule asks for."""
+    def _recommended(self, result: Result, rounds: Rounds, asked: set[int]) -> Recommended:
+        """Which picks stay when those are left out that there are caveats about, and that no rule asks for."""
         picks, judged, choice = result.plain_picks(), result.judged, result.choice.advice
-        reserves = {number: why for number, why in result.reserves().items() if number not in asked}
+        caveats = {number: why for number, why in result.caveats().items() if number not in asked}
         all_, whole = (result.prices[1].total, judged.sums()[2]), (result.prices[0].total, judged.sums()[1])
-        if not reserves:
+        if not caveats:
             return Recommended({}, all_)
 
         def costs_of(kept: list[int]) -> Costs:
             advice = replace(choice, picks=[it for it in choice.picks if it.number in kept])
-            found = self._asked(server, result.schema, workload, advice, judged.verdicts)
-            return self.program.whatif(kept).total, found.sums()[2]
+            return self.program.whatif(kept).total, rounds.asked(server, advice, judged.verdicts).sums()[2]
 
         with connected(self.words.dsn, self.words.timeout) as server:
-            return without_reserves(picks, reserves, all_, whole, costs_of)
+            return without_caveats(picks, caveats, all_, whole, costs_of)
 
     def _write(self, result: Result) -> None:
         """Writes what the last steps found."""
@@ -266,135 +267,3 @@ class Run:
             own = unlimited.never(schema, candidates, self.folder.read(folder.WORKLOAD), self.rules.given)
         self.rules.given = [*self.rules.given, *own]
         self.head["long_columns"] = own
-
-    def _searched(self, schema: Schema, number: int) -> Choice:
-        """What fills the budget under the rules so far, at the begin of a round."""
-        self.steps.begin(f"round {number} of at most {ROUNDS}")
-        with self.steps.step("advise", "searching for the best indexes"):
-            advice, rules = self.searches.filling(schema, self.rules)
-        return Choice(advice, [(it, UNTAKEN) for it in self.rules.forbidden], rules=rules)
-
-    def _rounds(self, server: Server, schema: Schema, workload: Workload, choice: Choice) -> tuple[Choice, Judged]:
-        """Searches again without what no plan takes, which leaves room for others; the choice that costs the least by the
-        server's planner, and what it says of that. An older program doesn't search again."""
-        best: tuple[Choice, Judged] | None = None
-        least = (0, 0.0)
-        for number in range(1, ROUNDS + 1):
-            judged = self._settle(server, schema, workload, choice)
-            count, _, after = judged.sums()
-            if best is None or (-count, after) < least:
-                best, least = (choice, judged), (-count, after)
-            if number == ROUNDS or not self.rules.forbid(choice.untaken):
-                break
-            try:
-                choice = self._searched(schema, number + 1)
-            except NoCommand:
-                break
-        assert best is not None
-        best = self._filled(server, schema, workload, *best)
-        self.steps.begin("")
-        tables = {it.table for it in best[0].advice.picks}
-        with reading(server):
-            self.head["owners"] = owners_of(server, [it.oid for it in schema.tables.values() if it.shown in tables])
-        return best
-
-    def _filled(
-        self, server: Server, schema: Schema, workload: Workload, choice: Choice, judged: Judged
-    ) -> tuple[Choice, Judged]:
-        """Adds what the server's planner takes in the space that is left, as long as it says that this saves something. Where
-        each pick has to save so much by our model, nothing is added."""
-        exchange = self.searches.exchange(schema, self.rules)
-        for number in range(0 if self.words.min_saving else ADDITIONS):
-            self.steps.begin(f"space left over, round {number + 1} of at most {ADDITIONS}")
-            planning = Planning(schema, judged.verdicts, self.words.planning)
-            beside = Beside(choice, judged.verdicts, exchange, workload.divisor, planning.longer)
-            trades = []
-            for it in beside.narrower():
-                users = self._asked(server, schema, workload, beside.with_trade(it), beside.users(it)).verdicts
-                trades.append(beside.priced(it, users))
-            asked = beside.asked_about(trades)
-            if asked is None:
-                break
-            found = self._asked(server, schema, workload, asked, judged.verdicts).verdicts
-            chosen = beside.better(found, trades)
-            if chosen == beside.chosen:
-                break
-            try:
-                advice, rules = self.searches.made_of(chosen, self.rules)
-            except NoCommand:
-                break
-            more = Choice(advice, [*choice.left_out], rules=rules)
-            again = self._settle(server, schema, workload, more, judged.verdicts)
-            if again.sums()[0] < judged.sums()[0] or again.sums()[2] >= judged.sums()[2]:
-                break
-            choice, judged = more, again
-        return choice, judged
-
-    def _settle(
-        self, server: Server, schema: Schema, workload: Workload, choice: Choice, known: list[Verdict] | None = None
-    ) -> Judged:
-        """Asks the planner until all picks that are left stay. Picks that were left out before are asked about no more."""
-        words = self.words
-        limits = Limits(words.min_saving, words.most_per_table)
-        while True:
-            judged = self._asked(server, schema, workload, choice.advice, known)
-            known = judged.verdicts
-            with self.steps.step("limits", "leaving out what isn't worth it"):
-                is_less = drop_by_server(choice, schema, judged.outcomes, self.rules.asks_for)
-                worth = partial(self._worth, server, schema, workload, choice.advice, judged.verdicts)
-                is_less |= drop_by_limits(choice, self.program, limits, self.steps, self.rules.asks_for, worth)
-            if not is_less and not self._drop_dear(server, schema, workload.divisor, choice, judged.verdicts):
-                return judged
-
-    def _drop_dear(self, server: Server, schema: Schema, divisor: float, choice: Choice, found: list[Verdict]) -> bool:
-        """Leaves out what saves less time than planning and writing take longer for it; whether anything was."""
-
-        def ask(picks: list[Candidate], listed: list[Verdict]) -> dict[int, Plan]:
-            return under(server, schema, replace(choice.advice, picks=picks), listed, self.steps)
-
-        if not self.words.planning:
-            return False
-        planning = Planning(schema, found, self.words.planning)
-        with self.steps.step("planning", "leaving out what takes longer to plan than it saves"):
-            dear = dear_picks(
-                choice.advice.picks,
-                planning,
-                lambda number: divisor * self.searches.upkeep(number),
-                self.rules.asks_for,
-                ask,
-            )
-            for it in dear:
-                choice.drop(it, DEAR)
-        return bool(dear)
-
-    def _asked(
-        self, server: Server, schema: Schema, workload: Workload, advice: Advice, known: list[Verdict] | None = None
-    ) -> Judged:
-        """What the planner says of some picks; what it said of statements without any isn't asked for again."""
-        records = enumerate(workload.records, 1)
-        found = [Verdict(at, it.input, workload.times(it)) for at, it in records if it.numbers]
-        if known is not None:
-            found = [Verdict(it.number, it.input, it.times, before=it.before, fault=it.fault) for it in known]
-        self.steps.ask()
-        asked = len(found) + sum(it.before is None for it in found)
-        with self.steps.step("verify", "asking the server's planner", asked):
-            with reading(server):
-                home_of(server)
-            listed, functions = judge(server, schema, advice, found, self.words.is_trusted, self.steps)
-            texts = {number: text for number, (text, _) in enumerate(workload.statements, 1)}
-            outcomes(listed, found, texts, [])
-        return Judged(found, listed, functions)
-
-    def _worth(
-        self,
-        server: Server,
-        schema: Schema,
-        workload: Workload,
-        advice: Advice,
-        found: list[Verdict],
-        reason: Reason,
-        prices: tuple[Prices, Prices],
-    ) -> Worth:
-        """What a pick saves, by the server too."""
-        without = costs_without(server, schema, advice, reason.pick, found, self.steps)
-        return worth_of(reason, prices, found, without, [it.input.seconds for it in workload.records])

@@ -126,7 +126,7 @@ class Beside:
 
     def _worth(self, gains: Saved) -> Saved:
         """Those that save enough, more than planning takes longer for them, and much more than what they cost where rows are
-        written, by our model: EXPLAIN takes pages that lie in memory for dear, and counts no writes."""
+        written, by our model: EXPLAIN takes pages that lie in memory for costly ones, and counts no writes."""
         pricing = self.exchange.pricing
         least = LEAST * sum(it.calls * (it.before or 0.0) for it in self.verdicts)
         now, listed = pricing.cost(self.chosen), sorted(gains)

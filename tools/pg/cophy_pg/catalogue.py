@@ -2,6 +2,7 @@
 from __future__ import annotations
 
 import tomllib
+from collections.abc import Mapping
 from datetime import date
 from typing import Any
 
@@ -28,74 +29,83 @@ def toml_text(text: str) -> str:
     return "".join([*shown, '"'])
 
 
-def _toml_list(texts: list[str]) -> str:
-    return f"[{', '.join(map(toml_text, texts))}]"
+def _toml(value: object) -> str:
+    if isinstance(value, list):
+        return f"[{', '.join(map(_toml, value))}]"
+    if isinstance(value, bool):
+        return str(value).lower()
+    return toml_text(value) if isinstance(value, str) else str(value)
+
+
+def _lines(values: Mapping[str, object]) -> list[str]:
+    """A line for each key that has a value."""
+    return [f"{key} = {_toml(it)}" for key, it in values.items() if it is not None]
 
 
 def catalogue_text(schema: Schema, rates: dict[str, int], head: list[str]) -> str:
     """The catalogue, with remarks as comments."""
-    lines = [*(f"# {it}" for it in head), f"version = {VERSION}"]
-    if schema.taken:
-        lines.append(f"{keys.TAKEN} = {_toml_list(schema.taken)}")
-    lines += ["", "[rates]"]
-    lines += [f"{name} = {rate}" for name, rate in rates.items()]
+    lines = [*(f"# {it}" for it in head), *_lines({"version": VERSION, keys.TAKEN: schema.taken or None})]
+    lines += ["", "[rates]", *_lines(rates)]
     for table in schema.tables.values():
-        lines += ["", *(f"# {it}" for it in table.remarks), "[[table]]", f'name = "{table.shown}"']
-        lines += [f"rows = {table.rows}", f"pages = {table.pages}", *["may_cluster = true"] * table.may_cluster]
-        notes = [keys.PARTITIONED] * table.is_partitioned + [keys.NOT_ANALYSED] * (not table.is_analysed)
-        if notes or (table.schema, table.name) != ("public", table.shown):
-            lines.append(f"{keys.OURS} = {_toml_list([table.schema, table.name, *notes])}")
-        if table.children:
-            lines.append(f"{keys.CHILDREN} = [{', '.join(_toml_list([*it]) for it in table.children)}]")
+        lines += ["", *(f"# {it}" for it in table.remarks), "[[table]]", *_lines(_table(table))]
         for column in (*table.columns.values(), *table.spares):
-            lines += ["", *_column(column)]
+            lines += ["", "[[table.column]]", *_lines(_column(column))]
         for index in table.indexes:
-            lines += ["", *_index(index, table)]
+            lines += ["", "[[table.index]]", *_lines(_index(index, table))]
     return "\n".join(lines) + "\n"
 
 
-def _column(column: Column) -> list[str]:
-    lines = ["[[table.column]]", f'name = "{column.shown}"', f'kind = "{column.kind}"', f"width = {column.width}"]
-    if column.distinct is not None:
-        lines.append(f"distinct = {column.distinct}")
-    if column.low is not None and column.high is not None:
-        lines += [f"{key} = {_end_text(column, end)}" for key, end in (("low", column.low), ("high", column.high))]
-    if column.bounds:
-        lines.append(f"bounds = [{', '.join(_end_text(column, it) for it in column.bounds)}]")
-    if column.shown != column.name:
-        lines.append(f"{keys.OURS} = {toml_text(column.name)}")
-    if column.type:
-        lines.append(f"{keys.TYPE} = {toml_text(column.type)}")
-    if column.scale:
-        lines.append(f"{keys.SCALE} = {column.scale}")
-    if column.has_fractions:
-        lines.append(f"{keys.FRACTIONS} = true")
-    if column.nulls:
-        lines.append(f"{keys.NULLS} = {column.nulls}")
-    if column.common:
-        lines.append(f"{keys.COMMON} = {column.common}")
-    if column.sizes:
-        lines.append(f"{keys.SIZES} = {column.sizes}")
-    if column.correlation:
-        lines.append(f"{keys.CORRELATION} = {column.correlation:.6f}")
-    if column.most:
-        lines.append(f"{keys.MOST} = {column.most}")
-    if column.no_key:
-        lines.append(f"{keys.NO_KEY} = {toml_text(column.no_key)}")
-    return lines
+def _table(table: Table) -> dict[str, object]:
+    notes = [keys.PARTITIONED] * table.is_partitioned + [keys.NOT_ANALYSED] * (not table.is_analysed)
+    is_plain = not notes and (table.schema, table.name) == ("public", table.shown)
+    return {
+        "name": table.shown,
+        "rows": table.rows,
+        "pages": table.pages,
+        "may_cluster": table.may_cluster or None,
+        keys.OURS: None if is_plain else [table.schema, table.name, *notes],
+        keys.CHILDREN: [[*it] for it in table.children] or None,
+    }
 
 
-def _end_text(column: Column, end: int) -> str:
-    return text_of_number(column, end).removeprefix("DATE ").replace("'", '"')
+def _column(column: Column) -> dict[str, object]:
+    has_ends = column.low is not None and column.high is not None
+    return {
+        "name": column.shown,
+        "kind": column.kind,
+        "width": column.width,
+        "distinct": column.distinct,
+        "low": _end_of(column, column.low) if has_ends else None,
+        "high": _end_of(column, column.high) if has_ends else None,
+        "bounds": [_end_of(column, it) for it in column.bounds] or None,
+        keys.OURS: column.name if column.shown != column.name else None,
+        keys.TYPE: column.type or None,
+        keys.SCALE: column.scale or None,
+        keys.FRACTIONS: column.has_fractions or None,
+        keys.NULLS: column.nulls or None,
+        keys.COMMON: column.common or None,
+        keys.SIZES: column.sizes or None,
+        keys.CORRELATION: column.correlation or None,
+        keys.MOST: column.most or None,
+        keys.NO_KEY: column.no_key or None,
+    }
 
 
-def _index(index: Index, table: Table) -> list[str]:
-    names = ", ".join(f'"{table.columns[it].shown}"' for it in index.keys)
-    lines = ["[[table.index]]", f'name = "{index.shown}"', f"keys = [{names}]"]
-    if index.shown != index.name:
-        lines.append(f"{keys.OURS} = {toml_text(index.name)}")
-    flags = (("unique", index.unique), ("clustered", index.clustered), (keys.ORDERED, index.ordered))
-    return lines + [f"{name} = true" for name, is_set in flags if is_set]
+def _end_of(column: Column, end: int | None) -> int | str | None:
+    if end is None or column.kind != "date":
+        return end
+    return text_of_number(column, end).removeprefix("DATE ").strip("'")
+
+
+def _index(index: Index, table: Table) -> dict[str, object]:
+    return {
+        "name": index.shown,
+        "keys": [table.columns[it].shown for it in index.keys],
+        keys.OURS: index.name if index.shown != index.name else None,
+        "unique": index.unique or None,
+        "clustered": index.clustered or None,
+        keys.ORDERED: index.ordered or None,
+    }
 
 
 class NoCatalogue(Exception):

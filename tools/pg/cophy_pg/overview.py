@@ -100,7 +100,7 @@ def _hints(document: dict[str, Any]) -> list[str]:
         have = "has" if len(wide) == 1 else "have"
         what = f"{_numbers(wide)} {have} {WIDE} columns or more"
         lines += [f"{what}: --include puts what is only read behind INCLUDE"]
-    unadvised = [at for at, it in enumerate(picks, 1) if it.get("reserve")]
+    unadvised = [at for at, it in enumerate(picks, 1) if it.get("caveat")]
     if unadvised:
         lines += [f"{_numbers(unadvised)} not recommended: the script makes such with -v all=1 alone"]
     if len(picks) > 1:

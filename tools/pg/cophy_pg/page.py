@@ -139,7 +139,7 @@ def _pick(pick: dict[str, Any], document: dict[str, Any]) -> dict[str, Any]:
     return {
         "notes": [],
         "build_seconds": None,
-        "reserve": None,
+        "caveat": None,
         "superfluous": [],
         **pick,
         "index": named(pick),

@@ -18,7 +18,7 @@ MICROSECONDS = 10.0
 UNIT = 2.0
 """So many microseconds a unit of EXPLAIN's cost takes where few are left, likewise. It isn't what the server took for a
 statement: other work makes that many times as much, and planning too."""
-DEAR = "it saves less time than planning and writing take longer for it"
+COSTLY = "it saves less time than planning and writing take longer for it"
 
 Ask = Callable[[list[Candidate], list[Verdict]], dict[int, Plan]]
 """The plans of some statements under some picks, by the numbers of their verdicts."""
@@ -55,7 +55,7 @@ class Losses:
     ask: Ask
     without: dict[tuple[int, int], Plan] = field(default_factory=dict)
 
-    def dear(self, prices: dict[int, float]) -> list[Candidate]:
+    def costly(self, prices: dict[int, float]) -> list[Candidate]:
         """Those of the picks with a price that save less than that, where all others are there: the one by which the most is
         lost, then the next one without it, until none is left."""
         found = list[Candidate]()
@@ -89,7 +89,7 @@ class Losses:
         return self.picks.pop(number)
 
 
-def dear_picks(
+def costly_picks(
     picks: Iterable[Candidate],
     planning: Planning,
     upkeep: Callable[[int], float],
@@ -107,4 +107,4 @@ def dear_picks(
         for number, it in listed.items()
         if number in taken and not it.is_clustered and not asks_for(it) and planning.knows(it)
     }
-    return Losses(listed, known, plans, ask).dear(prices)
+    return Losses(listed, known, plans, ask).costly(prices)

@@ -77,11 +77,6 @@ class Pricing:
         none, alone = (self.statement_costs(it) for it in (frozenset[int](), frozenset((number,))))
         return sum(max(0, after - before) for before, after in zip(none, alone))
 
-    def forget(self) -> None:
-        """Forgets what was asked for."""
-        for it in self._groups.values():
-            it.known, it.sums = {}, {}
-
     def _over(self, chosen: Iterable[int]) -> set[str]:
         return {self._table[it] for it in chosen}
 

@@ -27,7 +27,7 @@ class Recommended:
     costs: Costs = (0, 0.0)
 
 
-def reserve_of(pick: dict[str, Any], document: dict[str, Any]) -> str:
+def caveat_of(pick: dict[str, Any], document: dict[str, Any]) -> str:
     """Why a pick isn't recommended as it stands among all others; nothing where it is. Of one that was allowed to lay the rows of
     its table anew the server says too little."""
     if fails := warning(pick["long_likely"]):
@@ -44,21 +44,21 @@ def reserve_of(pick: dict[str, Any], document: dict[str, Any]) -> str:
     return doubt_of(pick) or warning_of(pick, document)
 
 
-def without_reserves(
+def without_caveats(
     picks: Iterable[dict[str, Any]],
-    reserves: dict[int, str],
+    caveats: dict[int, str],
     all_: Costs,
     wholes: Costs,
     costs_of: Callable[[list[int]], Costs],
 ) -> Recommended:
-    """Leaves out the picks that there are reserves about: at once those under which a write fails, and of the others each as long
+    """Leaves out the picks that there are caveats about: at once those under which a write fails, and of the others each as long
     as the workload costs no more for it than it does where all others are there, since one may stand for another. `all_` are
     the costs with all picks, `wholes` without any."""
     listed = sorted(picks, key=lambda it: float(it["saves"]["server"]))
-    failing = {it["number"] for it in listed if it["long_likely"] and it["number"] in reserves}
+    failing = {it["number"] for it in listed if it["long_likely"] and it["number"] in caveats}
     kept = [it["number"] for it in listed if it["number"] not in failing]
     now = costs_of(kept) if failing else all_
-    waiting = [it for it in listed if it["number"] in kept and it["number"] in reserves]
+    waiting = [it for it in listed if it["number"] in kept and it["number"] in caveats]
     for some in [waiting, *([it] for it in waiting if len(waiting) > 1)]:
         without = [it for it in kept if it not in {one["number"] for one in some}]
         if not some or len(without) == len(kept):
@@ -68,4 +68,4 @@ def without_reserves(
         rises = [100 * (new - old) / (whole or 1) for new, old, whole in zip(costs, now, wholes)]
         if all(rise <= most for rise, most in zip(rises, allowed)):
             kept, now = without, costs
-    return Recommended({number: why for number, why in reserves.items() if number not in kept}, now)
+    return Recommended({number: why for number, why in caveats.items() if number not in kept}, now)

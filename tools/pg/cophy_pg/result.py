@@ -12,7 +12,7 @@ from cophy_pg.ddl import Made, create, taken_names
 from cophy_pg.guesses import is_guessed, is_judged
 from cophy_pg.outcomes import ORDINARY, Outcome
 from cophy_pg.plans import Plans
-from cophy_pg.recommended import Recommended, reserve_of
+from cophy_pg.recommended import Recommended, caveat_of
 from cophy_pg.schema import Schema
 from cophy_pg.sizes import stored_size
 from cophy_pg.speed import Speed
@@ -66,7 +66,7 @@ class Result:
             "calls_divided_by": self.workload.divisor,
             **self.told,
             "functions": self.judged.functions,
-            "picks": [it | {"reserve": self._reserve(it["number"])} for it in self.plain_picks()],
+            "picks": [it | {"caveat": self._caveat(it["number"])} for it in self.plain_picks()],
             "left_out": [{**_index(it), "why": why} for it, why in self.choice.left_out],
             "statements": [self._statement(at, it) for at, it in enumerate(self.workload.records, 1)],
             "seconds": {name: round(it, 3) for name, it in self.seconds.items()},
@@ -76,22 +76,22 @@ class Result:
         """The numbers of the picks in the order in which they are shown and made."""
         return [it["number"] for it in self.plain_picks()]
 
-    def reserves(self) -> dict[int, str]:
+    def caveats(self) -> dict[int, str]:
         """Why picks aren't recommended where all are there, by their numbers."""
         statements = [{"seconds": it.input.seconds} for it in self.workload.records]
-        found = {it["number"]: reserve_of(it, {"statements": statements}) for it in self.plain_picks()}
+        found = {it["number"]: caveat_of(it, {"statements": statements}) for it in self.plain_picks()}
         return {number: why for number, why in found.items() if why}
 
     def places_left_out(self) -> list[int]:
         """The places, from 1, of the picks that aren't recommended."""
-        return [at for at, number in enumerate(self.numbers(), 1) if self._reserve(number)]
+        return [at for at, number in enumerate(self.numbers(), 1) if self._caveat(number)]
 
-    def _reserve(self, number: int) -> str | None:
+    def _caveat(self, number: int) -> str | None:
         return self.recommended.why_not.get(number) if self.recommended else None
 
     def _recommended(self) -> dict[str, Any]:
         """What those picks take and bring that are recommended."""
-        picks = [it for it in self.choice.advice.picks if not self._reserve(it.number)]
+        picks = [it for it in self.choice.advice.picks if not self._caveat(it.number)]
         ours, server = self.recommended.costs if self.recommended else (self.prices[1].total, self.judged.sums()[2])
         return {
             "picks": len(picks),

@@ -23,13 +23,13 @@ MOST_UNADVISED = 3
 def verdict(document: dict[str, Any], kept: Folder) -> list[str]:
     """The summary of a document whose files are in a folder."""
     picks = [*enumerate(document["picks"], 1)]
-    advised = [it for it in picks if not it[1].get("reserve")]
+    advised = [it for it in picks if not it[1].get("caveat")]
     sentence = _sentence(document, len(advised)).replace(" %", f"{KEPT}%")
     lines = [it.replace(KEPT, " ") for it in textwrap.wrap(sentence, WIDTH, break_on_hyphens=False)]
     lines += ["", f"{'MB':>10}{'saves':>9}  index, for"] * bool(advised)
     wide = max((len(named(it)) for _, it in advised if len(named(it)) <= LONGEST), default=0)
     lines += [_row(at, it, wide) for at, it in advised]
-    lines += _unadvised([it for it in picks if it[1].get("reserve")])
+    lines += _unadvised([it for it in picks if it[1].get("caveat")])
     lines += ["", *_rest(document, kept)]
     if picks:
         known = [it["build_seconds"] for _, it in advised or picks if it.get("build_seconds") is not None]
@@ -94,7 +94,7 @@ def _unadvised(listed: list[tuple[int, dict[str, Any]]]) -> list[str]:
     if not listed:
         return []
     lines = ["", "not recommended, so left out (psql -v all=1 makes them too):"]
-    lines += [f"{_begin(at, it)}  {named(it)}: {it['reserve']}" for at, it in listed[:MOST_UNADVISED]]
+    lines += [f"{_begin(at, it)}  {named(it)}: {it['caveat']}" for at, it in listed[:MOST_UNADVISED]]
     return lines + [f"    and {len(listed) - MOST_UNADVISED} more"] * bool(listed[MOST_UNADVISED:])
 
 

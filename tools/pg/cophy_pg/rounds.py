@@ -1,0 +1,155 @@
+"""Which picks stay: rounds of searching and of asking the server's planner."""
+from __future__ import annotations
+
+import argparse
+from dataclasses import dataclass, replace
+from functools import partial
+
+from cophy_text.answers import Advice, Candidate, Prices
+from cophy_pg.beside import Beside
+from cophy_pg.choice import UNTAKEN, Choice, Limits, drop_by_limits, drop_by_server
+from cophy_pg.outcomes import Verdict, outcomes
+from cophy_pg.picks import home_of
+from cophy_pg.planning import COSTLY, Planning, costly_picks
+from cophy_pg.plans import Plan, costs_without, under
+from cophy_pg.program import NoCommand, Program
+from cophy_pg.schema import Schema
+from cophy_pg.searches import Rules, Searches
+from cophy_pg.server import Server, reading
+from cophy_pg.steps import Steps
+from cophy_pg.verify import Judged, judge
+from cophy_pg.why import Reason
+from cophy_pg.workload import Workload
+from cophy_pg.worth import Worth, worth_of
+
+ROUNDS = 4
+"""How often is searched: each time but the first without what no plan took before."""
+ADDITIONS = 3
+"""How often the planner is asked what it takes in the space that is left."""
+
+
+@dataclass
+class Rounds:
+    """What a call of `advise` asks for, and what searches and the planner are asked with."""
+
+    words: argparse.Namespace
+    program: Program
+    searches: Searches
+    rules: Rules
+    steps: Steps
+    schema: Schema
+    workload: Workload
+
+    def searched(self, number: int) -> Choice:
+        """What fills the budget under the rules so far, at the begin of a round."""
+        self.steps.begin(f"round {number} of at most {ROUNDS}")
+        with self.steps.step("advise", "searching for the best indexes"):
+            advice, rules = self.searches.filling(self.schema, self.rules)
+        return Choice(advice, [(it, UNTAKEN) for it in self.rules.forbidden], rules=rules)
+
+    def best(self, server: Server, choice: Choice) -> tuple[Choice, Judged]:
+        """Searches again without what no plan takes, which leaves room for others; the choice that costs the least by the
+        server's planner, and what it says of that. An older program doesn't search again."""
+        best: tuple[Choice, Judged] | None = None
+        least = (0, 0.0)
+        for number in range(1, ROUNDS + 1):
+            judged = self._settle(server, choice)
+            count, _, after = judged.sums()
+            if best is None or (-count, after) < least:
+                best, least = (choice, judged), (-count, after)
+            if number == ROUNDS or not self.rules.forbid(choice.untaken):
+                break
+            try:
+                choice = self.searched(number + 1)
+            except NoCommand:
+                break
+        assert best is not None
+        return self._filled(server, *best)
+
+    def asked(self, server: Server, advice: Advice, known: list[Verdict] | None = None) -> Judged:
+        """What the planner says of some picks; what it said of statements without any isn't asked for again."""
+        records = enumerate(self.workload.records, 1)
+        found = [Verdict(at, it.input, self.workload.times(it)) for at, it in records if it.numbers]
+        if known is not None:
+            found = [Verdict(it.number, it.input, it.times, before=it.before, fault=it.fault) for it in known]
+        self.steps.ask()
+        asked = len(found) + sum(it.before is None for it in found)
+        with self.steps.step("verify", "asking the server's planner", asked):
+            with reading(server):
+                home_of(server)
+            listed, functions = judge(server, self.schema, advice, found, self.words.is_trusted, self.steps)
+            texts = {number: text for number, (text, _) in enumerate(self.workload.statements, 1)}
+            outcomes(listed, found, texts, [])
+        return Judged(found, listed, functions)
+
+    def _filled(self, server: Server, choice: Choice, judged: Judged) -> tuple[Choice, Judged]:
+        """Adds what the server's planner takes in the space that is left, as long as it says that this saves something. Where
+        each pick has to save so much by our model, nothing is added."""
+        exchange = self.searches.exchange(self.schema, self.rules)
+        for number in range(0 if self.words.min_saving else ADDITIONS):
+            self.steps.begin(f"space left over, round {number + 1} of at most {ADDITIONS}")
+            planning = Planning(self.schema, judged.verdicts, self.words.planning)
+            beside = Beside(choice, judged.verdicts, exchange, self.workload.divisor, planning.longer)
+            trades = []
+            for it in beside.narrower():
+                users = self.asked(server, beside.with_trade(it), beside.users(it)).verdicts
+                trades.append(beside.priced(it, users))
+            asked = beside.asked_about(trades)
+            if asked is None:
+                break
+            found = self.asked(server, asked, judged.verdicts).verdicts
+            chosen = beside.better(found, trades)
+            if chosen == beside.chosen:
+                break
+            try:
+                advice, rules = self.searches.made_of(chosen, self.rules)
+            except NoCommand:
+                break
+            more = Choice(advice, [*choice.left_out], rules=rules)
+            again = self._settle(server, more, judged.verdicts)
+            if again.sums()[0] < judged.sums()[0] or again.sums()[2] >= judged.sums()[2]:
+                break
+            choice, judged = more, again
+        return choice, judged
+
+    def _settle(self, server: Server, choice: Choice, known: list[Verdict] | None = None) -> Judged:
+        """Asks the planner until all picks that are left stay. Picks that were left out before are asked about no more."""
+        words = self.words
+        limits = Limits(words.min_saving, words.most_per_table)
+        while True:
+            judged = self.asked(server, choice.advice, known)
+            known = judged.verdicts
+            with self.steps.step("limits", "leaving out what isn't worth it"):
+                is_less = drop_by_server(choice, self.schema, judged.outcomes, self.rules.asks_for)
+                worth = partial(self._worth, server, choice.advice, judged.verdicts)
+                is_less |= drop_by_limits(choice, self.program, limits, self.steps, self.rules.asks_for, worth)
+            if not is_less and not self._drop_costly(server, choice, judged.verdicts):
+                return judged
+
+    def _drop_costly(self, server: Server, choice: Choice, found: list[Verdict]) -> bool:
+        """Leaves out what saves less time than planning and writing take longer for it; whether anything was."""
+
+        def ask(picks: list[Candidate], listed: list[Verdict]) -> dict[int, Plan]:
+            return under(server, self.schema, replace(choice.advice, picks=picks), listed, self.steps)
+
+        if not self.words.planning:
+            return False
+        planning = Planning(self.schema, found, self.words.planning)
+        with self.steps.step("planning", "leaving out what takes longer to plan than it saves"):
+            costly = costly_picks(
+                choice.advice.picks,
+                planning,
+                lambda number: self.workload.divisor * self.searches.upkeep(number),
+                self.rules.asks_for,
+                ask,
+            )
+            for it in costly:
+                choice.drop(it, COSTLY)
+        return bool(costly)
+
+    def _worth(
+        self, server: Server, advice: Advice, found: list[Verdict], reason: Reason, prices: tuple[Prices, Prices]
+    ) -> Worth:
+        """What a pick saves, by the server too."""
+        without = costs_without(server, self.schema, advice, reason.pick, found, self.steps)
+        return worth_of(reason, prices, found, without, [it.input.seconds for it in self.workload.records])
