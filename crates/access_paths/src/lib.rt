@@ -27,6 +27,7 @@ mod predicates;
 mod price;
 mod reader;
 mod slot_access;
+mod slot_offer;
 mod slot_offers;
 
 pub use block_labels::labels;

@@ -6,7 +6,6 @@
 #![tactic(auto)]
 
 mod again;
-mod along_tree;
 mod attempts;
 mod clashing;
 mod configuration;
@@ -20,6 +19,7 @@ mod lifting;
 mod own_sets;
 mod path;
 mod planner;
+mod planning;
 mod proposals;
 mod recalling;
 mod retracing;
